@@ -1,0 +1,32 @@
+-- `img::word_at` meets its contract: the needs are arithmetic, and `word` is the sum itself.
+use borrow.Author.Needs.{needs}
+use Rattle.image.specs.Word.{word}
+use Rattle.image.proofs.word_at.Statement.{statement}
+use Rattle.image.proofs.word_at.Tie as tie
+
+returns : tie.Need-returns
+unfolding word
+returns c = search needs
+
+pub word-at-spec : {M : Type 1} → statement M
+word-at-spec =
+    tie.close
+    (tie.spec
+    (λ c. search needs)
+    (λ c. search needs)
+    (λ c. search needs)
+    (λ c. search needs)
+    (λ c. search needs)
+    (λ c. search needs)
+    (λ c. search needs)
+    (λ c. search needs)
+    (λ c. search needs)
+    (λ c. search needs)
+    (λ c. search needs)
+    (λ c. search needs)
+    (λ c. search needs)
+    (λ c. search needs)
+    (λ c. search needs)
+    (λ c. search needs)
+    (λ c. search needs)
+    returns)
