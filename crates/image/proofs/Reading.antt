@@ -1,6 +1,6 @@
 -- Laws of `parse`: its cases, and that it stays within the records.
 -- Assumes nothing.
-use mathlib.Core.Path.{_≡_, refl, sym, ap, _∙_}
+use mathlib.Core.Path.{_≡_, refl, sym, _∙_}
 use mathlib.Core.Bool.{Bool, true, false}
 use mathlib.Core.List.{List}
 use Prim.Native.Nat.{ℕ, zero, suc, _+_, _-_, _*_, _≤_, _<_}
@@ -11,7 +11,7 @@ use lib.Dec.{eqb, leb}
 use lib.ListN.{drop}
 use borrow.Author.Tests.{eq-eqb, ne-eqb, le-leb, lt-leb, leb-false}
 use Rattle.image.specs.Word.{word}
-use Rattle.image.specs.Tree.{Label, Forest, none, node, labelAt}
+use Rattle.image.specs.Tree.{Label, Forest, none, labelAt}
 use Rattle.image.specs.declared.Walk.{Walk}
 use Rattle.image.specs.declared.Walk.the-variants.{Next, Bad}
 use Rattle.image.specs.Links.{Parsed, good, bad, outcome, when, joined, andThen, parse}

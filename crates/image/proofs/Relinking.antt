@@ -7,9 +7,8 @@ use mathlib.Core.Logic.{⊎-elim}
 use mathlib.Core.List.{List, [], _∷_, _++_, append-assoc, append-nil}
 use Prim.Native.Nat.{ℕ, zero, suc, _+_, _-_, _*_, _/_, _%_, _≤_, _<_}
 use native.Mathlib.Omega.{arith}
-use native.Mathlib.Nat.{add-zero, add-suc, suc-add, add-assoc, zero-add, eq-or-lt-of-le, le-refl, div-div-eq-div-mul, div-add-mod', mod-eq-of-lt}
+use native.Mathlib.Nat.{add-suc, suc-add, add-assoc, zero-add, eq-or-lt-of-le, le-refl, div-div-eq-div-mul, div-add-mod', mod-eq-of-lt}
 use native.Mathlib.Numerals.{add-one}
-use native.Mathlib.Decide.{decLe}
 use lib.ListN.{length, getD, take, drop, set, replicate, length-append, length-set, length-replicate, drop-of-length-le}
 use lib.Dec.{lit<}
 use lib.Seq.{sets, take-all, length-take-le, getD-set-same, getD-set-other, getD-append-add, take-suc, drop-cons}

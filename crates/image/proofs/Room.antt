@@ -3,14 +3,14 @@
 --     Left            the invariant of a loop that writes trees: what is left of them completes the output
 -- Assumes nothing.
 use mathlib.Core.Path.{_≡_, refl, sym, ap, _∙_}
-use mathlib.Core.List.{List, [], _∷_, _++_, append-assoc, append-nil}
-use Prim.Native.Nat.{ℕ, suc, _+_, _-_, _*_, _≤_, _<_}
+use mathlib.Core.List.{List, [], _∷_, _++_, append-assoc}
+use Prim.Native.Nat.{ℕ, suc, _+_, _*_, _≤_, _<_}
 use native.Mathlib.Nat.{add-zero}
 use native.Mathlib.Omega.{arith}
 use lib.Dec.{leb}
 use borrow.Author.Tests.{leb-true, leb-false}
 use mathlib.Core.Bool.{Bool, true, false}
-use lib.ListN.{length, set}
+use lib.ListN.{length}
 use lib.Seq.{sets, set-out, length-sets}
 use Rattle.image.specs.Tree.{Label, Forest, none, node, Tree, size}
 use Rattle.image.specs.Flat.{sizeT, bytesOf, flatAny, flat}

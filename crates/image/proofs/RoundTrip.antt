@@ -1,14 +1,14 @@
 -- A tree's image stands for the tree: what is written can be read again.
 -- Assumes nothing.
-use mathlib.Core.Path.{_≡_, refl, sym, ap, _∙_}
-use mathlib.Core.List.{List, [], _∷_, _++_, append-assoc}
-use Prim.Native.Nat.{ℕ, suc, _+_, _*_, _≤_, _<_}
+use mathlib.Core.Path.{_≡_, refl, _∙_}
+use mathlib.Core.List.{List, _++_, append-assoc}
+use Prim.Native.Nat.{ℕ, suc, _+_, _*_, _<_}
 use native.Mathlib.Omega.{arith}
 use lib.ListN.{length, drop, length-append}
 use lib.Seq.{drop-at}
 use Rattle.image.specs.Word.{word, le}
-use Rattle.image.specs.Tree.{Label, Forest, none, node, Tree, size, link, labelAt, Here, Stands, At}
-use Rattle.image.specs.Flat.{sizeT, bytesOf, encAny, enc}
+use Rattle.image.specs.Tree.{Label, Forest, none, node, size, link, labelAt, Here, Stands}
+use Rattle.image.specs.Flat.{bytesOf, encAny}
 use Rattle.image.proofs.Walking.{link-le}
 use Rattle.image.proofs.Writing.{bytesOf-length}
 use Rattle.image.proofs.Relinking.{bytes-of}

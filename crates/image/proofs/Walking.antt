@@ -13,7 +13,7 @@ use native.Mathlib.Omega.{arith}
 use lib.ListN.{length, take, drop, length-drop}
 use lib.Seq.{take-all, drop-drop}
 use Rattle.image.specs.Word.{word}
-use Rattle.image.specs.Tree.{Label, Forest, none, node, Tree, size, link, Here, Parts, Stands, At, Deep, Readable, Linked, Joined}
+use Rattle.image.specs.Tree.{Label, Forest, none, node, Tree, size, link, Stands, At, Deep, Readable, Linked, Joined}
 
 pub part : (s : List ℕ) (a : ℕ) → take (length s - a) (drop a s) ≡ drop a s
 part s a = take-all (length s - a) (drop a s) (omega (arith, length-drop a s))

@@ -1,0 +1,4 @@
+pub mod Accept
+pub mod Converse
+pub mod Limits
+pub mod Opened

@@ -1,0 +1,15 @@
+pub mod BoundsA
+pub mod ChecksA
+pub mod Drawn
+pub mod Edges
+pub mod Hex
+pub mod ImagesA
+pub mod ImagesBig
+pub mod ImagesEdges
+pub mod ImagesRandom
+pub mod Judged
+pub mod ListsA
+pub mod MediumA
+pub mod Run
+pub mod SmallA
+pub mod Walked

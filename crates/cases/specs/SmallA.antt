@@ -1,0 +1,860 @@
+-- Made by tools/cases.py: SmallA:1:150:small
+use mathlib.Core.Path.{_≡_, refl}
+use mathlib.Core.Bool.{true, false}
+use mathlib.Core.List.{[], _∷_}
+use mathlib.Core.Option.{none, some}
+use lib.IntN.{negsuc}
+use Rattle.plan.specs.Syntax.{nm, eq, ne, lt, le, gt, ge, and, or, cmp, isNull, isNotNull, isTrue, isFalse, isUnknown, isNotTrue, isNotFalse, isNotUnknown, num, bool, nul, bin, neg, test, between, inlist, fn, enil, econs, count, min, max, inner, left, right, full, leftSemi, rightSemi, leftAnti, rightAnti, scan, filter, project, join, alias, union, distinct, sort, repartition, limit, aggregate, window, pnil, pcons}
+use Rattle.rewrite.specs.RewriteAt.{granted, refused, passed, rewriteAt, pass}
+use Rattle.rewrite.proofs.Opened.{opened}
+use Rattle.rewrite.proofs.PassTree.{pass-by-children}
+use Rattle.cases.specs.Run.{v, i, fd, en, pr, ky, ag, wn}
+use Rattle.cases.specs.Walked.{walked}
+
+c0 : rewriteAt 0 (filter (bin or (bin or (bin or (bin (cmp eq) (v 3 1) (bool true)) (inlist false (v 4 2) (econs (i 3) enil))) (bin (cmp ne) (i 1) (v 4 2))) (bin and (fn 1 0 2 enil) (bin (cmp gt) (nul 1) (v 3 2)))) (join right (join right (scan 5 [] []) (scan 3 (fd 3 1 2 false ∷ fd 3 2 1 true ∷ []) []) [] (some (bin or (bool false) (bin (cmp le) (v 3 2) (v 3 2))))) (filter (bin and (inlist false (i 0) (econs (nul 1) enil)) (fn 2 0 2 (econs (v 4 2) (econs (v 4 1) enil)))) (scan 2 (fd 4 1 1 true ∷ fd 4 2 1 true ∷ fd 4 3 2 true ∷ []) [])) (pr (v 3 2) (v 4 1) ∷ []) (some (bin (cmp gt) (v 4 2) (v 4 2))))) ≡ granted false (filter (bin or (bin or (bin or (bin (cmp eq) (v 3 1) (bool true)) (inlist false (v 4 2) (econs (i 3) enil))) (bin (cmp ne) (i 1) (v 4 2))) (bin and (fn 1 0 2 enil) (bin (cmp gt) (nul 1) (v 3 2)))) (join right (join right (scan 5 [] []) (scan 3 (fd 3 1 2 false ∷ fd 3 2 1 true ∷ []) []) [] (some (bin or (bool false) (bin (cmp le) (v 3 2) (v 3 2))))) (filter (bin and (inlist false (i 0) (econs (nul 1) enil)) (fn 2 0 2 (econs (v 4 2) (econs (v 4 1) enil)))) (scan 2 (fd 4 1 1 true ∷ fd 4 2 1 true ∷ fd 4 3 2 true ∷ []) [])) (pr (v 3 2) (v 4 1) ∷ []) (some (bin (cmp gt) (v 4 2) (v 4 2)))))
+unfolding opened
+c0 = refl
+
+c1 : rewriteAt 2 (filter (bin (cmp eq) (i 2) (v 2 2)) (scan 3 (fd 2 1 2 false ∷ fd 2 2 1 false ∷ []) [])) ≡ refused 8 2
+unfolding opened
+c1 = refl
+
+c2 : rewriteAt 8 (filter (bin and (bin (cmp ge) (v 2 1) (i 3)) (bin (cmp ge) (i 2) (v 2 2))) (scan 2 (fd 2 1 1 false ∷ fd 2 2 1 false ∷ fd 2 3 2 false ∷ []) [])) ≡ granted false (filter (bin and (bin (cmp ge) (v 2 1) (i 3)) (bin (cmp ge) (i 2) (v 2 2))) (scan 2 (fd 2 1 1 false ∷ fd 2 2 1 false ∷ fd 2 3 2 false ∷ []) []))
+unfolding opened
+c2 = refl
+
+c3 : pass 10000 (filter (bin and (bin or (bin and (bin and (bin (cmp le) (bool true) (bool false)) (bin (cmp eq) (nul 1) (v 3 2))) (bin (cmp lt) (fn 0 0 1 enil) (fn 0 0 1 enil))) (bin and (bin (cmp lt) (fn 0 0 1 enil) (fn 0 0 1 enil)) (inlist false (v 3 2) (econs (i 3) enil)))) (bin (cmp gt) (v 3 2) (nul 1))) (aggregate (en 3 2 (fn 2 0 1 (econs (i 1) enil)) ∷ []) [] (scan 5 [] []))) ≡ passed 3 1 1 (aggregate (en 3 2 (fn 2 0 1 (econs (i 1) enil)) ∷ []) [] (filter (bin and (bin (cmp gt) (fn 2 0 1 (econs (i 1) enil)) (nul 1)) (bin or (bin and (bin and (bin (cmp le) (bool true) (bool false)) (bin (cmp eq) (nul 1) (fn 2 0 1 (econs (i 1) enil)))) (bin (cmp lt) (fn 0 0 1 enil) (fn 0 0 1 enil))) (bin and (bin (cmp lt) (fn 0 0 1 enil) (fn 0 0 1 enil)) (inlist false (fn 2 0 1 (econs (i 1) enil)) (econs (i 3) enil))))) (scan 5 [] [])))
+unfolding opened
+c3 = refl
+
+w3 : pass-by-children 10000 (filter (bin and (bin or (bin and (bin and (bin (cmp le) (bool true) (bool false)) (bin (cmp eq) (nul 1) (v 3 2))) (bin (cmp lt) (fn 0 0 1 enil) (fn 0 0 1 enil))) (bin and (bin (cmp lt) (fn 0 0 1 enil) (fn 0 0 1 enil)) (inlist false (v 3 2) (econs (i 3) enil)))) (bin (cmp gt) (v 3 2) (nul 1))) (aggregate (en 3 2 (fn 2 0 1 (econs (i 1) enil)) ∷ []) [] (scan 5 [] []))) ≡ passed 3 1 1 (aggregate (en 3 2 (fn 2 0 1 (econs (i 1) enil)) ∷ []) [] (filter (bin and (bin (cmp gt) (fn 2 0 1 (econs (i 1) enil)) (nul 1)) (bin or (bin and (bin and (bin (cmp le) (bool true) (bool false)) (bin (cmp eq) (nul 1) (fn 2 0 1 (econs (i 1) enil)))) (bin (cmp lt) (fn 0 0 1 enil) (fn 0 0 1 enil))) (bin and (bin (cmp lt) (fn 0 0 1 enil) (fn 0 0 1 enil)) (inlist false (fn 2 0 1 (econs (i 1) enil)) (econs (i 3) enil))))) (scan 5 [] [])))
+unfolding walked
+w3 = refl
+
+c4 : pass 10000 (filter (bin and (bool false) (bin (cmp le) (v 2 1) (i 0))) (filter (inlist false (fn 0 0 1 (econs (v 2 1) enil)) (econs (v 2 1) (econs (i 1) enil))) (scan 4 (fd 2 1 1 false ∷ []) []))) ≡ passed 2 0 1 (filter (bin and (bin and (bool false) (bin (cmp le) (v 2 1) (i 0))) (inlist false (fn 0 0 1 (econs (v 2 1) enil)) (econs (v 2 1) (econs (i 1) enil)))) (scan 4 (fd 2 1 1 false ∷ []) []))
+unfolding opened
+c4 = refl
+
+w4 : pass-by-children 10000 (filter (bin and (bool false) (bin (cmp le) (v 2 1) (i 0))) (filter (inlist false (fn 0 0 1 (econs (v 2 1) enil)) (econs (v 2 1) (econs (i 1) enil))) (scan 4 (fd 2 1 1 false ∷ []) []))) ≡ passed 2 0 1 (filter (bin and (bin and (bool false) (bin (cmp le) (v 2 1) (i 0))) (inlist false (fn 0 0 1 (econs (v 2 1) enil)) (econs (v 2 1) (econs (i 1) enil)))) (scan 4 (fd 2 1 1 false ∷ []) []))
+unfolding walked
+w4 = refl
+
+c5 : pass 4 (filter (bin and (v 3 3) (neg (fn 2 2 2 enil))) (join leftAnti (filter (bin and (bool true) (bin (cmp lt) (i 2) (v 3 2))) (join inner (scan 5 [] []) (scan 2 (fd 3 1 1 false ∷ fd 3 2 1 true ∷ fd 3 3 2 false ∷ []) []) [] (some (bin and (bin (cmp eq) (v 3 1) (i 3)) (bin (cmp ge) (v 3 2) (v 3 1)))))) (sort none [] (filter (fn 0 2 2 enil) (scan 1 (fd 4 1 1 true ∷ fd 4 2 1 false ∷ []) []))) (pr (v 3 2) (v 4 1) ∷ pr (v 3 2) (fn 0 0 1 (econs (v 4 1) (econs (bool true) enil))) ∷ []) none)) ≡ passed 4 2 0 (join leftAnti (join inner (filter (bin and (bool true) (neg (fn 2 2 2 enil))) (scan 5 [] [])) (filter (bin and (bin and (bin and (v 3 3) (bin (cmp lt) (i 2) (v 3 2))) (bin (cmp eq) (v 3 1) (i 3))) (bin (cmp ge) (v 3 2) (v 3 1))) (scan 2 (fd 3 1 1 false ∷ fd 3 2 1 true ∷ fd 3 3 2 false ∷ []) [])) [] none) (sort none [] (filter (fn 0 2 2 enil) (scan 1 (fd 4 1 1 true ∷ fd 4 2 1 false ∷ []) []))) (pr (v 3 2) (v 4 1) ∷ pr (v 3 2) (fn 0 0 1 (econs (v 4 1) (econs (bool true) enil))) ∷ []) none)
+unfolding opened
+c5 = refl
+
+w5 : pass-by-children 4 (filter (bin and (v 3 3) (neg (fn 2 2 2 enil))) (join leftAnti (filter (bin and (bool true) (bin (cmp lt) (i 2) (v 3 2))) (join inner (scan 5 [] []) (scan 2 (fd 3 1 1 false ∷ fd 3 2 1 true ∷ fd 3 3 2 false ∷ []) []) [] (some (bin and (bin (cmp eq) (v 3 1) (i 3)) (bin (cmp ge) (v 3 2) (v 3 1)))))) (sort none [] (filter (fn 0 2 2 enil) (scan 1 (fd 4 1 1 true ∷ fd 4 2 1 false ∷ []) []))) (pr (v 3 2) (v 4 1) ∷ pr (v 3 2) (fn 0 0 1 (econs (v 4 1) (econs (bool true) enil))) ∷ []) none)) ≡ passed 4 2 0 (join leftAnti (join inner (filter (bin and (bool true) (neg (fn 2 2 2 enil))) (scan 5 [] [])) (filter (bin and (bin and (bin and (v 3 3) (bin (cmp lt) (i 2) (v 3 2))) (bin (cmp eq) (v 3 1) (i 3))) (bin (cmp ge) (v 3 2) (v 3 1))) (scan 2 (fd 3 1 1 false ∷ fd 3 2 1 true ∷ fd 3 3 2 false ∷ []) [])) [] none) (sort none [] (filter (fn 0 2 2 enil) (scan 1 (fd 4 1 1 true ∷ fd 4 2 1 false ∷ []) []))) (pr (v 3 2) (v 4 1) ∷ pr (v 3 2) (fn 0 0 1 (econs (v 4 1) (econs (bool true) enil))) ∷ []) none)
+unfolding walked
+w5 = refl
+
+c6 : rewriteAt 23 (filter (bin and (bin (cmp ne) (v 3 2) (i 2)) (bin or (bin and (bin and (bin (cmp gt) (v 2 1) (i 3)) (bin (cmp eq) (v 3 2) (i 3))) (bool false)) (bin (cmp eq) (v 3 2) (i 3)))) (aggregate (en 2 1 (v 2 2) ∷ en 3 2 (v 2 2) ∷ []) [] (scan 3 (fd 2 1 2 true ∷ fd 2 2 1 true ∷ []) []))) ≡ granted false (filter (bin and (bin (cmp ne) (v 3 2) (i 2)) (bin or (bin and (bin and (bin (cmp gt) (v 2 1) (i 3)) (bin (cmp eq) (v 3 2) (i 3))) (bool false)) (bin (cmp eq) (v 3 2) (i 3)))) (aggregate (en 2 1 (v 2 2) ∷ en 3 2 (v 2 2) ∷ []) [] (scan 3 (fd 2 1 2 true ∷ fd 2 2 1 true ∷ []) [])))
+unfolding opened
+c6 = refl
+
+c7 : rewriteAt 8 (window (wn 4 1 count (i 1) (nm 3 1 ∷ []) ∷ wn 5 1 count (i 2) (nm 3 1 ∷ []) ∷ []) (join full (filter (bin or (bin or (fn 0 0 2 (econs (i 1) (econs (v 2 1) enil))) (fn 0 0 2 (econs (i 1) (econs (v 2 1) enil)))) (bin and (bin or (bin (cmp gt) (v 2 1) (i 0)) (bin (cmp eq) (bool false) (bool false))) (fn 0 0 2 enil))) (scan 4 (fd 2 1 1 true ∷ []) [])) (filter (bin and (bool true) (bin or (bin and (bin (cmp gt) (i 2) (v 3 1)) (between true (v 3 1) (i 0) (v 3 1))) (bin or (test isNotTrue (bool false)) (bin (cmp lt) (v 3 1) (i 0))))) (scan 4 (fd 3 1 1 false ∷ []) [])) [] none)) ≡ granted true (window (wn 4 1 count (i 1) (nm 3 1 ∷ []) ∷ wn 5 1 count (i 2) (nm 3 1 ∷ []) ∷ []) (join full (scan 4 (fd 2 1 1 true ∷ []) ((bin or (bin or (fn 0 0 2 (econs (i 1) (econs (v 2 1) enil))) (fn 0 0 2 (econs (i 1) (econs (v 2 1) enil)))) (bin and (bin or (bin (cmp gt) (v 2 1) (i 0)) (bin (cmp eq) (bool false) (bool false))) (fn 0 0 2 enil))) ∷ [])) (filter (bin and (bool true) (bin or (bin and (bin (cmp gt) (i 2) (v 3 1)) (between true (v 3 1) (i 0) (v 3 1))) (bin or (test isNotTrue (bool false)) (bin (cmp lt) (v 3 1) (i 0))))) (scan 4 (fd 3 1 1 false ∷ []) [])) [] none))
+unfolding opened
+c7 = refl
+
+c8 : pass 3 (alias 2 (filter (bin and (bin (cmp eq) (v 3 2) (v 3 2)) (bin (cmp le) (v 3 2) (i 2))) (scan 2 (fd 3 1 1 true ∷ fd 3 2 1 true ∷ fd 3 3 2 false ∷ []) []))) ≡ passed 2 1 1 (alias 2 (scan 2 (fd 3 1 1 true ∷ fd 3 2 1 true ∷ fd 3 3 2 false ∷ []) ((bin (cmp eq) (v 3 2) (v 3 2)) ∷ (bin (cmp le) (v 3 2) (i 2)) ∷ [])))
+unfolding opened
+c8 = refl
+
+w8 : pass-by-children 3 (alias 2 (filter (bin and (bin (cmp eq) (v 3 2) (v 3 2)) (bin (cmp le) (v 3 2) (i 2))) (scan 2 (fd 3 1 1 true ∷ fd 3 2 1 true ∷ fd 3 3 2 false ∷ []) []))) ≡ passed 2 1 1 (alias 2 (scan 2 (fd 3 1 1 true ∷ fd 3 2 1 true ∷ fd 3 3 2 false ∷ []) ((bin (cmp eq) (v 3 2) (v 3 2)) ∷ (bin (cmp le) (v 3 2) (i 2)) ∷ [])))
+unfolding walked
+w8 = refl
+
+c9 : pass 10000 (filter (bin (cmp eq) (v 3 2) (i 3)) (join rightSemi (filter (bin and (bin (cmp le) (v 2 2) (i 1)) (bin or (test isNotTrue (bool false)) (bin or (bin and (bool false) (bin (cmp ge) (v 2 1) (i 0))) (fn 0 0 2 (econs (v 2 2) (econs (bool true) enil)))))) (join rightAnti (scan 1 (fd 0 101 1 true ∷ fd 0 102 1 true ∷ []) []) (scan 1 (fd 2 1 1 true ∷ fd 2 2 1 true ∷ []) []) [] (some (bin (cmp le) (i 2) (v 2 1))))) (union (pcons (join left (scan 3 (fd 3 1 2 true ∷ fd 3 2 1 false ∷ []) []) (scan 1 (fd 4 1 1 true ∷ fd 4 2 1 false ∷ []) []) (pr (v 3 2) (v 4 1) ∷ pr (v 3 2) (v 4 1) ∷ []) none) (pcons (project (en 0 104 (test isNull (v 0 103)) ∷ en 0 105 (fn 2 0 1 (econs (bool false) (econs (nul 1) enil))) ∷ en 0 106 (v 0 103) ∷ en 0 107 (nul 1) ∷ []) (window (wn 0 103 count (i 0) [] ∷ wn 6 1 max (v 5 2) [] ∷ []) (scan 1 (fd 5 1 1 false ∷ fd 5 2 1 false ∷ []) []))) (pcons (project (en 0 108 (bool false) ∷ en 0 109 (nul 1) ∷ en 0 110 (i 0) ∷ en 0 111 (fn 1 0 1 (econs (bool false) enil)) ∷ []) (limit 0 0 (scan 5 [] ((neg (inlist true (i 1) (econs (nul 1) enil))) ∷ (fn 2 0 2 (econs (bool true) (econs (bool false) enil))) ∷ [])))) pnil)))) (pr (v 2 2) (v 3 2) ∷ []) (some (bin (cmp lt) (v 2 1) (v 4 2))))) ≡ passed 17 8 1 (join rightSemi (join rightAnti (scan 1 (fd 0 101 1 true ∷ fd 0 102 1 true ∷ []) []) (scan 1 (fd 2 1 1 true ∷ fd 2 2 1 true ∷ []) ((bin (cmp le) (v 2 2) (i 1)) ∷ (bin or (test isNotTrue (bool false)) (bin or (bin and (bool false) (bin (cmp ge) (v 2 1) (i 0))) (fn 0 0 2 (econs (v 2 2) (econs (bool true) enil))))) ∷ [])) [] (some (bin (cmp le) (i 2) (v 2 1)))) (union (pcons (join left (filter (bin (cmp eq) (v 3 2) (i 3)) (scan 3 (fd 3 1 2 true ∷ fd 3 2 1 false ∷ []) [])) (scan 1 (fd 4 1 1 true ∷ fd 4 2 1 false ∷ []) []) (pr (v 3 2) (v 4 1) ∷ pr (v 3 2) (v 4 1) ∷ []) none) (pcons (project (en 0 104 (test isNull (v 0 103)) ∷ en 0 105 (fn 2 0 1 (econs (bool false) (econs (nul 1) enil))) ∷ en 0 106 (v 0 103) ∷ en 0 107 (nul 1) ∷ []) (window (wn 0 103 count (i 0) [] ∷ wn 6 1 max (v 5 2) [] ∷ []) (filter (bin (cmp eq) (fn 2 0 1 (econs (bool false) (econs (nul 1) enil))) (i 3)) (scan 1 (fd 5 1 1 false ∷ fd 5 2 1 false ∷ []) [])))) (pcons (project (en 0 108 (bool false) ∷ en 0 109 (nul 1) ∷ en 0 110 (i 0) ∷ en 0 111 (fn 1 0 1 (econs (bool false) enil)) ∷ []) (filter (bin (cmp eq) (nul 1) (i 3)) (limit 0 0 (scan 5 [] ((neg (inlist true (i 1) (econs (nul 1) enil))) ∷ (fn 2 0 2 (econs (bool true) (econs (bool false) enil))) ∷ []))))) pnil)))) (pr (v 2 2) (v 3 2) ∷ []) (some (bin (cmp lt) (v 2 1) (v 4 2))))
+unfolding opened
+c9 = refl
+
+w9 : pass-by-children 10000 (filter (bin (cmp eq) (v 3 2) (i 3)) (join rightSemi (filter (bin and (bin (cmp le) (v 2 2) (i 1)) (bin or (test isNotTrue (bool false)) (bin or (bin and (bool false) (bin (cmp ge) (v 2 1) (i 0))) (fn 0 0 2 (econs (v 2 2) (econs (bool true) enil)))))) (join rightAnti (scan 1 (fd 0 101 1 true ∷ fd 0 102 1 true ∷ []) []) (scan 1 (fd 2 1 1 true ∷ fd 2 2 1 true ∷ []) []) [] (some (bin (cmp le) (i 2) (v 2 1))))) (union (pcons (join left (scan 3 (fd 3 1 2 true ∷ fd 3 2 1 false ∷ []) []) (scan 1 (fd 4 1 1 true ∷ fd 4 2 1 false ∷ []) []) (pr (v 3 2) (v 4 1) ∷ pr (v 3 2) (v 4 1) ∷ []) none) (pcons (project (en 0 104 (test isNull (v 0 103)) ∷ en 0 105 (fn 2 0 1 (econs (bool false) (econs (nul 1) enil))) ∷ en 0 106 (v 0 103) ∷ en 0 107 (nul 1) ∷ []) (window (wn 0 103 count (i 0) [] ∷ wn 6 1 max (v 5 2) [] ∷ []) (scan 1 (fd 5 1 1 false ∷ fd 5 2 1 false ∷ []) []))) (pcons (project (en 0 108 (bool false) ∷ en 0 109 (nul 1) ∷ en 0 110 (i 0) ∷ en 0 111 (fn 1 0 1 (econs (bool false) enil)) ∷ []) (limit 0 0 (scan 5 [] ((neg (inlist true (i 1) (econs (nul 1) enil))) ∷ (fn 2 0 2 (econs (bool true) (econs (bool false) enil))) ∷ [])))) pnil)))) (pr (v 2 2) (v 3 2) ∷ []) (some (bin (cmp lt) (v 2 1) (v 4 2))))) ≡ passed 17 8 1 (join rightSemi (join rightAnti (scan 1 (fd 0 101 1 true ∷ fd 0 102 1 true ∷ []) []) (scan 1 (fd 2 1 1 true ∷ fd 2 2 1 true ∷ []) ((bin (cmp le) (v 2 2) (i 1)) ∷ (bin or (test isNotTrue (bool false)) (bin or (bin and (bool false) (bin (cmp ge) (v 2 1) (i 0))) (fn 0 0 2 (econs (v 2 2) (econs (bool true) enil))))) ∷ [])) [] (some (bin (cmp le) (i 2) (v 2 1)))) (union (pcons (join left (filter (bin (cmp eq) (v 3 2) (i 3)) (scan 3 (fd 3 1 2 true ∷ fd 3 2 1 false ∷ []) [])) (scan 1 (fd 4 1 1 true ∷ fd 4 2 1 false ∷ []) []) (pr (v 3 2) (v 4 1) ∷ pr (v 3 2) (v 4 1) ∷ []) none) (pcons (project (en 0 104 (test isNull (v 0 103)) ∷ en 0 105 (fn 2 0 1 (econs (bool false) (econs (nul 1) enil))) ∷ en 0 106 (v 0 103) ∷ en 0 107 (nul 1) ∷ []) (window (wn 0 103 count (i 0) [] ∷ wn 6 1 max (v 5 2) [] ∷ []) (filter (bin (cmp eq) (fn 2 0 1 (econs (bool false) (econs (nul 1) enil))) (i 3)) (scan 1 (fd 5 1 1 false ∷ fd 5 2 1 false ∷ []) [])))) (pcons (project (en 0 108 (bool false) ∷ en 0 109 (nul 1) ∷ en 0 110 (i 0) ∷ en 0 111 (fn 1 0 1 (econs (bool false) enil)) ∷ []) (filter (bin (cmp eq) (nul 1) (i 3)) (limit 0 0 (scan 5 [] ((neg (inlist true (i 1) (econs (nul 1) enil))) ∷ (fn 2 0 2 (econs (bool true) (econs (bool false) enil))) ∷ []))))) pnil)))) (pr (v 2 2) (v 3 2) ∷ []) (some (bin (cmp lt) (v 2 1) (v 4 2))))
+unfolding walked
+w9 = refl
+
+c10 : rewriteAt 0 (filter (bin and (fn 2 0 2 (econs (v 0 101) enil)) (fn 0 2 2 (econs (bool true) (econs (i 2) enil)))) (aggregate (en 0 101 (i 0) ∷ []) (ag 4 2 min (i 0) ∷ []) (join leftSemi (scan 2 (fd 2 1 1 false ∷ fd 2 2 1 false ∷ fd 2 3 2 false ∷ []) ((v 2 3) ∷ [])) (scan 4 (fd 3 1 1 true ∷ []) []) (pr (v 2 2) (v 3 1) ∷ pr (v 2 1) (v 3 1) ∷ []) none))) ≡ granted true (aggregate (en 0 101 (i 0) ∷ []) (ag 4 2 min (i 0) ∷ []) (filter (bin and (fn 2 0 2 (econs (i 0) enil)) (fn 0 2 2 (econs (bool true) (econs (i 2) enil)))) (join leftSemi (scan 2 (fd 2 1 1 false ∷ fd 2 2 1 false ∷ fd 2 3 2 false ∷ []) ((v 2 3) ∷ [])) (scan 4 (fd 3 1 1 true ∷ []) []) (pr (v 2 2) (v 3 1) ∷ pr (v 2 1) (v 3 1) ∷ []) none)))
+unfolding opened
+c10 = refl
+
+c11 : pass 3 (filter (bin and (bool true) (inlist true (v 5 1) (econs (v 2 2) enil))) (window (wn 4 2 max (v 2 1) (nm 2 2 ∷ nm 2 1 ∷ []) ∷ wn 5 1 count (v 2 1) (nm 2 1 ∷ []) ∷ []) (alias 2 (scan 2 (fd 3 1 1 false ∷ fd 3 2 1 false ∷ fd 3 3 2 false ∷ []) [])))) ≡ passed 3 2 0 (filter (inlist true (v 5 1) (econs (v 2 2) enil)) (window (wn 4 2 max (v 2 1) (nm 2 2 ∷ nm 2 1 ∷ []) ∷ wn 5 1 count (v 2 1) (nm 2 1 ∷ []) ∷ []) (alias 2 (filter (bool true) (scan 2 (fd 3 1 1 false ∷ fd 3 2 1 false ∷ fd 3 3 2 false ∷ []) [])))))
+unfolding opened
+c11 = refl
+
+w11 : pass-by-children 3 (filter (bin and (bool true) (inlist true (v 5 1) (econs (v 2 2) enil))) (window (wn 4 2 max (v 2 1) (nm 2 2 ∷ nm 2 1 ∷ []) ∷ wn 5 1 count (v 2 1) (nm 2 1 ∷ []) ∷ []) (alias 2 (scan 2 (fd 3 1 1 false ∷ fd 3 2 1 false ∷ fd 3 3 2 false ∷ []) [])))) ≡ passed 3 2 0 (filter (inlist true (v 5 1) (econs (v 2 2) enil)) (window (wn 4 2 max (v 2 1) (nm 2 2 ∷ nm 2 1 ∷ []) ∷ wn 5 1 count (v 2 1) (nm 2 1 ∷ []) ∷ []) (alias 2 (filter (bool true) (scan 2 (fd 3 1 1 false ∷ fd 3 2 1 false ∷ fd 3 3 2 false ∷ []) [])))))
+unfolding walked
+w11 = refl
+
+c12 : pass 10000 (project (en 0 101 (v 2 1) ∷ en 0 102 (inlist true (v 2 1) (econs (v 2 1) enil)) ∷ []) (scan 4 (fd 2 1 1 false ∷ []) [])) ≡ passed 2 0 1 (project (en 0 101 (v 2 1) ∷ en 0 102 (inlist true (v 2 1) (econs (v 2 1) enil)) ∷ []) (scan 4 (fd 2 1 1 false ∷ []) []))
+unfolding opened
+c12 = refl
+
+w12 : pass-by-children 10000 (project (en 0 101 (v 2 1) ∷ en 0 102 (inlist true (v 2 1) (econs (v 2 1) enil)) ∷ []) (scan 4 (fd 2 1 1 false ∷ []) [])) ≡ passed 2 0 1 (project (en 0 101 (v 2 1) ∷ en 0 102 (inlist true (v 2 1) (econs (v 2 1) enil)) ∷ []) (scan 4 (fd 2 1 1 false ∷ []) []))
+unfolding walked
+w12 = refl
+
+c13 : rewriteAt 0 (filter (bool true) (aggregate [] (ag 0 101 max (v 2 2) ∷ []) (filter (bin and (bin (cmp le) (v 2 1) (nul 1)) (inlist true (fn 1 0 1 enil) (econs (v 2 2) (econs (v 2 2) enil)))) (scan 1 (fd 2 1 1 true ∷ fd 2 2 1 true ∷ []) [])))) ≡ granted false (filter (bool true) (aggregate [] (ag 0 101 max (v 2 2) ∷ []) (filter (bin and (bin (cmp le) (v 2 1) (nul 1)) (inlist true (fn 1 0 1 enil) (econs (v 2 2) (econs (v 2 2) enil)))) (scan 1 (fd 2 1 1 true ∷ fd 2 2 1 true ∷ []) []))))
+unfolding opened
+c13 = refl
+
+c14 : pass 10000 (project (en 0 103 (bool true) ∷ en 0 101 (v 0 101) ∷ []) (aggregate [] (ag 0 101 count (v 2 1) ∷ ag 0 102 max (v 2 2) ∷ []) (window (wn 3 2 min (i 2) (nm 2 2 ∷ []) ∷ []) (scan 2 (fd 2 1 1 true ∷ fd 2 2 1 true ∷ fd 2 3 2 true ∷ []) [])))) ≡ passed 4 0 1 (project (en 0 103 (bool true) ∷ en 0 101 (v 0 101) ∷ []) (aggregate [] (ag 0 101 count (v 2 1) ∷ ag 0 102 max (v 2 2) ∷ []) (window (wn 3 2 min (i 2) (nm 2 2 ∷ []) ∷ []) (scan 2 (fd 2 1 1 true ∷ fd 2 2 1 true ∷ fd 2 3 2 true ∷ []) []))))
+unfolding opened
+c14 = refl
+
+w14 : pass-by-children 10000 (project (en 0 103 (bool true) ∷ en 0 101 (v 0 101) ∷ []) (aggregate [] (ag 0 101 count (v 2 1) ∷ ag 0 102 max (v 2 2) ∷ []) (window (wn 3 2 min (i 2) (nm 2 2 ∷ []) ∷ []) (scan 2 (fd 2 1 1 true ∷ fd 2 2 1 true ∷ fd 2 3 2 true ∷ []) [])))) ≡ passed 4 0 1 (project (en 0 103 (bool true) ∷ en 0 101 (v 0 101) ∷ []) (aggregate [] (ag 0 101 count (v 2 1) ∷ ag 0 102 max (v 2 2) ∷ []) (window (wn 3 2 min (i 2) (nm 2 2 ∷ []) ∷ []) (scan 2 (fd 2 1 1 true ∷ fd 2 2 1 true ∷ fd 2 3 2 true ∷ []) []))))
+unfolding walked
+w14 = refl
+
+c15 : rewriteAt 0 (filter (bin and (neg (fn 1 0 2 (econs (v 2 1) enil))) (bin (cmp ge) (v 2 1) (nul 1))) (join right (scan 5 [] ((bin (cmp lt) (i 0) (i 1)) ∷ (bin (cmp lt) (i 0) (i 1)) ∷ [])) (scan 4 (fd 2 1 1 false ∷ []) []) [] none)) ≡ granted true (join right (scan 5 [] ((bin (cmp lt) (i 0) (i 1)) ∷ (bin (cmp lt) (i 0) (i 1)) ∷ [])) (filter (bin and (bin (cmp ge) (v 2 1) (nul 1)) (neg (fn 1 0 2 (econs (v 2 1) enil)))) (scan 4 (fd 2 1 1 false ∷ []) [])) [] none)
+unfolding opened
+c15 = refl
+
+c16 : pass 10000 (filter (bin and (bin or (bin (cmp lt) (i 2) (i 3)) (bin and (bin and (inlist false (fn 0 0 1 enil) (econs (v 2 2) (econs (v 2 2) enil))) (fn 0 0 2 (econs (i 0) (econs (fn 2 0 2 (econs (bool false) enil)) enil)))) (fn 2 0 2 (econs (v 2 3) enil)))) (v 2 3)) (join left (filter (bin and (bin (cmp le) (i 1) (v 2 1)) (bin or (fn 1 0 2 enil) (bin and (fn 2 0 2 (econs (v 2 3) enil)) (bin (cmp eq) (v 2 2) (i 1))))) (scan 2 (fd 2 1 1 false ∷ fd 2 2 1 false ∷ fd 2 3 2 false ∷ []) ((bin (cmp ge) (i 3) (i 3)) ∷ (bin (cmp le) (i 1) (v 2 1)) ∷ []))) (filter (fn 0 0 2 (econs (i 1) (econs (i 1) enil))) (scan 5 [] [])) [] (some (bin and (bin (cmp le) (fn 0 0 1 (econs (v 2 1) enil)) (v 2 1)) (bin (cmp gt) (fn 1 0 2 enil) (fn 1 0 2 enil)))))) ≡ passed 5 1 1 (join left (filter (bin and (bin and (bin and (v 2 3) (bin (cmp le) (i 1) (v 2 1))) (bin or (fn 1 0 2 enil) (bin and (fn 2 0 2 (econs (v 2 3) enil)) (bin (cmp eq) (v 2 2) (i 1))))) (bin or (bin (cmp lt) (i 2) (i 3)) (bin and (bin and (inlist false (fn 0 0 1 enil) (econs (v 2 2) (econs (v 2 2) enil))) (fn 0 0 2 (econs (i 0) (econs (fn 2 0 2 (econs (bool false) enil)) enil)))) (fn 2 0 2 (econs (v 2 3) enil))))) (scan 2 (fd 2 1 1 false ∷ fd 2 2 1 false ∷ fd 2 3 2 false ∷ []) ((bin (cmp ge) (i 3) (i 3)) ∷ (bin (cmp le) (i 1) (v 2 1)) ∷ []))) (filter (bin and (fn 0 0 2 (econs (i 1) (econs (i 1) enil))) (bin (cmp gt) (fn 1 0 2 enil) (fn 1 0 2 enil))) (scan 5 [] [])) [] (some (bin (cmp le) (fn 0 0 1 (econs (v 2 1) enil)) (v 2 1))))
+unfolding opened
+c16 = refl
+
+w16 : pass-by-children 10000 (filter (bin and (bin or (bin (cmp lt) (i 2) (i 3)) (bin and (bin and (inlist false (fn 0 0 1 enil) (econs (v 2 2) (econs (v 2 2) enil))) (fn 0 0 2 (econs (i 0) (econs (fn 2 0 2 (econs (bool false) enil)) enil)))) (fn 2 0 2 (econs (v 2 3) enil)))) (v 2 3)) (join left (filter (bin and (bin (cmp le) (i 1) (v 2 1)) (bin or (fn 1 0 2 enil) (bin and (fn 2 0 2 (econs (v 2 3) enil)) (bin (cmp eq) (v 2 2) (i 1))))) (scan 2 (fd 2 1 1 false ∷ fd 2 2 1 false ∷ fd 2 3 2 false ∷ []) ((bin (cmp ge) (i 3) (i 3)) ∷ (bin (cmp le) (i 1) (v 2 1)) ∷ []))) (filter (fn 0 0 2 (econs (i 1) (econs (i 1) enil))) (scan 5 [] [])) [] (some (bin and (bin (cmp le) (fn 0 0 1 (econs (v 2 1) enil)) (v 2 1)) (bin (cmp gt) (fn 1 0 2 enil) (fn 1 0 2 enil)))))) ≡ passed 5 1 1 (join left (filter (bin and (bin and (bin and (v 2 3) (bin (cmp le) (i 1) (v 2 1))) (bin or (fn 1 0 2 enil) (bin and (fn 2 0 2 (econs (v 2 3) enil)) (bin (cmp eq) (v 2 2) (i 1))))) (bin or (bin (cmp lt) (i 2) (i 3)) (bin and (bin and (inlist false (fn 0 0 1 enil) (econs (v 2 2) (econs (v 2 2) enil))) (fn 0 0 2 (econs (i 0) (econs (fn 2 0 2 (econs (bool false) enil)) enil)))) (fn 2 0 2 (econs (v 2 3) enil))))) (scan 2 (fd 2 1 1 false ∷ fd 2 2 1 false ∷ fd 2 3 2 false ∷ []) ((bin (cmp ge) (i 3) (i 3)) ∷ (bin (cmp le) (i 1) (v 2 1)) ∷ []))) (filter (bin and (fn 0 0 2 (econs (i 1) (econs (i 1) enil))) (bin (cmp gt) (fn 1 0 2 enil) (fn 1 0 2 enil))) (scan 5 [] [])) [] (some (bin (cmp le) (fn 0 0 1 (econs (v 2 1) enil)) (v 2 1))))
+unfolding walked
+w16 = refl
+
+c17 : rewriteAt 0 (filter (neg (bool false)) (sort none [] (limit 2 0 (filter (bin and (bool false) (bool false)) (scan 5 [] []))))) ≡ granted true (sort none [] (filter (neg (bool false)) (limit 2 0 (filter (bin and (bool false) (bool false)) (scan 5 [] [])))))
+unfolding opened
+c17 = refl
+
+c18 : rewriteAt 24 (join inner (filter (bin and (bin or (bin and (bin (cmp lt) (v 2 1) (fn 1 0 1 enil)) (bin (cmp lt) (v 2 2) (v 2 2))) (test isTrue (bool true))) (bool true)) (join leftSemi (scan 1 (fd 2 1 1 false ∷ fd 2 2 1 false ∷ []) []) (scan 1 (fd 3 1 1 false ∷ fd 3 2 1 false ∷ []) []) [] (some (bin (cmp lt) (v 3 2) (i 2))))) (window (wn 0 101 min (i 3) [] ∷ wn 5 1 max (v 4 2) (nm 4 1 ∷ nm 4 2 ∷ []) ∷ []) (filter (bin and (neg (test isNotNull (v 4 2))) (test isTrue (bool true))) (scan 1 (fd 4 1 1 true ∷ fd 4 2 1 true ∷ []) []))) (pr (v 2 2) (v 5 1) ∷ []) (some (bin and (bin (cmp lt) (v 2 1) (fn 1 0 1 enil)) (bin or (bin and (bin (cmp lt) (v 2 1) (fn 1 0 1 enil)) (bin (cmp lt) (v 2 2) (v 2 2))) (test isTrue (bool true)))))) ≡ granted false (join inner (filter (bin and (bin or (bin and (bin (cmp lt) (v 2 1) (fn 1 0 1 enil)) (bin (cmp lt) (v 2 2) (v 2 2))) (test isTrue (bool true))) (bool true)) (join leftSemi (scan 1 (fd 2 1 1 false ∷ fd 2 2 1 false ∷ []) []) (scan 1 (fd 3 1 1 false ∷ fd 3 2 1 false ∷ []) []) [] (some (bin (cmp lt) (v 3 2) (i 2))))) (window (wn 0 101 min (i 3) [] ∷ wn 5 1 max (v 4 2) (nm 4 1 ∷ nm 4 2 ∷ []) ∷ []) (filter (bin and (neg (test isNotNull (v 4 2))) (test isTrue (bool true))) (scan 1 (fd 4 1 1 true ∷ fd 4 2 1 true ∷ []) []))) (pr (v 2 2) (v 5 1) ∷ []) (some (bin and (bin (cmp lt) (v 2 1) (fn 1 0 1 enil)) (bin or (bin and (bin (cmp lt) (v 2 1) (fn 1 0 1 enil)) (bin (cmp lt) (v 2 2) (v 2 2))) (test isTrue (bool true))))))
+unfolding opened
+c18 = refl
+
+c19 : rewriteAt 0 (filter (test isNotTrue (v 3 2)) (aggregate (en 3 2 (fn 2 0 2 enil) ∷ en 2 1 (v 2 1) ∷ []) (ag 0 101 count (v 2 1) ∷ ag 0 102 max (v 2 2) ∷ []) (scan 1 (fd 2 1 1 false ∷ fd 2 2 1 false ∷ []) []))) ≡ granted true (aggregate (en 3 2 (fn 2 0 2 enil) ∷ en 2 1 (v 2 1) ∷ []) (ag 0 101 count (v 2 1) ∷ ag 0 102 max (v 2 2) ∷ []) (filter (test isNotTrue (fn 2 0 2 enil)) (scan 1 (fd 2 1 1 false ∷ fd 2 2 1 false ∷ []) [])))
+unfolding opened
+c19 = refl
+
+c20 : rewriteAt 6 (filter (test isNotTrue (bool false)) (aggregate [] (ag 4 2 max (v 2 2) ∷ []) (join inner (filter (bool true) (scan 3 (fd 2 1 2 true ∷ fd 2 2 1 true ∷ []) [])) (window (wn 0 101 min (v 3 2) (nm 3 1 ∷ []) ∷ wn 0 102 max (i 3) (nm 3 2 ∷ []) ∷ []) (scan 3 (fd 3 1 2 true ∷ fd 3 2 1 false ∷ []) ((bool false) ∷ []))) (pr (v 2 2) (v 0 102) ∷ []) (some (bin and (test isUnknown (fn 2 0 2 enil)) (fn 2 0 2 enil)))))) ≡ granted true (filter (test isNotTrue (bool false)) (aggregate [] (ag 4 2 max (v 2 2) ∷ []) (join inner (filter (bin and (test isUnknown (fn 2 0 2 enil)) (fn 2 0 2 enil)) (filter (bool true) (scan 3 (fd 2 1 2 true ∷ fd 2 2 1 true ∷ []) []))) (window (wn 0 101 min (v 3 2) (nm 3 1 ∷ []) ∷ wn 0 102 max (i 3) (nm 3 2 ∷ []) ∷ []) (scan 3 (fd 3 1 2 true ∷ fd 3 2 1 false ∷ []) ((bool false) ∷ []))) (pr (v 2 2) (v 0 102) ∷ []) none)))
+unfolding opened
+c20 = refl
+
+c21 : rewriteAt 0 (filter (between false (v 3 2) (v 3 2) (v 3 2)) (join inner (join rightAnti (scan 4 (fd 2 1 1 true ∷ []) ((fn 2 2 2 (econs (nul 1) enil)) ∷ (bin or (bin and (bin and (fn 0 0 2 (econs (bool true) enil)) (bin (cmp le) (v 2 1) (i 2))) (fn 2 0 2 (econs (v 2 1) (econs (fn 0 2 2 (econs (v 2 1) (econs (bool false) enil))) enil)))) (fn 2 2 2 (econs (nul 1) enil))) ∷ [])) (scan 1 (fd 3 1 1 false ∷ fd 3 2 1 false ∷ []) []) (pr (v 2 1) (v 3 2) ∷ []) (some (bin and (bin (cmp ge) (v 3 1) (i 1)) (bin (cmp lt) (v 3 2) (i 1))))) (filter (bin and (neg (bin (cmp le) (bool true) (bool false))) (bool false)) (scan 5 [] [])) [] (some (bin and (bin (cmp le) (i 3) (v 3 2)) (inlist true (v 3 1) (econs (v 3 2) (econs (i 1) enil))))))) ≡ granted true (join inner (filter (bin and (bin and (between false (v 3 2) (v 3 2) (v 3 2)) (bin (cmp le) (i 3) (v 3 2))) (inlist true (v 3 1) (econs (v 3 2) (econs (i 1) enil)))) (join rightAnti (scan 4 (fd 2 1 1 true ∷ []) ((fn 2 2 2 (econs (nul 1) enil)) ∷ (bin or (bin and (bin and (fn 0 0 2 (econs (bool true) enil)) (bin (cmp le) (v 2 1) (i 2))) (fn 2 0 2 (econs (v 2 1) (econs (fn 0 2 2 (econs (v 2 1) (econs (bool false) enil))) enil)))) (fn 2 2 2 (econs (nul 1) enil))) ∷ [])) (scan 1 (fd 3 1 1 false ∷ fd 3 2 1 false ∷ []) []) (pr (v 2 1) (v 3 2) ∷ []) (some (bin and (bin (cmp ge) (v 3 1) (i 1)) (bin (cmp lt) (v 3 2) (i 1)))))) (filter (bin and (neg (bin (cmp le) (bool true) (bool false))) (bool false)) (scan 5 [] [])) [] none)
+unfolding opened
+c21 = refl
+
+c22 : pass 10000 (filter (inlist false (v 2 2) (econs (i 1) (econs (fn 1 0 1 enil) enil))) (distinct (filter (bin and (bin (cmp ne) (v 2 1) (i 3)) (bin (cmp ne) (v 2 1) (fn 0 0 1 enil))) (scan 1 (fd 2 1 1 false ∷ fd 2 2 1 true ∷ []) [])))) ≡ passed 3 2 1 (distinct (filter (bin and (bin (cmp ne) (v 2 1) (i 3)) (bin (cmp ne) (v 2 1) (fn 0 0 1 enil))) (scan 1 (fd 2 1 1 false ∷ fd 2 2 1 true ∷ []) ((inlist false (v 2 2) (econs (i 1) (econs (fn 1 0 1 enil) enil))) ∷ []))))
+unfolding opened
+c22 = refl
+
+w22 : pass-by-children 10000 (filter (inlist false (v 2 2) (econs (i 1) (econs (fn 1 0 1 enil) enil))) (distinct (filter (bin and (bin (cmp ne) (v 2 1) (i 3)) (bin (cmp ne) (v 2 1) (fn 0 0 1 enil))) (scan 1 (fd 2 1 1 false ∷ fd 2 2 1 true ∷ []) [])))) ≡ passed 3 2 1 (distinct (filter (bin and (bin (cmp ne) (v 2 1) (i 3)) (bin (cmp ne) (v 2 1) (fn 0 0 1 enil))) (scan 1 (fd 2 1 1 false ∷ fd 2 2 1 true ∷ []) ((inlist false (v 2 2) (econs (i 1) (econs (fn 1 0 1 enil) enil))) ∷ []))))
+unfolding walked
+w22 = refl
+
+c23 : rewriteAt 0 (aggregate (en 2 2 (i 1) ∷ en 2 1 (fn 2 0 2 enil) ∷ []) [] (filter (bin or (bin or (fn 1 2 2 (econs (v 2 2) (econs (v 2 1) enil))) (fn 0 0 2 (econs (bool false) enil))) (bin and (fn 0 0 2 (econs (v 2 2) enil)) (v 2 1))) (scan 3 (fd 2 1 2 false ∷ fd 2 2 1 false ∷ []) []))) ≡ granted false (aggregate (en 2 2 (i 1) ∷ en 2 1 (fn 2 0 2 enil) ∷ []) [] (filter (bin or (bin or (fn 1 2 2 (econs (v 2 2) (econs (v 2 1) enil))) (fn 0 0 2 (econs (bool false) enil))) (bin and (fn 0 0 2 (econs (v 2 2) enil)) (v 2 1))) (scan 3 (fd 2 1 2 false ∷ fd 2 2 1 false ∷ []) [])))
+unfolding opened
+c23 = refl
+
+c24 : pass 10000 (filter (bin or (bin and (bin and (bin (cmp ge) (bool false) (bool false)) (test isNotNull (v 2 1))) (fn 2 0 2 (econs (i 3) enil))) (inlist false (v 2 1) (econs (i 2) enil))) (join leftSemi (scan 4 (fd 2 1 1 true ∷ []) []) (scan 3 (fd 3 1 2 false ∷ fd 3 2 1 false ∷ []) []) (pr (v 2 1) (v 3 2) ∷ []) (some (bin (cmp le) (v 2 1) (i 1))))) ≡ passed 3 2 1 (join leftSemi (scan 4 (fd 2 1 1 true ∷ []) ((bin (cmp le) (v 2 1) (i 1)) ∷ (bin or (bin and (bin and (bin (cmp ge) (bool false) (bool false)) (test isNotNull (v 2 1))) (fn 2 0 2 (econs (i 3) enil))) (inlist false (v 2 1) (econs (i 2) enil))) ∷ [])) (scan 3 (fd 3 1 2 false ∷ fd 3 2 1 false ∷ []) []) (pr (v 2 1) (v 3 2) ∷ []) none)
+unfolding opened
+c24 = refl
+
+w24 : pass-by-children 10000 (filter (bin or (bin and (bin and (bin (cmp ge) (bool false) (bool false)) (test isNotNull (v 2 1))) (fn 2 0 2 (econs (i 3) enil))) (inlist false (v 2 1) (econs (i 2) enil))) (join leftSemi (scan 4 (fd 2 1 1 true ∷ []) []) (scan 3 (fd 3 1 2 false ∷ fd 3 2 1 false ∷ []) []) (pr (v 2 1) (v 3 2) ∷ []) (some (bin (cmp le) (v 2 1) (i 1))))) ≡ passed 3 2 1 (join leftSemi (scan 4 (fd 2 1 1 true ∷ []) ((bin (cmp le) (v 2 1) (i 1)) ∷ (bin or (bin and (bin and (bin (cmp ge) (bool false) (bool false)) (test isNotNull (v 2 1))) (fn 2 0 2 (econs (i 3) enil))) (inlist false (v 2 1) (econs (i 2) enil))) ∷ [])) (scan 3 (fd 3 1 2 false ∷ fd 3 2 1 false ∷ []) []) (pr (v 2 1) (v 3 2) ∷ []) none)
+unfolding walked
+w24 = refl
+
+c25 : pass 5 (join inner (sort none [] (filter (bin or (between false (v 2 2) (v 2 2) (v 2 2)) (bin (cmp lt) (v 2 1) (i 1))) (scan 2 (fd 2 1 1 true ∷ fd 2 2 1 true ∷ fd 2 3 2 true ∷ []) []))) (filter (bin and (fn 1 0 2 (econs (v 3 1) enil)) (bin (cmp ne) (v 3 2) (v 3 2))) (union (pcons (scan 2 (fd 3 1 1 true ∷ fd 3 2 1 true ∷ fd 3 3 2 true ∷ []) []) (pcons (project (en 0 101 (v 4 2) ∷ en 0 102 (i 0) ∷ en 5 3 (fn 0 2 2 (econs (nul 2) (econs (i 0) enil))) ∷ []) (scan 3 (fd 4 1 2 false ∷ fd 4 2 1 false ∷ []) [])) pnil)))) (pr (v 2 1) (v 3 2) ∷ []) (some (bool true))) ≡ passed 5 4 0 (join inner (sort none [] (filter (bool true) (scan 2 (fd 2 1 1 true ∷ fd 2 2 1 true ∷ fd 2 3 2 true ∷ []) ((bin or (between false (v 2 2) (v 2 2) (v 2 2)) (bin (cmp lt) (v 2 1) (i 1))) ∷ [])))) (union (pcons (filter (bin and (bin (cmp ne) (v 3 2) (v 3 2)) (fn 1 0 2 (econs (v 3 1) enil))) (scan 2 (fd 3 1 1 true ∷ fd 3 2 1 true ∷ fd 3 3 2 true ∷ []) [])) (pcons (filter (bin and (bin (cmp ne) (v 0 102) (v 0 102)) (fn 1 0 2 (econs (v 0 101) enil))) (project (en 0 101 (v 4 2) ∷ en 0 102 (i 0) ∷ en 5 3 (fn 0 2 2 (econs (nul 2) (econs (i 0) enil))) ∷ []) (scan 3 (fd 4 1 2 false ∷ fd 4 2 1 false ∷ []) []))) pnil))) (pr (v 2 1) (v 3 2) ∷ []) none)
+unfolding opened
+c25 = refl
+
+w25 : pass-by-children 5 (join inner (sort none [] (filter (bin or (between false (v 2 2) (v 2 2) (v 2 2)) (bin (cmp lt) (v 2 1) (i 1))) (scan 2 (fd 2 1 1 true ∷ fd 2 2 1 true ∷ fd 2 3 2 true ∷ []) []))) (filter (bin and (fn 1 0 2 (econs (v 3 1) enil)) (bin (cmp ne) (v 3 2) (v 3 2))) (union (pcons (scan 2 (fd 3 1 1 true ∷ fd 3 2 1 true ∷ fd 3 3 2 true ∷ []) []) (pcons (project (en 0 101 (v 4 2) ∷ en 0 102 (i 0) ∷ en 5 3 (fn 0 2 2 (econs (nul 2) (econs (i 0) enil))) ∷ []) (scan 3 (fd 4 1 2 false ∷ fd 4 2 1 false ∷ []) [])) pnil)))) (pr (v 2 1) (v 3 2) ∷ []) (some (bool true))) ≡ passed 5 4 0 (join inner (sort none [] (filter (bool true) (scan 2 (fd 2 1 1 true ∷ fd 2 2 1 true ∷ fd 2 3 2 true ∷ []) ((bin or (between false (v 2 2) (v 2 2) (v 2 2)) (bin (cmp lt) (v 2 1) (i 1))) ∷ [])))) (union (pcons (filter (bin and (bin (cmp ne) (v 3 2) (v 3 2)) (fn 1 0 2 (econs (v 3 1) enil))) (scan 2 (fd 3 1 1 true ∷ fd 3 2 1 true ∷ fd 3 3 2 true ∷ []) [])) (pcons (filter (bin and (bin (cmp ne) (v 0 102) (v 0 102)) (fn 1 0 2 (econs (v 0 101) enil))) (project (en 0 101 (v 4 2) ∷ en 0 102 (i 0) ∷ en 5 3 (fn 0 2 2 (econs (nul 2) (econs (i 0) enil))) ∷ []) (scan 3 (fd 4 1 2 false ∷ fd 4 2 1 false ∷ []) []))) pnil))) (pr (v 2 1) (v 3 2) ∷ []) none)
+unfolding walked
+w25 = refl
+
+c26 : rewriteAt 4 (filter (bin (cmp le) (i 2) (v 2 2)) (union (pcons (scan 1 (fd 2 1 1 false ∷ fd 2 2 1 true ∷ []) []) (pcons (scan 1 (fd 3 1 1 true ∷ fd 3 2 1 true ∷ []) []) (pcons (project (en 0 101 (i 3) ∷ en 5 3 (v 4 1) ∷ []) (scan 2 (fd 4 1 1 false ∷ fd 4 2 1 false ∷ fd 4 3 2 false ∷ []) [])) pnil))))) ≡ granted false (filter (bin (cmp le) (i 2) (v 2 2)) (union (pcons (scan 1 (fd 2 1 1 false ∷ fd 2 2 1 true ∷ []) []) (pcons (scan 1 (fd 3 1 1 true ∷ fd 3 2 1 true ∷ []) []) (pcons (project (en 0 101 (i 3) ∷ en 5 3 (v 4 1) ∷ []) (scan 2 (fd 4 1 1 false ∷ fd 4 2 1 false ∷ fd 4 3 2 false ∷ []) [])) pnil)))))
+unfolding opened
+c26 = refl
+
+c27 : pass 10000 (join inner (join left (scan 2 (fd 2 1 1 false ∷ fd 2 2 1 false ∷ fd 2 3 2 false ∷ []) []) (scan 4 (fd 3 1 1 true ∷ []) []) [] none) (filter (bin (cmp lt) (i 0) (i 0)) (scan 5 [] [])) [] none) ≡ passed 6 0 1 (join inner (join left (scan 2 (fd 2 1 1 false ∷ fd 2 2 1 false ∷ fd 2 3 2 false ∷ []) []) (scan 4 (fd 3 1 1 true ∷ []) []) [] none) (filter (bin (cmp lt) (i 0) (i 0)) (scan 5 [] [])) [] none)
+unfolding opened
+c27 = refl
+
+w27 : pass-by-children 10000 (join inner (join left (scan 2 (fd 2 1 1 false ∷ fd 2 2 1 false ∷ fd 2 3 2 false ∷ []) []) (scan 4 (fd 3 1 1 true ∷ []) []) [] none) (filter (bin (cmp lt) (i 0) (i 0)) (scan 5 [] [])) [] none) ≡ passed 6 0 1 (join inner (join left (scan 2 (fd 2 1 1 false ∷ fd 2 2 1 false ∷ fd 2 3 2 false ∷ []) []) (scan 4 (fd 3 1 1 true ∷ []) []) [] none) (filter (bin (cmp lt) (i 0) (i 0)) (scan 5 [] [])) [] none)
+unfolding walked
+w27 = refl
+
+c28 : pass 10000 (filter (bin and (bool true) (fn 1 0 2 enil)) (aggregate [] (ag 0 101 min (v 2 2) ∷ ag 3 2 max (v 2 2) ∷ []) (scan 3 (fd 2 1 2 false ∷ fd 2 2 1 false ∷ []) []))) ≡ passed 3 0 1 (filter (bin and (bool true) (fn 1 0 2 enil)) (aggregate [] (ag 0 101 min (v 2 2) ∷ ag 3 2 max (v 2 2) ∷ []) (scan 3 (fd 2 1 2 false ∷ fd 2 2 1 false ∷ []) [])))
+unfolding opened
+c28 = refl
+
+w28 : pass-by-children 10000 (filter (bin and (bool true) (fn 1 0 2 enil)) (aggregate [] (ag 0 101 min (v 2 2) ∷ ag 3 2 max (v 2 2) ∷ []) (scan 3 (fd 2 1 2 false ∷ fd 2 2 1 false ∷ []) []))) ≡ passed 3 0 1 (filter (bin and (bool true) (fn 1 0 2 enil)) (aggregate [] (ag 0 101 min (v 2 2) ∷ ag 3 2 max (v 2 2) ∷ []) (scan 3 (fd 2 1 2 false ∷ fd 2 2 1 false ∷ []) [])))
+unfolding walked
+w28 = refl
+
+c29 : pass 5 (filter (bin or (bin or (bin and (bin (cmp ge) (v 2 2) (i 1)) (bin (cmp gt) (v 2 2) (i 1))) (bin (cmp eq) (v 2 2) (i 3))) (bin (cmp ne) (v 2 2) (i 1))) (union (pcons (filter (bin or (bin and (bin (cmp gt) (i 1) (v 2 2)) (fn 1 0 2 (econs (v 2 2) (econs (v 2 1) enil)))) (between true (i 1) (v 2 2) (v 2 2))) (scan 3 (fd 2 1 2 true ∷ fd 2 2 1 true ∷ []) ((bin (cmp lt) (i 2) (v 2 2)) ∷ (test isUnknown (fn 2 0 2 enil)) ∷ []))) (pcons (project (en 0 101 (v 4 1) ∷ en 0 102 (v 3 2) ∷ []) (join inner (scan 1 (fd 3 1 1 true ∷ fd 3 2 1 true ∷ []) []) (scan 3 (fd 4 1 2 false ∷ fd 4 2 1 false ∷ []) []) (pr (fn 1 0 1 (econs (i 2) (econs (bool true) enil))) (v 4 2) ∷ pr (v 3 2) (v 4 2) ∷ []) (some (bin and (bin (cmp le) (i 0) (v 3 2)) (neg (fn 2 0 2 (econs (v 4 1) (econs (v 3 2) enil)))))))) pnil)))) ≡ passed 5 5 0 (union (pcons (scan 3 (fd 2 1 2 true ∷ fd 2 2 1 true ∷ []) ((bin (cmp lt) (i 2) (v 2 2)) ∷ (test isUnknown (fn 2 0 2 enil)) ∷ (bin or (bin or (bin and (bin (cmp ge) (v 2 2) (i 1)) (bin (cmp gt) (v 2 2) (i 1))) (bin (cmp eq) (v 2 2) (i 3))) (bin (cmp ne) (v 2 2) (i 1))) ∷ (bin or (bin and (bin (cmp gt) (i 1) (v 2 2)) (fn 1 0 2 (econs (v 2 2) (econs (v 2 1) enil)))) (between true (i 1) (v 2 2) (v 2 2))) ∷ [])) (pcons (project (en 0 101 (v 4 1) ∷ en 0 102 (v 3 2) ∷ []) (join inner (scan 1 (fd 3 1 1 true ∷ fd 3 2 1 true ∷ []) ((bin or (bin or (bin and (bin (cmp ge) (v 3 2) (i 1)) (bin (cmp gt) (v 3 2) (i 1))) (bin (cmp eq) (v 3 2) (i 3))) (bin (cmp ne) (v 3 2) (i 1))) ∷ (bin (cmp le) (i 0) (v 3 2)) ∷ [])) (filter (bin and (bin and (bin or (bin or (bin and (bin (cmp ge) (v 4 2) (i 1)) (bin (cmp gt) (v 4 2) (i 1))) (bin (cmp eq) (v 4 2) (i 3))) (bin (cmp ne) (v 4 2) (i 1))) (bin (cmp le) (i 0) (v 4 2))) (neg (fn 2 0 2 (econs (v 4 1) (econs (v 4 2) enil))))) (scan 3 (fd 4 1 2 false ∷ fd 4 2 1 false ∷ []) [])) (pr (fn 1 0 1 (econs (i 2) (econs (bool true) enil))) (v 4 2) ∷ pr (v 3 2) (v 4 2) ∷ []) (some (neg (fn 2 0 2 (econs (v 4 1) (econs (v 3 2) enil))))))) pnil)))
+unfolding opened
+c29 = refl
+
+w29 : pass-by-children 5 (filter (bin or (bin or (bin and (bin (cmp ge) (v 2 2) (i 1)) (bin (cmp gt) (v 2 2) (i 1))) (bin (cmp eq) (v 2 2) (i 3))) (bin (cmp ne) (v 2 2) (i 1))) (union (pcons (filter (bin or (bin and (bin (cmp gt) (i 1) (v 2 2)) (fn 1 0 2 (econs (v 2 2) (econs (v 2 1) enil)))) (between true (i 1) (v 2 2) (v 2 2))) (scan 3 (fd 2 1 2 true ∷ fd 2 2 1 true ∷ []) ((bin (cmp lt) (i 2) (v 2 2)) ∷ (test isUnknown (fn 2 0 2 enil)) ∷ []))) (pcons (project (en 0 101 (v 4 1) ∷ en 0 102 (v 3 2) ∷ []) (join inner (scan 1 (fd 3 1 1 true ∷ fd 3 2 1 true ∷ []) []) (scan 3 (fd 4 1 2 false ∷ fd 4 2 1 false ∷ []) []) (pr (fn 1 0 1 (econs (i 2) (econs (bool true) enil))) (v 4 2) ∷ pr (v 3 2) (v 4 2) ∷ []) (some (bin and (bin (cmp le) (i 0) (v 3 2)) (neg (fn 2 0 2 (econs (v 4 1) (econs (v 3 2) enil)))))))) pnil)))) ≡ passed 5 5 0 (union (pcons (scan 3 (fd 2 1 2 true ∷ fd 2 2 1 true ∷ []) ((bin (cmp lt) (i 2) (v 2 2)) ∷ (test isUnknown (fn 2 0 2 enil)) ∷ (bin or (bin or (bin and (bin (cmp ge) (v 2 2) (i 1)) (bin (cmp gt) (v 2 2) (i 1))) (bin (cmp eq) (v 2 2) (i 3))) (bin (cmp ne) (v 2 2) (i 1))) ∷ (bin or (bin and (bin (cmp gt) (i 1) (v 2 2)) (fn 1 0 2 (econs (v 2 2) (econs (v 2 1) enil)))) (between true (i 1) (v 2 2) (v 2 2))) ∷ [])) (pcons (project (en 0 101 (v 4 1) ∷ en 0 102 (v 3 2) ∷ []) (join inner (scan 1 (fd 3 1 1 true ∷ fd 3 2 1 true ∷ []) ((bin or (bin or (bin and (bin (cmp ge) (v 3 2) (i 1)) (bin (cmp gt) (v 3 2) (i 1))) (bin (cmp eq) (v 3 2) (i 3))) (bin (cmp ne) (v 3 2) (i 1))) ∷ (bin (cmp le) (i 0) (v 3 2)) ∷ [])) (filter (bin and (bin and (bin or (bin or (bin and (bin (cmp ge) (v 4 2) (i 1)) (bin (cmp gt) (v 4 2) (i 1))) (bin (cmp eq) (v 4 2) (i 3))) (bin (cmp ne) (v 4 2) (i 1))) (bin (cmp le) (i 0) (v 4 2))) (neg (fn 2 0 2 (econs (v 4 1) (econs (v 4 2) enil))))) (scan 3 (fd 4 1 2 false ∷ fd 4 2 1 false ∷ []) [])) (pr (fn 1 0 1 (econs (i 2) (econs (bool true) enil))) (v 4 2) ∷ pr (v 3 2) (v 4 2) ∷ []) (some (neg (fn 2 0 2 (econs (v 4 1) (econs (v 3 2) enil))))))) pnil)))
+unfolding walked
+w29 = refl
+
+c30 : rewriteAt 0 (repartition (scan 5 [] [])) ≡ granted false (repartition (scan 5 [] []))
+unfolding opened
+c30 = refl
+
+c31 : rewriteAt 0 (join right (scan 3 (fd 2 1 2 false ∷ fd 2 2 1 false ∷ []) ((between true (v 2 2) (v 2 2) (v 2 2)) ∷ [])) (scan 4 (fd 3 1 1 false ∷ []) []) (pr (v 2 2) (v 3 1) ∷ []) (some (bin (cmp lt) (v 3 1) (i 1)))) ≡ granted false (join right (scan 3 (fd 2 1 2 false ∷ fd 2 2 1 false ∷ []) ((between true (v 2 2) (v 2 2) (v 2 2)) ∷ [])) (scan 4 (fd 3 1 1 false ∷ []) []) (pr (v 2 2) (v 3 1) ∷ []) (some (bin (cmp lt) (v 3 1) (i 1))))
+unfolding opened
+c31 = refl
+
+c32 : pass 10000 (filter (bin and (bin (cmp lt) (i 1) (v 2 1)) (bin (cmp le) (v 2 2) (i 3))) (join inner (scan 4 (fd 0 101 1 true ∷ []) []) (scan 1 (fd 2 1 1 true ∷ fd 2 2 1 false ∷ []) []) (pr (v 0 101) (v 2 2) ∷ []) (some (bool true)))) ≡ passed 5 3 1 (join inner (filter (bool true) (scan 4 (fd 0 101 1 true ∷ []) ((bin (cmp le) (v 0 101) (i 3)) ∷ []))) (filter (bin (cmp le) (v 2 2) (i 3)) (scan 1 (fd 2 1 1 true ∷ fd 2 2 1 false ∷ []) ((bin (cmp lt) (i 1) (v 2 1)) ∷ []))) (pr (v 0 101) (v 2 2) ∷ []) none)
+unfolding opened
+c32 = refl
+
+w32 : pass-by-children 10000 (filter (bin and (bin (cmp lt) (i 1) (v 2 1)) (bin (cmp le) (v 2 2) (i 3))) (join inner (scan 4 (fd 0 101 1 true ∷ []) []) (scan 1 (fd 2 1 1 true ∷ fd 2 2 1 false ∷ []) []) (pr (v 0 101) (v 2 2) ∷ []) (some (bool true)))) ≡ passed 5 3 1 (join inner (filter (bool true) (scan 4 (fd 0 101 1 true ∷ []) ((bin (cmp le) (v 0 101) (i 3)) ∷ []))) (filter (bin (cmp le) (v 2 2) (i 3)) (scan 1 (fd 2 1 1 true ∷ fd 2 2 1 false ∷ []) ((bin (cmp lt) (i 1) (v 2 1)) ∷ []))) (pr (v 0 101) (v 2 2) ∷ []) none)
+unfolding walked
+w32 = refl
+
+c33 : pass 10000 (filter (bool true) (project (en 0 101 (i 1) ∷ en 2 1 (v 2 2) ∷ en 0 102 (v 2 1) ∷ []) (scan 3 (fd 2 1 2 false ∷ fd 2 2 1 false ∷ []) []))) ≡ passed 3 1 1 (project (en 0 101 (i 1) ∷ en 2 1 (v 2 2) ∷ en 0 102 (v 2 1) ∷ []) (filter (bool true) (scan 3 (fd 2 1 2 false ∷ fd 2 2 1 false ∷ []) [])))
+unfolding opened
+c33 = refl
+
+w33 : pass-by-children 10000 (filter (bool true) (project (en 0 101 (i 1) ∷ en 2 1 (v 2 2) ∷ en 0 102 (v 2 1) ∷ []) (scan 3 (fd 2 1 2 false ∷ fd 2 2 1 false ∷ []) []))) ≡ passed 3 1 1 (project (en 0 101 (i 1) ∷ en 2 1 (v 2 2) ∷ en 0 102 (v 2 1) ∷ []) (filter (bool true) (scan 3 (fd 2 1 2 false ∷ fd 2 2 1 false ∷ []) [])))
+unfolding walked
+w33 = refl
+
+c34 : pass 10000 (filter (bin (cmp lt) (i 1) (v 0 101)) (project (en 0 101 (i 1) ∷ []) (filter (inlist false (i 0) (econs (i 0) (econs (i 1) enil))) (scan 5 [] [])))) ≡ passed 3 1 1 (project (en 0 101 (i 1) ∷ []) (filter (bin and (inlist false (i 0) (econs (i 0) (econs (i 1) enil))) (bin (cmp lt) (i 1) (i 1))) (scan 5 [] [])))
+unfolding opened
+c34 = refl
+
+w34 : pass-by-children 10000 (filter (bin (cmp lt) (i 1) (v 0 101)) (project (en 0 101 (i 1) ∷ []) (filter (inlist false (i 0) (econs (i 0) (econs (i 1) enil))) (scan 5 [] [])))) ≡ passed 3 1 1 (project (en 0 101 (i 1) ∷ []) (filter (bin and (inlist false (i 0) (econs (i 0) (econs (i 1) enil))) (bin (cmp lt) (i 1) (i 1))) (scan 5 [] [])))
+unfolding walked
+w34 = refl
+
+c35 : rewriteAt 4 (join inner (scan 1 (fd 2 1 1 false ∷ fd 2 2 1 false ∷ []) []) (scan 3 (fd 3 1 2 false ∷ fd 3 2 1 false ∷ []) []) [] none) ≡ granted false (join inner (scan 1 (fd 2 1 1 false ∷ fd 2 2 1 false ∷ []) []) (scan 3 (fd 3 1 2 false ∷ fd 3 2 1 false ∷ []) []) [] none)
+unfolding opened
+c35 = refl
+
+c36 : rewriteAt 21 (filter (bin and (bin or (bin and (bool false) (fn 0 0 2 enil)) (bin or (bin and (fn 1 0 2 (econs (v 0 101) (econs (fn 2 0 2 enil) enil))) (bin (cmp ge) (v 0 101) (fn 0 0 1 enil))) (fn 1 2 2 (econs (v 0 101) (econs (nul 2) enil))))) (bool false)) (sort none (ky true (v 0 101) ∷ []) (filter (bin and (bool false) (inlist false (v 0 101) (econs (v 0 101) enil))) (aggregate (en 0 101 (fn 2 0 1 (econs (fn 1 0 2 (econs (nul 2) enil)) (econs (nul 2) enil))) ∷ []) [] (scan 4 (fd 2 1 1 false ∷ []) ((bin or (bin (cmp le) (v 2 1) (i 3)) (bin and (bin and (test isNotNull (v 2 1)) (bin (cmp ge) (v 2 1) (i 2))) (between true (i 2) (v 2 1) (i 3)))) ∷ (fn 0 2 2 (econs (bool true) (econs (i 3) enil))) ∷ [])))))) ≡ granted true (filter (bin and (bin or (bin and (bool false) (fn 0 0 2 enil)) (bin or (bin and (fn 1 0 2 (econs (v 0 101) (econs (fn 2 0 2 enil) enil))) (bin (cmp ge) (v 0 101) (fn 0 0 1 enil))) (fn 1 2 2 (econs (v 0 101) (econs (nul 2) enil))))) (bool false)) (sort none (ky true (v 0 101) ∷ []) (aggregate (en 0 101 (fn 2 0 1 (econs (fn 1 0 2 (econs (nul 2) enil)) (econs (nul 2) enil))) ∷ []) [] (filter (bin and (bool false) (inlist false (fn 2 0 1 (econs (fn 1 0 2 (econs (nul 2) enil)) (econs (nul 2) enil))) (econs (fn 2 0 1 (econs (fn 1 0 2 (econs (nul 2) enil)) (econs (nul 2) enil))) enil))) (scan 4 (fd 2 1 1 false ∷ []) ((bin or (bin (cmp le) (v 2 1) (i 3)) (bin and (bin and (test isNotNull (v 2 1)) (bin (cmp ge) (v 2 1) (i 2))) (between true (i 2) (v 2 1) (i 3)))) ∷ (fn 0 2 2 (econs (bool true) (econs (i 3) enil))) ∷ []))))))
+unfolding opened
+c36 = refl
+
+c37 : rewriteAt 0 (filter (bin or (bin or (bin or (bin (cmp ge) (i 2) (v 2 101)) (bin (cmp lt) (bool false) (v 2 103))) (fn 1 0 2 (econs (v 2 103) enil))) (fn 0 0 2 (econs (v 2 102) enil))) (alias 2 (scan 2 (fd 0 101 1 true ∷ fd 0 102 1 true ∷ fd 0 103 2 true ∷ []) ((bin or (bin and (bin or (bin (cmp ge) (v 0 102) (nul 1)) (bin (cmp ge) (v 0 101) (i 2))) (bin (cmp le) (nul 2) (bool true))) (bin and (bin or (bin (cmp le) (v 0 102) (i 1)) (fn 2 0 2 (econs (v 0 102) (econs (v 0 103) enil)))) (fn 2 0 2 (econs (v 0 103) enil)))) ∷ (bin (cmp le) (i 2) (v 0 101)) ∷ [])))) ≡ granted true (alias 2 (filter (bin or (bin or (bin or (bin (cmp ge) (i 2) (v 0 101)) (bin (cmp lt) (bool false) (v 0 103))) (fn 1 0 2 (econs (v 0 103) enil))) (fn 0 0 2 (econs (v 0 102) enil))) (scan 2 (fd 0 101 1 true ∷ fd 0 102 1 true ∷ fd 0 103 2 true ∷ []) ((bin or (bin and (bin or (bin (cmp ge) (v 0 102) (nul 1)) (bin (cmp ge) (v 0 101) (i 2))) (bin (cmp le) (nul 2) (bool true))) (bin and (bin or (bin (cmp le) (v 0 102) (i 1)) (fn 2 0 2 (econs (v 0 102) (econs (v 0 103) enil)))) (fn 2 0 2 (econs (v 0 103) enil)))) ∷ (bin (cmp le) (i 2) (v 0 101)) ∷ []))))
+unfolding opened
+c37 = refl
+
+c38 : pass 10000 (scan 3 (fd 2 1 2 true ∷ fd 2 2 1 true ∷ []) []) ≡ passed 1 0 1 (scan 3 (fd 2 1 2 true ∷ fd 2 2 1 true ∷ []) [])
+unfolding opened
+c38 = refl
+
+w38 : pass-by-children 10000 (scan 3 (fd 2 1 2 true ∷ fd 2 2 1 true ∷ []) []) ≡ passed 1 0 1 (scan 3 (fd 2 1 2 true ∷ fd 2 2 1 true ∷ []) [])
+unfolding walked
+w38 = refl
+
+c39 : rewriteAt 0 (filter (bin and (bin (cmp eq) (v 2 1) (nul 1)) (neg (fn 2 0 2 (econs (v 2 2) (econs (v 2 3) enil))))) (union (pcons (alias 2 (filter (bin and (nul 2) (neg (fn 0 2 2 (econs (bool false) (econs (v 3 3) enil))))) (scan 2 (fd 3 1 1 true ∷ fd 3 2 1 true ∷ fd 3 3 2 true ∷ []) []))) (pcons (project (en 7 3 (v 5 2) ∷ en 0 101 (i 9223372036854775807) ∷ en 8 2 (bool false) ∷ []) (join rightAnti (sort (some 2) (ky false (i 1) ∷ []) (scan 3 (fd 4 1 2 false ∷ fd 4 2 1 false ∷ []) [])) (join left (scan 3 (fd 5 1 2 true ∷ fd 5 2 1 true ∷ []) []) (scan 3 (fd 6 1 2 true ∷ fd 6 2 1 false ∷ []) []) (pr (v 5 2) (v 6 2) ∷ pr (v 5 2) (v 6 2) ∷ []) (some (bin and (fn 1 0 2 (econs (fn 2 2 1 enil) (econs (v 5 1) enil))) (between false (v 5 2) (i 3) (v 5 2))))) [] none)) (pcons (project (en 0 102 (v 9 2) ∷ en 10 3 (i 2) ∷ en 0 103 (fn 2 2 2 (econs (nul 2) (econs (bool true) enil))) ∷ []) (filter (bin and (bin or (bin and (bin and (bin (cmp le) (i 3) (v 9 2)) (fn 2 0 2 (econs (v 9 2) enil))) (fn 0 0 2 (econs (bool false) (econs (v 9 2) enil)))) (bin (cmp ge) (v 9 2) (i 3))) (bool true)) (aggregate (en 9 2 (i 3) ∷ []) [] (scan 5 [] [])))) pnil))))) ≡ granted true (union (pcons (filter (bin and (bin (cmp eq) (v 2 1) (nul 1)) (neg (fn 2 0 2 (econs (v 2 2) (econs (v 2 3) enil))))) (alias 2 (filter (bin and (nul 2) (neg (fn 0 2 2 (econs (bool false) (econs (v 3 3) enil))))) (scan 2 (fd 3 1 1 true ∷ fd 3 2 1 true ∷ fd 3 3 2 true ∷ []) [])))) (pcons (filter (bin and (bin (cmp eq) (v 7 3) (nul 1)) (neg (fn 2 0 2 (econs (v 0 101) (econs (v 8 2) enil))))) (project (en 7 3 (v 5 2) ∷ en 0 101 (i 9223372036854775807) ∷ en 8 2 (bool false) ∷ []) (join rightAnti (sort (some 2) (ky false (i 1) ∷ []) (scan 3 (fd 4 1 2 false ∷ fd 4 2 1 false ∷ []) [])) (join left (scan 3 (fd 5 1 2 true ∷ fd 5 2 1 true ∷ []) []) (scan 3 (fd 6 1 2 true ∷ fd 6 2 1 false ∷ []) []) (pr (v 5 2) (v 6 2) ∷ pr (v 5 2) (v 6 2) ∷ []) (some (bin and (fn 1 0 2 (econs (fn 2 2 1 enil) (econs (v 5 1) enil))) (between false (v 5 2) (i 3) (v 5 2))))) [] none))) (pcons (filter (bin and (bin (cmp eq) (v 0 102) (nul 1)) (neg (fn 2 0 2 (econs (v 10 3) (econs (v 0 103) enil))))) (project (en 0 102 (v 9 2) ∷ en 10 3 (i 2) ∷ en 0 103 (fn 2 2 2 (econs (nul 2) (econs (bool true) enil))) ∷ []) (filter (bin and (bin or (bin and (bin and (bin (cmp le) (i 3) (v 9 2)) (fn 2 0 2 (econs (v 9 2) enil))) (fn 0 0 2 (econs (bool false) (econs (v 9 2) enil)))) (bin (cmp ge) (v 9 2) (i 3))) (bool true)) (aggregate (en 9 2 (i 3) ∷ []) [] (scan 5 [] []))))) pnil))))
+unfolding opened
+c39 = refl
+
+c40 : pass 10000 (filter (bin and (bin (cmp lt) (i 2) (v 3 1)) (between false (v 3 1) (fn 2 0 1 enil) (v 3 1))) (join rightAnti (scan 1 (fd 2 1 1 true ∷ fd 2 2 1 true ∷ []) ((bin (cmp le) (v 2 1) (nul 1)) ∷ (fn 1 0 2 (econs (v 2 2) (econs (i 1) enil))) ∷ [])) (scan 4 (fd 3 1 1 false ∷ []) ((between false (v 3 1) (fn 2 0 1 enil) (v 3 1)) ∷ [])) (pr (v 2 2) (v 3 1) ∷ pr (v 2 1) (v 3 1) ∷ []) none)) ≡ passed 4 1 1 (join rightAnti (scan 1 (fd 2 1 1 true ∷ fd 2 2 1 true ∷ []) ((bin (cmp le) (v 2 1) (nul 1)) ∷ (fn 1 0 2 (econs (v 2 2) (econs (i 1) enil))) ∷ [])) (filter (bin and (bin (cmp lt) (i 2) (v 3 1)) (between false (v 3 1) (fn 2 0 1 enil) (v 3 1))) (scan 4 (fd 3 1 1 false ∷ []) ((between false (v 3 1) (fn 2 0 1 enil) (v 3 1)) ∷ []))) (pr (v 2 2) (v 3 1) ∷ pr (v 2 1) (v 3 1) ∷ []) none)
+unfolding opened
+c40 = refl
+
+w40 : pass-by-children 10000 (filter (bin and (bin (cmp lt) (i 2) (v 3 1)) (between false (v 3 1) (fn 2 0 1 enil) (v 3 1))) (join rightAnti (scan 1 (fd 2 1 1 true ∷ fd 2 2 1 true ∷ []) ((bin (cmp le) (v 2 1) (nul 1)) ∷ (fn 1 0 2 (econs (v 2 2) (econs (i 1) enil))) ∷ [])) (scan 4 (fd 3 1 1 false ∷ []) ((between false (v 3 1) (fn 2 0 1 enil) (v 3 1)) ∷ [])) (pr (v 2 2) (v 3 1) ∷ pr (v 2 1) (v 3 1) ∷ []) none)) ≡ passed 4 1 1 (join rightAnti (scan 1 (fd 2 1 1 true ∷ fd 2 2 1 true ∷ []) ((bin (cmp le) (v 2 1) (nul 1)) ∷ (fn 1 0 2 (econs (v 2 2) (econs (i 1) enil))) ∷ [])) (filter (bin and (bin (cmp lt) (i 2) (v 3 1)) (between false (v 3 1) (fn 2 0 1 enil) (v 3 1))) (scan 4 (fd 3 1 1 false ∷ []) ((between false (v 3 1) (fn 2 0 1 enil) (v 3 1)) ∷ []))) (pr (v 2 2) (v 3 1) ∷ pr (v 2 1) (v 3 1) ∷ []) none)
+unfolding walked
+w40 = refl
+
+c41 : pass 10000 (filter (bin (cmp lt) (v 4 3) (v 6 2)) (join rightSemi (filter (bin and (bool true) (fn 2 0 2 (econs (v 2 1) (econs (i 2) enil)))) (filter (bin and (bool true) (bin (cmp eq) (v 2 1) (i 2))) (scan 1 (fd 2 1 1 true ∷ fd 2 2 1 false ∷ []) []))) (join full (project (en 4 3 (v 3 1) ∷ en 5 1 (v 3 2) ∷ en 6 2 (v 3 1) ∷ []) (scan 1 (fd 3 1 1 false ∷ fd 3 2 1 false ∷ []) [])) (union (pcons (scan 5 [] []) (pcons (scan 5 [] []) pnil))) [] none) (pr (v 2 1) (v 4 3) ∷ pr (v 2 2) (v 6 2) ∷ []) (some (bin and (bool true) (fn 1 0 2 (econs (v 2 1) (econs (bool true) enil))))))) ≡ passed 10 2 1 (join rightSemi (filter (bool true) (scan 1 (fd 2 1 1 true ∷ fd 2 2 1 false ∷ []) ((bin (cmp eq) (v 2 1) (i 2)) ∷ (fn 2 0 2 (econs (v 2 1) (econs (i 2) enil))) ∷ (fn 1 0 2 (econs (v 2 1) (econs (bool true) enil))) ∷ []))) (filter (bin (cmp lt) (v 4 3) (v 6 2)) (join full (project (en 4 3 (v 3 1) ∷ en 5 1 (v 3 2) ∷ en 6 2 (v 3 1) ∷ []) (scan 1 (fd 3 1 1 false ∷ fd 3 2 1 false ∷ []) [])) (union (pcons (scan 5 [] []) (pcons (scan 5 [] []) pnil))) [] none)) (pr (v 2 1) (v 4 3) ∷ pr (v 2 2) (v 6 2) ∷ []) none)
+unfolding opened
+c41 = refl
+
+w41 : pass-by-children 10000 (filter (bin (cmp lt) (v 4 3) (v 6 2)) (join rightSemi (filter (bin and (bool true) (fn 2 0 2 (econs (v 2 1) (econs (i 2) enil)))) (filter (bin and (bool true) (bin (cmp eq) (v 2 1) (i 2))) (scan 1 (fd 2 1 1 true ∷ fd 2 2 1 false ∷ []) []))) (join full (project (en 4 3 (v 3 1) ∷ en 5 1 (v 3 2) ∷ en 6 2 (v 3 1) ∷ []) (scan 1 (fd 3 1 1 false ∷ fd 3 2 1 false ∷ []) [])) (union (pcons (scan 5 [] []) (pcons (scan 5 [] []) pnil))) [] none) (pr (v 2 1) (v 4 3) ∷ pr (v 2 2) (v 6 2) ∷ []) (some (bin and (bool true) (fn 1 0 2 (econs (v 2 1) (econs (bool true) enil))))))) ≡ passed 10 2 1 (join rightSemi (filter (bool true) (scan 1 (fd 2 1 1 true ∷ fd 2 2 1 false ∷ []) ((bin (cmp eq) (v 2 1) (i 2)) ∷ (fn 2 0 2 (econs (v 2 1) (econs (i 2) enil))) ∷ (fn 1 0 2 (econs (v 2 1) (econs (bool true) enil))) ∷ []))) (filter (bin (cmp lt) (v 4 3) (v 6 2)) (join full (project (en 4 3 (v 3 1) ∷ en 5 1 (v 3 2) ∷ en 6 2 (v 3 1) ∷ []) (scan 1 (fd 3 1 1 false ∷ fd 3 2 1 false ∷ []) [])) (union (pcons (scan 5 [] []) (pcons (scan 5 [] []) pnil))) [] none)) (pr (v 2 1) (v 4 3) ∷ pr (v 2 2) (v 6 2) ∷ []) none)
+unfolding walked
+w41 = refl
+
+c42 : pass 10000 (filter (bin and (bool false) (bool true)) (alias 2 (project (en 4 2 (i 2) ∷ []) (scan 1 (fd 3 1 1 true ∷ fd 3 2 1 false ∷ []) [])))) ≡ passed 4 2 1 (alias 2 (project (en 4 2 (i 2) ∷ []) (filter (bin and (bool false) (bool true)) (scan 1 (fd 3 1 1 true ∷ fd 3 2 1 false ∷ []) []))))
+unfolding opened
+c42 = refl
+
+w42 : pass-by-children 10000 (filter (bin and (bool false) (bool true)) (alias 2 (project (en 4 2 (i 2) ∷ []) (scan 1 (fd 3 1 1 true ∷ fd 3 2 1 false ∷ []) [])))) ≡ passed 4 2 1 (alias 2 (project (en 4 2 (i 2) ∷ []) (filter (bin and (bool false) (bool true)) (scan 1 (fd 3 1 1 true ∷ fd 3 2 1 false ∷ []) []))))
+unfolding walked
+w42 = refl
+
+c43 : pass 10000 (join leftAnti (filter (bin and (bin (cmp lt) (i 1) (i 3)) (neg (bin (cmp lt) (i 1) (i 3)))) (scan 5 [] [])) (join right (scan 5 [] []) (scan 5 [] []) [] none) [] (some (neg (fn 1 2 2 (econs (i 0) enil))))) ≡ passed 7 2 1 (join leftAnti (filter (bin and (bin (cmp lt) (i 1) (i 3)) (neg (bin (cmp lt) (i 1) (i 3)))) (scan 5 [] [])) (join right (scan 5 [] []) (filter (neg (fn 1 2 2 (econs (i 0) enil))) (scan 5 [] [])) [] none) [] none)
+unfolding opened
+c43 = refl
+
+w43 : pass-by-children 10000 (join leftAnti (filter (bin and (bin (cmp lt) (i 1) (i 3)) (neg (bin (cmp lt) (i 1) (i 3)))) (scan 5 [] [])) (join right (scan 5 [] []) (scan 5 [] []) [] none) [] (some (neg (fn 1 2 2 (econs (i 0) enil))))) ≡ passed 7 2 1 (join leftAnti (filter (bin and (bin (cmp lt) (i 1) (i 3)) (neg (bin (cmp lt) (i 1) (i 3)))) (scan 5 [] [])) (join right (scan 5 [] []) (filter (neg (fn 1 2 2 (econs (i 0) enil))) (scan 5 [] [])) [] none) [] none)
+unfolding walked
+w43 = refl
+
+c44 : rewriteAt 12 (filter (bin and (bool true) (bin (cmp gt) (v 2 2) (i 2))) (project (en 0 102 (nul 1) ∷ en 2 2 (v 2 2) ∷ []) (join inner (scan 1 (fd 0 101 1 false ∷ fd 0 102 1 false ∷ []) ((fn 1 2 2 (econs (v 0 102) enil)) ∷ [])) (scan 1 (fd 2 1 1 true ∷ fd 2 2 1 true ∷ []) ((bool false) ∷ (bin or (inlist false (fn 2 0 1 (econs (v 2 1) (econs (bool true) enil))) (econs (num (negsuc 9223372036854775807)) (econs (i 1) enil))) (bin (cmp gt) (v 2 2) (i 2))) ∷ [])) [] (some (fn 0 2 2 (econs (v 2 2) enil)))))) ≡ granted false (filter (bin and (bool true) (bin (cmp gt) (v 2 2) (i 2))) (project (en 0 102 (nul 1) ∷ en 2 2 (v 2 2) ∷ []) (join inner (scan 1 (fd 0 101 1 false ∷ fd 0 102 1 false ∷ []) ((fn 1 2 2 (econs (v 0 102) enil)) ∷ [])) (scan 1 (fd 2 1 1 true ∷ fd 2 2 1 true ∷ []) ((bool false) ∷ (bin or (inlist false (fn 2 0 1 (econs (v 2 1) (econs (bool true) enil))) (econs (num (negsuc 9223372036854775807)) (econs (i 1) enil))) (bin (cmp gt) (v 2 2) (i 2))) ∷ [])) [] (some (fn 0 2 2 (econs (v 2 2) enil))))))
+unfolding opened
+c44 = refl
+
+c45 : pass 2 (filter (bin and (bin (cmp le) (v 2 1) (i 3)) (bin (cmp lt) (v 2 1) (v 2 1))) (scan 2 (fd 2 1 1 false ∷ fd 2 2 1 false ∷ fd 2 3 2 false ∷ []) ((v 2 3) ∷ (bool true) ∷ []))) ≡ passed 2 0 1 (filter (bin and (bin (cmp le) (v 2 1) (i 3)) (bin (cmp lt) (v 2 1) (v 2 1))) (scan 2 (fd 2 1 1 false ∷ fd 2 2 1 false ∷ fd 2 3 2 false ∷ []) ((v 2 3) ∷ (bool true) ∷ [])))
+unfolding opened
+c45 = refl
+
+w45 : pass-by-children 2 (filter (bin and (bin (cmp le) (v 2 1) (i 3)) (bin (cmp lt) (v 2 1) (v 2 1))) (scan 2 (fd 2 1 1 false ∷ fd 2 2 1 false ∷ fd 2 3 2 false ∷ []) ((v 2 3) ∷ (bool true) ∷ []))) ≡ passed 2 0 1 (filter (bin and (bin (cmp le) (v 2 1) (i 3)) (bin (cmp lt) (v 2 1) (v 2 1))) (scan 2 (fd 2 1 1 false ∷ fd 2 2 1 false ∷ fd 2 3 2 false ∷ []) ((v 2 3) ∷ (bool true) ∷ [])))
+unfolding walked
+w45 = refl
+
+c46 : rewriteAt 8 (filter (bin and (test isNotNull (v 3 1)) (bin (cmp lt) (i 3) (v 3 1))) (union (pcons (window (wn 3 1 max (i 2) [] ∷ wn 0 101 count (i 1) [] ∷ []) (scan 5 [] [])) (pcons (join leftAnti (scan 1 (fd 0 102 1 true ∷ fd 0 103 1 true ∷ []) []) (scan 1 (fd 4 1 1 false ∷ fd 4 2 1 false ∷ []) []) (pr (v 0 103) (v 4 2) ∷ []) none) (pcons (project (en 0 104 (i 3) ∷ en 0 105 (i 2) ∷ []) (filter (bin and (bin (cmp lt) (i 3) (v 5 1)) (inlist true (v 5 2) (econs (v 5 2) (econs (v 5 1) enil)))) (scan 2 (fd 5 1 1 true ∷ fd 5 2 1 false ∷ fd 5 3 2 true ∷ []) []))) pnil))))) ≡ granted false (filter (bin and (test isNotNull (v 3 1)) (bin (cmp lt) (i 3) (v 3 1))) (union (pcons (window (wn 3 1 max (i 2) [] ∷ wn 0 101 count (i 1) [] ∷ []) (scan 5 [] [])) (pcons (join leftAnti (scan 1 (fd 0 102 1 true ∷ fd 0 103 1 true ∷ []) []) (scan 1 (fd 4 1 1 false ∷ fd 4 2 1 false ∷ []) []) (pr (v 0 103) (v 4 2) ∷ []) none) (pcons (project (en 0 104 (i 3) ∷ en 0 105 (i 2) ∷ []) (filter (bin and (bin (cmp lt) (i 3) (v 5 1)) (inlist true (v 5 2) (econs (v 5 2) (econs (v 5 1) enil)))) (scan 2 (fd 5 1 1 true ∷ fd 5 2 1 false ∷ fd 5 3 2 true ∷ []) []))) pnil)))))
+unfolding opened
+c46 = refl
+
+c47 : pass 10000 (filter (bin and (bin (cmp lt) (nul 1) (v 2 2)) (bin or (bin or (bin and (bin (cmp lt) (i 0) (v 2 1)) (bin (cmp le) (v 2 1) (i 3))) (fn 1 0 2 enil)) (bin and (bin or (fn 1 2 2 (econs (bool true) (econs (bool true) enil))) (bool true)) (test isTrue (fn 1 0 2 enil))))) (limit 3 0 (scan 1 (fd 2 1 1 false ∷ fd 2 2 1 true ∷ []) ((bin (cmp ge) (v 2 2) (i 0)) ∷ (bin (cmp eq) (v 2 1) (i 2)) ∷ [])))) ≡ passed 3 0 1 (filter (bin and (bin (cmp lt) (nul 1) (v 2 2)) (bin or (bin or (bin and (bin (cmp lt) (i 0) (v 2 1)) (bin (cmp le) (v 2 1) (i 3))) (fn 1 0 2 enil)) (bin and (bin or (fn 1 2 2 (econs (bool true) (econs (bool true) enil))) (bool true)) (test isTrue (fn 1 0 2 enil))))) (limit 3 0 (scan 1 (fd 2 1 1 false ∷ fd 2 2 1 true ∷ []) ((bin (cmp ge) (v 2 2) (i 0)) ∷ (bin (cmp eq) (v 2 1) (i 2)) ∷ []))))
+unfolding opened
+c47 = refl
+
+w47 : pass-by-children 10000 (filter (bin and (bin (cmp lt) (nul 1) (v 2 2)) (bin or (bin or (bin and (bin (cmp lt) (i 0) (v 2 1)) (bin (cmp le) (v 2 1) (i 3))) (fn 1 0 2 enil)) (bin and (bin or (fn 1 2 2 (econs (bool true) (econs (bool true) enil))) (bool true)) (test isTrue (fn 1 0 2 enil))))) (limit 3 0 (scan 1 (fd 2 1 1 false ∷ fd 2 2 1 true ∷ []) ((bin (cmp ge) (v 2 2) (i 0)) ∷ (bin (cmp eq) (v 2 1) (i 2)) ∷ [])))) ≡ passed 3 0 1 (filter (bin and (bin (cmp lt) (nul 1) (v 2 2)) (bin or (bin or (bin and (bin (cmp lt) (i 0) (v 2 1)) (bin (cmp le) (v 2 1) (i 3))) (fn 1 0 2 enil)) (bin and (bin or (fn 1 2 2 (econs (bool true) (econs (bool true) enil))) (bool true)) (test isTrue (fn 1 0 2 enil))))) (limit 3 0 (scan 1 (fd 2 1 1 false ∷ fd 2 2 1 true ∷ []) ((bin (cmp ge) (v 2 2) (i 0)) ∷ (bin (cmp eq) (v 2 1) (i 2)) ∷ []))))
+unfolding walked
+w47 = refl
+
+c48 : pass 10000 (filter (fn 1 0 2 (econs (v 3 3) enil)) (aggregate (en 0 102 (fn 0 0 1 (econs (bool true) (econs (bool false) enil))) ∷ en 3 3 (bool false) ∷ []) (ag 0 103 max (v 0 101) ∷ ag 4 1 min (v 0 101) ∷ []) (project (en 0 101 (v 2 2) ∷ []) (filter (bin or (between false (i 2) (v 2 2) (v 2 2)) (fn 1 0 2 (econs (v 2 2) enil))) (scan 3 (fd 2 1 2 false ∷ fd 2 2 1 false ∷ []) []))))) ≡ passed 4 2 1 (aggregate (en 0 102 (fn 0 0 1 (econs (bool true) (econs (bool false) enil))) ∷ en 3 3 (bool false) ∷ []) (ag 0 103 max (v 0 101) ∷ ag 4 1 min (v 0 101) ∷ []) (project (en 0 101 (v 2 2) ∷ []) (filter (bin and (bin or (between false (i 2) (v 2 2) (v 2 2)) (fn 1 0 2 (econs (v 2 2) enil))) (fn 1 0 2 (econs (bool false) enil))) (scan 3 (fd 2 1 2 false ∷ fd 2 2 1 false ∷ []) []))))
+unfolding opened
+c48 = refl
+
+w48 : pass-by-children 10000 (filter (fn 1 0 2 (econs (v 3 3) enil)) (aggregate (en 0 102 (fn 0 0 1 (econs (bool true) (econs (bool false) enil))) ∷ en 3 3 (bool false) ∷ []) (ag 0 103 max (v 0 101) ∷ ag 4 1 min (v 0 101) ∷ []) (project (en 0 101 (v 2 2) ∷ []) (filter (bin or (between false (i 2) (v 2 2) (v 2 2)) (fn 1 0 2 (econs (v 2 2) enil))) (scan 3 (fd 2 1 2 false ∷ fd 2 2 1 false ∷ []) []))))) ≡ passed 4 2 1 (aggregate (en 0 102 (fn 0 0 1 (econs (bool true) (econs (bool false) enil))) ∷ en 3 3 (bool false) ∷ []) (ag 0 103 max (v 0 101) ∷ ag 4 1 min (v 0 101) ∷ []) (project (en 0 101 (v 2 2) ∷ []) (filter (bin and (bin or (between false (i 2) (v 2 2) (v 2 2)) (fn 1 0 2 (econs (v 2 2) enil))) (fn 1 0 2 (econs (bool false) enil))) (scan 3 (fd 2 1 2 false ∷ fd 2 2 1 false ∷ []) []))))
+unfolding walked
+w48 = refl
+
+c49 : pass 10000 (filter (bin and (bool false) (bin (cmp eq) (v 3 1) (i 0))) (join rightSemi (filter (bin and (bin (cmp le) (i 2) (v 2 2)) (bool false)) (scan 1 (fd 2 1 1 true ∷ fd 2 2 1 true ∷ []) [])) (window (wn 0 101 min (i 0) (nm 3 1 ∷ nm 3 2 ∷ []) ∷ wn 0 102 count (i 0) (nm 3 2 ∷ nm 3 2 ∷ []) ∷ []) (scan 1 (fd 3 1 1 true ∷ fd 3 2 1 true ∷ []) [])) (pr (v 2 2) (v 0 101) ∷ pr (v 2 1) (v 3 1) ∷ []) (some (bin and (neg (fn 2 2 2 (econs (bool false) enil))) (bin or (bin (cmp ge) (i 0) (v 0 102)) (bin or (bin or (fn 2 0 2 (econs (v 3 1) enil)) (neg (fn 2 2 2 (econs (bool false) enil)))) (fn 0 0 2 (econs (v 3 1) enil)))))))) ≡ passed 7 3 1 (join rightSemi (filter (bin and (bool false) (neg (fn 2 2 2 (econs (bool false) enil)))) (scan 1 (fd 2 1 1 true ∷ fd 2 2 1 true ∷ []) ((bin (cmp le) (i 2) (v 2 2)) ∷ []))) (filter (bin and (bin (cmp eq) (v 3 1) (i 0)) (bin or (bin (cmp ge) (i 0) (v 0 102)) (bin or (bin or (fn 2 0 2 (econs (v 3 1) enil)) (neg (fn 2 2 2 (econs (bool false) enil)))) (fn 0 0 2 (econs (v 3 1) enil))))) (window (wn 0 101 min (i 0) (nm 3 1 ∷ nm 3 2 ∷ []) ∷ wn 0 102 count (i 0) (nm 3 2 ∷ nm 3 2 ∷ []) ∷ []) (filter (bool false) (scan 1 (fd 3 1 1 true ∷ fd 3 2 1 true ∷ []) [])))) (pr (v 2 2) (v 0 101) ∷ pr (v 2 1) (v 3 1) ∷ []) none)
+unfolding opened
+c49 = refl
+
+w49 : pass-by-children 10000 (filter (bin and (bool false) (bin (cmp eq) (v 3 1) (i 0))) (join rightSemi (filter (bin and (bin (cmp le) (i 2) (v 2 2)) (bool false)) (scan 1 (fd 2 1 1 true ∷ fd 2 2 1 true ∷ []) [])) (window (wn 0 101 min (i 0) (nm 3 1 ∷ nm 3 2 ∷ []) ∷ wn 0 102 count (i 0) (nm 3 2 ∷ nm 3 2 ∷ []) ∷ []) (scan 1 (fd 3 1 1 true ∷ fd 3 2 1 true ∷ []) [])) (pr (v 2 2) (v 0 101) ∷ pr (v 2 1) (v 3 1) ∷ []) (some (bin and (neg (fn 2 2 2 (econs (bool false) enil))) (bin or (bin (cmp ge) (i 0) (v 0 102)) (bin or (bin or (fn 2 0 2 (econs (v 3 1) enil)) (neg (fn 2 2 2 (econs (bool false) enil)))) (fn 0 0 2 (econs (v 3 1) enil)))))))) ≡ passed 7 3 1 (join rightSemi (filter (bin and (bool false) (neg (fn 2 2 2 (econs (bool false) enil)))) (scan 1 (fd 2 1 1 true ∷ fd 2 2 1 true ∷ []) ((bin (cmp le) (i 2) (v 2 2)) ∷ []))) (filter (bin and (bin (cmp eq) (v 3 1) (i 0)) (bin or (bin (cmp ge) (i 0) (v 0 102)) (bin or (bin or (fn 2 0 2 (econs (v 3 1) enil)) (neg (fn 2 2 2 (econs (bool false) enil)))) (fn 0 0 2 (econs (v 3 1) enil))))) (window (wn 0 101 min (i 0) (nm 3 1 ∷ nm 3 2 ∷ []) ∷ wn 0 102 count (i 0) (nm 3 2 ∷ nm 3 2 ∷ []) ∷ []) (filter (bool false) (scan 1 (fd 3 1 1 true ∷ fd 3 2 1 true ∷ []) [])))) (pr (v 2 2) (v 0 101) ∷ pr (v 2 1) (v 3 1) ∷ []) none)
+unfolding walked
+w49 = refl
+
+c50 : pass 10000 (filter (inlist false (v 2 1) (econs (i 1) enil)) (alias 2 (limit 3 1 (scan 2 (fd 3 1 1 false ∷ fd 3 2 1 false ∷ fd 3 3 2 true ∷ []) [])))) ≡ passed 4 1 1 (alias 2 (filter (inlist false (v 3 1) (econs (i 1) enil)) (limit 3 1 (scan 2 (fd 3 1 1 false ∷ fd 3 2 1 false ∷ fd 3 3 2 true ∷ []) []))))
+unfolding opened
+c50 = refl
+
+w50 : pass-by-children 10000 (filter (inlist false (v 2 1) (econs (i 1) enil)) (alias 2 (limit 3 1 (scan 2 (fd 3 1 1 false ∷ fd 3 2 1 false ∷ fd 3 3 2 true ∷ []) [])))) ≡ passed 4 1 1 (alias 2 (filter (inlist false (v 3 1) (econs (i 1) enil)) (limit 3 1 (scan 2 (fd 3 1 1 false ∷ fd 3 2 1 false ∷ fd 3 3 2 true ∷ []) []))))
+unfolding walked
+w50 = refl
+
+c51 : rewriteAt 4 (filter (bin and (bool true) (bool true)) (union (pcons (scan 5 [] []) (pcons (scan 5 [] []) pnil)))) ≡ granted false (filter (bin and (bool true) (bool true)) (union (pcons (scan 5 [] []) (pcons (scan 5 [] []) pnil))))
+unfolding opened
+c51 = refl
+
+c52 : rewriteAt 0 (filter (bin and (between true (v 2 1) (v 2 1) (v 2 1)) (bin (cmp gt) (v 2 1) (nul 1))) (join inner (filter (bin and (fn 2 0 2 enil) (bin (cmp ge) (i 0) (v 2 1))) (scan 4 (fd 2 1 1 false ∷ []) ((fn 1 0 2 enil) ∷ []))) (sort none [] (scan 5 [] [])) (pr (v 2 1) (i 1) ∷ []) (some (bin and (bin (cmp ge) (v 2 1) (i 1)) (bin (cmp gt) (v 2 1) (nul 1)))))) ≡ granted true (join inner (filter (bin and (bin and (bin and (between true (v 2 1) (v 2 1) (v 2 1)) (bin (cmp gt) (v 2 1) (nul 1))) (bin (cmp ge) (v 2 1) (i 1))) (bin (cmp gt) (v 2 1) (nul 1))) (filter (bin and (fn 2 0 2 enil) (bin (cmp ge) (i 0) (v 2 1))) (scan 4 (fd 2 1 1 false ∷ []) ((fn 1 0 2 enil) ∷ [])))) (sort none [] (scan 5 [] [])) (pr (v 2 1) (i 1) ∷ []) none)
+unfolding opened
+c52 = refl
+
+c53 : pass 10000 (filter (bin (cmp ge) (i 0) (v 4 2)) (project (en 0 101 (inlist false (v 3 1) (econs (i 0) enil)) ∷ en 4 2 (nul 1) ∷ []) (distinct (join left (scan 3 (fd 2 1 2 false ∷ fd 2 2 1 false ∷ []) ((fn 0 0 2 (econs (v 2 2) (econs (v 2 2) enil))) ∷ [])) (scan 4 (fd 3 1 1 false ∷ []) ((bin (cmp lt) (nul 1) (v 3 1)) ∷ (bin (cmp lt) (nul 1) (v 3 1)) ∷ [])) [] (some (bin (cmp eq) (i 1) (v 2 2))))))) ≡ passed 6 3 1 (project (en 0 101 (inlist false (v 3 1) (econs (i 0) enil)) ∷ en 4 2 (nul 1) ∷ []) (distinct (join left (filter (bin (cmp ge) (i 0) (nul 1)) (scan 3 (fd 2 1 2 false ∷ fd 2 2 1 false ∷ []) ((fn 0 0 2 (econs (v 2 2) (econs (v 2 2) enil))) ∷ []))) (scan 4 (fd 3 1 1 false ∷ []) ((bin (cmp lt) (nul 1) (v 3 1)) ∷ (bin (cmp lt) (nul 1) (v 3 1)) ∷ [])) [] (some (bin (cmp eq) (i 1) (v 2 2))))))
+unfolding opened
+c53 = refl
+
+w53 : pass-by-children 10000 (filter (bin (cmp ge) (i 0) (v 4 2)) (project (en 0 101 (inlist false (v 3 1) (econs (i 0) enil)) ∷ en 4 2 (nul 1) ∷ []) (distinct (join left (scan 3 (fd 2 1 2 false ∷ fd 2 2 1 false ∷ []) ((fn 0 0 2 (econs (v 2 2) (econs (v 2 2) enil))) ∷ [])) (scan 4 (fd 3 1 1 false ∷ []) ((bin (cmp lt) (nul 1) (v 3 1)) ∷ (bin (cmp lt) (nul 1) (v 3 1)) ∷ [])) [] (some (bin (cmp eq) (i 1) (v 2 2))))))) ≡ passed 6 3 1 (project (en 0 101 (inlist false (v 3 1) (econs (i 0) enil)) ∷ en 4 2 (nul 1) ∷ []) (distinct (join left (filter (bin (cmp ge) (i 0) (nul 1)) (scan 3 (fd 2 1 2 false ∷ fd 2 2 1 false ∷ []) ((fn 0 0 2 (econs (v 2 2) (econs (v 2 2) enil))) ∷ []))) (scan 4 (fd 3 1 1 false ∷ []) ((bin (cmp lt) (nul 1) (v 3 1)) ∷ (bin (cmp lt) (nul 1) (v 3 1)) ∷ [])) [] (some (bin (cmp eq) (i 1) (v 2 2))))))
+unfolding walked
+w53 = refl
+
+c54 : pass 10000 (filter (bin and (between true (v 2 1) (i 2) (v 2 1)) (bin (cmp ne) (i 2) (v 2 2))) (join left (scan 3 (fd 0 101 2 false ∷ fd 0 102 1 true ∷ []) []) (scan 2 (fd 2 1 1 true ∷ fd 2 2 1 true ∷ fd 2 3 2 true ∷ []) []) [] (some (bin and (between true (v 2 1) (i 2) (v 2 1)) (between true (v 2 1) (i 2) (v 2 1)))))) ≡ passed 4 2 1 (filter (bin and (between true (v 2 1) (i 2) (v 2 1)) (bin (cmp ne) (i 2) (v 2 2))) (join left (scan 3 (fd 0 101 2 false ∷ fd 0 102 1 true ∷ []) []) (scan 2 (fd 2 1 1 true ∷ fd 2 2 1 true ∷ fd 2 3 2 true ∷ []) ((between true (v 2 1) (i 2) (v 2 1)) ∷ [])) [] none))
+unfolding opened
+c54 = refl
+
+w54 : pass-by-children 10000 (filter (bin and (between true (v 2 1) (i 2) (v 2 1)) (bin (cmp ne) (i 2) (v 2 2))) (join left (scan 3 (fd 0 101 2 false ∷ fd 0 102 1 true ∷ []) []) (scan 2 (fd 2 1 1 true ∷ fd 2 2 1 true ∷ fd 2 3 2 true ∷ []) []) [] (some (bin and (between true (v 2 1) (i 2) (v 2 1)) (between true (v 2 1) (i 2) (v 2 1)))))) ≡ passed 4 2 1 (filter (bin and (between true (v 2 1) (i 2) (v 2 1)) (bin (cmp ne) (i 2) (v 2 2))) (join left (scan 3 (fd 0 101 2 false ∷ fd 0 102 1 true ∷ []) []) (scan 2 (fd 2 1 1 true ∷ fd 2 2 1 true ∷ fd 2 3 2 true ∷ []) ((between true (v 2 1) (i 2) (v 2 1)) ∷ [])) [] none))
+unfolding walked
+w54 = refl
+
+c55 : pass 10000 (filter (bin (cmp le) (i 2) (i 0)) (scan 5 [] [])) ≡ passed 2 0 1 (filter (bin (cmp le) (i 2) (i 0)) (scan 5 [] []))
+unfolding opened
+c55 = refl
+
+w55 : pass-by-children 10000 (filter (bin (cmp le) (i 2) (i 0)) (scan 5 [] [])) ≡ passed 2 0 1 (filter (bin (cmp le) (i 2) (i 0)) (scan 5 [] []))
+unfolding walked
+w55 = refl
+
+c56 : rewriteAt 0 (join inner (aggregate (en 3 3 (v 2 2) ∷ en 0 101 (fn 0 0 1 (econs (bool true) enil)) ∷ []) (ag 0 102 count (v 2 2) ∷ ag 4 3 min (v 2 1) ∷ []) (scan 1 (fd 2 1 1 true ∷ fd 2 2 1 true ∷ []) [])) (aggregate (en 0 103 (fn 1 2 1 enil) ∷ en 6 1 (fn 2 0 1 enil) ∷ []) (ag 7 2 max (v 5 2) ∷ ag 8 1 count (fn 2 0 1 (econs (bool false) enil)) ∷ []) (scan 3 (fd 5 1 2 false ∷ fd 5 2 1 false ∷ []) [])) [] (some (bin and (bin (cmp ge) (i 0) (v 7 2)) (bool true)))) ≡ granted true (join inner (filter (bool true) (aggregate (en 3 3 (v 2 2) ∷ en 0 101 (fn 0 0 1 (econs (bool true) enil)) ∷ []) (ag 0 102 count (v 2 2) ∷ ag 4 3 min (v 2 1) ∷ []) (scan 1 (fd 2 1 1 true ∷ fd 2 2 1 true ∷ []) []))) (filter (bin (cmp ge) (i 0) (v 7 2)) (aggregate (en 0 103 (fn 1 2 1 enil) ∷ en 6 1 (fn 2 0 1 enil) ∷ []) (ag 7 2 max (v 5 2) ∷ ag 8 1 count (fn 2 0 1 (econs (bool false) enil)) ∷ []) (scan 3 (fd 5 1 2 false ∷ fd 5 2 1 false ∷ []) []))) [] none)
+unfolding opened
+c56 = refl
+
+c57 : pass 10000 (filter (neg (bin (cmp le) (i 0) (v 0 102))) (sort none [] (scan 3 (fd 0 101 2 true ∷ fd 0 102 1 true ∷ []) []))) ≡ passed 2 2 1 (sort none [] (scan 3 (fd 0 101 2 true ∷ fd 0 102 1 true ∷ []) ((neg (bin (cmp le) (i 0) (v 0 102))) ∷ [])))
+unfolding opened
+c57 = refl
+
+w57 : pass-by-children 10000 (filter (neg (bin (cmp le) (i 0) (v 0 102))) (sort none [] (scan 3 (fd 0 101 2 true ∷ fd 0 102 1 true ∷ []) []))) ≡ passed 2 2 1 (sort none [] (scan 3 (fd 0 101 2 true ∷ fd 0 102 1 true ∷ []) ((neg (bin (cmp le) (i 0) (v 0 102))) ∷ [])))
+unfolding walked
+w57 = refl
+
+c58 : rewriteAt 6 (distinct (join inner (filter (bool true) (scan 4 (fd 2 1 1 true ∷ []) [])) (filter (bin and (bool true) (bool true)) (scan 3 (fd 3 1 2 false ∷ fd 3 2 1 false ∷ []) ((v 3 1) ∷ []))) [] none)) ≡ granted false (distinct (join inner (filter (bool true) (scan 4 (fd 2 1 1 true ∷ []) [])) (filter (bin and (bool true) (bool true)) (scan 3 (fd 3 1 2 false ∷ fd 3 2 1 false ∷ []) ((v 3 1) ∷ []))) [] none))
+unfolding opened
+c58 = refl
+
+c59 : rewriteAt 0 (filter (between false (v 0 102) (i 0) (i 0)) (repartition (filter (bin (cmp eq) (nul 1) (v 0 102)) (scan 2 (fd 0 101 1 true ∷ fd 0 102 1 true ∷ fd 0 103 2 false ∷ []) [])))) ≡ granted true (repartition (filter (between false (v 0 102) (i 0) (i 0)) (filter (bin (cmp eq) (nul 1) (v 0 102)) (scan 2 (fd 0 101 1 true ∷ fd 0 102 1 true ∷ fd 0 103 2 false ∷ []) []))))
+unfolding opened
+c59 = refl
+
+c60 : rewriteAt 9 (filter (bin and (between false (v 2 2) (fn 1 0 1 enil) (i 1)) (bin (cmp ne) (v 2 2) (v 2 1))) (union (pcons (scan 2 (fd 2 1 1 true ∷ fd 2 2 1 true ∷ fd 2 3 2 true ∷ []) []) (pcons (project (en 0 101 (v 3 1) ∷ en 0 102 (v 3 1) ∷ en 4 1 (bool false) ∷ []) (scan 4 (fd 3 1 1 true ∷ []) [])) pnil)))) ≡ granted false (filter (bin and (between false (v 2 2) (fn 1 0 1 enil) (i 1)) (bin (cmp ne) (v 2 2) (v 2 1))) (union (pcons (scan 2 (fd 2 1 1 true ∷ fd 2 2 1 true ∷ fd 2 3 2 true ∷ []) []) (pcons (project (en 0 101 (v 3 1) ∷ en 0 102 (v 3 1) ∷ en 4 1 (bool false) ∷ []) (scan 4 (fd 3 1 1 true ∷ []) [])) pnil))))
+unfolding opened
+c60 = refl
+
+c61 : pass 10000 (filter (bin and (nul 2) (bin (cmp ge) (i 1) (v 2 2))) (project (en 3 2 (bool true) ∷ en 2 2 (i 3) ∷ []) (filter (inlist false (v 2 2) (econs (v 2 2) enil)) (scan 1 (fd 2 1 1 true ∷ fd 2 2 1 true ∷ []) [])))) ≡ passed 3 2 1 (project (en 3 2 (bool true) ∷ en 2 2 (i 3) ∷ []) (filter (bin and (nul 2) (bin (cmp ge) (i 1) (i 3))) (scan 1 (fd 2 1 1 true ∷ fd 2 2 1 true ∷ []) ((inlist false (v 2 2) (econs (v 2 2) enil)) ∷ []))))
+unfolding opened
+c61 = refl
+
+w61 : pass-by-children 10000 (filter (bin and (nul 2) (bin (cmp ge) (i 1) (v 2 2))) (project (en 3 2 (bool true) ∷ en 2 2 (i 3) ∷ []) (filter (inlist false (v 2 2) (econs (v 2 2) enil)) (scan 1 (fd 2 1 1 true ∷ fd 2 2 1 true ∷ []) [])))) ≡ passed 3 2 1 (project (en 3 2 (bool true) ∷ en 2 2 (i 3) ∷ []) (filter (bin and (nul 2) (bin (cmp ge) (i 1) (i 3))) (scan 1 (fd 2 1 1 true ∷ fd 2 2 1 true ∷ []) ((inlist false (v 2 2) (econs (v 2 2) enil)) ∷ []))))
+unfolding walked
+w61 = refl
+
+c62 : rewriteAt 15 (filter (bin and (inlist false (i 2) (econs (v 2 2) enil)) (inlist true (i 2) (econs (v 2 2) (econs (i 3) enil)))) (join leftAnti (filter (bin (cmp lt) (i 3) (fn 1 0 1 enil)) (union (pcons (scan 3 (fd 2 1 2 false ∷ fd 2 2 1 false ∷ []) []) (pcons (scan 3 (fd 3 1 2 true ∷ fd 3 2 1 true ∷ []) []) (pcons (project (en 5 2 (v 4 3) ∷ en 0 101 (fn 1 0 1 (econs (i 2) enil)) ∷ []) (scan 2 (fd 4 1 1 true ∷ fd 4 2 1 true ∷ fd 4 3 2 true ∷ []) [])) pnil))))) (project (en 6 1 (v 6 2) ∷ en 8 1 (v 6 2) ∷ []) (alias 6 (scan 3 (fd 7 1 2 false ∷ fd 7 2 1 false ∷ []) ((bin (cmp eq) (v 7 2) (i 0)) ∷ (fn 0 0 2 enil) ∷ [])))) [] (some (bin and (test isNotUnknown (bin (cmp eq) (v 2 2) (v 6 1))) (bin (cmp lt) (v 8 1) (i 3)))))) ≡ granted false (filter (bin and (inlist false (i 2) (econs (v 2 2) enil)) (inlist true (i 2) (econs (v 2 2) (econs (i 3) enil)))) (join leftAnti (filter (bin (cmp lt) (i 3) (fn 1 0 1 enil)) (union (pcons (scan 3 (fd 2 1 2 false ∷ fd 2 2 1 false ∷ []) []) (pcons (scan 3 (fd 3 1 2 true ∷ fd 3 2 1 true ∷ []) []) (pcons (project (en 5 2 (v 4 3) ∷ en 0 101 (fn 1 0 1 (econs (i 2) enil)) ∷ []) (scan 2 (fd 4 1 1 true ∷ fd 4 2 1 true ∷ fd 4 3 2 true ∷ []) [])) pnil))))) (project (en 6 1 (v 6 2) ∷ en 8 1 (v 6 2) ∷ []) (alias 6 (scan 3 (fd 7 1 2 false ∷ fd 7 2 1 false ∷ []) ((bin (cmp eq) (v 7 2) (i 0)) ∷ (fn 0 0 2 enil) ∷ [])))) [] (some (bin and (test isNotUnknown (bin (cmp eq) (v 2 2) (v 6 1))) (bin (cmp lt) (v 8 1) (i 3))))))
+unfolding opened
+c62 = refl
+
+c63 : rewriteAt 0 (filter (bin (cmp eq) (v 2 1) (i 3)) (distinct (scan 1 (fd 2 1 1 true ∷ fd 2 2 1 true ∷ []) []))) ≡ granted true (distinct (filter (bin (cmp eq) (v 2 1) (i 3)) (scan 1 (fd 2 1 1 true ∷ fd 2 2 1 true ∷ []) [])))
+unfolding opened
+c63 = refl
+
+c64 : rewriteAt 35 (filter (test isUnknown (fn 0 0 2 (econs (i 3) (econs (bool true) enil)))) (join inner (union (pcons (scan 2 (fd 2 1 1 false ∷ fd 2 2 1 false ∷ fd 2 3 2 false ∷ []) []) (pcons (project (en 4 3 (fn 1 0 1 (econs (bool true) (econs (bool false) enil))) ∷ en 0 101 (v 3 1) ∷ en 0 102 (bool false) ∷ []) (scan 4 (fd 3 1 1 false ∷ []) ((bin (cmp gt) (v 3 1) (i 3)) ∷ (bin or (bin and (fn 2 2 2 enil) (bin (cmp eq) (i 3) (v 3 1))) (bin and (bool true) (fn 2 0 2 (econs (i 1) enil)))) ∷ []))) pnil))) (filter (bin and (bin (cmp gt) (v 0 104) (i 2)) (v 0 103)) (scan 3 (fd 0 103 2 false ∷ fd 0 104 1 false ∷ []) [])) [] none)) ≡ granted false (filter (test isUnknown (fn 0 0 2 (econs (i 3) (econs (bool true) enil)))) (join inner (union (pcons (scan 2 (fd 2 1 1 false ∷ fd 2 2 1 false ∷ fd 2 3 2 false ∷ []) []) (pcons (project (en 4 3 (fn 1 0 1 (econs (bool true) (econs (bool false) enil))) ∷ en 0 101 (v 3 1) ∷ en 0 102 (bool false) ∷ []) (scan 4 (fd 3 1 1 false ∷ []) ((bin (cmp gt) (v 3 1) (i 3)) ∷ (bin or (bin and (fn 2 2 2 enil) (bin (cmp eq) (i 3) (v 3 1))) (bin and (bool true) (fn 2 0 2 (econs (i 1) enil)))) ∷ []))) pnil))) (filter (bin and (bin (cmp gt) (v 0 104) (i 2)) (v 0 103)) (scan 3 (fd 0 103 2 false ∷ fd 0 104 1 false ∷ []) [])) [] none))
+unfolding opened
+c64 = refl
+
+c65 : rewriteAt 14 (filter (bin and (fn 2 0 2 (econs (v 0 103) (econs (fn 1 0 2 enil) enil))) (fn 0 0 2 enil)) (join right (union (pcons (scan 5 [] []) (pcons (scan 5 [] []) pnil))) (filter (bin (cmp gt) (i 2) (v 0 101)) (scan 2 (fd 0 101 1 false ∷ fd 0 102 1 false ∷ fd 0 103 2 false ∷ []) [])) [] (some (bin and (bin (cmp ne) (fn 2 2 1 (econs (v 0 102) enil)) (v 0 101)) (between true (i 0) (i 3) (v 0 101)))))) ≡ granted false (filter (bin and (fn 2 0 2 (econs (v 0 103) (econs (fn 1 0 2 enil) enil))) (fn 0 0 2 enil)) (join right (union (pcons (scan 5 [] []) (pcons (scan 5 [] []) pnil))) (filter (bin (cmp gt) (i 2) (v 0 101)) (scan 2 (fd 0 101 1 false ∷ fd 0 102 1 false ∷ fd 0 103 2 false ∷ []) [])) [] (some (bin and (bin (cmp ne) (fn 2 2 1 (econs (v 0 102) enil)) (v 0 101)) (between true (i 0) (i 3) (v 0 101))))))
+unfolding opened
+c65 = refl
+
+c66 : pass 10000 (window (wn 3 3 min (fn 1 0 1 (econs (bool true) (econs (v 2 1) enil))) (nm 2 1 ∷ []) ∷ wn 4 3 max (i 1) [] ∷ []) (scan 1 (fd 2 1 1 false ∷ fd 2 2 1 false ∷ []) [])) ≡ passed 2 0 1 (window (wn 3 3 min (fn 1 0 1 (econs (bool true) (econs (v 2 1) enil))) (nm 2 1 ∷ []) ∷ wn 4 3 max (i 1) [] ∷ []) (scan 1 (fd 2 1 1 false ∷ fd 2 2 1 false ∷ []) []))
+unfolding opened
+c66 = refl
+
+w66 : pass-by-children 10000 (window (wn 3 3 min (fn 1 0 1 (econs (bool true) (econs (v 2 1) enil))) (nm 2 1 ∷ []) ∷ wn 4 3 max (i 1) [] ∷ []) (scan 1 (fd 2 1 1 false ∷ fd 2 2 1 false ∷ []) [])) ≡ passed 2 0 1 (window (wn 3 3 min (fn 1 0 1 (econs (bool true) (econs (v 2 1) enil))) (nm 2 1 ∷ []) ∷ wn 4 3 max (i 1) [] ∷ []) (scan 1 (fd 2 1 1 false ∷ fd 2 2 1 false ∷ []) []))
+unfolding walked
+w66 = refl
+
+c67 : pass 4 (window (wn 0 101 max (v 2 1) [] ∷ []) (scan 4 (fd 2 1 1 true ∷ []) [])) ≡ passed 2 0 1 (window (wn 0 101 max (v 2 1) [] ∷ []) (scan 4 (fd 2 1 1 true ∷ []) []))
+unfolding opened
+c67 = refl
+
+w67 : pass-by-children 4 (window (wn 0 101 max (v 2 1) [] ∷ []) (scan 4 (fd 2 1 1 true ∷ []) [])) ≡ passed 2 0 1 (window (wn 0 101 max (v 2 1) [] ∷ []) (scan 4 (fd 2 1 1 true ∷ []) []))
+unfolding walked
+w67 = refl
+
+c68 : rewriteAt 0 (sort none (ky true (v 2 2) ∷ []) (limit 1 0 (join inner (scan 3 (fd 2 1 2 false ∷ fd 2 2 1 true ∷ []) ((fn 0 0 2 (econs (v 2 2) enil)) ∷ [])) (scan 3 (fd 3 1 2 true ∷ fd 3 2 1 true ∷ []) []) (pr (v 2 2) (v 3 2) ∷ pr (v 2 2) (v 3 2) ∷ []) (some (nul 2))))) ≡ granted false (sort none (ky true (v 2 2) ∷ []) (limit 1 0 (join inner (scan 3 (fd 2 1 2 false ∷ fd 2 2 1 true ∷ []) ((fn 0 0 2 (econs (v 2 2) enil)) ∷ [])) (scan 3 (fd 3 1 2 true ∷ fd 3 2 1 true ∷ []) []) (pr (v 2 2) (v 3 2) ∷ pr (v 2 2) (v 3 2) ∷ []) (some (nul 2)))))
+unfolding opened
+c68 = refl
+
+c69 : rewriteAt 9 (filter (bin and (bin (cmp le) (i 1) (v 2 1)) (bin (cmp ne) (i 2) (v 2 1))) (repartition (scan 4 (fd 2 1 1 true ∷ []) []))) ≡ granted false (filter (bin and (bin (cmp le) (i 1) (v 2 1)) (bin (cmp ne) (i 2) (v 2 1))) (repartition (scan 4 (fd 2 1 1 true ∷ []) [])))
+unfolding opened
+c69 = refl
+
+c70 : pass 10000 (filter (bin (cmp ge) (i 3) (v 2 2)) (limit 0 0 (filter (bin and (neg (fn 0 0 2 (econs (v 2 2) (econs (nul 1) enil)))) (bin (cmp ne) (bool true) (v 2 1))) (scan 3 (fd 2 1 2 false ∷ fd 2 2 1 false ∷ []) ((bin or (bin and (v 2 1) (v 2 1)) (bool false)) ∷ []))))) ≡ passed 4 0 1 (filter (bin (cmp ge) (i 3) (v 2 2)) (limit 0 0 (filter (bin and (bin (cmp ne) (bool true) (v 2 1)) (neg (fn 0 0 2 (econs (v 2 2) (econs (nul 1) enil))))) (scan 3 (fd 2 1 2 false ∷ fd 2 2 1 false ∷ []) ((bin or (bin and (v 2 1) (v 2 1)) (bool false)) ∷ [])))))
+unfolding opened
+c70 = refl
+
+w70 : pass-by-children 10000 (filter (bin (cmp ge) (i 3) (v 2 2)) (limit 0 0 (filter (bin and (neg (fn 0 0 2 (econs (v 2 2) (econs (nul 1) enil)))) (bin (cmp ne) (bool true) (v 2 1))) (scan 3 (fd 2 1 2 false ∷ fd 2 2 1 false ∷ []) ((bin or (bin and (v 2 1) (v 2 1)) (bool false)) ∷ []))))) ≡ passed 4 0 1 (filter (bin (cmp ge) (i 3) (v 2 2)) (limit 0 0 (filter (bin and (bin (cmp ne) (bool true) (v 2 1)) (neg (fn 0 0 2 (econs (v 2 2) (econs (nul 1) enil))))) (scan 3 (fd 2 1 2 false ∷ fd 2 2 1 false ∷ []) ((bin or (bin and (v 2 1) (v 2 1)) (bool false)) ∷ [])))))
+unfolding walked
+w70 = refl
+
+c71 : rewriteAt 0 (filter (bin and (v 2 3) (bin (cmp ge) (bool true) (v 2 3))) (union (pcons (scan 2 (fd 2 1 1 false ∷ fd 2 2 1 false ∷ fd 2 3 2 true ∷ []) []) (pcons (project (en 0 101 (nul 1) ∷ en 4 1 (i 0) ∷ en 5 1 (bool true) ∷ []) (scan 4 (fd 3 1 1 false ∷ []) [])) pnil)))) ≡ granted true (union (pcons (filter (bin and (v 2 3) (bin (cmp ge) (bool true) (v 2 3))) (scan 2 (fd 2 1 1 false ∷ fd 2 2 1 false ∷ fd 2 3 2 true ∷ []) [])) (pcons (filter (bin and (v 5 1) (bin (cmp ge) (bool true) (v 5 1))) (project (en 0 101 (nul 1) ∷ en 4 1 (i 0) ∷ en 5 1 (bool true) ∷ []) (scan 4 (fd 3 1 1 false ∷ []) []))) pnil)))
+unfolding opened
+c71 = refl
+
+c72 : rewriteAt 0 (filter (fn 0 0 2 enil) (distinct (limit 3 1 (distinct (scan 2 (fd 2 1 1 false ∷ fd 2 2 1 false ∷ fd 2 3 2 false ∷ []) []))))) ≡ granted true (distinct (filter (fn 0 0 2 enil) (limit 3 1 (distinct (scan 2 (fd 2 1 1 false ∷ fd 2 2 1 false ∷ fd 2 3 2 false ∷ []) [])))))
+unfolding opened
+c72 = refl
+
+c73 : rewriteAt 0 (aggregate (en 0 101 (v 5 1) ∷ en 0 102 (v 5 1) ∷ []) (ag 6 1 max (i 3) ∷ []) (aggregate (en 3 2 (i 0) ∷ []) (ag 4 2 count (fn 0 0 1 (econs (nul 2) enil)) ∷ ag 5 1 max (fn 1 2 1 enil) ∷ []) (scan 3 (fd 2 1 2 false ∷ fd 2 2 1 false ∷ []) []))) ≡ granted false (aggregate (en 0 101 (v 5 1) ∷ en 0 102 (v 5 1) ∷ []) (ag 6 1 max (i 3) ∷ []) (aggregate (en 3 2 (i 0) ∷ []) (ag 4 2 count (fn 0 0 1 (econs (nul 2) enil)) ∷ ag 5 1 max (fn 1 2 1 enil) ∷ []) (scan 3 (fd 2 1 2 false ∷ fd 2 2 1 false ∷ []) [])))
+unfolding opened
+c73 = refl
+
+c74 : rewriteAt 0 (filter (bin (cmp le) (v 2 1) (i 0)) (union (pcons (scan 1 (fd 2 1 1 true ∷ fd 2 2 1 true ∷ []) []) (pcons (project (en 0 101 (v 3 2) ∷ en 0 102 (v 3 2) ∷ []) (scan 3 (fd 3 1 2 true ∷ fd 3 2 1 true ∷ []) [])) pnil)))) ≡ granted true (union (pcons (filter (bin (cmp le) (v 2 1) (i 0)) (scan 1 (fd 2 1 1 true ∷ fd 2 2 1 true ∷ []) [])) (pcons (filter (bin (cmp le) (v 0 101) (i 0)) (project (en 0 101 (v 3 2) ∷ en 0 102 (v 3 2) ∷ []) (scan 3 (fd 3 1 2 true ∷ fd 3 2 1 true ∷ []) []))) pnil)))
+unfolding opened
+c74 = refl
+
+c75 : rewriteAt 0 (filter (bin (cmp ge) (test isNotNull (bool true)) (bool false)) (project (en 0 101 (i 1) ∷ en 3 1 (i 2) ∷ []) (sort none [] (filter (fn 1 0 2 enil) (scan 5 [] []))))) ≡ granted true (project (en 0 101 (i 1) ∷ en 3 1 (i 2) ∷ []) (filter (bin (cmp ge) (test isNotNull (bool true)) (bool false)) (sort none [] (filter (fn 1 0 2 enil) (scan 5 [] [])))))
+unfolding opened
+c75 = refl
+
+c76 : rewriteAt 0 (filter (bin and (bin (cmp gt) (v 4 3) (i 9223372036854775807)) (bool true)) (aggregate (en 0 101 (i 0) ∷ en 3 2 (v 2 2) ∷ []) (ag 4 3 count (v 2 2) ∷ ag 5 2 count (v 2 2) ∷ []) (scan 3 (fd 2 1 2 true ∷ fd 2 2 1 true ∷ []) []))) ≡ granted true (filter (bin (cmp gt) (v 4 3) (i 9223372036854775807)) (aggregate (en 0 101 (i 0) ∷ en 3 2 (v 2 2) ∷ []) (ag 4 3 count (v 2 2) ∷ ag 5 2 count (v 2 2) ∷ []) (filter (bool true) (scan 3 (fd 2 1 2 true ∷ fd 2 2 1 true ∷ []) []))))
+unfolding opened
+c76 = refl
+
+c77 : rewriteAt 0 (filter (between false (v 3 2) (fn 0 0 1 enil) (i 3)) (join inner (filter (bin (cmp ge) (v 2 1) (i 3)) (window (wn 0 101 min (v 2 2) [] ∷ wn 0 102 min (v 2 1) (nm 2 1 ∷ []) ∷ []) (scan 1 (fd 2 1 1 false ∷ fd 2 2 1 false ∷ []) []))) (filter (bin and (bin or (bin and (bin (cmp lt) (i 3) (v 3 1)) (bin (cmp lt) (i 3) (v 3 1))) (bin and (bin and (bin (cmp ge) (v 3 2) (i 9223372036854775807)) (fn 2 0 2 (econs (bool false) enil))) (between true (v 3 1) (i 0) (i 0)))) (bin or (bin and (bin and (fn 2 0 2 (econs (nul 2) enil)) (between false (fn 0 0 1 (econs (bool true) enil)) (v 3 2) (nul 1))) (test isTrue (bool false))) (bin or (bin (cmp gt) (i 0) (v 3 1)) (fn 1 0 2 (econs (i 0) enil))))) (alias 3 (scan 1 (fd 4 1 1 false ∷ fd 4 2 1 false ∷ []) []))) (pr (v 0 101) (v 3 1) ∷ []) (some (bin and (bool true) (bin or (bin and (fn 1 2 2 (econs (v 2 1) enil)) (bin (cmp ne) (v 0 101) (i 0))) (bin and (bin and (bin (cmp ge) (v 3 2) (num (negsuc 0))) (bin (cmp gt) (v 0 102) (i 0))) (bin (cmp ge) (i 0) (v 0 102)))))))) ≡ granted true (join inner (filter (bin and (bool true) (bin or (bin and (fn 1 2 2 (econs (v 2 1) enil)) (bin (cmp ne) (v 0 101) (i 0))) (bin and (bin (cmp gt) (v 0 102) (i 0)) (bin (cmp ge) (i 0) (v 0 102))))) (filter (bin (cmp ge) (v 2 1) (i 3)) (window (wn 0 101 min (v 2 2) [] ∷ wn 0 102 min (v 2 1) (nm 2 1 ∷ []) ∷ []) (scan 1 (fd 2 1 1 false ∷ fd 2 2 1 false ∷ []) [])))) (filter (between false (v 3 2) (fn 0 0 1 enil) (i 3)) (filter (bin and (bin or (bin and (bin (cmp lt) (i 3) (v 3 1)) (bin (cmp lt) (i 3) (v 3 1))) (bin and (bin and (bin (cmp ge) (v 3 2) (i 9223372036854775807)) (fn 2 0 2 (econs (bool false) enil))) (between true (v 3 1) (i 0) (i 0)))) (bin or (bin and (bin and (fn 2 0 2 (econs (nul 2) enil)) (between false (fn 0 0 1 (econs (bool true) enil)) (v 3 2) (nul 1))) (test isTrue (bool false))) (bin or (bin (cmp gt) (i 0) (v 3 1)) (fn 1 0 2 (econs (i 0) enil))))) (alias 3 (scan 1 (fd 4 1 1 false ∷ fd 4 2 1 false ∷ []) [])))) (pr (v 0 101) (v 3 1) ∷ []) (some (bin or (bin and (fn 1 2 2 (econs (v 2 1) enil)) (bin (cmp ne) (v 0 101) (i 0))) (bin and (bin and (bin (cmp ge) (v 3 2) (num (negsuc 0))) (bin (cmp gt) (v 0 102) (i 0))) (bin (cmp ge) (i 0) (v 0 102))))))
+unfolding opened
+c77 = refl
+
+c78 : pass 10000 (filter (bin or (bin and (bin or (fn 0 0 2 (econs (v 2 3) (econs (v 2 3) enil))) (v 2 3)) (bin (cmp gt) (v 2 3) (bool true))) (v 2 3)) (join leftAnti (alias 2 (scan 2 (fd 3 1 1 false ∷ fd 3 2 1 true ∷ fd 3 3 2 true ∷ []) [])) (filter (bool true) (scan 5 [] [])) [] (some (bin and (bin (cmp lt) (i 1) (i 2)) (bin (cmp gt) (i 2) (v 2 2)))))) ≡ passed 5 3 1 (join leftAnti (alias 2 (scan 2 (fd 3 1 1 false ∷ fd 3 2 1 true ∷ fd 3 3 2 true ∷ []) ((bin or (bin and (bin or (fn 0 0 2 (econs (v 3 3) (econs (v 3 3) enil))) (v 3 3)) (bin (cmp gt) (v 3 3) (bool true))) (v 3 3)) ∷ []))) (filter (bin and (bool true) (bin (cmp lt) (i 1) (i 2))) (scan 5 [] [])) [] (some (bin (cmp gt) (i 2) (v 2 2))))
+unfolding opened
+c78 = refl
+
+w78 : pass-by-children 10000 (filter (bin or (bin and (bin or (fn 0 0 2 (econs (v 2 3) (econs (v 2 3) enil))) (v 2 3)) (bin (cmp gt) (v 2 3) (bool true))) (v 2 3)) (join leftAnti (alias 2 (scan 2 (fd 3 1 1 false ∷ fd 3 2 1 true ∷ fd 3 3 2 true ∷ []) [])) (filter (bool true) (scan 5 [] [])) [] (some (bin and (bin (cmp lt) (i 1) (i 2)) (bin (cmp gt) (i 2) (v 2 2)))))) ≡ passed 5 3 1 (join leftAnti (alias 2 (scan 2 (fd 3 1 1 false ∷ fd 3 2 1 true ∷ fd 3 3 2 true ∷ []) ((bin or (bin and (bin or (fn 0 0 2 (econs (v 3 3) (econs (v 3 3) enil))) (v 3 3)) (bin (cmp gt) (v 3 3) (bool true))) (v 3 3)) ∷ []))) (filter (bin and (bool true) (bin (cmp lt) (i 1) (i 2))) (scan 5 [] [])) [] (some (bin (cmp gt) (i 2) (v 2 2))))
+unfolding walked
+w78 = refl
+
+c79 : pass 3 (filter (bin (cmp eq) (v 2 1) (i 2)) (limit 2 1 (project (en 0 101 (i 2) ∷ en 2 1 (v 2 1) ∷ []) (filter (bin (cmp eq) (v 2 1) (i 2)) (scan 4 (fd 2 1 1 true ∷ []) []))))) ≡ passed 3 0 0 (filter (bin (cmp eq) (v 2 1) (i 2)) (limit 2 1 (project (en 0 101 (i 2) ∷ en 2 1 (v 2 1) ∷ []) (filter (bin (cmp eq) (v 2 1) (i 2)) (scan 4 (fd 2 1 1 true ∷ []) [])))))
+unfolding opened
+c79 = refl
+
+w79 : pass-by-children 3 (filter (bin (cmp eq) (v 2 1) (i 2)) (limit 2 1 (project (en 0 101 (i 2) ∷ en 2 1 (v 2 1) ∷ []) (filter (bin (cmp eq) (v 2 1) (i 2)) (scan 4 (fd 2 1 1 true ∷ []) []))))) ≡ passed 3 0 0 (filter (bin (cmp eq) (v 2 1) (i 2)) (limit 2 1 (project (en 0 101 (i 2) ∷ en 2 1 (v 2 1) ∷ []) (filter (bin (cmp eq) (v 2 1) (i 2)) (scan 4 (fd 2 1 1 true ∷ []) [])))))
+unfolding walked
+w79 = refl
+
+c80 : rewriteAt 0 (filter (bool true) (project (en 2 2 (v 2 3) ∷ []) (scan 2 (fd 2 1 1 false ∷ fd 2 2 1 false ∷ fd 2 3 2 false ∷ []) []))) ≡ granted true (project (en 2 2 (v 2 3) ∷ []) (filter (bool true) (scan 2 (fd 2 1 1 false ∷ fd 2 2 1 false ∷ fd 2 3 2 false ∷ []) [])))
+unfolding opened
+c80 = refl
+
+c81 : rewriteAt 0 (filter (bin (cmp ge) (v 2 2) (i 2)) (scan 2 (fd 2 1 1 true ∷ fd 2 2 1 true ∷ fd 2 3 2 true ∷ []) [])) ≡ granted true (scan 2 (fd 2 1 1 true ∷ fd 2 2 1 true ∷ fd 2 3 2 true ∷ []) ((bin (cmp ge) (v 2 2) (i 2)) ∷ []))
+unfolding opened
+c81 = refl
+
+c82 : rewriteAt 0 (filter (inlist false (v 2 2) (econs (v 2 2) enil)) (sort none (ky true (i 0) ∷ []) (filter (bin and (bool true) (bin or (bin and (fn 2 0 2 enil) (v 2 1)) (bin or (bin (cmp ge) (nul 1) (v 2 2)) (bin (cmp le) (v 2 2) (i 1))))) (distinct (scan 3 (fd 2 1 2 true ∷ fd 2 2 1 true ∷ []) ((between true (v 2 2) (v 2 2) (v 2 2)) ∷ (v 2 1) ∷ [])))))) ≡ granted true (sort none (ky true (i 0) ∷ []) (filter (inlist false (v 2 2) (econs (v 2 2) enil)) (filter (bin and (bool true) (bin or (bin and (fn 2 0 2 enil) (v 2 1)) (bin or (bin (cmp ge) (nul 1) (v 2 2)) (bin (cmp le) (v 2 2) (i 1))))) (distinct (scan 3 (fd 2 1 2 true ∷ fd 2 2 1 true ∷ []) ((between true (v 2 2) (v 2 2) (v 2 2)) ∷ (v 2 1) ∷ []))))))
+unfolding opened
+c82 = refl
+
+c83 : pass 4 (filter (bin (cmp eq) (v 0 103) (i 1)) (project (en 0 103 (i 2) ∷ []) (window (wn 0 103 max (v 0 102) (nm 0 101 ∷ []) ∷ wn 2 3 max (v 0 102) (nm 0 102 ∷ []) ∷ []) (scan 3 (fd 0 101 2 true ∷ fd 0 102 1 true ∷ []) [])))) ≡ passed 4 2 1 (project (en 0 103 (i 2) ∷ []) (window (wn 0 103 max (v 0 102) (nm 0 101 ∷ []) ∷ wn 2 3 max (v 0 102) (nm 0 102 ∷ []) ∷ []) (filter (bin (cmp eq) (i 2) (i 1)) (scan 3 (fd 0 101 2 true ∷ fd 0 102 1 true ∷ []) []))))
+unfolding opened
+c83 = refl
+
+w83 : pass-by-children 4 (filter (bin (cmp eq) (v 0 103) (i 1)) (project (en 0 103 (i 2) ∷ []) (window (wn 0 103 max (v 0 102) (nm 0 101 ∷ []) ∷ wn 2 3 max (v 0 102) (nm 0 102 ∷ []) ∷ []) (scan 3 (fd 0 101 2 true ∷ fd 0 102 1 true ∷ []) [])))) ≡ passed 4 2 1 (project (en 0 103 (i 2) ∷ []) (window (wn 0 103 max (v 0 102) (nm 0 101 ∷ []) ∷ wn 2 3 max (v 0 102) (nm 0 102 ∷ []) ∷ []) (filter (bin (cmp eq) (i 2) (i 1)) (scan 3 (fd 0 101 2 true ∷ fd 0 102 1 true ∷ []) []))))
+unfolding walked
+w83 = refl
+
+c84 : rewriteAt 4 (filter (bin (cmp eq) (i 0) (v 2 1)) (join leftSemi (scan 1 (fd 2 1 1 false ∷ fd 2 2 1 false ∷ []) []) (scan 4 (fd 3 1 1 false ∷ []) []) (pr (v 2 2) (v 3 1) ∷ []) (some (bin and (fn 0 0 2 enil) (fn 1 2 2 (econs (bool true) enil)))))) ≡ granted true (filter (bin (cmp eq) (i 0) (v 2 1)) (join leftSemi (filter (bin and (fn 0 0 2 enil) (fn 1 2 2 (econs (bool true) enil))) (scan 1 (fd 2 1 1 false ∷ fd 2 2 1 false ∷ []) [])) (scan 4 (fd 3 1 1 false ∷ []) []) (pr (v 2 2) (v 3 1) ∷ []) none))
+unfolding opened
+c84 = refl
+
+c85 : rewriteAt 0 (repartition (scan 1 (fd 0 101 1 false ∷ fd 0 102 1 true ∷ []) ((bin (cmp eq) (i 0) (v 0 101)) ∷ (bin (cmp eq) (i 2) (v 0 101)) ∷ []))) ≡ granted false (repartition (scan 1 (fd 0 101 1 false ∷ fd 0 102 1 true ∷ []) ((bin (cmp eq) (i 0) (v 0 101)) ∷ (bin (cmp eq) (i 2) (v 0 101)) ∷ [])))
+unfolding opened
+c85 = refl
+
+c86 : rewriteAt 0 (filter (bin or (fn 2 0 2 (econs (v 2 1) enil)) (fn 2 0 2 (econs (v 2 1) enil))) (window (wn 0 101 count (v 2 2) [] ∷ wn 3 2 min (v 2 2) (nm 2 1 ∷ nm 2 2 ∷ []) ∷ []) (scan 3 (fd 2 1 2 false ∷ fd 2 2 1 false ∷ []) []))) ≡ granted false (filter (bin or (fn 2 0 2 (econs (v 2 1) enil)) (fn 2 0 2 (econs (v 2 1) enil))) (window (wn 0 101 count (v 2 2) [] ∷ wn 3 2 min (v 2 2) (nm 2 1 ∷ nm 2 2 ∷ []) ∷ []) (scan 3 (fd 2 1 2 false ∷ fd 2 2 1 false ∷ []) [])))
+unfolding opened
+c86 = refl
+
+c87 : pass 10000 (filter (bin and (between false (nul 1) (i 1) (i 2)) (bin (cmp lt) (i 0) (v 2 1))) (union (pcons (scan 2 (fd 2 1 1 true ∷ fd 2 2 1 true ∷ fd 2 3 2 true ∷ []) []) (pcons (project (en 3 1 (v 0 101) ∷ en 4 2 (v 0 102) ∷ en 5 1 (bool false) ∷ []) (scan 1 (fd 0 101 1 false ∷ fd 0 102 1 true ∷ []) [])) (pcons (scan 2 (fd 6 1 1 false ∷ fd 6 2 1 true ∷ fd 6 3 2 false ∷ []) []) pnil))))) ≡ passed 8 3 1 (union (pcons (filter (between false (nul 1) (i 1) (i 2)) (scan 2 (fd 2 1 1 true ∷ fd 2 2 1 true ∷ fd 2 3 2 true ∷ []) ((bin (cmp lt) (i 0) (v 2 1)) ∷ []))) (pcons (project (en 3 1 (v 0 101) ∷ en 4 2 (v 0 102) ∷ en 5 1 (bool false) ∷ []) (filter (bin and (between false (nul 1) (i 1) (i 2)) (bin (cmp lt) (i 0) (v 0 101))) (scan 1 (fd 0 101 1 false ∷ fd 0 102 1 true ∷ []) []))) (pcons (filter (bin and (between false (nul 1) (i 1) (i 2)) (bin (cmp lt) (i 0) (v 6 1))) (scan 2 (fd 6 1 1 false ∷ fd 6 2 1 true ∷ fd 6 3 2 false ∷ []) [])) pnil))))
+unfolding opened
+c87 = refl
+
+w87 : pass-by-children 10000 (filter (bin and (between false (nul 1) (i 1) (i 2)) (bin (cmp lt) (i 0) (v 2 1))) (union (pcons (scan 2 (fd 2 1 1 true ∷ fd 2 2 1 true ∷ fd 2 3 2 true ∷ []) []) (pcons (project (en 3 1 (v 0 101) ∷ en 4 2 (v 0 102) ∷ en 5 1 (bool false) ∷ []) (scan 1 (fd 0 101 1 false ∷ fd 0 102 1 true ∷ []) [])) (pcons (scan 2 (fd 6 1 1 false ∷ fd 6 2 1 true ∷ fd 6 3 2 false ∷ []) []) pnil))))) ≡ passed 8 3 1 (union (pcons (filter (between false (nul 1) (i 1) (i 2)) (scan 2 (fd 2 1 1 true ∷ fd 2 2 1 true ∷ fd 2 3 2 true ∷ []) ((bin (cmp lt) (i 0) (v 2 1)) ∷ []))) (pcons (project (en 3 1 (v 0 101) ∷ en 4 2 (v 0 102) ∷ en 5 1 (bool false) ∷ []) (filter (bin and (between false (nul 1) (i 1) (i 2)) (bin (cmp lt) (i 0) (v 0 101))) (scan 1 (fd 0 101 1 false ∷ fd 0 102 1 true ∷ []) []))) (pcons (filter (bin and (between false (nul 1) (i 1) (i 2)) (bin (cmp lt) (i 0) (v 6 1))) (scan 2 (fd 6 1 1 false ∷ fd 6 2 1 true ∷ fd 6 3 2 false ∷ []) [])) pnil))))
+unfolding walked
+w87 = refl
+
+c88 : rewriteAt 0 (filter (bin (cmp ne) (v 3 1) (nul 1)) (join right (join inner (filter (bin and (inlist false (i 1) (econs (v 2 1) (econs (i 0) enil))) (bin or (bin and (between false (v 2 1) (v 2 1) (v 2 1)) (bool true)) (bin or (fn 2 0 2 (econs (bool false) enil)) (bin (cmp ne) (v 2 1) (v 2 1))))) (scan 4 (fd 2 1 1 true ∷ []) [])) (join inner (scan 1 (fd 3 1 1 false ∷ fd 3 2 1 true ∷ []) []) (scan 3 (fd 4 1 2 false ∷ fd 4 2 1 true ∷ []) []) [] none) [] (some (bin and (v 4 1) (bool false)))) (project (en 0 101 (nul 2) ∷ []) (filter (bin and (bin or (bool true) (bin and (bin and (bin (cmp eq) (i 1) (v 5 1)) (inlist true (i 2) (econs (fn 2 0 1 enil) enil))) (bin (cmp ge) (v 5 2) (nul 1)))) (fn 0 0 2 (econs (bool false) enil))) (scan 1 (fd 5 1 1 false ∷ fd 5 2 1 false ∷ []) []))) (pr (v 4 2) (i 2) ∷ []) none)) ≡ granted false (filter (bin (cmp ne) (v 3 1) (nul 1)) (join right (join inner (filter (bin and (inlist false (i 1) (econs (v 2 1) (econs (i 0) enil))) (bin or (bin and (between false (v 2 1) (v 2 1) (v 2 1)) (bool true)) (bin or (fn 2 0 2 (econs (bool false) enil)) (bin (cmp ne) (v 2 1) (v 2 1))))) (scan 4 (fd 2 1 1 true ∷ []) [])) (join inner (scan 1 (fd 3 1 1 false ∷ fd 3 2 1 true ∷ []) []) (scan 3 (fd 4 1 2 false ∷ fd 4 2 1 true ∷ []) []) [] none) [] (some (bin and (v 4 1) (bool false)))) (project (en 0 101 (nul 2) ∷ []) (filter (bin and (bin or (bool true) (bin and (bin and (bin (cmp eq) (i 1) (v 5 1)) (inlist true (i 2) (econs (fn 2 0 1 enil) enil))) (bin (cmp ge) (v 5 2) (nul 1)))) (fn 0 0 2 (econs (bool false) enil))) (scan 1 (fd 5 1 1 false ∷ fd 5 2 1 false ∷ []) []))) (pr (v 4 2) (i 2) ∷ []) none))
+unfolding opened
+c88 = refl
+
+c89 : pass 10000 (filter (bin and (nul 2) (bin (cmp ge) (v 0 103) (i 2))) (window (wn 0 103 max (v 2 1) (nm 0 101 ∷ []) ∷ wn 4 3 min (i 3) [] ∷ []) (filter (between false (i 0) (v 3 3) (nul 1)) (aggregate (en 2 1 (v 2 1) ∷ en 0 101 (bool false) ∷ []) (ag 3 3 max (v 2 1) ∷ ag 0 102 min (i 2) ∷ []) (scan 4 (fd 2 1 1 true ∷ []) []))))) ≡ passed 6 2 1 (filter (bin (cmp ge) (v 0 103) (i 2)) (window (wn 0 103 max (v 2 1) (nm 0 101 ∷ []) ∷ wn 4 3 min (i 3) [] ∷ []) (filter (between false (i 0) (v 3 3) (nul 1)) (aggregate (en 2 1 (v 2 1) ∷ en 0 101 (bool false) ∷ []) (ag 3 3 max (v 2 1) ∷ ag 0 102 min (i 2) ∷ []) (filter (nul 2) (scan 4 (fd 2 1 1 true ∷ []) []))))))
+unfolding opened
+c89 = refl
+
+w89 : pass-by-children 10000 (filter (bin and (nul 2) (bin (cmp ge) (v 0 103) (i 2))) (window (wn 0 103 max (v 2 1) (nm 0 101 ∷ []) ∷ wn 4 3 min (i 3) [] ∷ []) (filter (between false (i 0) (v 3 3) (nul 1)) (aggregate (en 2 1 (v 2 1) ∷ en 0 101 (bool false) ∷ []) (ag 3 3 max (v 2 1) ∷ ag 0 102 min (i 2) ∷ []) (scan 4 (fd 2 1 1 true ∷ []) []))))) ≡ passed 6 2 1 (filter (bin (cmp ge) (v 0 103) (i 2)) (window (wn 0 103 max (v 2 1) (nm 0 101 ∷ []) ∷ wn 4 3 min (i 3) [] ∷ []) (filter (between false (i 0) (v 3 3) (nul 1)) (aggregate (en 2 1 (v 2 1) ∷ en 0 101 (bool false) ∷ []) (ag 3 3 max (v 2 1) ∷ ag 0 102 min (i 2) ∷ []) (filter (nul 2) (scan 4 (fd 2 1 1 true ∷ []) []))))))
+unfolding walked
+w89 = refl
+
+c90 : rewriteAt 19 (filter (bin and (between false (v 5 1) (v 5 1) (v 5 1)) (inlist false (v 0 101) (econs (v 0 101) (econs (fn 1 0 1 enil) enil)))) (join inner (aggregate (en 4 1 (nul 2) ∷ en 5 1 (i 2) ∷ []) (ag 0 101 min (v 2 2) ∷ []) (alias 2 (scan 3 (fd 3 1 2 true ∷ fd 3 2 1 true ∷ []) []))) (filter (fn 1 0 2 (econs (v 6 2) enil)) (scan 3 (fd 6 1 2 false ∷ fd 6 2 1 false ∷ []) [])) (pr (v 5 1) (v 6 2) ∷ []) (some (bin or (fn 2 0 2 enil) (bin or (bin and (fn 0 0 2 (econs (fn 1 0 1 (econs (v 5 1) enil)) (econs (nul 2) enil))) (between true (v 6 2) (v 0 101) (v 6 2))) (bin (cmp lt) (i 2) (v 0 101))))))) ≡ granted false (filter (bin and (between false (v 5 1) (v 5 1) (v 5 1)) (inlist false (v 0 101) (econs (v 0 101) (econs (fn 1 0 1 enil) enil)))) (join inner (aggregate (en 4 1 (nul 2) ∷ en 5 1 (i 2) ∷ []) (ag 0 101 min (v 2 2) ∷ []) (alias 2 (scan 3 (fd 3 1 2 true ∷ fd 3 2 1 true ∷ []) []))) (filter (fn 1 0 2 (econs (v 6 2) enil)) (scan 3 (fd 6 1 2 false ∷ fd 6 2 1 false ∷ []) [])) (pr (v 5 1) (v 6 2) ∷ []) (some (bin or (fn 2 0 2 enil) (bin or (bin and (fn 0 0 2 (econs (fn 1 0 1 (econs (v 5 1) enil)) (econs (nul 2) enil))) (between true (v 6 2) (v 0 101) (v 6 2))) (bin (cmp lt) (i 2) (v 0 101)))))))
+unfolding opened
+c90 = refl
+
+c91 : rewriteAt 0 (filter (bin and (fn 1 0 2 (econs (v 2 3) enil)) (bin or (bin and (bin (cmp eq) (i 1) (v 2 2)) (bin (cmp ne) (v 2 1) (i 2))) (bin (cmp le) (fn 0 0 1 enil) (fn 1 2 1 enil)))) (alias 2 (filter (bin and (bin or (bin or (bin and (bin (cmp lt) (nul 1) (v 3 1)) (bin (cmp lt) (v 3 2) (i 3))) (bin (cmp lt) (v 3 2) (i 1))) (bin or (bin and (bin (cmp le) (i 2) (v 3 2)) (v 3 3)) (fn 2 0 2 (econs (fn 2 2 1 (econs (i 2) enil)) (econs (bool false) enil))))) (fn 1 0 2 (econs (v 3 3) enil))) (scan 2 (fd 3 1 1 false ∷ fd 3 2 1 true ∷ fd 3 3 2 false ∷ []) ((v 3 3) ∷ (bool false) ∷ []))))) ≡ granted true (alias 2 (filter (bin and (fn 1 0 2 (econs (v 3 3) enil)) (bin or (bin and (bin (cmp eq) (i 1) (v 3 2)) (bin (cmp ne) (v 3 1) (i 2))) (bin (cmp le) (fn 0 0 1 enil) (fn 1 2 1 enil)))) (filter (bin and (bin or (bin or (bin and (bin (cmp lt) (nul 1) (v 3 1)) (bin (cmp lt) (v 3 2) (i 3))) (bin (cmp lt) (v 3 2) (i 1))) (bin or (bin and (bin (cmp le) (i 2) (v 3 2)) (v 3 3)) (fn 2 0 2 (econs (fn 2 2 1 (econs (i 2) enil)) (econs (bool false) enil))))) (fn 1 0 2 (econs (v 3 3) enil))) (scan 2 (fd 3 1 1 false ∷ fd 3 2 1 true ∷ fd 3 3 2 false ∷ []) ((v 3 3) ∷ (bool false) ∷ [])))))
+unfolding opened
+c91 = refl
+
+c92 : rewriteAt 1 (repartition (scan 1 (fd 2 1 1 false ∷ fd 2 2 1 false ∷ []) [])) ≡ granted false (repartition (scan 1 (fd 2 1 1 false ∷ fd 2 2 1 false ∷ []) []))
+unfolding opened
+c92 = refl
+
+c93 : rewriteAt 0 (filter (bin (cmp gt) (v 3 2) (nul 1)) (aggregate [] (ag 3 2 count (i 3) ∷ []) (aggregate [] (ag 0 101 max (i 3) ∷ []) (sort none [] (scan 1 (fd 2 1 1 false ∷ fd 2 2 1 false ∷ []) []))))) ≡ granted false (filter (bin (cmp gt) (v 3 2) (nul 1)) (aggregate [] (ag 3 2 count (i 3) ∷ []) (aggregate [] (ag 0 101 max (i 3) ∷ []) (sort none [] (scan 1 (fd 2 1 1 false ∷ fd 2 2 1 false ∷ []) [])))))
+unfolding opened
+c93 = refl
+
+c94 : rewriteAt 0 (filter (between false (v 0 101) (v 0 101) (i 2)) (join leftSemi (scan 4 (fd 0 101 1 false ∷ []) []) (scan 5 [] []) [] (some (bin (cmp le) (v 0 101) (i 0))))) ≡ granted true (join leftSemi (filter (bin and (between false (v 0 101) (v 0 101) (i 2)) (bin (cmp le) (v 0 101) (i 0))) (scan 4 (fd 0 101 1 false ∷ []) [])) (scan 5 [] []) [] none)
+unfolding opened
+c94 = refl
+
+c95 : pass 10000 (filter (bin and (bin (cmp lt) (v 2 1) (i 0)) (v 2 3)) (alias 2 (scan 2 (fd 3 1 1 false ∷ fd 3 2 1 false ∷ fd 3 3 2 false ∷ []) []))) ≡ passed 3 1 1 (alias 2 (filter (bin and (bin (cmp lt) (v 3 1) (i 0)) (v 3 3)) (scan 2 (fd 3 1 1 false ∷ fd 3 2 1 false ∷ fd 3 3 2 false ∷ []) [])))
+unfolding opened
+c95 = refl
+
+w95 : pass-by-children 10000 (filter (bin and (bin (cmp lt) (v 2 1) (i 0)) (v 2 3)) (alias 2 (scan 2 (fd 3 1 1 false ∷ fd 3 2 1 false ∷ fd 3 3 2 false ∷ []) []))) ≡ passed 3 1 1 (alias 2 (filter (bin and (bin (cmp lt) (v 3 1) (i 0)) (v 3 3)) (scan 2 (fd 3 1 1 false ∷ fd 3 2 1 false ∷ fd 3 3 2 false ∷ []) [])))
+unfolding walked
+w95 = refl
+
+c96 : rewriteAt 0 (filter (bin (cmp gt) (v 0 101) (v 0 101)) (join inner (aggregate (en 2 1 (i 1) ∷ []) (ag 3 1 max (v 2 1) ∷ ag 0 101 min (v 2 1) ∷ []) (scan 4 (fd 2 1 1 true ∷ []) [])) (join leftSemi (scan 3 (fd 4 1 2 false ∷ fd 4 2 1 true ∷ []) []) (scan 1 (fd 5 1 1 false ∷ fd 5 2 1 false ∷ []) []) [] none) [] none)) ≡ granted true (join inner (filter (bin (cmp gt) (v 0 101) (v 0 101)) (aggregate (en 2 1 (i 1) ∷ []) (ag 3 1 max (v 2 1) ∷ ag 0 101 min (v 2 1) ∷ []) (scan 4 (fd 2 1 1 true ∷ []) []))) (join leftSemi (scan 3 (fd 4 1 2 false ∷ fd 4 2 1 true ∷ []) []) (scan 1 (fd 5 1 1 false ∷ fd 5 2 1 false ∷ []) []) [] none) [] none)
+unfolding opened
+c96 = refl
+
+c97 : rewriteAt 28 (filter (bin or (bin and (bin (cmp ge) (i 3) (v 3 3)) (bool false)) (bool true)) (union (pcons (window (wn 3 3 max (v 2 2) (nm 2 2 ∷ []) ∷ []) (scan 2 (fd 2 1 1 true ∷ fd 2 2 1 false ∷ fd 2 3 2 false ∷ []) [])) (pcons (project (en 6 2 (fn 1 0 1 (econs (v 4 1) (econs (bool false) enil))) ∷ en 7 1 (v 4 1) ∷ en 0 102 (fn 1 0 2 enil) ∷ en 0 103 (i 2) ∷ []) (union (pcons (scan 4 (fd 4 1 1 false ∷ []) []) (pcons (project (en 0 101 (i 2) ∷ []) (scan 3 (fd 5 1 2 false ∷ fd 5 2 1 false ∷ []) [])) pnil)))) (pcons (project (en 9 1 (v 8 2) ∷ en 0 104 (v 8 2) ∷ en 10 3 (bool false) ∷ en 11 1 (v 8 2) ∷ []) (filter (bin or (bin and (bin and (bin (cmp gt) (v 8 1) (i 1)) (fn 2 0 2 (econs (bool true) (econs (i 0) enil)))) (fn 2 2 2 (econs (bool false) enil))) (bool false)) (scan 1 (fd 8 1 1 true ∷ fd 8 2 1 true ∷ []) []))) pnil))))) ≡ granted false (filter (bin or (bin and (bin (cmp ge) (i 3) (v 3 3)) (bool false)) (bool true)) (union (pcons (window (wn 3 3 max (v 2 2) (nm 2 2 ∷ []) ∷ []) (scan 2 (fd 2 1 1 true ∷ fd 2 2 1 false ∷ fd 2 3 2 false ∷ []) [])) (pcons (project (en 6 2 (fn 1 0 1 (econs (v 4 1) (econs (bool false) enil))) ∷ en 7 1 (v 4 1) ∷ en 0 102 (fn 1 0 2 enil) ∷ en 0 103 (i 2) ∷ []) (union (pcons (scan 4 (fd 4 1 1 false ∷ []) []) (pcons (project (en 0 101 (i 2) ∷ []) (scan 3 (fd 5 1 2 false ∷ fd 5 2 1 false ∷ []) [])) pnil)))) (pcons (project (en 9 1 (v 8 2) ∷ en 0 104 (v 8 2) ∷ en 10 3 (bool false) ∷ en 11 1 (v 8 2) ∷ []) (filter (bin or (bin and (bin and (bin (cmp gt) (v 8 1) (i 1)) (fn 2 0 2 (econs (bool true) (econs (i 0) enil)))) (fn 2 2 2 (econs (bool false) enil))) (bool false)) (scan 1 (fd 8 1 1 true ∷ fd 8 2 1 true ∷ []) []))) pnil)))))
+unfolding opened
+c97 = refl
+
+c98 : rewriteAt 0 (filter (bin or (between false (i 3) (fn 0 0 1 (econs (bool false) (econs (i 3) enil))) (i 3)) (bin and (bin and (bool true) (fn 0 0 2 (econs (bool false) enil))) (bool true))) (scan 5 [] [])) ≡ granted false (filter (bin or (between false (i 3) (fn 0 0 1 (econs (bool false) (econs (i 3) enil))) (i 3)) (bin and (bin and (bool true) (fn 0 0 2 (econs (bool false) enil))) (bool true))) (scan 5 [] []))
+unfolding opened
+c98 = refl
+
+c99 : rewriteAt 0 (filter (bin or (bin and (bin (cmp le) (v 0 101) (i 0)) (fn 0 2 2 (econs (bool false) (econs (fn 2 0 1 (econs (v 0 101) enil)) enil)))) (bin (cmp lt) (v 0 101) (i 0))) (scan 4 (fd 0 101 1 false ∷ []) [])) ≡ granted false (filter (bin or (bin and (bin (cmp le) (v 0 101) (i 0)) (fn 0 2 2 (econs (bool false) (econs (fn 2 0 1 (econs (v 0 101) enil)) enil)))) (bin (cmp lt) (v 0 101) (i 0))) (scan 4 (fd 0 101 1 false ∷ []) []))
+unfolding opened
+c99 = refl
+
+c100 : pass 3 (filter (inlist true (v 0 101) (econs (i 0) (econs (v 0 101) enil))) (project (en 0 101 (v 2 1) ∷ en 0 102 (bin (cmp gt) (i 2) (v 2 1)) ∷ en 2 1 (fn 2 0 2 (econs (nul 2) enil)) ∷ []) (filter (bin and (bin (cmp gt) (i 0) (v 2 1)) (bin (cmp le) (v 2 1) (v 2 1))) (scan 4 (fd 2 1 1 false ∷ []) [])))) ≡ passed 3 1 1 (project (en 0 101 (v 2 1) ∷ en 0 102 (bin (cmp gt) (i 2) (v 2 1)) ∷ en 2 1 (fn 2 0 2 (econs (nul 2) enil)) ∷ []) (filter (bin and (bin and (bin (cmp gt) (i 0) (v 2 1)) (bin (cmp le) (v 2 1) (v 2 1))) (inlist true (v 2 1) (econs (i 0) (econs (v 2 1) enil)))) (scan 4 (fd 2 1 1 false ∷ []) [])))
+unfolding opened
+c100 = refl
+
+w100 : pass-by-children 3 (filter (inlist true (v 0 101) (econs (i 0) (econs (v 0 101) enil))) (project (en 0 101 (v 2 1) ∷ en 0 102 (bin (cmp gt) (i 2) (v 2 1)) ∷ en 2 1 (fn 2 0 2 (econs (nul 2) enil)) ∷ []) (filter (bin and (bin (cmp gt) (i 0) (v 2 1)) (bin (cmp le) (v 2 1) (v 2 1))) (scan 4 (fd 2 1 1 false ∷ []) [])))) ≡ passed 3 1 1 (project (en 0 101 (v 2 1) ∷ en 0 102 (bin (cmp gt) (i 2) (v 2 1)) ∷ en 2 1 (fn 2 0 2 (econs (nul 2) enil)) ∷ []) (filter (bin and (bin and (bin (cmp gt) (i 0) (v 2 1)) (bin (cmp le) (v 2 1) (v 2 1))) (inlist true (v 2 1) (econs (i 0) (econs (v 2 1) enil)))) (scan 4 (fd 2 1 1 false ∷ []) [])))
+unfolding walked
+w100 = refl
+
+c101 : rewriteAt 0 (filter (bin and (bin (cmp ge) (i 3) (v 2 1)) (bool true)) (union (pcons (scan 1 (fd 2 1 1 true ∷ fd 2 2 1 true ∷ []) []) (pcons (project (en 4 1 (num (negsuc 9223372036854775807)) ∷ en 0 101 (i 3) ∷ []) (scan 5 [] [])) pnil)))) ≡ granted true (union (pcons (filter (bin and (bin (cmp ge) (i 3) (v 2 1)) (bool true)) (scan 1 (fd 2 1 1 true ∷ fd 2 2 1 true ∷ []) [])) (pcons (filter (bin and (bin (cmp ge) (i 3) (v 4 1)) (bool true)) (project (en 4 1 (num (negsuc 9223372036854775807)) ∷ en 0 101 (i 3) ∷ []) (scan 5 [] []))) pnil)))
+unfolding opened
+c101 = refl
+
+c102 : rewriteAt 5 (join rightSemi (scan 2 (fd 2 1 1 false ∷ fd 2 2 1 false ∷ fd 2 3 2 true ∷ []) []) (scan 2 (fd 3 1 1 false ∷ fd 3 2 1 false ∷ fd 3 3 2 true ∷ []) []) (pr (v 2 2) (v 3 2) ∷ []) (some (bin and (bin (cmp eq) (i 2) (v 3 1)) (bin (cmp lt) (v 2 1) (i 1))))) ≡ granted false (join rightSemi (scan 2 (fd 2 1 1 false ∷ fd 2 2 1 false ∷ fd 2 3 2 true ∷ []) []) (scan 2 (fd 3 1 1 false ∷ fd 3 2 1 false ∷ fd 3 3 2 true ∷ []) []) (pr (v 2 2) (v 3 2) ∷ []) (some (bin and (bin (cmp eq) (i 2) (v 3 1)) (bin (cmp lt) (v 2 1) (i 1)))))
+unfolding opened
+c102 = refl
+
+c103 : pass 5 (filter (bin (cmp gt) (v 3 2) (i 0)) (project (en 0 101 (bool false) ∷ en 3 2 (i 9223372036854775807) ∷ []) (scan 4 (fd 2 1 1 false ∷ []) []))) ≡ passed 3 1 1 (project (en 0 101 (bool false) ∷ en 3 2 (i 9223372036854775807) ∷ []) (filter (bin (cmp gt) (i 9223372036854775807) (i 0)) (scan 4 (fd 2 1 1 false ∷ []) [])))
+unfolding opened
+c103 = refl
+
+w103 : pass-by-children 5 (filter (bin (cmp gt) (v 3 2) (i 0)) (project (en 0 101 (bool false) ∷ en 3 2 (i 9223372036854775807) ∷ []) (scan 4 (fd 2 1 1 false ∷ []) []))) ≡ passed 3 1 1 (project (en 0 101 (bool false) ∷ en 3 2 (i 9223372036854775807) ∷ []) (filter (bin (cmp gt) (i 9223372036854775807) (i 0)) (scan 4 (fd 2 1 1 false ∷ []) [])))
+unfolding walked
+w103 = refl
+
+c104 : rewriteAt 7 (filter (between true (i 1) (v 2 102) (fn 0 0 1 (econs (i 0) enil))) (alias 2 (distinct (scan 3 (fd 0 101 2 true ∷ fd 0 102 1 true ∷ []) [])))) ≡ granted false (filter (between true (i 1) (v 2 102) (fn 0 0 1 (econs (i 0) enil))) (alias 2 (distinct (scan 3 (fd 0 101 2 true ∷ fd 0 102 1 true ∷ []) []))))
+unfolding opened
+c104 = refl
+
+c105 : pass 10000 (filter (bin and (bin or (bin (cmp eq) (v 2 2) (i 0)) (fn 1 2 2 (econs (v 2 1) enil))) (bin (cmp eq) (v 2 1) (i 3))) (limit 3 1 (union (pcons (scan 1 (fd 2 1 1 false ∷ fd 2 2 1 true ∷ []) []) (pcons (project (en 4 3 (v 3 1) ∷ en 5 3 (v 3 2) ∷ []) (scan 2 (fd 3 1 1 true ∷ fd 3 2 1 true ∷ fd 3 3 2 false ∷ []) [])) (pcons (project (en 7 3 (nul 1) ∷ en 0 101 (v 6 2) ∷ []) (scan 3 (fd 6 1 2 true ∷ fd 6 2 1 true ∷ []) [])) pnil)))))) ≡ passed 8 0 1 (filter (bin and (bin (cmp eq) (v 2 1) (i 3)) (bin or (bin (cmp eq) (v 2 2) (i 0)) (fn 1 2 2 (econs (v 2 1) enil)))) (limit 3 1 (union (pcons (scan 1 (fd 2 1 1 false ∷ fd 2 2 1 true ∷ []) []) (pcons (project (en 4 3 (v 3 1) ∷ en 5 3 (v 3 2) ∷ []) (scan 2 (fd 3 1 1 true ∷ fd 3 2 1 true ∷ fd 3 3 2 false ∷ []) [])) (pcons (project (en 7 3 (nul 1) ∷ en 0 101 (v 6 2) ∷ []) (scan 3 (fd 6 1 2 true ∷ fd 6 2 1 true ∷ []) [])) pnil))))))
+unfolding opened
+c105 = refl
+
+w105 : pass-by-children 10000 (filter (bin and (bin or (bin (cmp eq) (v 2 2) (i 0)) (fn 1 2 2 (econs (v 2 1) enil))) (bin (cmp eq) (v 2 1) (i 3))) (limit 3 1 (union (pcons (scan 1 (fd 2 1 1 false ∷ fd 2 2 1 true ∷ []) []) (pcons (project (en 4 3 (v 3 1) ∷ en 5 3 (v 3 2) ∷ []) (scan 2 (fd 3 1 1 true ∷ fd 3 2 1 true ∷ fd 3 3 2 false ∷ []) [])) (pcons (project (en 7 3 (nul 1) ∷ en 0 101 (v 6 2) ∷ []) (scan 3 (fd 6 1 2 true ∷ fd 6 2 1 true ∷ []) [])) pnil)))))) ≡ passed 8 0 1 (filter (bin and (bin (cmp eq) (v 2 1) (i 3)) (bin or (bin (cmp eq) (v 2 2) (i 0)) (fn 1 2 2 (econs (v 2 1) enil)))) (limit 3 1 (union (pcons (scan 1 (fd 2 1 1 false ∷ fd 2 2 1 true ∷ []) []) (pcons (project (en 4 3 (v 3 1) ∷ en 5 3 (v 3 2) ∷ []) (scan 2 (fd 3 1 1 true ∷ fd 3 2 1 true ∷ fd 3 3 2 false ∷ []) [])) (pcons (project (en 7 3 (nul 1) ∷ en 0 101 (v 6 2) ∷ []) (scan 3 (fd 6 1 2 true ∷ fd 6 2 1 true ∷ []) [])) pnil))))))
+unfolding walked
+w105 = refl
+
+c106 : rewriteAt 0 (filter (bin and (neg (bin (cmp lt) (v 2 1) (i 3))) (bin (cmp lt) (i 0) (v 2 1))) (alias 2 (scan 4 (fd 3 1 1 false ∷ []) ((bool true) ∷ [])))) ≡ granted true (alias 2 (filter (bin and (neg (bin (cmp lt) (v 3 1) (i 3))) (bin (cmp lt) (i 0) (v 3 1))) (scan 4 (fd 3 1 1 false ∷ []) ((bool true) ∷ []))))
+unfolding opened
+c106 = refl
+
+c107 : rewriteAt 0 (window (wn 4 3 max (v 2 1) (nm 2 1 ∷ nm 2 1 ∷ []) ∷ wn 0 101 count (v 2 2) (nm 2 1 ∷ []) ∷ []) (filter (bin or (bin or (bin and (bin (cmp eq) (v 2 2) (v 2 2)) (bin (cmp le) (i 0) (v 2 2))) (bin (cmp gt) (i 1) (v 2 2))) (bin and (bin or (fn 0 0 2 (econs (nul 1) (econs (nul 2) enil))) (bin (cmp eq) (v 2 1) (i 0))) (bin (cmp ge) (i 3) (v 2 2)))) (join leftSemi (scan 1 (fd 2 1 1 false ∷ fd 2 2 1 true ∷ []) []) (scan 1 (fd 3 1 1 true ∷ fd 3 2 1 false ∷ []) []) (pr (v 2 2) (v 3 1) ∷ []) (some (bin (cmp eq) (v 2 2) (v 2 2)))))) ≡ granted false (window (wn 4 3 max (v 2 1) (nm 2 1 ∷ nm 2 1 ∷ []) ∷ wn 0 101 count (v 2 2) (nm 2 1 ∷ []) ∷ []) (filter (bin or (bin or (bin and (bin (cmp eq) (v 2 2) (v 2 2)) (bin (cmp le) (i 0) (v 2 2))) (bin (cmp gt) (i 1) (v 2 2))) (bin and (bin or (fn 0 0 2 (econs (nul 1) (econs (nul 2) enil))) (bin (cmp eq) (v 2 1) (i 0))) (bin (cmp ge) (i 3) (v 2 2)))) (join leftSemi (scan 1 (fd 2 1 1 false ∷ fd 2 2 1 true ∷ []) []) (scan 1 (fd 3 1 1 true ∷ fd 3 2 1 false ∷ []) []) (pr (v 2 2) (v 3 1) ∷ []) (some (bin (cmp eq) (v 2 2) (v 2 2))))))
+unfolding opened
+c107 = refl
+
+c108 : rewriteAt 0 (filter (bin (cmp ge) (i 1) (v 2 2)) (scan 3 (fd 2 1 2 true ∷ fd 2 2 1 false ∷ []) ((fn 1 0 2 enil) ∷ []))) ≡ granted false (filter (bin (cmp ge) (i 1) (v 2 2)) (scan 3 (fd 2 1 2 true ∷ fd 2 2 1 false ∷ []) ((fn 1 0 2 enil) ∷ [])))
+unfolding opened
+c108 = refl
+
+c109 : rewriteAt 0 (filter (bin and (bin (cmp lt) (v 3 1) (i 0)) (bin (cmp eq) (v 2 2) (i 3))) (limit 1 1 (filter (bin and (bin (cmp gt) (v 2 1) (i 1)) (bool true)) (window (wn 3 1 max (v 2 2) (nm 2 1 ∷ []) ∷ wn 0 101 min (v 2 2) (nm 2 2 ∷ nm 2 2 ∷ []) ∷ []) (scan 1 (fd 2 1 1 true ∷ fd 2 2 1 true ∷ []) []))))) ≡ granted false (filter (bin and (bin (cmp lt) (v 3 1) (i 0)) (bin (cmp eq) (v 2 2) (i 3))) (limit 1 1 (filter (bin and (bin (cmp gt) (v 2 1) (i 1)) (bool true)) (window (wn 3 1 max (v 2 2) (nm 2 1 ∷ []) ∷ wn 0 101 min (v 2 2) (nm 2 2 ∷ nm 2 2 ∷ []) ∷ []) (scan 1 (fd 2 1 1 true ∷ fd 2 2 1 true ∷ []) [])))))
+unfolding opened
+c109 = refl
+
+c110 : pass 0 (filter (bin and (between true (fn 2 0 1 (econs (v 3 2) (econs (v 0 102) enil))) (v 0 102) (i 1)) (bool false)) (aggregate (en 0 102 (i 3) ∷ en 3 2 (bool false) ∷ []) [] (join inner (scan 1 (fd 2 1 1 true ∷ fd 2 2 1 true ∷ []) []) (scan 2 (fd 0 101 1 true ∷ fd 0 102 1 true ∷ fd 0 103 2 true ∷ []) []) [] none))) ≡ passed 0 0 0 (filter (bin and (between true (fn 2 0 1 (econs (v 3 2) (econs (v 0 102) enil))) (v 0 102) (i 1)) (bool false)) (aggregate (en 0 102 (i 3) ∷ en 3 2 (bool false) ∷ []) [] (join inner (scan 1 (fd 2 1 1 true ∷ fd 2 2 1 true ∷ []) []) (scan 2 (fd 0 101 1 true ∷ fd 0 102 1 true ∷ fd 0 103 2 true ∷ []) []) [] none)))
+unfolding opened
+c110 = refl
+
+w110 : pass-by-children 0 (filter (bin and (between true (fn 2 0 1 (econs (v 3 2) (econs (v 0 102) enil))) (v 0 102) (i 1)) (bool false)) (aggregate (en 0 102 (i 3) ∷ en 3 2 (bool false) ∷ []) [] (join inner (scan 1 (fd 2 1 1 true ∷ fd 2 2 1 true ∷ []) []) (scan 2 (fd 0 101 1 true ∷ fd 0 102 1 true ∷ fd 0 103 2 true ∷ []) []) [] none))) ≡ passed 0 0 0 (filter (bin and (between true (fn 2 0 1 (econs (v 3 2) (econs (v 0 102) enil))) (v 0 102) (i 1)) (bool false)) (aggregate (en 0 102 (i 3) ∷ en 3 2 (bool false) ∷ []) [] (join inner (scan 1 (fd 2 1 1 true ∷ fd 2 2 1 true ∷ []) []) (scan 2 (fd 0 101 1 true ∷ fd 0 102 1 true ∷ fd 0 103 2 true ∷ []) []) [] none)))
+unfolding walked
+w110 = refl
+
+c111 : rewriteAt 7 (filter (bin (cmp ne) (v 2 1) (fn 0 0 1 (econs (bool true) enil))) (sort none [] (distinct (filter (bin and (bin (cmp ne) (v 2 1) (fn 0 0 1 (econs (bool true) enil))) (bin (cmp le) (v 2 2) (i 3))) (scan 1 (fd 2 1 1 true ∷ fd 2 2 1 true ∷ []) []))))) ≡ granted true (filter (bin (cmp ne) (v 2 1) (fn 0 0 1 (econs (bool true) enil))) (sort none [] (distinct (scan 1 (fd 2 1 1 true ∷ fd 2 2 1 true ∷ []) ((bin (cmp le) (v 2 2) (i 3)) ∷ (bin (cmp ne) (v 2 1) (fn 0 0 1 (econs (bool true) enil))) ∷ [])))))
+unfolding opened
+c111 = refl
+
+c112 : rewriteAt 0 (filter (bin (cmp eq) (v 2 1) (i 0)) (distinct (scan 4 (fd 2 1 1 true ∷ []) []))) ≡ granted true (distinct (filter (bin (cmp eq) (v 2 1) (i 0)) (scan 4 (fd 2 1 1 true ∷ []) [])))
+unfolding opened
+c112 = refl
+
+c113 : pass 10000 (filter (bin or (test isTrue (fn 1 0 2 (econs (v 0 102) (econs (bool false) enil)))) (bin and (fn 0 0 2 (econs (bool false) (econs (nul 2) enil))) (bin (cmp ne) (v 0 101) (fn 0 0 1 (econs (i 1) enil))))) (repartition (scan 1 (fd 0 101 1 false ∷ fd 0 102 1 false ∷ []) []))) ≡ passed 3 1 1 (repartition (filter (bin or (test isTrue (fn 1 0 2 (econs (v 0 102) (econs (bool false) enil)))) (bin and (fn 0 0 2 (econs (bool false) (econs (nul 2) enil))) (bin (cmp ne) (v 0 101) (fn 0 0 1 (econs (i 1) enil))))) (scan 1 (fd 0 101 1 false ∷ fd 0 102 1 false ∷ []) [])))
+unfolding opened
+c113 = refl
+
+w113 : pass-by-children 10000 (filter (bin or (test isTrue (fn 1 0 2 (econs (v 0 102) (econs (bool false) enil)))) (bin and (fn 0 0 2 (econs (bool false) (econs (nul 2) enil))) (bin (cmp ne) (v 0 101) (fn 0 0 1 (econs (i 1) enil))))) (repartition (scan 1 (fd 0 101 1 false ∷ fd 0 102 1 false ∷ []) []))) ≡ passed 3 1 1 (repartition (filter (bin or (test isTrue (fn 1 0 2 (econs (v 0 102) (econs (bool false) enil)))) (bin and (fn 0 0 2 (econs (bool false) (econs (nul 2) enil))) (bin (cmp ne) (v 0 101) (fn 0 0 1 (econs (i 1) enil))))) (scan 1 (fd 0 101 1 false ∷ fd 0 102 1 false ∷ []) [])))
+unfolding walked
+w113 = refl
+
+c114 : pass 2 (filter (bin and (neg (fn 0 2 2 (econs (v 3 2) (econs (bool false) enil)))) (fn 0 0 2 (econs (v 2 1) (econs (fn 0 0 1 enil) enil)))) (project (en 3 2 (i 0) ∷ en 0 101 (v 2 2) ∷ en 2 1 (i 3) ∷ []) (filter (bin and (inlist true (v 2 1) (econs (v 2 1) (econs (v 2 2) enil))) (bin (cmp le) (v 2 2) (i 3))) (scan 1 (fd 2 1 1 true ∷ fd 2 2 1 true ∷ []) [])))) ≡ passed 2 2 0 (project (en 3 2 (i 0) ∷ en 0 101 (v 2 2) ∷ en 2 1 (i 3) ∷ []) (filter (bin and (neg (fn 0 2 2 (econs (i 0) (econs (bool false) enil)))) (fn 0 0 2 (econs (i 3) (econs (fn 0 0 1 enil) enil)))) (scan 1 (fd 2 1 1 true ∷ fd 2 2 1 true ∷ []) ((inlist true (v 2 1) (econs (v 2 1) (econs (v 2 2) enil))) ∷ (bin (cmp le) (v 2 2) (i 3)) ∷ []))))
+unfolding opened
+c114 = refl
+
+w114 : pass-by-children 2 (filter (bin and (neg (fn 0 2 2 (econs (v 3 2) (econs (bool false) enil)))) (fn 0 0 2 (econs (v 2 1) (econs (fn 0 0 1 enil) enil)))) (project (en 3 2 (i 0) ∷ en 0 101 (v 2 2) ∷ en 2 1 (i 3) ∷ []) (filter (bin and (inlist true (v 2 1) (econs (v 2 1) (econs (v 2 2) enil))) (bin (cmp le) (v 2 2) (i 3))) (scan 1 (fd 2 1 1 true ∷ fd 2 2 1 true ∷ []) [])))) ≡ passed 2 2 0 (project (en 3 2 (i 0) ∷ en 0 101 (v 2 2) ∷ en 2 1 (i 3) ∷ []) (filter (bin and (neg (fn 0 2 2 (econs (i 0) (econs (bool false) enil)))) (fn 0 0 2 (econs (i 3) (econs (fn 0 0 1 enil) enil)))) (scan 1 (fd 2 1 1 true ∷ fd 2 2 1 true ∷ []) ((inlist true (v 2 1) (econs (v 2 1) (econs (v 2 2) enil))) ∷ (bin (cmp le) (v 2 2) (i 3)) ∷ []))))
+unfolding walked
+w114 = refl
+
+c115 : rewriteAt 0 (join left (filter (bin and (between false (i 1) (i 0) (i 2)) (bool true)) (join rightSemi (scan 1 (fd 2 1 1 true ∷ fd 2 2 1 true ∷ []) []) (scan 5 [] []) [] (some (bool false)))) (filter (bin and (bool true) (between false (i 3) (v 0 102) (v 0 101))) (aggregate (en 0 101 (i 9223372036854775807) ∷ []) (ag 5 1 count (nul 1) ∷ ag 0 102 max (i 1) ∷ []) (scan 5 [] []))) [] (some (bin and (bin (cmp lt) (i 1) (v 5 1)) (bin (cmp ge) (v 0 101) (i 0))))) ≡ granted true (join left (filter (bin and (between false (i 1) (i 0) (i 2)) (bool true)) (join rightSemi (scan 1 (fd 2 1 1 true ∷ fd 2 2 1 true ∷ []) []) (scan 5 [] []) [] (some (bool false)))) (filter (bin and (bin (cmp lt) (i 1) (v 5 1)) (bin (cmp ge) (v 0 101) (i 0))) (filter (bin and (bool true) (between false (i 3) (v 0 102) (v 0 101))) (aggregate (en 0 101 (i 9223372036854775807) ∷ []) (ag 5 1 count (nul 1) ∷ ag 0 102 max (i 1) ∷ []) (scan 5 [] [])))) [] none)
+unfolding opened
+c115 = refl
+
+c116 : pass 10000 (filter (bin and (bool true) (bool true)) (repartition (project (en 0 101 (i 3) ∷ en 3 2 (i 3) ∷ []) (join rightAnti (scan 2 (fd 2 1 1 true ∷ fd 2 2 1 true ∷ fd 2 3 2 false ∷ []) []) (scan 5 [] []) [] (some (bin or (bin (cmp lt) (bool true) (v 2 3)) (fn 1 0 2 (econs (i 0) enil)))))))) ≡ passed 7 3 1 (repartition (project (en 0 101 (i 3) ∷ en 3 2 (i 3) ∷ []) (join rightAnti (filter (bin or (bin (cmp lt) (bool true) (v 2 3)) (fn 1 0 2 (econs (i 0) enil))) (scan 2 (fd 2 1 1 true ∷ fd 2 2 1 true ∷ fd 2 3 2 false ∷ []) [])) (filter (bin and (bool true) (bool true)) (scan 5 [] [])) [] none)))
+unfolding opened
+c116 = refl
+
+w116 : pass-by-children 10000 (filter (bin and (bool true) (bool true)) (repartition (project (en 0 101 (i 3) ∷ en 3 2 (i 3) ∷ []) (join rightAnti (scan 2 (fd 2 1 1 true ∷ fd 2 2 1 true ∷ fd 2 3 2 false ∷ []) []) (scan 5 [] []) [] (some (bin or (bin (cmp lt) (bool true) (v 2 3)) (fn 1 0 2 (econs (i 0) enil)))))))) ≡ passed 7 3 1 (repartition (project (en 0 101 (i 3) ∷ en 3 2 (i 3) ∷ []) (join rightAnti (filter (bin or (bin (cmp lt) (bool true) (v 2 3)) (fn 1 0 2 (econs (i 0) enil))) (scan 2 (fd 2 1 1 true ∷ fd 2 2 1 true ∷ fd 2 3 2 false ∷ []) [])) (filter (bin and (bool true) (bool true)) (scan 5 [] [])) [] none)))
+unfolding walked
+w116 = refl
+
+c117 : pass 0 (filter (bin or (bool true) (bin or (bool true) (bin (cmp gt) (v 2 1) (i 3)))) (alias 2 (scan 1 (fd 3 1 1 true ∷ fd 3 2 1 true ∷ []) []))) ≡ passed 0 0 0 (filter (bin or (bool true) (bin or (bool true) (bin (cmp gt) (v 2 1) (i 3)))) (alias 2 (scan 1 (fd 3 1 1 true ∷ fd 3 2 1 true ∷ []) [])))
+unfolding opened
+c117 = refl
+
+w117 : pass-by-children 0 (filter (bin or (bool true) (bin or (bool true) (bin (cmp gt) (v 2 1) (i 3)))) (alias 2 (scan 1 (fd 3 1 1 true ∷ fd 3 2 1 true ∷ []) []))) ≡ passed 0 0 0 (filter (bin or (bool true) (bin or (bool true) (bin (cmp gt) (v 2 1) (i 3)))) (alias 2 (scan 1 (fd 3 1 1 true ∷ fd 3 2 1 true ∷ []) [])))
+unfolding walked
+w117 = refl
+
+c118 : rewriteAt 0 (filter (bin and (bin or (bool true) (bin and (fn 0 0 2 enil) (bin (cmp eq) (v 4 1) (i 0)))) (bin (cmp eq) (v 4 1) (i 0))) (aggregate [] (ag 4 1 min (v 3 3) ∷ []) (aggregate (en 0 101 (i 2) ∷ en 3 3 (i 3) ∷ []) [] (scan 5 [] [])))) ≡ granted false (filter (bin and (bin (cmp eq) (v 4 1) (i 0)) (bin or (bool true) (bin and (fn 0 0 2 enil) (bin (cmp eq) (v 4 1) (i 0))))) (aggregate [] (ag 4 1 min (v 3 3) ∷ []) (aggregate (en 0 101 (i 2) ∷ en 3 3 (i 3) ∷ []) [] (scan 5 [] []))))
+unfolding opened
+c118 = refl
+
+c119 : rewriteAt 0 (filter (bin and (bin (cmp eq) (i 3) (v 2 1)) (bin or (bin and (bin or (bin (cmp eq) (i 0) (v 2 1)) (bin (cmp le) (v 2 1) (i 1))) (bin (cmp lt) (bool true) (fn 2 0 2 (econs (bool false) enil)))) (bin and (bin and (fn 2 0 2 (econs (nul 1) enil)) (fn 0 0 2 enil)) (bin (cmp eq) (i 2) (v 2 2))))) (union (pcons (alias 2 (scan 1 (fd 3 1 1 false ∷ fd 3 2 1 false ∷ []) [])) (pcons (project (en 4 1 (v 0 102) ∷ en 5 2 (v 0 102) ∷ []) (distinct (scan 3 (fd 0 101 2 false ∷ fd 0 102 1 false ∷ []) []))) pnil)))) ≡ granted true (union (pcons (filter (bin and (bin (cmp eq) (i 3) (v 2 1)) (bin or (bin and (bin or (bin (cmp eq) (i 0) (v 2 1)) (bin (cmp le) (v 2 1) (i 1))) (bin (cmp lt) (bool true) (fn 2 0 2 (econs (bool false) enil)))) (bin and (bin and (fn 2 0 2 (econs (nul 1) enil)) (fn 0 0 2 enil)) (bin (cmp eq) (i 2) (v 2 2))))) (alias 2 (scan 1 (fd 3 1 1 false ∷ fd 3 2 1 false ∷ []) []))) (pcons (filter (bin and (bin (cmp eq) (i 3) (v 4 1)) (bin or (bin and (bin or (bin (cmp eq) (i 0) (v 4 1)) (bin (cmp le) (v 4 1) (i 1))) (bin (cmp lt) (bool true) (fn 2 0 2 (econs (bool false) enil)))) (bin and (bin and (fn 2 0 2 (econs (nul 1) enil)) (fn 0 0 2 enil)) (bin (cmp eq) (i 2) (v 5 2))))) (project (en 4 1 (v 0 102) ∷ en 5 2 (v 0 102) ∷ []) (distinct (scan 3 (fd 0 101 2 false ∷ fd 0 102 1 false ∷ []) [])))) pnil)))
+unfolding opened
+c119 = refl
+
+c120 : pass 5 (filter (bin and (inlist false (i 0) (econs (i 0) (econs (v 0 102) enil))) (between false (v 5 2) (i 0) (v 5 2))) (window (wn 5 2 max (i 2) (nm 4 1 ∷ []) ∷ wn 6 3 min (i 1) (nm 3 1 ∷ nm 0 101 ∷ []) ∷ []) (aggregate (en 0 101 (bin (cmp lt) (v 2 1) (i 3)) ∷ en 3 1 (v 2 1) ∷ []) (ag 0 102 max (i 2) ∷ ag 4 1 max (v 2 1) ∷ []) (scan 4 (fd 2 1 1 false ∷ []) [])))) ≡ passed 4 0 1 (filter (bin and (inlist false (i 0) (econs (i 0) (econs (v 0 102) enil))) (between false (v 5 2) (i 0) (v 5 2))) (window (wn 5 2 max (i 2) (nm 4 1 ∷ []) ∷ wn 6 3 min (i 1) (nm 3 1 ∷ nm 0 101 ∷ []) ∷ []) (aggregate (en 0 101 (bin (cmp lt) (v 2 1) (i 3)) ∷ en 3 1 (v 2 1) ∷ []) (ag 0 102 max (i 2) ∷ ag 4 1 max (v 2 1) ∷ []) (scan 4 (fd 2 1 1 false ∷ []) []))))
+unfolding opened
+c120 = refl
+
+w120 : pass-by-children 5 (filter (bin and (inlist false (i 0) (econs (i 0) (econs (v 0 102) enil))) (between false (v 5 2) (i 0) (v 5 2))) (window (wn 5 2 max (i 2) (nm 4 1 ∷ []) ∷ wn 6 3 min (i 1) (nm 3 1 ∷ nm 0 101 ∷ []) ∷ []) (aggregate (en 0 101 (bin (cmp lt) (v 2 1) (i 3)) ∷ en 3 1 (v 2 1) ∷ []) (ag 0 102 max (i 2) ∷ ag 4 1 max (v 2 1) ∷ []) (scan 4 (fd 2 1 1 false ∷ []) [])))) ≡ passed 4 0 1 (filter (bin and (inlist false (i 0) (econs (i 0) (econs (v 0 102) enil))) (between false (v 5 2) (i 0) (v 5 2))) (window (wn 5 2 max (i 2) (nm 4 1 ∷ []) ∷ wn 6 3 min (i 1) (nm 3 1 ∷ nm 0 101 ∷ []) ∷ []) (aggregate (en 0 101 (bin (cmp lt) (v 2 1) (i 3)) ∷ en 3 1 (v 2 1) ∷ []) (ag 0 102 max (i 2) ∷ ag 4 1 max (v 2 1) ∷ []) (scan 4 (fd 2 1 1 false ∷ []) []))))
+unfolding walked
+w120 = refl
+
+c121 : pass 10000 (filter (bin and (between false (v 2 1) (v 2 2) (v 7 2)) (fn 2 0 2 (econs (bool false) enil))) (join inner (union (pcons (filter (bin (cmp gt) (nul 1) (v 2 1)) (scan 1 (fd 2 1 1 true ∷ fd 2 2 1 false ∷ []) [])) (pcons (project (en 0 101 (i 0) ∷ en 0 102 (i 2) ∷ []) (join rightSemi (scan 2 (fd 3 1 1 true ∷ fd 3 2 1 true ∷ fd 3 3 2 false ∷ []) []) (scan 4 (fd 4 1 1 false ∷ []) ((bool false) ∷ (bin or (bin (cmp ne) (v 4 1) (i 3)) (bool true)) ∷ [])) [] none)) (pcons (project (en 0 103 (v 5 2) ∷ en 6 3 (nul 1) ∷ []) (sort none [] (scan 3 (fd 5 1 2 true ∷ fd 5 2 1 true ∷ []) []))) pnil)))) (join inner (join inner (scan 1 (fd 7 1 1 false ∷ fd 7 2 1 false ∷ []) ((bin (cmp ne) (i 0) (v 7 1)) ∷ [])) (scan 1 (fd 8 1 1 true ∷ fd 8 2 1 true ∷ []) []) (pr (i 3) (v 8 2) ∷ pr (v 7 1) (v 8 2) ∷ []) none) (project (en 10 2 (fn 2 0 2 enil) ∷ []) (scan 4 (fd 9 1 1 true ∷ []) [])) [] (some (bin (cmp ge) (v 7 1) (i 3)))) (pr (v 2 1) (v 7 2) ∷ []) (some (bin (cmp eq) (v 2 2) (nul 1))))) ≡ passed 20 10 1 (join inner (union (pcons (filter (bin and (bin (cmp eq) (v 2 2) (nul 1)) (fn 2 0 2 (econs (bool false) enil))) (scan 1 (fd 2 1 1 true ∷ fd 2 2 1 false ∷ []) ((bin (cmp gt) (nul 1) (v 2 1)) ∷ []))) (pcons (project (en 0 101 (i 0) ∷ en 0 102 (i 2) ∷ []) (join rightSemi (scan 2 (fd 3 1 1 true ∷ fd 3 2 1 true ∷ fd 3 3 2 false ∷ []) []) (filter (bin and (bin (cmp eq) (i 2) (nul 1)) (fn 2 0 2 (econs (bool false) enil))) (scan 4 (fd 4 1 1 false ∷ []) ((bool false) ∷ (bin or (bin (cmp ne) (v 4 1) (i 3)) (bool true)) ∷ []))) [] none)) (pcons (project (en 0 103 (v 5 2) ∷ en 6 3 (nul 1) ∷ []) (sort none [] (filter (bin and (bin (cmp eq) (nul 1) (nul 1)) (fn 2 0 2 (econs (bool false) enil))) (scan 3 (fd 5 1 2 true ∷ fd 5 2 1 true ∷ []) [])))) pnil)))) (join inner (join inner (filter (bin (cmp ge) (v 7 1) (i 3)) (scan 1 (fd 7 1 1 false ∷ fd 7 2 1 false ∷ []) ((bin (cmp ne) (i 0) (v 7 1)) ∷ []))) (scan 1 (fd 8 1 1 true ∷ fd 8 2 1 true ∷ []) ((bin (cmp ge) (v 8 2) (i 3)) ∷ [])) (pr (i 3) (v 8 2) ∷ pr (v 7 1) (v 8 2) ∷ []) none) (project (en 10 2 (fn 2 0 2 enil) ∷ []) (scan 4 (fd 9 1 1 true ∷ []) [])) [] none) (pr (v 2 1) (v 7 2) ∷ []) (some (between false (v 2 1) (v 2 2) (v 7 2))))
+unfolding opened
+c121 = refl
+
+w121 : pass-by-children 10000 (filter (bin and (between false (v 2 1) (v 2 2) (v 7 2)) (fn 2 0 2 (econs (bool false) enil))) (join inner (union (pcons (filter (bin (cmp gt) (nul 1) (v 2 1)) (scan 1 (fd 2 1 1 true ∷ fd 2 2 1 false ∷ []) [])) (pcons (project (en 0 101 (i 0) ∷ en 0 102 (i 2) ∷ []) (join rightSemi (scan 2 (fd 3 1 1 true ∷ fd 3 2 1 true ∷ fd 3 3 2 false ∷ []) []) (scan 4 (fd 4 1 1 false ∷ []) ((bool false) ∷ (bin or (bin (cmp ne) (v 4 1) (i 3)) (bool true)) ∷ [])) [] none)) (pcons (project (en 0 103 (v 5 2) ∷ en 6 3 (nul 1) ∷ []) (sort none [] (scan 3 (fd 5 1 2 true ∷ fd 5 2 1 true ∷ []) []))) pnil)))) (join inner (join inner (scan 1 (fd 7 1 1 false ∷ fd 7 2 1 false ∷ []) ((bin (cmp ne) (i 0) (v 7 1)) ∷ [])) (scan 1 (fd 8 1 1 true ∷ fd 8 2 1 true ∷ []) []) (pr (i 3) (v 8 2) ∷ pr (v 7 1) (v 8 2) ∷ []) none) (project (en 10 2 (fn 2 0 2 enil) ∷ []) (scan 4 (fd 9 1 1 true ∷ []) [])) [] (some (bin (cmp ge) (v 7 1) (i 3)))) (pr (v 2 1) (v 7 2) ∷ []) (some (bin (cmp eq) (v 2 2) (nul 1))))) ≡ passed 20 10 1 (join inner (union (pcons (filter (bin and (bin (cmp eq) (v 2 2) (nul 1)) (fn 2 0 2 (econs (bool false) enil))) (scan 1 (fd 2 1 1 true ∷ fd 2 2 1 false ∷ []) ((bin (cmp gt) (nul 1) (v 2 1)) ∷ []))) (pcons (project (en 0 101 (i 0) ∷ en 0 102 (i 2) ∷ []) (join rightSemi (scan 2 (fd 3 1 1 true ∷ fd 3 2 1 true ∷ fd 3 3 2 false ∷ []) []) (filter (bin and (bin (cmp eq) (i 2) (nul 1)) (fn 2 0 2 (econs (bool false) enil))) (scan 4 (fd 4 1 1 false ∷ []) ((bool false) ∷ (bin or (bin (cmp ne) (v 4 1) (i 3)) (bool true)) ∷ []))) [] none)) (pcons (project (en 0 103 (v 5 2) ∷ en 6 3 (nul 1) ∷ []) (sort none [] (filter (bin and (bin (cmp eq) (nul 1) (nul 1)) (fn 2 0 2 (econs (bool false) enil))) (scan 3 (fd 5 1 2 true ∷ fd 5 2 1 true ∷ []) [])))) pnil)))) (join inner (join inner (filter (bin (cmp ge) (v 7 1) (i 3)) (scan 1 (fd 7 1 1 false ∷ fd 7 2 1 false ∷ []) ((bin (cmp ne) (i 0) (v 7 1)) ∷ []))) (scan 1 (fd 8 1 1 true ∷ fd 8 2 1 true ∷ []) ((bin (cmp ge) (v 8 2) (i 3)) ∷ [])) (pr (i 3) (v 8 2) ∷ pr (v 7 1) (v 8 2) ∷ []) none) (project (en 10 2 (fn 2 0 2 enil) ∷ []) (scan 4 (fd 9 1 1 true ∷ []) [])) [] none) (pr (v 2 1) (v 7 2) ∷ []) (some (between false (v 2 1) (v 2 2) (v 7 2))))
+unfolding walked
+w121 = refl
+
+c122 : rewriteAt 0 (filter (bin or (bin and (bin and (bin (cmp ge) (i 0) (v 3 3)) (fn 2 0 2 enil)) (bin (cmp le) (i 0) (v 4 3))) (bin (cmp gt) (i 3) (v 2 3))) (project (en 2 3 (i 0) ∷ en 3 3 (v 2 1) ∷ en 4 3 (v 2 2) ∷ []) (filter (bin and (bin (cmp le) (v 2 1) (v 2 1)) (bin (cmp le) (v 2 1) (v 2 2))) (filter (bin and (bin (cmp lt) (i 2) (v 2 1)) (bin (cmp lt) (v 2 1) (i 2))) (scan 2 (fd 2 1 1 false ∷ fd 2 2 1 false ∷ fd 2 3 2 true ∷ []) []))))) ≡ granted true (project (en 2 3 (i 0) ∷ en 3 3 (v 2 1) ∷ en 4 3 (v 2 2) ∷ []) (filter (bin or (bin and (bin and (bin (cmp ge) (i 0) (v 2 1)) (fn 2 0 2 enil)) (bin (cmp le) (i 0) (v 2 2))) (bin (cmp gt) (i 3) (i 0))) (filter (bin and (bin (cmp le) (v 2 1) (v 2 1)) (bin (cmp le) (v 2 1) (v 2 2))) (filter (bin and (bin (cmp lt) (i 2) (v 2 1)) (bin (cmp lt) (v 2 1) (i 2))) (scan 2 (fd 2 1 1 false ∷ fd 2 2 1 false ∷ fd 2 3 2 true ∷ []) [])))))
+unfolding opened
+c122 = refl
+
+c123 : rewriteAt 4 (filter (inlist false (v 0 101) (econs (fn 2 0 1 enil) enil)) (aggregate [] (ag 0 101 count (v 2 1) ∷ []) (scan 4 (fd 2 1 1 false ∷ []) []))) ≡ granted false (filter (inlist false (v 0 101) (econs (fn 2 0 1 enil) enil)) (aggregate [] (ag 0 101 count (v 2 1) ∷ []) (scan 4 (fd 2 1 1 false ∷ []) [])))
+unfolding opened
+c123 = refl
+
+c124 : pass 10000 (filter (bin and (fn 2 0 2 enil) (bin (cmp ge) (nul 1) (v 4 1))) (join right (alias 2 (scan 3 (fd 3 1 2 false ∷ fd 3 2 1 true ∷ []) [])) (limit 3 1 (scan 1 (fd 4 1 1 true ∷ fd 4 2 1 true ∷ []) ((bin or (bin and (bin and (bin (cmp ge) (v 4 2) (i 0)) (bool true)) (bin (cmp eq) (bool true) (bool false))) (bin and (bin and (bin (cmp ge) (v 4 2) (i 0)) (test isTrue (bool true))) (fn 2 0 2 enil))) ∷ (bin (cmp le) (v 4 1) (i 1)) ∷ []))) (pr (v 2 2) (v 4 1) ∷ pr (v 2 2) (v 4 1) ∷ []) (some (bin and (bin (cmp ge) (v 4 1) (i 4294967296)) (neg (bool true)))))) ≡ passed 7 2 1 (join right (alias 2 (filter (neg (bool true)) (scan 3 (fd 3 1 2 false ∷ fd 3 2 1 true ∷ []) []))) (filter (bin and (bin (cmp ge) (nul 1) (v 4 1)) (fn 2 0 2 enil)) (limit 3 1 (scan 1 (fd 4 1 1 true ∷ fd 4 2 1 true ∷ []) ((bin or (bin and (bin and (bin (cmp ge) (v 4 2) (i 0)) (bool true)) (bin (cmp eq) (bool true) (bool false))) (bin and (bin and (bin (cmp ge) (v 4 2) (i 0)) (test isTrue (bool true))) (fn 2 0 2 enil))) ∷ (bin (cmp le) (v 4 1) (i 1)) ∷ [])))) (pr (v 2 2) (v 4 1) ∷ pr (v 2 2) (v 4 1) ∷ []) (some (bin (cmp ge) (v 4 1) (i 4294967296))))
+unfolding opened
+c124 = refl
+
+w124 : pass-by-children 10000 (filter (bin and (fn 2 0 2 enil) (bin (cmp ge) (nul 1) (v 4 1))) (join right (alias 2 (scan 3 (fd 3 1 2 false ∷ fd 3 2 1 true ∷ []) [])) (limit 3 1 (scan 1 (fd 4 1 1 true ∷ fd 4 2 1 true ∷ []) ((bin or (bin and (bin and (bin (cmp ge) (v 4 2) (i 0)) (bool true)) (bin (cmp eq) (bool true) (bool false))) (bin and (bin and (bin (cmp ge) (v 4 2) (i 0)) (test isTrue (bool true))) (fn 2 0 2 enil))) ∷ (bin (cmp le) (v 4 1) (i 1)) ∷ []))) (pr (v 2 2) (v 4 1) ∷ pr (v 2 2) (v 4 1) ∷ []) (some (bin and (bin (cmp ge) (v 4 1) (i 4294967296)) (neg (bool true)))))) ≡ passed 7 2 1 (join right (alias 2 (filter (neg (bool true)) (scan 3 (fd 3 1 2 false ∷ fd 3 2 1 true ∷ []) []))) (filter (bin and (bin (cmp ge) (nul 1) (v 4 1)) (fn 2 0 2 enil)) (limit 3 1 (scan 1 (fd 4 1 1 true ∷ fd 4 2 1 true ∷ []) ((bin or (bin and (bin and (bin (cmp ge) (v 4 2) (i 0)) (bool true)) (bin (cmp eq) (bool true) (bool false))) (bin and (bin and (bin (cmp ge) (v 4 2) (i 0)) (test isTrue (bool true))) (fn 2 0 2 enil))) ∷ (bin (cmp le) (v 4 1) (i 1)) ∷ [])))) (pr (v 2 2) (v 4 1) ∷ pr (v 2 2) (v 4 1) ∷ []) (some (bin (cmp ge) (v 4 1) (i 4294967296))))
+unfolding walked
+w124 = refl
+
+c125 : rewriteAt 0 (project (en 3 3 (bool true) ∷ en 2 2 (v 2 2) ∷ en 0 101 (fn 2 2 1 enil) ∷ []) (scan 1 (fd 2 1 1 false ∷ fd 2 2 1 false ∷ []) ((bin or (bin (cmp ne) (v 2 1) (nul 1)) (bin and (bin or (test isNotFalse (fn 2 0 2 (econs (v 2 2) enil))) (bin (cmp gt) (v 2 1) (i 0))) (test isNotFalse (fn 2 0 2 (econs (v 2 2) enil))))) ∷ []))) ≡ granted false (project (en 3 3 (bool true) ∷ en 2 2 (v 2 2) ∷ en 0 101 (fn 2 2 1 enil) ∷ []) (scan 1 (fd 2 1 1 false ∷ fd 2 2 1 false ∷ []) ((bin or (bin (cmp ne) (v 2 1) (nul 1)) (bin and (bin or (test isNotFalse (fn 2 0 2 (econs (v 2 2) enil))) (bin (cmp gt) (v 2 1) (i 0))) (test isNotFalse (fn 2 0 2 (econs (v 2 2) enil))))) ∷ [])))
+unfolding opened
+c125 = refl
+
+c126 : pass 10000 (filter (bin or (bin and (bin (cmp lt) (v 2 1) (i 9223372036854775807)) (test isNotTrue (v 2 3))) (test isFalse (bool true))) (repartition (join full (scan 1 (fd 0 101 1 true ∷ fd 0 102 1 true ∷ []) []) (scan 2 (fd 2 1 1 false ∷ fd 2 2 1 false ∷ fd 2 3 2 true ∷ []) []) [] (some (test isNull (v 2 2)))))) ≡ passed 5 1 1 (repartition (filter (bin or (bin and (bin (cmp lt) (v 2 1) (i 9223372036854775807)) (test isNotTrue (v 2 3))) (test isFalse (bool true))) (join full (scan 1 (fd 0 101 1 true ∷ fd 0 102 1 true ∷ []) []) (scan 2 (fd 2 1 1 false ∷ fd 2 2 1 false ∷ fd 2 3 2 true ∷ []) []) [] (some (test isNull (v 2 2))))))
+unfolding opened
+c126 = refl
+
+w126 : pass-by-children 10000 (filter (bin or (bin and (bin (cmp lt) (v 2 1) (i 9223372036854775807)) (test isNotTrue (v 2 3))) (test isFalse (bool true))) (repartition (join full (scan 1 (fd 0 101 1 true ∷ fd 0 102 1 true ∷ []) []) (scan 2 (fd 2 1 1 false ∷ fd 2 2 1 false ∷ fd 2 3 2 true ∷ []) []) [] (some (test isNull (v 2 2)))))) ≡ passed 5 1 1 (repartition (filter (bin or (bin and (bin (cmp lt) (v 2 1) (i 9223372036854775807)) (test isNotTrue (v 2 3))) (test isFalse (bool true))) (join full (scan 1 (fd 0 101 1 true ∷ fd 0 102 1 true ∷ []) []) (scan 2 (fd 2 1 1 false ∷ fd 2 2 1 false ∷ fd 2 3 2 true ∷ []) []) [] (some (test isNull (v 2 2))))))
+unfolding walked
+w126 = refl
+
+c127 : rewriteAt 0 (filter (bin and (bool false) (bool false)) (scan 2 (fd 2 1 1 true ∷ fd 2 2 1 true ∷ fd 2 3 2 true ∷ []) [])) ≡ granted false (filter (bin and (bool false) (bool false)) (scan 2 (fd 2 1 1 true ∷ fd 2 2 1 true ∷ fd 2 3 2 true ∷ []) []))
+unfolding opened
+c127 = refl
+
+c128 : pass 10000 (filter (bin (cmp gt) (v 3 1) (i 2)) (sort none (ky false (v 3 1) ∷ []) (project (en 3 1 (i 0) ∷ en 4 2 (i 3) ∷ en 5 1 (bool false) ∷ []) (scan 5 [] [])))) ≡ passed 4 2 1 (sort none (ky false (v 3 1) ∷ []) (project (en 3 1 (i 0) ∷ en 4 2 (i 3) ∷ en 5 1 (bool false) ∷ []) (filter (bin (cmp gt) (i 0) (i 2)) (scan 5 [] []))))
+unfolding opened
+c128 = refl
+
+w128 : pass-by-children 10000 (filter (bin (cmp gt) (v 3 1) (i 2)) (sort none (ky false (v 3 1) ∷ []) (project (en 3 1 (i 0) ∷ en 4 2 (i 3) ∷ en 5 1 (bool false) ∷ []) (scan 5 [] [])))) ≡ passed 4 2 1 (sort none (ky false (v 3 1) ∷ []) (project (en 3 1 (i 0) ∷ en 4 2 (i 3) ∷ en 5 1 (bool false) ∷ []) (filter (bin (cmp gt) (i 0) (i 2)) (scan 5 [] []))))
+unfolding walked
+w128 = refl
+
+c129 : rewriteAt 0 (filter (bin (cmp eq) (v 3 1) (i 3)) (aggregate (en 3 1 (v 2 2) ∷ []) [] (scan 3 (fd 2 1 2 false ∷ fd 2 2 1 true ∷ []) []))) ≡ granted true (aggregate (en 3 1 (v 2 2) ∷ []) [] (filter (bin (cmp eq) (v 2 2) (i 3)) (scan 3 (fd 2 1 2 false ∷ fd 2 2 1 true ∷ []) [])))
+unfolding opened
+c129 = refl
+
+c130 : rewriteAt 0 (distinct (filter (bin and (fn 2 0 2 (econs (v 2 1) enil)) (bin (cmp ge) (i 9223372036854775807) (v 2 2))) (repartition (scan 3 (fd 2 1 2 true ∷ fd 2 2 1 false ∷ []) [])))) ≡ granted false (distinct (filter (bin and (fn 2 0 2 (econs (v 2 1) enil)) (bin (cmp ge) (i 9223372036854775807) (v 2 2))) (repartition (scan 3 (fd 2 1 2 true ∷ fd 2 2 1 false ∷ []) []))))
+unfolding opened
+c130 = refl
+
+c131 : rewriteAt 0 (filter (bin and (bin (cmp ne) (nul 1) (nul 1)) (bin (cmp le) (i 0) (v 2 3))) (window (wn 2 3 count (v 0 102) (nm 0 102 ∷ nm 0 101 ∷ []) ∷ []) (scan 3 (fd 0 101 2 true ∷ fd 0 102 1 true ∷ []) []))) ≡ granted true (filter (bin (cmp le) (i 0) (v 2 3)) (window (wn 2 3 count (v 0 102) (nm 0 102 ∷ nm 0 101 ∷ []) ∷ []) (filter (bin (cmp ne) (nul 1) (nul 1)) (scan 3 (fd 0 101 2 true ∷ fd 0 102 1 true ∷ []) []))))
+unfolding opened
+c131 = refl
+
+c132 : pass 10000 (filter (bin and (bin or (bin and (inlist true (fn 0 0 1 (econs (fn 2 2 2 enil) enil)) (econs (i 2) (econs (i 2) enil))) (bool true)) (bin and (bin and (bin (cmp gt) (bool false) (bool false)) (bool false)) (bin (cmp ne) (i 2) (i 1)))) (fn 1 0 2 (econs (nul 1) enil))) (scan 5 [] ((bin or (bin or (bin and (bool true) (bool true)) (bool true)) (bin (cmp gt) (i 1) (i 1))) ∷ (bool true) ∷ []))) ≡ passed 2 0 1 (filter (bin and (bin or (bin and (inlist true (fn 0 0 1 (econs (fn 2 2 2 enil) enil)) (econs (i 2) (econs (i 2) enil))) (bool true)) (bin and (bin and (bin (cmp gt) (bool false) (bool false)) (bool false)) (bin (cmp ne) (i 2) (i 1)))) (fn 1 0 2 (econs (nul 1) enil))) (scan 5 [] ((bin or (bin or (bin and (bool true) (bool true)) (bool true)) (bin (cmp gt) (i 1) (i 1))) ∷ (bool true) ∷ [])))
+unfolding opened
+c132 = refl
+
+w132 : pass-by-children 10000 (filter (bin and (bin or (bin and (inlist true (fn 0 0 1 (econs (fn 2 2 2 enil) enil)) (econs (i 2) (econs (i 2) enil))) (bool true)) (bin and (bin and (bin (cmp gt) (bool false) (bool false)) (bool false)) (bin (cmp ne) (i 2) (i 1)))) (fn 1 0 2 (econs (nul 1) enil))) (scan 5 [] ((bin or (bin or (bin and (bool true) (bool true)) (bool true)) (bin (cmp gt) (i 1) (i 1))) ∷ (bool true) ∷ []))) ≡ passed 2 0 1 (filter (bin and (bin or (bin and (inlist true (fn 0 0 1 (econs (fn 2 2 2 enil) enil)) (econs (i 2) (econs (i 2) enil))) (bool true)) (bin and (bin and (bin (cmp gt) (bool false) (bool false)) (bool false)) (bin (cmp ne) (i 2) (i 1)))) (fn 1 0 2 (econs (nul 1) enil))) (scan 5 [] ((bin or (bin or (bin and (bool true) (bool true)) (bool true)) (bin (cmp gt) (i 1) (i 1))) ∷ (bool true) ∷ [])))
+unfolding walked
+w132 = refl
+
+c133 : pass 10000 (filter (bin and (bin or (bin or (bin and (bin (cmp lt) (i 2) (v 2 2)) (bool true)) (bin (cmp le) (v 2 2) (v 2 2))) (bin and (bin (cmp ge) (v 2 1) (bool true)) (bin (cmp lt) (i 1) (v 2 2)))) (bin (cmp le) (i 1) (v 2 2))) (distinct (alias 2 (filter (bin and (bin (cmp ge) (i 2) (v 3 2)) (bin (cmp le) (v 3 2) (i 2))) (scan 3 (fd 3 1 2 false ∷ fd 3 2 1 true ∷ []) ((fn 2 0 2 enil) ∷ (bin or (bin (cmp ge) (v 3 1) (nul 2)) (fn 0 0 2 (econs (v 3 1) (econs (v 3 2) enil)))) ∷ [])))))) ≡ passed 4 3 1 (distinct (alias 2 (filter (bin or (bin or (bin and (bin (cmp lt) (i 2) (v 3 2)) (bool true)) (bin (cmp le) (v 3 2) (v 3 2))) (bin and (bin (cmp ge) (v 3 1) (bool true)) (bin (cmp lt) (i 1) (v 3 2)))) (scan 3 (fd 3 1 2 false ∷ fd 3 2 1 true ∷ []) ((fn 2 0 2 enil) ∷ (bin or (bin (cmp ge) (v 3 1) (nul 2)) (fn 0 0 2 (econs (v 3 1) (econs (v 3 2) enil)))) ∷ (bin (cmp le) (i 1) (v 3 2)) ∷ (bin (cmp ge) (i 2) (v 3 2)) ∷ [])))))
+unfolding opened
+c133 = refl
+
+w133 : pass-by-children 10000 (filter (bin and (bin or (bin or (bin and (bin (cmp lt) (i 2) (v 2 2)) (bool true)) (bin (cmp le) (v 2 2) (v 2 2))) (bin and (bin (cmp ge) (v 2 1) (bool true)) (bin (cmp lt) (i 1) (v 2 2)))) (bin (cmp le) (i 1) (v 2 2))) (distinct (alias 2 (filter (bin and (bin (cmp ge) (i 2) (v 3 2)) (bin (cmp le) (v 3 2) (i 2))) (scan 3 (fd 3 1 2 false ∷ fd 3 2 1 true ∷ []) ((fn 2 0 2 enil) ∷ (bin or (bin (cmp ge) (v 3 1) (nul 2)) (fn 0 0 2 (econs (v 3 1) (econs (v 3 2) enil)))) ∷ [])))))) ≡ passed 4 3 1 (distinct (alias 2 (filter (bin or (bin or (bin and (bin (cmp lt) (i 2) (v 3 2)) (bool true)) (bin (cmp le) (v 3 2) (v 3 2))) (bin and (bin (cmp ge) (v 3 1) (bool true)) (bin (cmp lt) (i 1) (v 3 2)))) (scan 3 (fd 3 1 2 false ∷ fd 3 2 1 true ∷ []) ((fn 2 0 2 enil) ∷ (bin or (bin (cmp ge) (v 3 1) (nul 2)) (fn 0 0 2 (econs (v 3 1) (econs (v 3 2) enil)))) ∷ (bin (cmp le) (i 1) (v 3 2)) ∷ (bin (cmp ge) (i 2) (v 3 2)) ∷ [])))))
+unfolding walked
+w133 = refl
+
+c134 : rewriteAt 0 (filter (bin (cmp eq) (v 2 2) (i 2)) (scan 3 (fd 2 1 2 false ∷ fd 2 2 1 false ∷ []) [])) ≡ granted false (filter (bin (cmp eq) (v 2 2) (i 2)) (scan 3 (fd 2 1 2 false ∷ fd 2 2 1 false ∷ []) []))
+unfolding opened
+c134 = refl
+
+c135 : rewriteAt 0 (filter (bin and (bin (cmp lt) (i 3) (v 3 1)) (bin or (bin and (bool true) (bool true)) (bin and (fn 1 0 2 enil) (fn 1 0 2 (econs (bool true) enil))))) (project (en 3 1 (v 2 2) ∷ en 0 103 (v 2 2) ∷ []) (window (wn 0 101 count (fn 1 0 1 (econs (fn 1 0 2 enil) (econs (v 2 1) enil))) (nm 2 2 ∷ nm 2 2 ∷ []) ∷ wn 0 102 max (v 2 2) (nm 2 3 ∷ []) ∷ []) (scan 2 (fd 2 1 1 false ∷ fd 2 2 1 false ∷ fd 2 3 2 false ∷ []) [])))) ≡ granted true (project (en 3 1 (v 2 2) ∷ en 0 103 (v 2 2) ∷ []) (filter (bin and (bin (cmp lt) (i 3) (v 2 2)) (bin or (bin and (bool true) (bool true)) (bin and (fn 1 0 2 enil) (fn 1 0 2 (econs (bool true) enil))))) (window (wn 0 101 count (fn 1 0 1 (econs (fn 1 0 2 enil) (econs (v 2 1) enil))) (nm 2 2 ∷ nm 2 2 ∷ []) ∷ wn 0 102 max (v 2 2) (nm 2 3 ∷ []) ∷ []) (scan 2 (fd 2 1 1 false ∷ fd 2 2 1 false ∷ fd 2 3 2 false ∷ []) []))))
+unfolding opened
+c135 = refl
+
+c136 : rewriteAt 0 (filter (bin and (between false (v 4 1) (i 0) (v 4 1)) (neg (bool false))) (project (en 4 1 (i 2) ∷ []) (filter (bin and (bin (cmp le) (v 2 2) (v 2 2)) (bin or (bin and (bin (cmp le) (v 2 2) (v 2 2)) (bin (cmp le) (v 2 2) (v 2 2))) (bin or (bin or (between false (i 2) (i 0) (v 2 2)) (between false (i 2) (i 0) (v 2 2))) (fn 0 2 2 (econs (bool false) enil))))) (alias 2 (scan 1 (fd 3 1 1 true ∷ fd 3 2 1 false ∷ []) []))))) ≡ granted true (project (en 4 1 (i 2) ∷ []) (filter (bin and (between false (i 2) (i 0) (i 2)) (neg (bool false))) (filter (bin and (bin (cmp le) (v 2 2) (v 2 2)) (bin or (bin and (bin (cmp le) (v 2 2) (v 2 2)) (bin (cmp le) (v 2 2) (v 2 2))) (bin or (bin or (between false (i 2) (i 0) (v 2 2)) (between false (i 2) (i 0) (v 2 2))) (fn 0 2 2 (econs (bool false) enil))))) (alias 2 (scan 1 (fd 3 1 1 true ∷ fd 3 2 1 false ∷ []) [])))))
+unfolding opened
+c136 = refl
+
+c137 : pass 5 (filter (bool false) (scan 2 (fd 2 1 1 false ∷ fd 2 2 1 true ∷ fd 2 3 2 false ∷ []) [])) ≡ passed 2 0 1 (filter (bool false) (scan 2 (fd 2 1 1 false ∷ fd 2 2 1 true ∷ fd 2 3 2 false ∷ []) []))
+unfolding opened
+c137 = refl
+
+w137 : pass-by-children 5 (filter (bool false) (scan 2 (fd 2 1 1 false ∷ fd 2 2 1 true ∷ fd 2 3 2 false ∷ []) [])) ≡ passed 2 0 1 (filter (bool false) (scan 2 (fd 2 1 1 false ∷ fd 2 2 1 true ∷ fd 2 3 2 false ∷ []) []))
+unfolding walked
+w137 = refl
+
+c138 : rewriteAt 0 (filter (bin and (test isFalse (fn 0 0 2 enil)) (bin (cmp eq) (v 4 2) (i 2))) (join full (filter (nul 2) (scan 1 (fd 2 1 1 true ∷ fd 2 2 1 true ∷ []) ((bin (cmp gt) (i 0) (v 2 1)) ∷ (bin (cmp gt) (i 0) (v 2 1)) ∷ []))) (join rightSemi (scan 2 (fd 3 1 1 true ∷ fd 3 2 1 false ∷ fd 3 3 2 false ∷ []) ((test isFalse (fn 0 0 2 enil)) ∷ [])) (scan 1 (fd 4 1 1 true ∷ fd 4 2 1 true ∷ []) ((bin or (bin (cmp ne) (v 4 1) (i 2)) (bin and (bool false) (test isFalse (fn 0 0 2 enil)))) ∷ [])) (pr (v 3 2) (v 4 2) ∷ pr (v 3 1) (v 4 2) ∷ []) none) [] none)) ≡ granted false (filter (bin and (bin (cmp eq) (v 4 2) (i 2)) (test isFalse (fn 0 0 2 enil))) (join full (filter (nul 2) (scan 1 (fd 2 1 1 true ∷ fd 2 2 1 true ∷ []) ((bin (cmp gt) (i 0) (v 2 1)) ∷ (bin (cmp gt) (i 0) (v 2 1)) ∷ []))) (join rightSemi (scan 2 (fd 3 1 1 true ∷ fd 3 2 1 false ∷ fd 3 3 2 false ∷ []) ((test isFalse (fn 0 0 2 enil)) ∷ [])) (scan 1 (fd 4 1 1 true ∷ fd 4 2 1 true ∷ []) ((bin or (bin (cmp ne) (v 4 1) (i 2)) (bin and (bool false) (test isFalse (fn 0 0 2 enil)))) ∷ [])) (pr (v 3 2) (v 4 2) ∷ pr (v 3 1) (v 4 2) ∷ []) none) [] none))
+unfolding opened
+c138 = refl
+
+c139 : rewriteAt 0 (filter (bin and (fn 2 0 2 (econs (bool false) enil)) (bin (cmp eq) (v 0 101) (i 1))) (aggregate (en 3 2 (v 4 1) ∷ en 5 2 (v 4 1) ∷ []) (ag 0 101 min (v 4 2) ∷ []) (join right (filter (fn 2 0 2 (econs (v 2 2) (econs (v 2 2) enil))) (scan 3 (fd 2 1 2 true ∷ fd 2 2 1 false ∷ []) ((bin or (bin or (bin and (test isNotFalse (bool true)) (fn 1 2 2 (econs (nul 2) (econs (v 2 1) enil)))) (test isUnknown (fn 2 0 2 (econs (v 2 1) (econs (v 2 1) enil))))) (bin and (v 2 1) (test isNotUnknown (v 2 1)))) ∷ (between false (i 2) (v 2 2) (v 2 2)) ∷ []))) (join inner (scan 1 (fd 3 1 1 true ∷ fd 3 2 1 false ∷ []) []) (scan 2 (fd 4 1 1 true ∷ fd 4 2 1 true ∷ fd 4 3 2 true ∷ []) []) (pr (v 3 1) (v 4 2) ∷ pr (v 3 1) (v 4 2) ∷ []) (some (bin and (bin (cmp ne) (v 3 1) (i 1)) (inlist false (v 3 2) (econs (v 3 2) (econs (fn 0 0 1 (econs (bool false) (econs (v 4 3) enil))) enil)))))) (pr (v 2 1) (v 4 3) ∷ []) (some (bin and (bin (cmp gt) (i 4294967296) (v 3 2)) (bin (cmp ge) (v 4 1) (v 2 2))))))) ≡ granted true (filter (bin (cmp eq) (v 0 101) (i 1)) (aggregate (en 3 2 (v 4 1) ∷ en 5 2 (v 4 1) ∷ []) (ag 0 101 min (v 4 2) ∷ []) (filter (fn 2 0 2 (econs (bool false) enil)) (join right (filter (fn 2 0 2 (econs (v 2 2) (econs (v 2 2) enil))) (scan 3 (fd 2 1 2 true ∷ fd 2 2 1 false ∷ []) ((bin or (bin or (bin and (test isNotFalse (bool true)) (fn 1 2 2 (econs (nul 2) (econs (v 2 1) enil)))) (test isUnknown (fn 2 0 2 (econs (v 2 1) (econs (v 2 1) enil))))) (bin and (v 2 1) (test isNotUnknown (v 2 1)))) ∷ (between false (i 2) (v 2 2) (v 2 2)) ∷ []))) (join inner (scan 1 (fd 3 1 1 true ∷ fd 3 2 1 false ∷ []) []) (scan 2 (fd 4 1 1 true ∷ fd 4 2 1 true ∷ fd 4 3 2 true ∷ []) []) (pr (v 3 1) (v 4 2) ∷ pr (v 3 1) (v 4 2) ∷ []) (some (bin and (bin (cmp ne) (v 3 1) (i 1)) (inlist false (v 3 2) (econs (v 3 2) (econs (fn 0 0 1 (econs (bool false) (econs (v 4 3) enil))) enil)))))) (pr (v 2 1) (v 4 3) ∷ []) (some (bin and (bin (cmp gt) (i 4294967296) (v 3 2)) (bin (cmp ge) (v 4 1) (v 2 2))))))))
+unfolding opened
+c139 = refl
+
+c140 : rewriteAt 0 (filter (bin and (bin or (bin and (bin or (test isUnknown (bool true)) (bool true)) (inlist false (v 5 3) (econs (v 3 2) enil))) (bin and (bool false) (fn 1 0 2 (econs (v 3 2) enil)))) (bin or (bin or (bin and (fn 0 2 2 (econs (bool true) (econs (bool false) enil))) (bool true)) (test isTrue (bool false))) (bin and (fn 0 0 2 (econs (i 0) enil)) (bin (cmp gt) (fn 0 0 1 (econs (fn 1 2 2 (econs (bool false) enil)) (econs (v 0 101) enil))) (v 4 3))))) (window (wn 0 101 max (i 2) (nm 4 3 ∷ []) ∷ []) (project (en 3 2 (v 2 2) ∷ en 4 3 (fn 0 0 1 enil) ∷ en 5 3 (v 2 2) ∷ []) (filter (bin and (bin (cmp gt) (fn 1 0 1 enil) (v 2 2)) (neg (fn 1 0 2 (econs (v 2 2) enil)))) (scan 3 (fd 2 1 2 false ∷ fd 2 2 1 true ∷ []) []))))) ≡ granted false (filter (bin and (bin or (bin and (bin or (test isUnknown (bool true)) (bool true)) (inlist false (v 5 3) (econs (v 3 2) enil))) (bin and (bool false) (fn 1 0 2 (econs (v 3 2) enil)))) (bin or (bin or (bin and (fn 0 2 2 (econs (bool true) (econs (bool false) enil))) (bool true)) (test isTrue (bool false))) (bin and (fn 0 0 2 (econs (i 0) enil)) (bin (cmp gt) (fn 0 0 1 (econs (fn 1 2 2 (econs (bool false) enil)) (econs (v 0 101) enil))) (v 4 3))))) (window (wn 0 101 max (i 2) (nm 4 3 ∷ []) ∷ []) (project (en 3 2 (v 2 2) ∷ en 4 3 (fn 0 0 1 enil) ∷ en 5 3 (v 2 2) ∷ []) (filter (bin and (bin (cmp gt) (fn 1 0 1 enil) (v 2 2)) (neg (fn 1 0 2 (econs (v 2 2) enil)))) (scan 3 (fd 2 1 2 false ∷ fd 2 2 1 true ∷ []) [])))))
+unfolding opened
+c140 = refl
+
+c141 : pass 10000 (filter (bin and (bin (cmp lt) (v 3 3) (bool false)) (bin (cmp ge) (i 3) (v 4 1))) (project (en 3 3 (bool true) ∷ en 4 1 (v 2 2) ∷ []) (filter (bin and (fn 0 2 2 (econs (bool false) (econs (bool true) enil))) (bin or (bin and (fn 1 0 2 enil) (bool false)) (bin or (bin or (bin (cmp eq) (i 0) (v 2 1)) (bin (cmp lt) (v 2 2) (fn 1 2 1 enil))) (between false (fn 1 0 1 (econs (bool false) enil)) (v 2 1) (fn 2 2 1 (econs (v 2 2) enil)))))) (scan 1 (fd 2 1 1 false ∷ fd 2 2 1 false ∷ []) [])))) ≡ passed 3 1 1 (project (en 3 3 (bool true) ∷ en 4 1 (v 2 2) ∷ []) (filter (bin and (bin and (bin and (bin (cmp lt) (bool true) (bool false)) (bin (cmp ge) (i 3) (v 2 2))) (fn 0 2 2 (econs (bool false) (econs (bool true) enil)))) (bin or (bin and (fn 1 0 2 enil) (bool false)) (bin or (bin or (bin (cmp eq) (i 0) (v 2 1)) (bin (cmp lt) (v 2 2) (fn 1 2 1 enil))) (between false (fn 1 0 1 (econs (bool false) enil)) (v 2 1) (fn 2 2 1 (econs (v 2 2) enil)))))) (scan 1 (fd 2 1 1 false ∷ fd 2 2 1 false ∷ []) [])))
+unfolding opened
+c141 = refl
+
+w141 : pass-by-children 10000 (filter (bin and (bin (cmp lt) (v 3 3) (bool false)) (bin (cmp ge) (i 3) (v 4 1))) (project (en 3 3 (bool true) ∷ en 4 1 (v 2 2) ∷ []) (filter (bin and (fn 0 2 2 (econs (bool false) (econs (bool true) enil))) (bin or (bin and (fn 1 0 2 enil) (bool false)) (bin or (bin or (bin (cmp eq) (i 0) (v 2 1)) (bin (cmp lt) (v 2 2) (fn 1 2 1 enil))) (between false (fn 1 0 1 (econs (bool false) enil)) (v 2 1) (fn 2 2 1 (econs (v 2 2) enil)))))) (scan 1 (fd 2 1 1 false ∷ fd 2 2 1 false ∷ []) [])))) ≡ passed 3 1 1 (project (en 3 3 (bool true) ∷ en 4 1 (v 2 2) ∷ []) (filter (bin and (bin and (bin and (bin (cmp lt) (bool true) (bool false)) (bin (cmp ge) (i 3) (v 2 2))) (fn 0 2 2 (econs (bool false) (econs (bool true) enil)))) (bin or (bin and (fn 1 0 2 enil) (bool false)) (bin or (bin or (bin (cmp eq) (i 0) (v 2 1)) (bin (cmp lt) (v 2 2) (fn 1 2 1 enil))) (between false (fn 1 0 1 (econs (bool false) enil)) (v 2 1) (fn 2 2 1 (econs (v 2 2) enil)))))) (scan 1 (fd 2 1 1 false ∷ fd 2 2 1 false ∷ []) [])))
+unfolding walked
+w141 = refl
+
+c142 : rewriteAt 0 (filter (bin and (bin (cmp le) (v 2 1) (v 2 1)) (bin or (bin and (bin and (bool true) (bool true)) (fn 0 0 2 (econs (v 2 1) (econs (bool false) enil)))) (fn 0 0 2 (econs (v 2 1) (econs (bool false) enil))))) (scan 4 (fd 2 1 1 false ∷ []) [])) ≡ granted false (filter (bin and (bin (cmp le) (v 2 1) (v 2 1)) (bin or (bin and (bin and (bool true) (bool true)) (fn 0 0 2 (econs (v 2 1) (econs (bool false) enil)))) (fn 0 0 2 (econs (v 2 1) (econs (bool false) enil))))) (scan 4 (fd 2 1 1 false ∷ []) []))
+unfolding opened
+c142 = refl
+
+c143 : rewriteAt 0 (filter (bin (cmp gt) (v 0 102) (i 3)) (aggregate (en 0 102 (v 0 102) ∷ []) [] (project (en 0 101 (v 2 1) ∷ en 0 102 (v 2 2) ∷ en 0 103 (v 2 1) ∷ []) (scan 3 (fd 2 1 2 false ∷ fd 2 2 1 false ∷ []) [])))) ≡ granted true (aggregate (en 0 102 (v 0 102) ∷ []) [] (filter (bin (cmp gt) (v 0 102) (i 3)) (project (en 0 101 (v 2 1) ∷ en 0 102 (v 2 2) ∷ en 0 103 (v 2 1) ∷ []) (scan 3 (fd 2 1 2 false ∷ fd 2 2 1 false ∷ []) []))))
+unfolding opened
+c143 = refl
+
+c144 : pass 2 (filter (bin and (inlist true (v 2 2) (econs (i 0) (econs (v 2 2) enil))) (bin (cmp eq) (v 2 2) (i 3))) (filter (between false (i 3) (v 2 2) (i 2)) (scan 3 (fd 2 1 2 true ∷ fd 2 2 1 true ∷ []) []))) ≡ passed 1 1 1 (scan 3 (fd 2 1 2 true ∷ fd 2 2 1 true ∷ []) ((between false (i 3) (v 2 2) (i 2)) ∷ (inlist true (v 2 2) (econs (i 0) (econs (v 2 2) enil))) ∷ (bin (cmp eq) (v 2 2) (i 3)) ∷ []))
+unfolding opened
+c144 = refl
+
+w144 : pass-by-children 2 (filter (bin and (inlist true (v 2 2) (econs (i 0) (econs (v 2 2) enil))) (bin (cmp eq) (v 2 2) (i 3))) (filter (between false (i 3) (v 2 2) (i 2)) (scan 3 (fd 2 1 2 true ∷ fd 2 2 1 true ∷ []) []))) ≡ passed 1 1 1 (scan 3 (fd 2 1 2 true ∷ fd 2 2 1 true ∷ []) ((between false (i 3) (v 2 2) (i 2)) ∷ (inlist true (v 2 2) (econs (i 0) (econs (v 2 2) enil))) ∷ (bin (cmp eq) (v 2 2) (i 3)) ∷ []))
+unfolding walked
+w144 = refl
+
+c145 : rewriteAt 0 (filter (bin and (bin (cmp ge) (v 3 2) (i 0)) (bin or (bin or (bin and (bin (cmp lt) (v 3 1) (i 3)) (fn 2 2 2 enil)) (bool false)) (fn 0 0 2 (econs (v 2 1) (econs (i 2) enil))))) (join inner (scan 4 (fd 2 1 1 true ∷ []) []) (scan 1 (fd 3 1 1 false ∷ fd 3 2 1 true ∷ []) []) [] (some (bin (cmp ge) (v 3 2) (i 0))))) ≡ granted true (join inner (filter (bin or (bin or (fn 2 2 2 enil) (bool false)) (fn 0 0 2 (econs (v 2 1) (econs (i 2) enil)))) (scan 4 (fd 2 1 1 true ∷ []) [])) (filter (bin and (bin (cmp ge) (v 3 2) (i 0)) (bin (cmp ge) (v 3 2) (i 0))) (scan 1 (fd 3 1 1 false ∷ fd 3 2 1 true ∷ []) [])) [] (some (bin or (bin or (bin and (bin (cmp lt) (v 3 1) (i 3)) (fn 2 2 2 enil)) (bool false)) (fn 0 0 2 (econs (v 2 1) (econs (i 2) enil))))))
+unfolding opened
+c145 = refl
+
+c146 : pass 10000 (filter (bin and (bin (cmp ge) (v 0 101) (i 3)) (bool true)) (distinct (sort none [] (aggregate [] (ag 0 101 min (nul 1) ∷ []) (scan 2 (fd 2 1 1 true ∷ fd 2 2 1 false ∷ fd 2 3 2 false ∷ []) []))))) ≡ passed 5 2 1 (distinct (sort none [] (filter (bin and (bin (cmp ge) (v 0 101) (i 3)) (bool true)) (aggregate [] (ag 0 101 min (nul 1) ∷ []) (scan 2 (fd 2 1 1 true ∷ fd 2 2 1 false ∷ fd 2 3 2 false ∷ []) [])))))
+unfolding opened
+c146 = refl
+
+w146 : pass-by-children 10000 (filter (bin and (bin (cmp ge) (v 0 101) (i 3)) (bool true)) (distinct (sort none [] (aggregate [] (ag 0 101 min (nul 1) ∷ []) (scan 2 (fd 2 1 1 true ∷ fd 2 2 1 false ∷ fd 2 3 2 false ∷ []) []))))) ≡ passed 5 2 1 (distinct (sort none [] (filter (bin and (bin (cmp ge) (v 0 101) (i 3)) (bool true)) (aggregate [] (ag 0 101 min (nul 1) ∷ []) (scan 2 (fd 2 1 1 true ∷ fd 2 2 1 false ∷ fd 2 3 2 false ∷ []) [])))))
+unfolding walked
+w146 = refl
+
+c147 : rewriteAt 0 (filter (bin and (bin or (bin and (bin and (bool false) (bin (cmp gt) (v 3 1) (v 3 1))) (test isUnknown (bool true))) (bin and (fn 2 2 2 (econs (fn 0 0 1 (econs (v 3 1) (econs (bool false) enil))) enil)) (fn 2 0 2 (econs (i 1) (econs (bool true) enil))))) (bin or (bin and (bin and (fn 2 2 2 (econs (bool true) (econs (nul 2) enil))) (fn 1 2 2 (econs (bool true) enil))) (bin (cmp eq) (v 3 1) (i 3))) (bool true))) (distinct (window (wn 3 1 min (v 2 1) [] ∷ []) (scan 4 (fd 2 1 1 true ∷ []) [])))) ≡ granted true (distinct (filter (bin and (bin or (bin and (bin and (bool false) (bin (cmp gt) (v 3 1) (v 3 1))) (test isUnknown (bool true))) (bin and (fn 2 2 2 (econs (fn 0 0 1 (econs (v 3 1) (econs (bool false) enil))) enil)) (fn 2 0 2 (econs (i 1) (econs (bool true) enil))))) (bin or (bin and (bin and (fn 2 2 2 (econs (bool true) (econs (nul 2) enil))) (fn 1 2 2 (econs (bool true) enil))) (bin (cmp eq) (v 3 1) (i 3))) (bool true))) (window (wn 3 1 min (v 2 1) [] ∷ []) (scan 4 (fd 2 1 1 true ∷ []) []))))
+unfolding opened
+c147 = refl
+
+c148 : pass 2 (filter (bin (cmp lt) (nul 1) (v 2 1)) (join inner (filter (bin and (v 2 3) (bin (cmp le) (v 2 1) (v 2 1))) (scan 2 (fd 2 1 1 false ∷ fd 2 2 1 false ∷ fd 2 3 2 false ∷ []) [])) (aggregate (en 3 1 (v 3 2) ∷ en 3 2 (v 3 2) ∷ []) [] (scan 3 (fd 3 1 2 false ∷ fd 3 2 1 true ∷ []) [])) [] (some (bin (cmp ge) (v 2 2) (v 3 2))))) ≡ passed 2 1 0 (join inner (filter (bin and (bin and (v 2 3) (bin (cmp le) (v 2 1) (v 2 1))) (bin (cmp lt) (nul 1) (v 2 1))) (scan 2 (fd 2 1 1 false ∷ fd 2 2 1 false ∷ fd 2 3 2 false ∷ []) [])) (aggregate (en 3 1 (v 3 2) ∷ en 3 2 (v 3 2) ∷ []) [] (scan 3 (fd 3 1 2 false ∷ fd 3 2 1 true ∷ []) [])) [] (some (bin (cmp ge) (v 2 2) (v 3 2))))
+unfolding opened
+c148 = refl
+
+w148 : pass-by-children 2 (filter (bin (cmp lt) (nul 1) (v 2 1)) (join inner (filter (bin and (v 2 3) (bin (cmp le) (v 2 1) (v 2 1))) (scan 2 (fd 2 1 1 false ∷ fd 2 2 1 false ∷ fd 2 3 2 false ∷ []) [])) (aggregate (en 3 1 (v 3 2) ∷ en 3 2 (v 3 2) ∷ []) [] (scan 3 (fd 3 1 2 false ∷ fd 3 2 1 true ∷ []) [])) [] (some (bin (cmp ge) (v 2 2) (v 3 2))))) ≡ passed 2 1 0 (join inner (filter (bin and (bin and (v 2 3) (bin (cmp le) (v 2 1) (v 2 1))) (bin (cmp lt) (nul 1) (v 2 1))) (scan 2 (fd 2 1 1 false ∷ fd 2 2 1 false ∷ fd 2 3 2 false ∷ []) [])) (aggregate (en 3 1 (v 3 2) ∷ en 3 2 (v 3 2) ∷ []) [] (scan 3 (fd 3 1 2 false ∷ fd 3 2 1 true ∷ []) [])) [] (some (bin (cmp ge) (v 2 2) (v 3 2))))
+unfolding walked
+w148 = refl
+
+c149 : rewriteAt 1 (distinct (aggregate (en 0 101 (bool false) ∷ []) (ag 3 2 count (nul 1) ∷ ag 0 102 max (i 0) ∷ []) (scan 5 [] []))) ≡ granted false (distinct (aggregate (en 0 101 (bool false) ∷ []) (ag 3 2 count (nul 1) ∷ ag 0 102 max (i 0) ∷ []) (scan 5 [] [])))
+unfolding opened
+c149 = refl

@@ -1,0 +1,4 @@
+pub mod Integers
+pub mod Lists
+pub mod Rebuilt
+pub mod Written

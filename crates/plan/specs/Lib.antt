@@ -1,0 +1,11 @@
+pub mod Columns
+pub mod Form
+pub mod Integers
+pub mod Kinds
+pub mod Lists
+pub mod Read
+pub mod Schema
+pub mod Syntax
+pub mod Trees
+pub mod Types
+pub mod Words

@@ -1,0 +1,61 @@
+-- The types of expressions and of the fields of a schema: 1 integer, 2 boolean; 0 where a name has none.
+use Prim.Native.Nat.{ℕ}
+use mathlib.Core.List.{List, [], _++_, map}
+use Rattle.plan.specs.Syntax.{Name, Expr, col, num, bool, nul, bin, neg, test, between, inlist, fn, Field, Entry, AggEntry, WinEntry, Kind, inner, left, right, full, leftSemi, rightSemi, leftAnti, rightAnti, Plan, scan, filter, project, join, alias, union, distinct, sort, repartition, limit, aggregate, window, Plans, pnil, pcons}
+use Rattle.plan.specs.Schema.{lookD, schema}
+
+abbrev pub Types : Type 0
+Types = Name → ℕ
+
+-- ---- expressions
+
+unfoldable pub type-of : Types → Expr → ℕ
+type-of τ (col x) = τ x
+type-of τ (num z) = 1
+type-of τ (bool b) = 2
+type-of τ (nul t) = t
+type-of τ (bin o a b) = 2
+type-of τ (neg a) = 2
+type-of τ (test t a) = 2
+type-of τ (between n a l u) = 2
+type-of τ (inlist n a xs) = 2
+type-of τ (fn p q r xs) = r
+
+abbrev pub side-types : Kind → List ℕ → List ℕ → List ℕ
+side-types inner s t = s ++ t
+side-types left s t = s ++ t
+side-types right s t = s ++ t
+side-types full s t = s ++ t
+side-types leftSemi s t = s
+side-types rightSemi s t = t
+side-types leftAnti s t = s
+side-types rightAnti s t = t
+
+-- the types of the fields, by place, and by name
+unfoldable mutual
+  unfolding schema
+
+  pub types : Plan → List ℕ
+  types (scan t fs es) = map (λ (f : Field). f .ty) fs
+  types (filter e p) = types p
+  types (project es p) = map (λ (e : Entry). type-of (lookD 0 (schema p) (types p)) (e .expr)) es
+  types (join k l r on f) = side-types k (types l) (types r)
+  types (alias q p) = types p
+  types (union ps) = types-first ps
+  types (distinct p) = types p
+  types (sort f ks p) = types p
+  types (repartition p) = types p
+  types (limit n k p) = types p
+  types (aggregate gs ags p) = map (λ (e : Entry). type-of (lookD 0 (schema p) (types p)) (e .expr)) gs ++ map (λ (a : AggEntry). 1) ags
+  types (window ws p) = types p ++ map (λ (w : WinEntry). 1) ws
+
+  pub types-first : Plans → List ℕ
+  types-first pnil = []
+  types-first (pcons p ps) = types p
+
+abbrev pub field-types : Plan → Types
+field-types p = lookD 0 (schema p) (types p)
+
+-- the types of both inputs of a join
+abbrev pub both-types : Plan → Plan → Types
+both-types l r = lookD 0 (schema l ++ schema r) (types l ++ types r)

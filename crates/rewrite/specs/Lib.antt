@@ -1,0 +1,6 @@
+pub mod Limits
+pub mod PushDownFilter
+pub mod ReorderPredicates
+pub mod RewriteAt
+pub mod SimplifyPredicates
+pub mod Utils
