@@ -1,6 +1,6 @@
 -- The types of expressions and of the fields of a schema: 1 integer, 2 boolean; 0 where a name has none.
 use Prim.Native.Nat.{ℕ}
-use mathlib.Core.List.{List, [], _++_, map}
+use mathlib.Core.List.{List, [], _∷_, _++_, map}
 use Rattle.plan.specs.Syntax.{Name, Expr, col, num, bool, nul, bin, neg, test, between, inlist, fn, Field, Entry, AggEntry, WinEntry, Kind, inner, left, right, full, leftSemi, rightSemi, leftAnti, rightAnti, Plan, scan, filter, project, join, alias, union, distinct, sort, repartition, limit, aggregate, window, Plans, pnil, pcons}
 use Rattle.plan.specs.Schema.{lookD, schema}
 
@@ -59,3 +59,28 @@ field-types p = lookD 0 (schema p) (types p)
 -- the types of both inputs of a join
 abbrev pub both-types : Plan → Plan → Types
 both-types l r = lookD 0 (schema l ++ schema r) (types l ++ types r)
+
+-- ---- the scans of a plan, in reading order: the table, and the types of its fields by place
+
+pub record Scanned : Type 0 where
+  pub table : ℕ
+  pub row-types : List ℕ
+
+unfoldable mutual
+  pub scans : Plan → List Scanned
+  scans (scan t fs es) = record { table = t; row-types = map (λ (f : Field). f .ty) fs } ∷ []
+  scans (filter e p) = scans p
+  scans (project es p) = scans p
+  scans (join k l r on f) = scans l ++ scans r
+  scans (alias q p) = scans p
+  scans (union ps) = scans-all ps
+  scans (distinct p) = scans p
+  scans (sort f ks p) = scans p
+  scans (repartition p) = scans p
+  scans (limit n k p) = scans p
+  scans (aggregate gs ags p) = scans p
+  scans (window ws p) = scans p
+
+  pub scans-all : Plans → List Scanned
+  scans-all pnil = []
+  scans-all (pcons p ps) = scans p ++ scans-all ps

@@ -23,8 +23,8 @@ use Rattle.rewrite.proofs.Join.{Over}
 use Rattle.rewrite.proofs.PushJoin.{push-join-rows, split?-rows, over-left, over-right}
 use Rattle.rewrite.proofs.Ok.{reads, reads?, names-nodup, ok, ok-all, rows-wide, rule}
 use Rattle.rewrite.proofs.SimplifyFilter.{simplify-filter-true, simplify-filter-reads, conjunction-reads}
-use Rattle.rewrite.proofs.Typed.{boolean, boolean?, typed, scans}
-use Rattle.plan.specs.Types.{types, field-types}
+use Rattle.rewrite.proofs.Typed.{boolean, boolean?, typed}
+use Rattle.plan.specs.Types.{scans, types, field-types}
 use Rattle.rewrite.proofs.TypeLaws.{Bools, bools-split, conjunction-boolean, simplify-filter-boolean}
 use Rattle.rewrite.proofs.TypesKept.{types-filtered, scans-filtered, scan-arm-typed, project-arm-typed, alias-arm-typed, each-types, each-scans, union-arm-typed, aggregate-arm-typed, window-arm-typed, join-arm-typed}
 use Rattle.rewrite.proofs.References.{all-true, true-all, unique-all, unique-over, picked-over, renamed-reads, with-filters-ok, filter-each-ok, split?-over, keep-over, conditions-over, on-conditions-over}

@@ -1,10 +1,10 @@
 -- The type rules of an accepted plan (test 7). Types: 1 integer, 2 boolean; 0 where a name has none.
 use Prim.Native.Nat.{ℕ}
 use mathlib.Core.Bool.{Bool, true, false, not, _||_}
-use mathlib.Core.List.{List, [], _∷_, _++_, map}
+use mathlib.Core.List.{List, [], _∷_, map}
 use mathlib.Core.Option.{Option, none, some}
 use lib.Dec.{eqb}
-use Rattle.plan.specs.Types.{Types, type-of, types, types-first, field-types, both-types}
+use Rattle.plan.specs.Types.{Scanned, scans, Types, type-of, types, types-first, field-types, both-types}
 use Rattle.plan.specs.Lists.{_&_, all}
 use Rattle.plan.specs.Syntax.{Op, and, or, cmp, Test, isNull, isNotNull, isTrue, isFalse, isUnknown, isNotTrue, isNotFalse, isNotUnknown, Expr, col, num, bool, nul, bin, neg, test, between, inlist, fn, Exprs, enil, econs, Field, Entry, Pair, Key, Agg, count, min, max, AggEntry, WinEntry, Plan, scan, filter, project, join, alias, union, distinct, sort, repartition, limit, aggregate, window, Plans, pnil, pcons}
 use Rattle.plan.specs.Schema.{lookD}
@@ -88,29 +88,6 @@ unfoldable mutual
   typed-all ts (pcons p ps) = same-types (types p) ts & (typed p & typed-all ts ps)
 
 -- ---- scans of one table share field types
-
-pub record Scanned : Type 0 where
-  pub table : ℕ
-  pub row-types : List ℕ
-
-unfoldable mutual
-  pub scans : Plan → List Scanned
-  scans (scan t fs es) = record { table = t; row-types = map (λ (f : Field). f .ty) fs } ∷ []
-  scans (filter e p) = scans p
-  scans (project es p) = scans p
-  scans (join k l r on f) = scans l ++ scans r
-  scans (alias q p) = scans p
-  scans (union ps) = scans-all ps
-  scans (distinct p) = scans p
-  scans (sort f ks p) = scans p
-  scans (repartition p) = scans p
-  scans (limit n k p) = scans p
-  scans (aggregate gs ags p) = scans p
-  scans (window ws p) = scans p
-
-  pub scans-all : Plans → List Scanned
-  scans-all pnil = []
-  scans-all (pcons p ps) = scans p ++ scans-all ps
 
 abbrev pub agree : Scanned → Scanned → Bool
 agree a b = not (eqb (a .table) (b .table)) || same-types (a .row-types) (b .row-types)

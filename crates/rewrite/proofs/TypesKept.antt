@@ -15,8 +15,8 @@ use Rattle.plan.specs.Columns.{on-cols}
 use Rattle.rewrite.specs.Utils.{replace-cols, split-conjunction, split-conjunction?, conjunction, with-filters, unique}
 use Rattle.rewrite.specs.SimplifyPredicates.{as-column}
 use Rattle.rewrite.specs.PushDownFilter.{pick, names, stay, move, pushable, in-groups, in-partitions, supported-filters, unsupported-filters, volatile-filters, renamed, filter-each, left-preserved, right-preserved, on-left-preserved, on-right-preserved, is-inner, rest, push-to, push-not, keep-predicates, join-conditions, on-filter-join-conditions, inferred-join-predicates, left-push, right-push, push-down-all-join}
-use Rattle.plan.specs.Types.{Types, type-of, side-types, types, types-first, field-types, both-types}
-use Rattle.rewrite.proofs.Typed.{well, boolean, boolean?, same-types, typed, typed-all, scans, scans-all}
+use Rattle.plan.specs.Types.{Types, type-of, side-types, types, types-first, field-types, both-types, scans, scans-all}
+use Rattle.rewrite.proofs.Typed.{well, boolean, boolean?, same-types, typed, typed-all}
 use Rattle.rewrite.proofs.Exprs.{filtered-schema}
 use Rattle.rewrite.proofs.Project.{split-cols}
 use Rattle.rewrite.proofs.Places.{look-ren}
