@@ -25,3 +25,5 @@ pub mod Table
 pub mod TypeLaws
 pub mod Typed
 pub mod TypesKept
+pub mod OnBytes
+pub mod RowTest
