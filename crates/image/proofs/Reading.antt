@@ -12,8 +12,8 @@ use lib.ListN.{drop}
 use borrow.Author.Tests.{eq-eqb, ne-eqb, le-leb, lt-leb, leb-false}
 use Rattle.image.specs.Word.{word}
 use Rattle.image.specs.Tree.{Label, Forest, none, node, labelAt}
-use Rattle.image.specs.declared.Walk.{Walk}
-use Rattle.image.specs.declared.Walk.the-variants.{Next, Bad}
+use Rattle.image.specs.declared.links.Walk.{Walk}
+use Rattle.image.specs.declared.links.Walk.the-variants.{Next, Bad}
 use Rattle.image.specs.Links.{Parsed, good, bad, outcome, when, joined, andThen, parse}
 
 module _ (s : List ℕ) (n i link owner : ℕ) where

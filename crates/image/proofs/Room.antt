@@ -12,6 +12,7 @@ use borrow.Author.Tests.{leb-true, leb-false}
 use mathlib.Core.Bool.{Bool, true, false}
 use lib.ListN.{length, set}
 use lib.Seq.{sets, set-out, length-sets}
+use Rattle.image.specs.Limits.{maxRecords, workBytes}
 use Rattle.image.specs.Tree.{Label, Forest, none, node, Tree, size}
 use Rattle.image.specs.Flat.{sizeT, bytesOf, flatAny, flat}
 use Rattle.image.proofs.Writing.{sets-append, sets-after, bytesOf-length, flat-length}
@@ -37,7 +38,7 @@ pub sets-past : (l : List ℕ) (i : ℕ) (vs : List ℕ) → length l ≤ i → 
 sets-past l i [] h = refl
 sets-past l i (v ∷ vs) h = rw (set-out l i v h) (sets-past l (suc i) vs (omega arith))
 
-pub sets-next : (out vs ws : List ℕ) (at n r : ℕ) → length out ≡ 65536 → length vs ≡ 32 * n → r ≡ cap (at + n)
+pub sets-next : (out vs ws : List ℕ) (at n r : ℕ) → length out ≡ workBytes → length vs ≡ 32 * n → r ≡ cap (at + n)
     → sets (sets out (32 * at) vs) (32 * r) ws ≡ sets out (32 * at) (vs ++ ws)
 sets-next out vs ws at n r long count e = go (leb (at + n) 2048) refl
   where
@@ -56,7 +57,7 @@ sets-next out vs ws at n r long count e = go (leb (at + n) 2048) refl
 pub record Left (out₀ : List ℕ) (at₀ level : ℕ) (all : Forest) (out : List ℕ) (to : ℕ) (rest : Forest) : Type 0 where
   pub count : cap (to + size rest) ≡ cap (at₀ + size all)
   pub same : sets out (32 * to) (flatAny level rest) ≡ sets out₀ (32 * at₀) (flatAny level all)
-  pub long : length out ≡ 65536
+  pub long : length out ≡ workBytes
   pub small : to ≤ 2049
 
 -- a tree is written
@@ -74,7 +75,7 @@ left-next {level = level} {out = out} {to = to} t {after} {out′} {to′} h w =
 
 -- all trees below a record are written
 pub left-end : {out₀ out₁ : List ℕ} {at at₁ level : ℕ} {l : Label} {all : Forest} {out : List ℕ} {to : ℕ}
-    → length out₀ ≡ 65536
+    → length out₀ ≡ workBytes
     → Put out₀ out₁ at level at₁ l
     → Left out₁ at₁ (level + 1) all out to none
     → Wrote out₀ out at level to (record { label = l; below = all })
@@ -84,12 +85,20 @@ left-end {out₀} {out₁} {at} {at₁} {level} {l} {all} {to = to} long p h =
       bytes = h .same ∙ rw (p .bytes) (sets-next out₀ (bytesOf l level 0) (flatAny (level + 1) all) at 1 at₁ long (bytesOf-length l level 0) (p .next));
     }
 
+-- past the buffer's end a tree is written by doing nothing
+pub wrote-past : (out : List ℕ) (at level : ℕ) (t : Tree) → length out ≡ workBytes → maxRecords ≤ at → Wrote out out at level 2049 t
+wrote-past out at level t long h =
+    record {
+      next = sym (cap-over (at + sizeT t) (omega arith));
+      bytes = sym (sets-past out (32 * at) (flat level t) (omega arith));
+    }
+
 -- ---- a record, and then the trees below it
 
-pub put-start : {out₀ out₁ : List ℕ} {at at₁ level : ℕ} {l : Label} → length out₀ ≡ 65536 → Put out₀ out₁ at level at₁ l → (all : Forest) → Left out₁ at₁ (level + 1) all out₁ at₁ all
+pub put-start : {out₀ out₁ : List ℕ} {at at₁ level : ℕ} {l : Label} → length out₀ ≡ workBytes → Put out₀ out₁ at level at₁ l → (all : Forest) → Left out₁ at₁ (level + 1) all out₁ at₁ all
 put-start {at = at} long p all = record { count = refl; same = refl; long = rw (p .bytes, length-sets) long; small = rw (p .next) (cap-le (at + 1)) }
 
-module _ {out₀ out₁ : List ℕ} {at at₁ level : ℕ} {l : Label} (long : length out₀ ≡ 65536) (p : Put out₀ out₁ at level at₁ l) where
+module _ {out₀ out₁ : List ℕ} {at at₁ level : ℕ} {l : Label} (long : length out₀ ≡ workBytes) (p : Put out₀ out₁ at level at₁ l) where
   pub wrote-leaf : Wrote out₀ out₁ at level at₁ (record { label = l; below = none })
   wrote-leaf = left-end long p (put-start long p none)
 

@@ -6,8 +6,8 @@ use lib.Dec.{eqb, leb}
 use lib.ListN.{drop}
 use Rattle.image.specs.Word.{word}
 use Rattle.image.specs.Tree.{Label, Forest, none, node, labelAt}
-use Rattle.image.specs.declared.Walk.{Walk}
-use Rattle.image.specs.declared.Walk.the-variants.{Next, Bad}
+use Rattle.image.specs.declared.links.Walk.{Walk}
+use Rattle.image.specs.declared.links.Walk.the-variants.{Next, Bad}
 
 -- a forest and the next unread record, or the record with a bad link
 pub data Parsed : Type 0 where

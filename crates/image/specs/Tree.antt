@@ -4,14 +4,8 @@ use Prim.Native.Nat.{ℕ, suc, _+_, _-_, _*_, _≤_, _<_}
 use mathlib.Core.List.{List}
 use lib.ListN.{length, drop}
 use Rattle.image.specs.Word.{word}
-
-pub record Label : Type 0 where
-  pub kind : ℕ
-  pub p : ℕ
-  pub q : ℕ
-  pub r : ℕ
-  pub lo : ℕ
-  pub hi : ℕ
+-- what a record says of itself, without its links: the struct of the code
+pub use Rattle.image.specs.declared.records.Label.{Label}
 
 -- a tree with its children, and then the trees beside it
 pub data Forest : Type 0 where

@@ -1,7 +1,7 @@
 use borrow.Author.Needs.{needs}
 use Rattle.image.proofs.Walking.{part}
-use Rattle.image.proofs.from_record.Statement.{statement}
-use Rattle.image.proofs.from_record.Tie as tie
+use Rattle.image.proofs.records.from_record.Statement.{statement}
+use Rattle.image.proofs.records.from_record.Tie as tie
 
 returns : tie.Need-returns
 returns c = simp part

@@ -7,8 +7,8 @@ use lib.ListN.{length}
 use Rattle.image.specs.Tree.{Tree, Deep}
 use Rattle.image.specs.Flat.{sizeT, flat}
 use Rattle.image.proofs.Relinking.{Back, recs, back-start, back-long, back-turn, back-end}
-use Rattle.image.proofs.relink.Statement.{statement}
-use Rattle.image.proofs.relink.Tie as tie
+use Rattle.image.proofs.relink.relink.Statement.{statement}
+use Rattle.image.proofs.relink.relink.Tie as tie
 
 abbrev Inv-loop : tie.InvT-loop
 Inv-loop out₀ n table₀ i₀ out table i =

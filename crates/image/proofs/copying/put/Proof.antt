@@ -4,8 +4,8 @@ use Prim.Native.Nat.{_+_, _*_, _≤_}
 use lib.ListN.{length}
 use native.Mathlib.Omega.{arith}
 use Rattle.image.proofs.Room.{sets-past, cap-is, cap-over}
-use Rattle.image.proofs.put.Statement.{statement}
-use Rattle.image.proofs.put.Tie as tie
+use Rattle.image.proofs.copying.put.Statement.{statement}
+use Rattle.image.proofs.copying.put.Tie as tie
 
 pub put-spec : {M : Type 1} → statement M
 put-spec = tie.close (tie.spec (λ c κs. search needs) (λ c. search needs) (λ c. search needs)

@@ -2,8 +2,8 @@
 use native.Mathlib.Nat.{add-assoc}
 use borrow.Author.Needs.{needs}
 use Rattle.image.proofs.Writing.{sets-append, le-length}
-use Rattle.image.proofs.put_four.Statement.{statement}
-use Rattle.image.proofs.put_four.Tie as tie
+use Rattle.image.proofs.words.put_four.Statement.{statement}
+use Rattle.image.proofs.words.put_four.Tie as tie
 
 pub put-four-spec : {M : Type 1} → statement M
 put-four-spec =

@@ -1,8 +1,8 @@
 -- `img::word_at` meets its contract: the needs are arithmetic, and `word` is the sum itself.
 use borrow.Author.Needs.{needs}
 use Rattle.image.specs.Word.{word}
-use Rattle.image.proofs.word_at.Statement.{statement}
-use Rattle.image.proofs.word_at.Tie as tie
+use Rattle.image.proofs.words.word_at.Statement.{statement}
+use Rattle.image.proofs.words.word_at.Tie as tie
 
 returns : tie.Need-returns
 unfolding word

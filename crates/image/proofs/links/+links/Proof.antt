@@ -6,12 +6,12 @@ use borrow.Author.Needs.{needs}
 use Rattle.image.proofs.Reading.{p-none, p-off, p-end, next-within, says-bad, says-next}
 use borrow.Fn.Kinds.{In}
 use borrow.Fn.PlainCycle.{Measures, is, falls, and}
-use Rattle.image.proofs.links.Reads as links
-use Rattle.image.proofs.links.Kinds as links-kinds
-use Rattle.image.proofs.+links.Lts-links as links-lts
-use Rattle.image.proofs.word_at.Reads as word-at-reads
-use Rattle.image.proofs.+links.{statement}
-use Rattle.image.proofs.+links.Tie.{close}
+use Rattle.image.proofs.links.links.Reads as links
+use Rattle.image.proofs.links.links.Kinds as links-kinds
+use Rattle.image.proofs.links.+links.Lts-links as links-lts
+use Rattle.image.proofs.words.word_at.Reads as word-at-reads
+use Rattle.image.proofs.links.+links.{statement}
+use Rattle.image.proofs.links.+links.Tie.{close}
 
 abbrev μ-links : Measures 1 links-kinds.ps ℕ
 μ-links κs a = a .1 .0 - a .1 .1 .0

@@ -4,8 +4,8 @@ use native.Mathlib.Nat.{add-assoc}
 use borrow.Author.Needs.{needs}
 use Rattle.image.specs.Flat.{bytesOf}
 use Rattle.image.proofs.Writing.{sets-append, le-length}
-use Rattle.image.proofs.put_record.Statement.{statement}
-use Rattle.image.proofs.put_record.Tie as tie
+use Rattle.image.proofs.records.put_record.Statement.{statement}
+use Rattle.image.proofs.records.put_record.Tie as tie
 
 pub put-record-spec : {M : Type 1} → statement M
 unfolding bytesOf

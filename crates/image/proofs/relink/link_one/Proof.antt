@@ -5,8 +5,8 @@ use native.Mathlib.Nat.{add-assoc}
 use lib.ListN.{length-set}
 use borrow.Author.Needs.{needs}
 use Rattle.image.proofs.Writing.{sets-append, le-length}
-use Rattle.image.proofs.link_one.Statement.{statement}
-use Rattle.image.proofs.link_one.Tie as tie
+use Rattle.image.proofs.relink.link_one.Statement.{statement}
+use Rattle.image.proofs.relink.link_one.Tie as tie
 
 pub link-one-spec : {M : Type 1} → statement M
 link-one-spec =

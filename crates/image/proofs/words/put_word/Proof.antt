@@ -3,8 +3,8 @@ use native.Mathlib.Omega.{arith}
 use native.Mathlib.Numerals.{add-one, add-two, add-three}
 use lib.ListN.{length-set}
 use Rattle.image.specs.Word.{le}
-use Rattle.image.proofs.put_word.Statement.{statement}
-use Rattle.image.proofs.put_word.Tie as tie
+use Rattle.image.proofs.words.put_word.Statement.{statement}
+use Rattle.image.proofs.words.put_word.Tie as tie
 
 slice-write-out-2 : tie.Need-slice-write-out-2
 slice-write-out-2 c = simp length-set (omega arith)
