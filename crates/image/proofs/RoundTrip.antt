@@ -7,23 +7,11 @@ use native.Mathlib.Omega.{arith}
 use lib.ListN.{length, drop, length-append}
 use lib.Seq.{drop-at}
 use Rattle.image.specs.Word.{word, le}
-use Rattle.image.specs.Tree.{Label, Forest, none, node, Tree, size, link, labelAt, Here, Stands, At}
+use Rattle.image.specs.Tree.{Label, Forest, none, node, Tree, size, link, labelAt, Here, Stands, At, Fits32, Small}
 use Rattle.image.specs.Flat.{sizeT, bytesOf, encAny, enc}
 use Rattle.image.proofs.Walking.{link-le}
 use Rattle.image.proofs.Writing.{bytesOf-length}
 use Rattle.image.proofs.Relinking.{bytes-of}
-
-pub record Fits32 (l : Label) : Type 0 where
-  pub kind : l .kind < 4294967296
-  pub p : l .p < 4294967296
-  pub q : l .q < 4294967296
-  pub r : l .r < 4294967296
-  pub lo : l .lo < 4294967296
-  pub hi : l .hi < 4294967296
-
-abbrev pub Small : Forest → Type 0
-Small none = Unit {0}
-Small (node l cs ns) = Fits32 l × Small cs × Small ns
 
 label-of : (l : Label) (a b : ℕ) (rest : List ℕ) → Fits32 l → labelAt (bytesOf l a b ++ rest) ≡ l
 unfolding word bytesOf le

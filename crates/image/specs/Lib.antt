@@ -5,3 +5,4 @@ pub mod Flat
 pub mod Links
 pub mod Flattened
 pub mod Room
+pub mod Lowest

@@ -7,7 +7,7 @@ ghost use Prim.Native.Nat.{_+_, _-_, _*_, _≤_};
 ghost use lib.ListN.{length, drop};
 ghost use lib.Seq.{sets};
 ghost use Rattle.image.specs.Flat.{bytesOf};
-ghost use Rattle.image.specs.Tree.{labelAt};
+ghost use Rattle.image.specs.Tree.{labelAt, nodeOf};
 
 // What a record says of itself, without its links.
 pub struct Label {
@@ -31,6 +31,31 @@ pub fn label_at(s: &[u8]) -> Label
         r: word_at(s, 12),
         lo: word_at(s, 16),
         hi: word_at(s, 20),
+    }
+}
+
+// What a walk looks at in a record: its kind, its first words and its links.
+pub struct Node {
+    pub kind: usize,
+    pub p: usize,
+    pub q: usize,
+    pub r: usize,
+    pub first: usize,
+    pub next: usize,
+}
+
+// The record at the start of s, as a walk looks at it.
+pub fn look(s: &[u8]) -> Node
+    requires { ⌜ 32 ≤ length (now s) ⌝ }
+    ensures { λ r. ⌜ r ≡ nodeOf (now (s .entry)) ⌝ }
+{
+    Node {
+        kind: word_at(s, 0),
+        p: word_at(s, 4),
+        q: word_at(s, 8),
+        r: word_at(s, 12),
+        first: word_at(s, 24),
+        next: word_at(s, 28),
     }
 }
 
