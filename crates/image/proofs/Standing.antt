@@ -14,7 +14,7 @@ use Rattle.image.specs.Tree.{Label, Forest, none, node, size, link, labe
 use Rattle.image.specs.Links.{Parsed, good, bad, joined, andThen, parse}
 use Rattle.image.proofs.Reading.{when-cases}
 
-word-drop : (s : List ℕ) (a k : ℕ) → word (drop a s) k ≡ word s (a + k)
+pub word-drop : (s : List ℕ) (a k : ℕ) → word (drop a s) k ≡ word s (a + k)
 unfolding word
 word-drop s a k = simp (getD-drop, add-assoc)
 
