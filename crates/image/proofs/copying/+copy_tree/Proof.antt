@@ -1,10 +1,9 @@
 -- `copying::copy_tree` meets its contract. The measure is the depth.
 -- The loop's invariant: what is left of the children completes the output.
-use mathlib.Core.Path.{_≡_, sym, _∙_}
+use mathlib.Core.Path.{sym, _∙_}
 use Prim.Native.Nat.{ℕ, _+_, _<_}
 use native.Mathlib.Omega.{arith}
 use lib.ListN.{length-drop}
-use Rattle.image.specs.Tree.{Tree, Forest}
 use Rattle.image.proofs.Walking.{Chain, chain, round, again, done, left, for-all}
 use Rattle.image.proofs.Room.{Left, put-start, left-next, left-end, wrote-past}
 use borrow.Fn.Kinds.{In}

@@ -1,5 +1,4 @@
--- `gate::links` meets its contract. The measure is how many records are unread.
-use mathlib.Core.Path.{_≡_}
+-- `links::links` meets its contract. The measure is how many records are unread.
 use Prim.Native.Nat.{ℕ, _-_, _<_}
 use native.Mathlib.Omega.{arith}
 use borrow.Author.Needs.{needs}
@@ -44,6 +43,18 @@ pub +links-spec : {M : Type 1} → statement M
     (λ c. omega arith)
     (λ c. omega arith)
     (λ c κs. omega arith)
-    (λ c κs. let w = next-within _ _ _ _ _ _ (c .before .before .before .before .links .ensures) (c .before .before .below2 .given .1) (omega arith) in omega (arith, w .0, w .1))
-    (λ c. says-bad _ _ _ _ _ (c .before .before .before .before .before .before .before .if1 .left) (c .before .before .before .before .before .before .if2 .left) (c .before .before .before .before .before .if3 .left) (rw (← c .before .before .before .before .word-at .ensures .0) (c .before .before .before .links .ensures)) (c .before .below .given .1))
-    (λ c. says-next _ _ _ _ _ (c .before .before .before .before .before .before .before .before .before .if1 .left) (c .before .before .before .before .before .before .before .before .if2 .left) (c .before .before .before .before .before .before .before .if3 .left) (rw (← c .before .before .before .before .before .before .word-at .ensures .0) (c .before .before .before .before .before .links .ensures)) (c .before .before .before .below2 .given .1) (rw (← c .before .word-at2 .ensures .0) (c .links2 .ensures)))
+    (λ c κs. let w = next-within _ _ _ _ _ _ (c .before .before .before .before .links .ensures) (c .before .before .below2 .given .1) (omega arith) in
+    omega (arith, w .0, w .1))
+    (λ c. says-bad _ _ _ _ _
+    (c .before .before .before .before .before .before .before .if1 .left)
+    (c .before .before .before .before .before .before .if2 .left)
+    (c .before .before .before .before .before .if3 .left)
+    (rw (← c .before .before .before .before .word-at .ensures .0) (c .before .before .before .links .ensures))
+    (c .before .below .given .1))
+    (λ c. says-next _ _ _ _ _
+    (c .before .before .before .before .before .before .before .before .before .if1 .left)
+    (c .before .before .before .before .before .before .before .before .if2 .left)
+    (c .before .before .before .before .before .before .before .if3 .left)
+    (rw (← c .before .before .before .before .before .before .word-at .ensures .0) (c .before .before .before .before .before .links .ensures))
+    (c .before .before .before .below2 .given .1)
+    (rw (← c .before .word-at2 .ensures .0) (c .links2 .ensures)))

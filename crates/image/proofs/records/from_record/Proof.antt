@@ -1,3 +1,4 @@
+-- `records::from_record` meets its contract: a part to the end is what is dropped to.
 use borrow.Author.Needs.{needs}
 use Rattle.image.proofs.Walking.{part}
 use Rattle.image.proofs.records.from_record.Statement.{statement}

@@ -1,5 +1,4 @@
--- `img::put_record` meets its contract.
-use mathlib.Core.List.{append-assoc}
+-- `records::put_record` meets its contract: two runs of four words.
 use native.Mathlib.Nat.{add-assoc}
 use borrow.Author.Needs.{needs}
 use Rattle.image.specs.Flat.{bytesOf}
@@ -11,4 +10,11 @@ pub put-record-spec : {M : Type 1} → statement M
 unfolding bytesOf
 put-record-spec =
     tie.close
-    (tie.spec (λ c. search needs) (λ c κs. search needs) (λ c. search needs) (λ c κs. search needs) (λ c. search needs) (λ c. rw (c .before .before .put-four2 .ensures, c .before .before .before .before .before .before .put-four .ensures) (simp (sets-append, le-length, add-assoc))))
+    (tie.spec
+    (λ c. search needs)
+    (λ c κs. search needs)
+    (λ c. search needs)
+    (λ c κs. search needs)
+    (λ c. search needs)
+    (λ c. rw (c .before .before .put-four2 .ensures, c .before .before .before .before .before .before .put-four .ensures)
+    (simp (sets-append, le-length, add-assoc))))

@@ -1,4 +1,4 @@
--- `emit::link_one` meets its contract.
+-- `relink::link_one` meets its contract: two runs of stores are one, and so are two stores to the table.
 use mathlib.Core.Path.{refl}
 use native.Mathlib.Omega.{arith}
 use native.Mathlib.Nat.{add-assoc}
@@ -30,4 +30,7 @@ link-one-spec =
     (λ c. simp length-set (omega arith))
     (λ c. search needs)
     (λ c. search needs)
-    (λ c. rw (← c .before .before .before .before .before .before .before .before .before .before .word-at .ensures .0) (rw (c .before .before .put-word2 .ensures, c .before .before .before .before .before .before .before .put-word .ensures) (simp (sets-append, le-length, add-assoc)), refl)))
+    (λ c. rw (← c .before .before .before .before .before .before .before .before .before .before .word-at .ensures .0) (
+      rw (c .before .before .put-word2 .ensures, c .before .before .before .before .before .before .before .put-word .ensures) (simp (sets-append, le-length, add-assoc)),
+      refl,
+    )))

@@ -1,4 +1,4 @@
--- `emit::relink` meets its contract. The loop's invariant: of any tree that was there, the records from i on are turned.
+-- `relink::relink` meets its contract. The loop's invariant: of any tree that was there, the records from i on are turned.
 use mathlib.Core.Path.{_≡_, refl, sym, _∙_}
 use mathlib.Core.List.{List, _++_}
 use Prim.Native.Nat.{ℕ}
@@ -26,13 +26,18 @@ relink-spec =
     μ-loop
     (λ c. (refl, λ t rest deep e f. back-start _ _ t rest e f))
     (λ c. omega arith)
-    (λ c. let p = c .before .before .before .before .before .pre in sym (back-long (c .before .before .before .loop .inv .1 (p .tree) (p .rest) (p .deep) (p .count) (p .is))))
+    (λ c. let p = c .before .before .before .before .before .pre in
+    sym (back-long (c .before .before .before .loop .inv .1 (p .tree) (p .rest) (p .deep) (p .count) (p .is))))
     (λ c κs. let p = c .before .before .before .before .before .pre in
-    let u = back-turn (p .tree) (c .before .before .loop-test .taken) (p .deep) (c .before .before .before .loop .inv .1 (p .tree) (p .rest) (p .deep) (p .count) (p .is)) in (u .room, u .small))
+    let k = c .before .before .before .loop .inv .1 (p .tree) (p .rest) (p .deep) (p .count) (p .is) in
+    let u = back-turn (p .tree) (c .before .before .loop-test .taken) (p .deep) k in
+    (u .room, u .small))
     (λ c. omega arith)
-    (λ c. (
-      c .before .before .before .link-one .kept .0 ∙ c .before .before .before .before .before .before .before .loop .inv .0,
-      λ t rest deep e f. back-turn t (c .before .before .before .before .before .before .loop-test .taken) deep (c .before .before .before .before .before .before .before .loop .inv .1 t rest deep e f) .again _ _ (c .before .before .before .link-one .ensures .0) (c .before .before .before .link-one .ensures .1),
+    (λ c. let k = c .before .before .before .before .before .before .before .loop .inv in
+    let one = c .before .before .before .link-one in (
+      one .kept .0 ∙ k .0,
+      λ t rest deep e f. let u = back-turn t (c .before .before .before .before .before .before .loop-test .taken) deep (k .1 t rest deep e f) in
+          u .again _ _ (one .ensures .0) (one .ensures .1),
     ))
     (λ c. c .before .loop .inv .0)
     (λ c t rest deep e f. back-end t (c .loop-test .left) deep (c .before .loop .inv .1 t rest deep e f)))

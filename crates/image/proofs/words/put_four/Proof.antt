@@ -1,4 +1,4 @@
--- `img::put_four` meets its contract: four runs of stores, each from where the last ended.
+-- `words::put_four` meets its contract: four runs of stores, each from where the last ended.
 use native.Mathlib.Nat.{add-assoc}
 use borrow.Author.Needs.{needs}
 use Rattle.image.proofs.Writing.{sets-append, le-length}
@@ -17,4 +17,9 @@ put-four-spec =
     (λ c. search needs)
     (λ c κs. search needs)
     (λ c. search needs)
-    (λ c. rw (c .before .before .put-word4 .ensures, c .before .before .before .before .before .before .put-word3 .ensures, c .before .before .before .before .before .before .before .before .before .before .put-word2 .ensures, c .before .before .before .before .before .before .before .before .before .before .before .before .before .before .put-word .ensures) (simp (sets-append, le-length, add-assoc))))
+    (λ c. rw (
+      c .before .before .put-word4 .ensures,
+      c .before .before .before .before .before .before .put-word3 .ensures,
+      c .before .before .before .before .before .before .before .before .before .before .put-word2 .ensures,
+      c .before .before .before .before .before .before .before .before .before .before .before .before .before .before .put-word .ensures,
+    ) (simp (sets-append, le-length, add-assoc))))

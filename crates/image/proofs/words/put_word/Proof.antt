@@ -1,3 +1,4 @@
+-- `words::put_word` meets its contract: four stores are one run.
 use borrow.Author.Needs.{needs}
 use native.Mathlib.Omega.{arith}
 use native.Mathlib.Numerals.{add-one, add-two, add-three}

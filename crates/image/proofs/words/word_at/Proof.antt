@@ -1,4 +1,4 @@
--- `img::word_at` meets its contract: the needs are arithmetic, and `word` is the sum itself.
+-- `words::word_at` meets its contract: the needs are arithmetic, and `word` is the sum itself.
 use borrow.Author.Needs.{needs}
 use Rattle.image.specs.Word.{word}
 use Rattle.image.proofs.words.word_at.Statement.{statement}
