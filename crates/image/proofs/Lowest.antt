@@ -34,6 +34,7 @@ unfolding unless
 unless-true true r h = refl
 unless-true false r h = let z : _≡_ {A = ℕ} 0 1 = cc in absurd (omega arith)
 
+-- a rule, and what is handed down
 module _ {C : Type 0} (rule : C → Label → Forest → Bool) (hand : C → Label → Forest → C × C) where
   -- the rule holds of all records
   abbrev pub Passes : C → C → Forest → Type 0
@@ -89,6 +90,7 @@ false-append b (x ∷ xs) ys =
     let e : b + 1 + length xs ≡ b + suc (length xs) = omega arith in
     rw (false-append (b + 1) xs ys, e, or-assoc)
 
+-- the same again
 module _ {C : Type 0} (rule : C → Label → Forest → Bool) (hand : C → Label → Forest → C × C) where
   -- `lowest` is what its name says: the first of the forest's records, by number, of which the rule does not hold
   pub lowest-is : (c after : C) (b : ℕ) (f : Forest) → lowest rule hand c after b f ≡ firstFalse b (marks rule hand c after f)
@@ -116,6 +118,7 @@ module _ {C : Type 0} (rule : C → Label → Forest → Bool) (hand : C → Lab
   unfolding lowest
   lowest-none c after b f e = rw e
 
+  -- the walk stands at the first record of f, and u is what it has there
   module _ (c after : C) (f : Forest) (s : List ℕ) (b at : ℕ) (u : Turn f s b at) where
     -- the label of the record at which the walk stands
     abbrev pub child : Label

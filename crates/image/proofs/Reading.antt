@@ -1,4 +1,7 @@
--- Laws of `parse`: its cases, and that it stays within the records.
+-- Laws of `parse`, the reading of links.
+--     p-none, ..      its cases
+--     within          it stays within the records
+--     Says, ..        what a call of the code says of it
 -- Assumes nothing.
 use mathlib.Core.Path.{_≡_, refl, sym, _∙_}
 use mathlib.Core.Bool.{Bool, true, false}
@@ -16,6 +19,7 @@ use Rattle.image.specs.declared.links.Walk.{Walk}
 use Rattle.image.specs.declared.links.Walk.the-variants.{Next, Bad}
 use Rattle.image.specs.Links.{Parsed, good, bad, outcome, when, joined, andThen, parse}
 
+-- `link`, a link of `owner`, where i is the next unread record of n
 module _ (s : List ℕ) (n i link owner : ℕ) where
   -- a link that is 0 leads to nothing
   pub p-none : (k : ℕ) → 0 < k → link ≡ 0 → parse k s n i link owner ≡ good none i
@@ -104,6 +108,7 @@ next-within s n i link owner j h e l =
     let w = was-next n i (parse k s n i link owner) j (sym (h k (le-refl k)) ∙ e) (within k s n i link owner l) in
     (w .2, w .3)
 
+-- the same, where the link leads to record i
 module _ (s : List ℕ) (n i link owner : ℕ) (nz : link ≡ 0 → ⊥) (at : link ≡ i) (lt : i < n) where
   -- a record whose children have a bad link has it too
   pub says-bad : {b : Walk} {r : ℕ} → Says b s n (i + 1) (word s (32 * i + 24)) i → b ≡ Bad r → Says (Bad r) s n i link owner

@@ -1,6 +1,7 @@
 -- The backward pass over a flat tree. `table` and `links` are what the pass has made of the records from number i on: the table, and their bytes.
 --     relinked        of a whole tree it makes the image
---     stepped         what one turn does, on the bytes and on the table
+--     Back, turned    the invariant of its loop, and what one turn does, on the bytes and on the table
+--     bytes-of        a 32-bit number is made of its four bytes
 -- Assumes nothing.
 use mathlib.Core.Path.{_≡_, refl, sym, ap, subst, _∙_}
 use mathlib.Core.Logic.{⊎-elim}
@@ -52,26 +53,26 @@ table-length i (x ∷ xs) = simp length-set (table-length (i + 1) xs)
 
 -- ---- the flat tree is its records
 
--- two lists of records, one after the other
+-- two lists of records are written one after the other
 flats-append : (xs ys : List Rec) → flats (xs ++ ys) ≡ flats xs ++ flats ys
 flats-append [] ys = refl
 flats-append (x ∷ xs) ys = rw (flats-append xs ys, append-assoc)
 
--- of a forest
+-- the records of a forest, written flat, are the flat forest
 flats-any : (d : ℕ) (f : Forest) → flats (recsAny d f) ≡ flatAny d f
 flats-any d none = refl
 flats-any d (node l cs ns) = rw (flats-append (recsAny (d + 1) cs) (recsAny d ns), flats-any (d + 1) cs, flats-any d ns)
 
--- of a tree
+-- the records of a tree, written flat, are the flat tree
 pub flats-flat : (d : ℕ) (t : Tree) → flats (recs d t) ≡ flat d t
 flats-flat d t = rw (flats-any (d + 1) (t .below))
 
--- a forest has one for each of its records
+-- a forest of n records has n
 pub recs-any-length : (d : ℕ) (f : Forest) → length (recsAny d f) ≡ size f
 recs-any-length d none = refl
 recs-any-length d (node l cs ns) = ap suc (length-append (recsAny (d + 1) cs) (recsAny d ns) ∙ rw (recs-any-length (d + 1) cs, recs-any-length d ns))
 
--- a tree has one for each of its records
+-- a tree of n records has n
 pub recs-length : (d : ℕ) (t : Tree) → length (recs d t) ≡ sizeT t
 recs-length d t = ap suc (recs-any-length (d + 1) (t .below))
 
@@ -143,22 +144,22 @@ abbrev pub Shallow : List Rec → Type 0
 Shallow [] = Unit {0}
 Shallow (x ∷ xs) = (x .1 + 1 < 258) × Shallow xs
 
--- of two lists, one after the other
+-- two shallow lists, one after the other, are shallow
 shallow-append : (xs ys : List Rec) → Shallow xs → Shallow ys → Shallow (xs ++ ys)
 shallow-append [] ys h k = k
 shallow-append (x ∷ xs) ys h k = (h .0, shallow-append xs ys (h .1) k)
 
--- of a forest of few levels
+-- the records of a forest that is not too deep are shallow
 shallow-any : (f : Forest) (d k : ℕ) → Deep f k → d + k ≤ 257 → Shallow (recsAny d f)
 shallow-any none d k deep small = tt
 shallow-any (node l cs ns) d k deep small =
     (omega arith, shallow-append (recsAny (d + 1) cs) (recsAny d ns) (shallow-any cs (d + 1) (k - 1) (deep .1) (omega arith)) (shallow-any ns d k (deep .2) small))
 
--- of a tree of 256 levels at most
+-- the records of a tree of 256 levels at most are shallow
 pub shallow : (t : Tree) → Deep (t .below) 255 → Shallow (recs 1 t)
 shallow t deep = (lit< tt, shallow-any (t .below) 2 255 deep (omega arith))
 
--- of one record of a list
+-- the table has a place for the depth of one record of shallow ones
 pub shallow-at : (xs : List Rec) (j : ℕ) (z : Rec) → Shallow xs → j < length xs → getD xs j z .1 + 1 < 258
 shallow-at [] j z h lt = absurd (omega arith)
 shallow-at (x ∷ xs) zero z h lt = h .0
@@ -179,7 +180,7 @@ pub word-right : (xs ys : List ℕ) (n : ℕ) → word (xs ++ ys) (length xs + n
 unfolding word
 word-right xs ys n = simp (add-assoc, getD-append-add)
 
--- a number of its bytes, by the quotients that they come from
+-- a number is put together from its four bytes, by the quotients that they come from
 combine : (v r₀ q₁ r₁ q₂ r₂ q₃ : ℕ) → q₁ * 256 + r₀ ≡ v → q₂ * 256 + r₁ ≡ q₁ → q₃ * 256 + r₂ ≡ q₂ → r₀ + r₁ * 256 + r₂ * 65536 + q₃ * 16777216 ≡ v
 combine v r₀ q₁ r₁ q₂ r₂ q₃ e f g = omega arith
 
@@ -224,6 +225,7 @@ turned-bytes : (out A S : List ℕ) (l : Label) (d j : ℕ) → out ≡ A ++ (by
 turned-bytes out A S l d j e len small =
     rw (e, ← len) (word-right A (bytesOf l d 0 ++ S) 24 ∙ depth-of l d S small, λ a b. sets-right A (bytesOf l d 0 ++ S) 24 (le a ++ le b) ∙ rw links-of)
 
+-- the record x, with the number j, is turned next: ys are those after it
 module _ (out tab : List ℕ) (j : ℕ) (xs ys : List Rec) (x : Rec) (rest : List ℕ) (low : x .1 + 1 < 258) (h : Back out tab (suc j) xs rest)
     (shorter : take (suc j) xs ≡ take j xs ++ (x ∷ [])) (longer : drop j xs ≡ x ∷ ys) (tail : drop (suc j) xs ≡ ys) where
   -- the output is cut before and after the record
@@ -254,7 +256,7 @@ turned out tab j xs rest low h =
 
 -- ---- the whole loop
 
--- before the loop
+-- before the loop all records are flat, and the table is empty
 pub back-start : (out : List ℕ) (n : ℕ) (t : Tree) (rest : List ℕ) → n ≡ sizeT t → out ≡ flat 1 t ++ rest → Back out (replicate 258 0) n (recs 1 t) rest
 back-start out n t rest e f =
     let l : length (recs 1 t) ≡ n = recs-length 1 t ∙ sym e in
@@ -262,17 +264,17 @@ back-start out n t rest e f =
     let b : drop n (recs 1 t) ≡ [] = drop-of-length-le (recs 1 t) {i = n} (omega arith) in
     record { within = omega arith; bytes = f ∙ rw (a, b, flats-flat 1 t); tabled = rw b }
 
--- the table's length
+-- the table keeps its length
 pub back-long : {out tab : List ℕ} {i : ℕ} {xs : List Rec} {rest : List ℕ} → Back out tab i xs rest → length tab ≡ 258
 back-long {i = i} {xs = xs} h = rw (h .tabled) (table-length i (drop i xs))
 
--- in the loop
+-- in the loop there is a record to turn
 pub back-turn : (t : Tree) {out tab : List ℕ} {i : ℕ} {rest : List ℕ} → (i ≡ 0 → ⊥) → Deep (t .below) 255 → Back out tab i (recs 1 t) rest → Turned out tab (i - 1) (recs 1 t) rest
 back-turn t {out} {tab} {i} {rest} nz deep h =
     let e : i ≡ suc (i - 1) = omega arith in
     turned out tab (i - 1) (recs 1 t) rest (shallow t deep) (subst (λ (k : ℕ). Back out tab k (recs 1 t) rest) e h)
 
--- after the loop
+-- after the loop the output is the image
 pub back-end : (t : Tree) {out tab : List ℕ} {i : ℕ} {rest : List ℕ} → i ≡ 0 → Deep (t .below) 255 → Back out tab i (recs 1 t) rest → out ≡ enc 0 t ++ rest
 back-end t {out} {tab} {i} {rest} z deep h =
     let k : Back out tab 0 (recs 1 t) rest = subst (λ (n : ℕ). Back out tab n (recs 1 t) rest) z h in

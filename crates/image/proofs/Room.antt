@@ -1,6 +1,9 @@
 -- Laws of writing into a work buffer of 2,048 records.
+--     cap-le, ..      the laws of `cap`, which counts records up to 2,049
 --     sets-next       two runs, one after the other, are one run, also past the end
 --     Left            the invariant of a loop that writes trees: what is left of them completes the output
+--     wrote-past      past the end a tree is written by doing nothing
+--     wrote-leaf, ..  a record over no, one or two trees
 -- Assumes nothing.
 use mathlib.Core.Path.{_≡_, refl, sym, ap, _∙_}
 use mathlib.Core.List.{List, [], _∷_, _++_, append-assoc}
@@ -33,7 +36,7 @@ pub cap-over : (n : ℕ) → 2048 < n → cap n ≡ 2049
 unfolding cap
 cap-over n h = omega arith
 
--- a count goes on from a count
+-- counting goes on from a count as from the number that was counted
 pub cap-add : (a b : ℕ) → cap (cap a + b) ≡ cap (a + b)
 unfolding cap
 cap-add a b = omega arith
@@ -110,6 +113,7 @@ pub put-start : {out₀ out₁ : List ℕ} {at at₁ level : ℕ} {l : Label}
     → length out₀ ≡ workBytes → Put out₀ out₁ at level at₁ l → (all : Forest) → Left out₁ at₁ (level + 1) all out₁ at₁ all
 put-start {at = at} long p all = record { count = refl; same = refl; long = rw (p .bytes, length-sets) long; small = rw (p .next) (cap-le (at + 1)) }
 
+-- a record is written, and then the trees below it are
 module _ {out₀ out₁ : List ℕ} {at at₁ level : ℕ} {l : Label} (long : length out₀ ≡ workBytes) (p : Put out₀ out₁ at level at₁ l) where
   -- a record alone
   pub wrote-leaf : Wrote out₀ out₁ at level at₁ (record { label = l; below = none })

@@ -13,9 +13,11 @@ use native.Mathlib.Omega.{arith}
 use lib.ListN.{length, drop, length-append, length-drop}
 use lib.Seq.{drop-at, drop-drop, getD-drop}
 use Rattle.image.specs.Word.{Bytes, word, le}
-use Rattle.image.specs.Tree.{Label, Forest, none, node, Tree, size, link, labelAt, Here, Stands, At, Fits32, Small, SmallT}
+use Rattle.image.specs.Tree.{Label, Forest, none, node, Tree, size, link, labelAt, Here, Stands, At, SmallT}
+pub use Rattle.image.specs.Tree.{Fits32, Small}
 use Rattle.image.specs.Flat.{sizeT, bytesOf, encAny, enc}
-use Rattle.image.proofs.Walking.{only, link-le}
+use Rattle.image.proofs.Walking.{link-le}
+pub use Rattle.image.proofs.Walking.{only}
 use Rattle.image.proofs.Writing.{bytesOf-length}
 use Rattle.image.proofs.Standing.{word-drop}
 use Rattle.image.proofs.Relinking.{bytes-of}

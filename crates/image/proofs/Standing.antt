@@ -31,6 +31,7 @@ abbrev pub Reads : List ℕ → ℕ → ℕ → ℕ → Parsed → Type 0
 Reads s n i link′ (good f j) = Read s n i link′ f j
 Reads s n i link′ (bad r) = Unit {0}
 
+-- record i of n
 module _ (s : List ℕ) (n i : ℕ) (long : 32 * n ≤ length s) where
   -- a record, its children that were read, and its siblings
   node-of : (cs : Forest) (j : ℕ) (p : Parsed)

@@ -3,8 +3,8 @@
 --     only            one tree only stands somewhere
 --     for-all         what holds of one tree that stands somewhere holds of each that does
 --     turn            what a link that is not 0 leads to: the child there, and the rest after it
---     left, less      the measure of a walk along a chain
---     Chain, round    the invariant of a loop over the children of a record, and what a turn has
+--     left            the measure of a walk along a chain
+--     Chain           the invariant of a loop over the children of a record: `chain` before it, `round` and `again` in it, `done` after it
 -- Assumes nothing.
 use mathlib.Core.Path.{_≡_, refl, sym, ap, subst, _∙_}
 use mathlib.Core.List.{List}
@@ -74,7 +74,7 @@ abbrev pub left : List ℕ → ℕ → ℕ → ℕ
 left s b zero = 0
 left s b (suc n) = length s - 32 * (suc n - b)
 
--- at a record
+-- at a record that is not record 0, the measure is the bytes from it on
 left-pos : (s : List ℕ) (b at : ℕ) → 0 < at → left s b at ≡ length s - 32 * (at - b)
 left-pos s b zero h = absurd (omega arith)
 left-pos s b (suc n) h = refl
@@ -123,6 +123,7 @@ pub ended : (f : Forest) (s : List ℕ) (b at : ℕ) → Linked f s b at → at 
 ended none s b at h z = refl
 ended (node l cs ns) s b at h z = absurd (omega arith)
 
+-- a turn over a forest no deeper than d
 module _ {f : Forest} {s : List ℕ} {b at : ℕ} (d : ℕ) (u : Turn f s b at) (deep : Deep f d) where
   -- the depth of the child and of the trees after it
   deep-node : Deep (node (u .child .label) (u .child .below) (u .after)) d
@@ -166,7 +167,7 @@ pub record Round (P : Tree → Forest → Type 0) (d : ℕ) (s : List ℕ) (b at
   pub so-far : P tree (node (turn .child .label) (turn .child .below) (turn .after))
   pub readable : Readable (d - 1) (drop (32 * (at - b)) s) at
 
--- before the loop
+-- before the loop all children are still to come
 pub chain : (P : Tree → Forest → Type 0) {d : ℕ} {s : List ℕ} {b : ℕ} (h : Readable d s b)
     → P (h .tree) (h .tree .below) → Chain P d s b (word s 24)
 chain P {d} {s} {b} h p =
@@ -180,7 +181,7 @@ chain P {d} {s} {b} h p =
       so-far = p;
     }
 
--- in the loop
+-- in the loop there is a child at `at`
 pub round : (P : Tree → Forest → Type 0) {d : ℕ} {s : List ℕ} {b at : ℕ} (k : Chain P d s b at)
     → (at ≡ 0 → ⊥) → Round P d s b at (k .tree) (k .rest)
 round P {d} {s} {b} {at} k nz =
@@ -205,6 +206,6 @@ again Q {d} k u q =
       so-far = q;
     }
 
--- after the loop
+-- after the loop no child is still to come
 pub done : (P : Tree → Forest → Type 0) {d : ℕ} {s : List ℕ} {b at : ℕ} (k : Chain P d s b at) → at ≡ 0 → P (k .tree) none
 done P {d} {s} {b} {at} k z = subst (λ (f : Forest). P (k .tree) f) (ended (k .rest) s b at (k .linked) z) (k .so-far)

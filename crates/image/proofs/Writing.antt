@@ -3,7 +3,7 @@
 --     sets-after      the same, by the length of the first
 --     flat-length     a flat tree has 32 bytes for each record
 -- Assumes nothing.
-use mathlib.Core.Path.{_≡_, refl, sym, _∙_}
+use mathlib.Core.Path.{_≡_, refl, _∙_}
 use mathlib.Core.List.{List, [], _∷_, _++_}
 use Prim.Native.Nat.{ℕ, suc, _+_, _*_}
 use native.Mathlib.Omega.{arith}
@@ -42,10 +42,3 @@ flatAny-length d (node l cs ns) =
 -- a flat tree has 32 bytes for each record
 pub flat-length : (d : ℕ) (t : Tree) → length (flat d t) ≡ 32 * sizeT t
 flat-length d t = simp (length-append, bytesOf-length) (omega (arith, flatAny-length (d + 1) (t .below)))
-
--- a record, and then its children
-pub flat-split : (out : List ℕ) (at d : ℕ) (t : Tree)
-    → sets (sets out (32 * at) (bytesOf (t .label) d 0)) (32 * (at + 1)) (flatAny (d + 1) (t .below)) ≡ sets out (32 * at) (flat d t)
-flat-split out at d t =
-    let r = bytesOf (t .label) d 0 in
-    sym (sets-after out (32 * at) r (flatAny (d + 1) (t .below)) (32 * (at + 1)) (omega (arith, bytesOf-length (t .label) d 0)))

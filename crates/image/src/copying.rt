@@ -1,7 +1,9 @@
 // Copying: records written flat, each with its depth in the place of its first link, into a work buffer of 2,048 records.
 use crate::limits::MAX_RECORDS;
 use crate::limits::NO_ROOM;
+use crate::records::FIRST_LINK;
 use crate::records::Label;
+use crate::records::NEXT_LINK;
 use crate::records::from_record;
 use crate::records::label_at;
 use crate::records::put_record;
@@ -52,11 +54,11 @@ pub fn copy_tree(
         return NO_ROOM;
     }
     let mut to = put_label(s, out, at, level);
-    let mut from = word_at(s, 24);
+    let mut from = word_at(s, FIRST_LINK);
     while from != 0 {
         let part = from_record(s, base, from);
         to = copy_tree(part, from, depth - 1, out, to, level + 1);
-        from = word_at(part, 28);
+        from = word_at(part, NEXT_LINK);
     }
     to
 }

@@ -1,5 +1,7 @@
 // Links: where the records that a link leads to end, or which record has a bad one.
 use crate::limits::RECORD_BYTES;
+use crate::records::FIRST_LINK;
+use crate::records::NEXT_LINK;
 use crate::words::word_at;
 ghost use mathlib.Core.Path.{_≡_};
 ghost use Prim.Native.Nat.{_-_, _*_, _≤_, _<_, ℕ};
@@ -29,9 +31,9 @@ pub fn links(s: &[u8], n: usize, i: usize, link: usize, owner: usize) -> Walk
     if n <= i {
         return Walk::Bad(owner);
     }
-    let below = links(s, n, i + 1, word_at(s, RECORD_BYTES * i + 24), i);
+    let below = links(s, n, i + 1, word_at(s, RECORD_BYTES * i + FIRST_LINK), i);
     match below {
         Walk::Bad(r) => Walk::Bad(r),
-        Walk::Next(j) => links(s, n, j, word_at(s, RECORD_BYTES * i + 28), i),
+        Walk::Next(j) => links(s, n, j, word_at(s, RECORD_BYTES * i + NEXT_LINK), i),
     }
 }

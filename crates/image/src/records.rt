@@ -9,6 +9,12 @@ ghost use lib.Seq.{sets};
 ghost use Rattle.image.specs.Flat.{bytesOf};
 ghost use Rattle.image.specs.Tree.{labelAt, nodeOf};
 
+// The byte of a record at which the link to its first child stands.
+pub const FIRST_LINK: usize = 24;
+
+// The byte of a record at which the link to its next sibling stands.
+pub const NEXT_LINK: usize = 28;
+
 // What a record says of itself, without its links.
 pub struct Label {
     pub kind: usize,
@@ -54,8 +60,8 @@ pub fn look(s: &[u8]) -> Node
         p: word_at(s, 4),
         q: word_at(s, 8),
         r: word_at(s, 12),
-        first: word_at(s, 24),
-        next: word_at(s, 28),
+        first: word_at(s, FIRST_LINK),
+        next: word_at(s, NEXT_LINK),
     }
 }
 

@@ -1,6 +1,7 @@
 // Linking again: the depths of a flat tree give way to links.
 use crate::limits::MAX_DEPTH;
 use crate::limits::RECORD_BYTES;
+use crate::records::FIRST_LINK;
 use crate::words::put_word;
 use crate::words::word_at;
 ghost use mathlib.Core.Path.{_≡_};
@@ -24,7 +25,7 @@ fn link_one(out: &mut [u8], table: &mut [usize], i: usize)
     ensures { λ _. ⌜ now (table .exit) ≡
         set (set (now (table .entry)) (word (now (out .entry)) (32 * i + 24)) i) (word (now (out .entry)) (32 * i + 24) + 1) 0 ⌝ }
 {
-    let at = RECORD_BYTES * i + 24;
+    let at = RECORD_BYTES * i + FIRST_LINK;
     let d = word_at(out, at);
     put_word(out, at, table[d + 1]);
     put_word(out, at + 4, table[d]);

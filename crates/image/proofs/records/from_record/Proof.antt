@@ -4,9 +4,13 @@ use Rattle.image.proofs.Walking.{part}
 use Rattle.image.proofs.records.from_record.Statement.{statement}
 use Rattle.image.proofs.records.from_record.Tie as tie
 
-returns : tie.Need-returns
-returns c = simp part
-
 pub from-record-spec : {M : Type 1} → statement M
 from-record-spec =
-    tie.close (tie.spec (λ c. search needs) (λ c. search needs) (λ c. search needs) (λ c. search needs) (λ c. search needs) returns)
+    tie.close
+    (tie.spec
+    (λ c. search needs)
+    (λ c. search needs)
+    (λ c. search needs)
+    (λ c. search needs)
+    (λ c. search needs)
+    (λ c. simp part))

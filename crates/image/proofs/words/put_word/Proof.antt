@@ -7,20 +7,8 @@ use Rattle.image.specs.Word.{le}
 use Rattle.image.proofs.words.put_word.Statement.{statement}
 use Rattle.image.proofs.words.put_word.Tie as tie
 
-slice-write-out-2 : tie.Need-slice-write-out-2
-slice-write-out-2 c = simp length-set (omega arith)
-
-slice-write-out-3 : tie.Need-slice-write-out-3
-slice-write-out-3 c = simp length-set (omega arith)
-
-slice-write-out-4 : tie.Need-slice-write-out-4
-slice-write-out-4 c = simp length-set (omega arith)
-
-returns : tie.Need-returns
-unfolding le
-returns c = simp (add-one, add-two, add-three)
-
 pub put-word-spec : {M : Type 1} → statement M
+unfolding le
 put-word-spec =
     tie.close
     (tie.spec
@@ -28,12 +16,12 @@ put-word-spec =
     (λ c. search needs)
     (λ c. search needs)
     (λ c. search needs)
-    slice-write-out-2
+    (λ c. simp length-set (omega arith))
     (λ c. search needs)
     (λ c. search needs)
-    slice-write-out-3
+    (λ c. simp length-set (omega arith))
     (λ c. search needs)
     (λ c. search needs)
-    slice-write-out-4
+    (λ c. simp length-set (omega arith))
     (λ c. search needs)
-    returns)
+    (λ c. simp (add-one, add-two, add-three)))

@@ -4,11 +4,8 @@ use Rattle.image.specs.Word.{word}
 use Rattle.image.proofs.words.word_at.Statement.{statement}
 use Rattle.image.proofs.words.word_at.Tie as tie
 
-returns : tie.Need-returns
-unfolding word
-returns c = search needs
-
 pub word-at-spec : {M : Type 1} → statement M
+unfolding word
 word-at-spec =
     tie.close
     (tie.spec
@@ -29,4 +26,4 @@ word-at-spec =
     (λ c. search needs)
     (λ c. search needs)
     (λ c. search needs)
-    returns)
+    (λ c. search needs))
