@@ -10,12 +10,12 @@ use lib.ListN.{length, drop, length-append}
 use lib.Seq.{drop-drop}
 use borrow.Author.Tests.{le-leb, eq-eqb, ne-eqb}
 use Rattle.image.specs.Word.{word}
-use Rattle.image.specs.Tree.{Label, Forest, none, node, Tree, size, link, labelAt, Stands}
+use Rattle.image.specs.Tree.{Label, Forest, none, node, Tree, size, link, labelAt, Stands, Fits32, Small}
 use Rattle.image.specs.Flat.{sizeT, encAny, enc}
 use Rattle.image.proofs.Writing.{bytesOf-length}
 use Rattle.image.specs.Links.{good, parse}
 use Rattle.image.proofs.Reading.{p-none, p-node}
-use Rattle.image.proofs.RoundTrip.{Fits32, Small, stands-enc, enc-length}
+use Rattle.image.proofs.RoundTrip.{stands-enc, enc-length}
 use Rattle.image.specs.Limits.{maxRecords}
 use Rattle.plan.specs.Lists.{_&_}
 use Rattle.plan.specs.Kinds as K

@@ -123,4 +123,6 @@ module _ (s : List ℕ) (n i link owner : ℕ) (nz : link ≡ 0 → ⊥) (at : l
       let first = word s (32 * i + 24) in
       let in-range = within (k - 1) s n (i + 1) first i (omega arith) in
       let w = was-next n (i + 1) (parse (k - 1) s n (i + 1) first i) j (sym (h (k - 1) (omega arith)) ∙ e) in-range in
-      rw (p-node s n i link owner k (omega arith) nz at lt, w .1, outcome-joined) (g (k - 1) (omega (arith, w .2, w .3)))
+      let siblings = parse (k - 1) s n j (word s (32 * i + 28)) i in
+      rw (p-node s n i link owner k (omega arith) nz at lt, w .1, outcome-joined (labelAt (drop (32 * i) s)) (w .0) siblings)
+      (g (k - 1) (omega (arith, w .2, w .3)))

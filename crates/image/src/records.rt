@@ -7,7 +7,7 @@ ghost use Prim.Native.Nat.{_+_, _-_, _*_, _≤_};
 ghost use lib.ListN.{length, drop};
 ghost use lib.Seq.{sets};
 ghost use Rattle.image.specs.Flat.{bytesOf};
-ghost use Rattle.image.specs.Tree.{labelAt, nodeOf};
+ghost use Rattle.image.specs.Tree.{Fits32, labelAt, nodeOf};
 
 // The byte of a record at which the link to its first child stands.
 pub const FIRST_LINK: usize = 24;
@@ -28,7 +28,7 @@ pub struct Label {
 // The label of the record at the start of s.
 pub fn label_at(s: &[u8]) -> Label
     requires { ⌜ 32 ≤ length (now s) ⌝ }
-    ensures { λ r. ⌜ r ≡ labelAt (now (s .entry)) ⌝ }
+    ensures { λ r. ⌜ (r ≡ labelAt (now (s .entry))) × Fits32 r ⌝ }
 {
     Label {
         kind: word_at(s, 0),

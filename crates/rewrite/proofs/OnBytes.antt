@@ -1,18 +1,13 @@
 -- Laws of the calls on bytes: how long an image and an output are, and what a refusal leaves.
-use Prim.Native.Nat.{ℕ, suc, _+_, _*_, _-_, _≤_}
+use Prim.Native.Nat.{ℕ, _+_, _*_, _-_, _≤_}
 use native.Mathlib.Omega.{arith}
-use mathlib.Core.Path.{_≡_, refl, sym, ap, ap₂, _∙_}
-use mathlib.Core.Bool.{Bool, true, false}
+use mathlib.Core.Path.{_≡_}
 use mathlib.Core.List.{List}
-use lib.Dec.{leb}
 use lib.ListN.{length, length-append, length-replicate}
-use borrow.Author.Tests.{leb-true}
 use Rattle.image.specs.Flat.{sizeT, enc}
 use Rattle.image.proofs.Writing.{bytesOf-length}
 use Rattle.image.proofs.RoundTrip.{enc-length}
 use Rattle.image.specs.Tree.{Tree}
-use Rattle.plan.specs.Lists.{choose}
-use Rattle.plan.specs.Syntax.{Plan}
 use Rattle.rewrite.specs.OnBytes.{filled, zeros}
 
 -- an image has 32 bytes for each record

@@ -1,7 +1,7 @@
 -- The row test asks no function: a predicate without functions means the same in every world.
 use mathlib.Core.Path.{_≡_, refl, ap, ap₂}
 use mathlib.Core.Bool.{Bool, true, false, _||_}
-use mathlib.Core.List.{List, _∷_}
+use mathlib.Core.List.{_∷_}
 use Rattle.plan.specs.Syntax.{truth, Expr, col, num, bool, nul, bin, neg, test, between, inlist, fn, Exprs, enil, econs}
 use Rattle.meaning.specs.Meaning.{Env, World, eval, evals, binary, not3, tested, negate, among}
 use Rattle.rewrite.specs.Utils.{any-fn, any-fn-all}

@@ -10,4 +10,4 @@ put-label-spec =
     (λ c κs. search needs)
     (λ c κs. search needs)
     (λ c. search needs)
-    (λ c. rw (← c .before .before .before .label-at .ensures) (c .before .before .put .ensures)))
+    (λ c. rw (← c .before .before .before .label-at .ensures .0) (c .before .before .put .ensures)))
