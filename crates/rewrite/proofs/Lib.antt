@@ -23,5 +23,4 @@ pub mod SimplifyFilter
 pub mod Sort
 pub mod Table
 pub mod TypeLaws
-pub mod Typed
 pub mod TypesKept
