@@ -16,11 +16,11 @@ use Rattle.rewrite.specs.PushDownFilter.{rewrite}
 use Rattle.image.specs.Limits.{recordBytes}
 use Rattle.rewrite.specs.Limits.{sizeP, fits}
 use Rattle.rewrite.specs.RewriteAt.{Focus, FocusAll, here, inside, inside-all, first-of, later-of, focus, focus-all, Answer, granted, refused, result-fits, rewrite-in, rewriteAt, with-room, rewrite-call, next-visit, PassAnswer, passed, pass-refused, bit, visits, pass, pass-with-room, pass-call}
-use Rattle.rewrite.proofs.Ok.{ok, ok-all, rule}
+use Rattle.acceptance.proofs.NamesRule.{ok, ok-all, rule, ok-names}
 use Rattle.plan.specs.Types.{types, types-first, scans, scans-all}
-use Rattle.rewrite.proofs.Typed.{typed, typed-all, types-ok}
+use Rattle.acceptance.proofs.TypesRule.{typed, typed-all, types-ok, names-typed-ok}
 use Rattle.rewrite.proofs.TypesKept.{filter-typed, project-typed, join-typed, sort-typed, aggregate-typed, window-typed}
-use Rattle.rewrite.proofs.Accepted.{ok-names, names-typed-ok, accepted}
+use Rattle.rewrite.proofs.Accepted.{accepted}
 use Rattle.rewrite.proofs.Rewrite.{Keeps, keeps-self, filter-ok, project-ok, join-ok, aggregate-ok, window-ok, rewrite-keeps}
 
 pub keeps-trans : {a b c : Plan} → Keeps a b → Keeps b c → Keeps a c

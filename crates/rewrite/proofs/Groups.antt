@@ -8,7 +8,7 @@ use Rattle.plan.proofs.Lists.{and-l, and-r, and-comm, All, anil, acons, All-map
 use Rattle.plan.specs.Syntax.{Value, null, int, truth, Name, Expr, Entry, AggEntry, WinEntry, Plan, filter, distinct}
 use Rattle.meaning.specs.Meaning.{World, Env, Row, isT, sameV, sameRow, nub, look, eval, sat, sats, entries, agg-entries, windowed, aggregated, rows}
 use Rattle.plan.specs.Schema.{same, schema, has}
-use Rattle.meaning.proofs.Names.{nodup, same-eq}
+use Rattle.plan.proofs.Names.{nodup, same-eq}
 use Rattle.rewrite.specs.Utils.{replace-cols}
 use Rattle.rewrite.specs.PushDownFilter.{pick, names}
 use Rattle.rewrite.proofs.Exprs.{eval-cong}

@@ -9,7 +9,7 @@ use Rattle.plan.specs.Syntax.{Plan, scan, filter, project, join, alias, union, 
 use Rattle.image.specs.Limits.{maxDepth}
 use Rattle.rewrite.specs.Limits.{sizeE, total, sizeEntry, sizeKey, sizeAgg, sizeWin, sizeP, fits}
 use Rattle.rewrite.specs.RewriteAt.{Focus, focus, Answer, granted, refused, rewriteAt, PassAnswer, passed, pass-refused, bit}
-use Rattle.rewrite.proofs.Ok.{ok}
+use Rattle.acceptance.proofs.NamesRule.{ok}
 use Rattle.rewrite.proofs.Accepted.{accepted}
 use Rattle.rewrite.proofs.Calls.{Answered, was-granted, was-refused, Leaves, Kept, keeps-trans, leaves-self, kept, accepted-ok, left-by-pass, rewriteAt-answered}
 

@@ -10,7 +10,7 @@ use Rattle.plan.proofs.Lists.{and-assoc, and-comm, and-l, and-r, and-intro, All
 use Rattle.plan.specs.Syntax.{Name, Expr, Field, Entry, Pair, AggEntry, WinEntry, Kind, Plan, scan, filter, project, join, alias, union, distinct, sort, repartition, limit, aggregate, window, Plans}
 use Rattle.meaning.specs.Meaning.{World, Row, look, sat, sats, sat?, rows}
 use Rattle.plan.specs.Schema.{same, schema, schema-first, requalify, sides, has}
-use Rattle.meaning.proofs.Names.{same-eq}
+use Rattle.plan.proofs.Names.{same-eq}
 use Rattle.rewrite.specs.Utils.{is-empty, is-volatile, replace-cols, split-conjunction, split-conjunction?, conjoin, conjunction, with-filters, unique}
 use Rattle.rewrite.specs.PushDownFilter.{Transformed, pick, names, stay, move, pushable, in-groups, in-partitions, supports-pushdown, volatile-filters, non-volatile-filters, supported-filters, unsupported-filters, renamed, filter-each, left-push, right-push, join-conditions, on-filter-join-conditions, push-down-all-join, rewrite-projection, rewrite-scan, rewrite-aggregate, rewrite-window, simplify-filter, simplify-merged, merged, resume, rewrite-filter, rewrite}
 use Rattle.rewrite.proofs.Exprs.{on-cols-mono, all-split, filtered-rows, filtered-schema, split-rows}
@@ -21,9 +21,10 @@ use Rattle.rewrite.proofs.Sort.{sort-rows}
 use Rattle.rewrite.proofs.Groups.{passes, distinct-rows, windowed-kept, with-aggs-kept}
 use Rattle.rewrite.proofs.Join.{Over}
 use Rattle.rewrite.proofs.PushJoin.{push-join-rows, split?-rows, over-left, over-right}
-use Rattle.rewrite.proofs.Ok.{reads, reads?, names-nodup, ok, ok-all, rows-wide, rule}
+use Rattle.acceptance.proofs.NamesRule.{reads, reads?, names-nodup, ok, ok-all, rule}
+use Rattle.rewrite.proofs.Ok.{rows-wide}
 use Rattle.rewrite.proofs.SimplifyFilter.{simplify-filter-true, simplify-filter-reads, conjunction-reads}
-use Rattle.rewrite.proofs.Typed.{boolean, boolean?, typed}
+use Rattle.acceptance.proofs.TypesRule.{boolean, boolean?, typed}
 use Rattle.plan.specs.Types.{scans, types, field-types}
 use Rattle.rewrite.proofs.TypeLaws.{Bools, bools-split, conjunction-boolean, simplify-filter-boolean}
 use Rattle.rewrite.proofs.TypesKept.{types-filtered, scans-filtered, scan-arm-typed, project-arm-typed, alias-arm-typed, each-types, each-scans, union-arm-typed, aggregate-arm-typed, window-arm-typed, join-arm-typed}

@@ -17,7 +17,7 @@ use Rattle.plan.proofs.Lists.{and-l, and-r, and-intro, and-assoc, and-comm, and
 use Rattle.plan.specs.Syntax.{Value, null, int, truth, Name, Cmp, eq, ne, lt, le, gt, ge, Expr, col, num, bool, nul, bin, and, or, cmp, neg, test, between, inlist, fn}
 use Rattle.meaning.specs.Meaning.{World, Env, isT, isN, kindOf, code, known, holds, compare, sameV, eval}
 use Rattle.plan.specs.Schema.{same}
-use Rattle.meaning.proofs.Names.{same-eq}
+use Rattle.plan.proofs.Names.{same-eq}
 use Rattle.plan.specs.Columns.{on-cols}
 use Rattle.rewrite.specs.SimplifyPredicates.{lit-val, Rel, same-as, above, below, rel-cmp, bound-of, Side, val, stronger, is-better, find-most-restrictive-predicate, first-kind, of-kind, most-restrictive, Group, eq-expr, up-expr, down-expr, final, eq-part, gtZ, simplify-column-predicates, Item, item-expr, rel-of, as-literal, as-column, make, or-item, view, name-under, place, put-in, fresh, enter, Sorted, add, sort-out, simplify-predicates}
 use Rattle.rewrite.proofs.Extras.{eq-true}
