@@ -1,5 +1,5 @@
 -- The meaning of expressions and plans: three-valued logic, schemas, rows. Assumes nothing.
-use Prim.Native.Nat.{ℕ, zero, suc}
+use Prim.Native.Nat.{ℕ, suc}
 use mathlib.Core.Bool.{Bool, true, false, not, _||_, cond}
 use mathlib.Core.List.{List, [], _∷_, _++_, map}
 use mathlib.Core.Option.{Option, none, some}
@@ -107,12 +107,6 @@ pub record World : Type 0 where
 -- the value of a column in a row over a schema; NULL where there is none
 abbrev pub look : List Name → Row → Env
 look s r = lookD null s r
-
--- just n values
-abbrev pub fit : ℕ → Row → Row
-fit zero r = []
-fit (suc n) [] = null ∷ fit n []
-fit (suc n) (v ∷ r) = v ∷ fit n r
 
 -- ---- lists of rows that no world enters: Distinct, Sort, the eight joins
 
@@ -252,7 +246,7 @@ module _ (W : World) where
     unfolding schema
 
     pub rows : Plan → List Row
-    rows (scan t fs es) = keep (sats (map (λ (f : Field). f .name) fs) es) (map (fit (length fs)) (W .table t))
+    rows (scan t fs es) = keep (sats (map (λ (f : Field). f .name) fs) es) (W .table t)
     rows (filter e p) = keep (sat (schema p) e) (rows p)
     rows (project es p) = map (entries (schema p) es) (rows p)
     rows (join k l r on f) = joined k (matching (schema l) (schema r) on f) (length (schema l)) (length (schema r)) (rows l) (rows r)
