@@ -44,34 +44,44 @@ apart [] t n x h = refl
 apart (y ∷ s) t n x h = go (same y x) refl (apart s t (and-r (not (has (s ++ t) y)) _ n) x h)
   where
     go : (b : Bool) → same y x ≡ b → has s x ≡ false → b || has s x ≡ false
-    go true e k = let z : has (s ++ t) y ≡ true = rw (same-eq y x e) (has-append s t x h) in cc (not-true (has (s ++ t) y) (and-l _ _ n))
+    go true e k =
+        let z : has (s ++ t) y ≡ true = rw (same-eq y x e) (has-append s t x h) in
+        cc (not-true (has (s ++ t) y) (and-l _ _ n))
     go false e k = k
 
 -- a row of the width of the first schema, and what follows it
 module _ {A : Type 0} (d : A) where
-  pub lookD-left : (s t : List Name) (l r : List A) → length l ≡ length s → (x : Name) → has s x ≡ true → lookD d (s ++ t) (l ++ r) x ≡ lookD d s l x
+  pub lookD-left : (s t : List Name) (l r : List A) → length l ≡ length s → (x : Name) → has s x ≡ true
+      → lookD d (s ++ t) (l ++ r) x ≡ lookD d s l x
   unfolding any
   lookD-left [] t l r w x h = cc
   lookD-left (y ∷ s) t [] r w x h = absurd (omega arith)
   lookD-left (y ∷ s) t (v ∷ l) r w x h = go (same y x) h (lookD-left s t l r (omega arith) x)
     where
-      go : (b : Bool) → b || has s x ≡ true → (has s x ≡ true → lookD d (s ++ t) (l ++ r) x ≡ lookD d s l x) → cond b v (lookD d (s ++ t) (l ++ r) x) ≡ cond b v (lookD d s l x)
+      go : (b : Bool) → b || has s x ≡ true
+          → (has s x ≡ true → lookD d (s ++ t) (l ++ r) x ≡ lookD d s l x)
+          → cond b v (lookD d (s ++ t) (l ++ r) x) ≡ cond b v (lookD d s l x)
       go true h k = refl
       go false h k = k h
 
-  pub lookD-right : (s t : List Name) (l r : List A) → length l ≡ length s → (x : Name) → has s x ≡ false → lookD d (s ++ t) (l ++ r) x ≡ lookD d t r x
+  pub lookD-right : (s t : List Name) (l r : List A) → length l ≡ length s → (x : Name) → has s x ≡ false
+      → lookD d (s ++ t) (l ++ r) x ≡ lookD d t r x
   unfolding any
   lookD-right [] t [] r w x h = refl
   lookD-right [] t (v ∷ l) r w x h = absurd (omega arith)
   lookD-right (y ∷ s) t [] r w x h = absurd (omega arith)
   lookD-right (y ∷ s) t (v ∷ l) r w x h = go (same y x) h (lookD-right s t l r (omega arith) x)
     where
-      go : (b : Bool) → b || has s x ≡ false → (has s x ≡ false → lookD d (s ++ t) (l ++ r) x ≡ lookD d t r x) → cond b v (lookD d (s ++ t) (l ++ r) x) ≡ lookD d t r x
+      go : (b : Bool) → b || has s x ≡ false
+          → (has s x ≡ false → lookD d (s ++ t) (l ++ r) x ≡ lookD d t r x)
+          → cond b v (lookD d (s ++ t) (l ++ r) x) ≡ lookD d t r x
       go true h k = cc
       go false h k = k h
 
-pub look-left : (s t : List Name) (l r : Row) → length l ≡ length s → (x : Name) → has s x ≡ true → look (s ++ t) (l ++ r) x ≡ look s l x
+pub look-left : (s t : List Name) (l r : Row) → length l ≡ length s → (x : Name) → has s x ≡ true
+    → look (s ++ t) (l ++ r) x ≡ look s l x
 look-left s t l r w x h = lookD-left null s t l r w x h
 
-pub look-right : (s t : List Name) (l r : Row) → length l ≡ length s → (x : Name) → has s x ≡ false → look (s ++ t) (l ++ r) x ≡ look t r x
+pub look-right : (s t : List Name) (l r : Row) → length l ≡ length s → (x : Name) → has s x ≡ false
+    → look (s ++ t) (l ++ r) x ≡ look t r x
 look-right s t l r w x h = lookD-right null s t l r w x h

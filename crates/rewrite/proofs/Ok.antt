@@ -11,7 +11,7 @@ use borrow.Author.Tests.{eqb-true, eq-eqb}
 use Rattle.plan.specs.Lists.{_&_, all, any}
 use Rattle.plan.proofs.Lists.{and-l, and-r, and-intro, All, anil, acons, All-map, All-mapped, All-append, All-keep, All-flat, all-of}
 use Rattle.plan.specs.Syntax.{null, Name, Expr, Field, Entry, Pair, Key, AggEntry, WinEntry, Kind, inner, left, right, full, leftSemi, rightSemi, leftAnti, rightAnti, Plan, scan, filter, project, join, alias, union, distinct, sort, repartition, limit, aggregate, window, Plans, pnil, pcons, nm}
-use Rattle.meaning.specs.Meaning.{World, Row, entries, joined, outer, or-else, nulls, nub, insert, sorted, fetched, key-under, group-keys, rows, rows-all}
+use Rattle.meaning.specs.Meaning.{World, Row, entries, joined, outer, or-else, nulls, insert, sorted, fetched, sorts-before, group-keys, rows, rows-all}
 use Rattle.meaning.specs.Tables.{ScansFit, TablesFit}
 use Rattle.meaning.proofs.Tables.{fit-left, fit-right, scan-wide}
 use Rattle.plan.specs.Types.{scans, scans-all}
@@ -20,6 +20,7 @@ use Rattle.meaning.proofs.Names.{nodup}
 use Rattle.image.specs.Limits.{maxFields}
 use Rattle.plan.specs.Columns.{on-cols}
 use Rattle.rewrite.proofs.Join.{Wide}
+use Rattle.rewrite.proofs.Groups.{All-first-occurrences}
 
 -- the columns of an expression are names of the schema
 abbrev pub reads : List Name → Expr → Bool
@@ -169,10 +170,6 @@ module _ {A : Type 0} {P : A → Type 0} where
   All-or-else d h anil = acons h anil
   All-or-else d h (acons k ks) = acons k ks
 
-All-nub : {P : Row → Type 0} {xs : List Row} → All P xs → All P (nub xs)
-All-nub anil = anil
-All-nub (acons h hs) = acons h (All-keep _ (All-nub hs))
-
 wide-append : (s t : List Name) (a b : Row) → Wide s a → Wide t b → Wide (s ++ t) (a ++ b)
 wide-append s t a b h k = simp length-append (ap₂ _+_ h k)
 
@@ -192,7 +189,7 @@ joined-wide rightAnti m s t hl hr = All-keep _ hr
 module _ (W : World) where
   grouped-wide : (s : List Name) (gs : List Entry) (rs : List Row) → All (λ k. length k ≡ length gs) (group-keys gs (map (entries W s gs) rs))
   grouped-wide s [] rs = acons refl anil
-  grouped-wide s (g ∷ gs) rs = All-nub (All-mapped _ (all-of (λ r. length-map (g ∷ gs) _) rs))
+  grouped-wide s (g ∷ gs) rs = All-first-occurrences (All-mapped _ (all-of (λ r. length-map (g ∷ gs) _) rs))
 
   mutual
     unfolding rows schema scans rule
@@ -210,8 +207,8 @@ module _ (W : World) where
         (rows-wide r (and-r _ _ h′) (fit-right W (scans l) (scans r) d))
     rows-wide (alias q p) h d = All-map (λ r e. e ∙ sym (length-map (schema p) _)) (rows-wide p (and-r _ _ h) d)
     rows-wide (union ps) h d = rows-all-wide ps _ h d
-    rows-wide (distinct p) h d = All-nub (rows-wide p h d)
-    rows-wide (sort f ks p) h d = All-fetched f (All-sorted (key-under W (schema p) ks) (rows-wide p (and-r _ _ h) d))
+    rows-wide (distinct p) h d = All-first-occurrences (rows-wide p h d)
+    rows-wide (sort f ks p) h d = All-fetched f (All-sorted (sorts-before W (schema p) ks) (rows-wide p (and-r _ _ h) d))
     rows-wide (repartition p) h d = rows-wide p h d
     rows-wide (limit n k p) h d = All-take n (All-drop k (rows-wide p h d))
     rows-wide (aggregate gs ags p) h d =
