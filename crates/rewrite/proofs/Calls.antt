@@ -1,7 +1,7 @@
--- Demand 3 on trees: a list of calls of rewrite, granted or refused, keeps the rows of the root in every world, and each call leaves a plan
--- that is again accepted. The same for a pass.
+-- Demand 3 on trees: a list of calls of rewrite, granted or refused, keeps the rows of the root, whatever the functions mean and whatever tables
+-- fit the plan; and each call leaves a plan that is again accepted. The same for a pass.
 use Prim.Native.Nat.{ℕ, zero, suc, _+_, _*_}
-use mathlib.Core.Path.{_≡_, refl, ap, _∙_}
+use mathlib.Core.Path.{_≡_, refl, sym, ap, _∙_, subst}
 use mathlib.Core.Bool.{Bool, true, false}
 use mathlib.Core.List.{List, [], _∷_, _++_}
 use mathlib.Core.Option.{Option, none, some}
@@ -11,6 +11,8 @@ use Rattle.plan.specs.Lists.{choose}
 use Rattle.plan.proofs.Lists.{and-l, and-r, and-intro}
 use Rattle.plan.specs.Syntax.{Expr, Entry, Pair, Key, AggEntry, WinEntry, Kind, Plan, scan, filter, project, join, alias, union, distinct, sort, repartition, limit, aggregate, window, Plans, pnil, pcons}
 use Rattle.meaning.specs.Meaning.{World, rows, rows-all}
+use Rattle.meaning.specs.Tables.{ScansFit, TablesFit}
+use Rattle.meaning.proofs.Tables.{fit-left, fit-right}
 use Rattle.plan.specs.Schema.{schema, schema-first}
 use Rattle.rewrite.specs.PushDownFilter.{rewrite}
 use Rattle.image.specs.Limits.{recordBytes}
@@ -23,26 +25,30 @@ use Rattle.rewrite.proofs.TypesKept.{filter-typed, project-typed, join-
 use Rattle.rewrite.proofs.Accepted.{accepted}
 use Rattle.rewrite.proofs.Rewrite.{Keeps, keeps-self, filter-ok, project-ok, join-ok, aggregate-ok, window-ok, rewrite-keeps}
 
+-- the tables that fit a plan fit what may stand in its place, which has the same scans
+fit-again : {q p : Plan} → Keeps q p → (W : World) → TablesFit W p → TablesFit W q
+fit-again h W d = subst (ScansFit W) (sym (h .scans-same)) d
+
 pub keeps-trans : {a b c : Plan} → Keeps a b → Keeps b c → Keeps a c
-keeps-trans h k = record { schemas = h .schemas ∙ k .schemas; row-lists = λ W. h .row-lists W ∙ k .row-lists W; well = h .well; types-same = h .types-same ∙ k .types-same; scans-same = h .scans-same ∙ k .scans-same; typed-again = λ y. h .typed-again (k .typed-again y) }
+keeps-trans h k = record { schemas = h .schemas ∙ k .schemas; row-lists = λ W d. h .row-lists W (fit-again k W d) ∙ k .row-lists W d; well = h .well; types-same = h .types-same ∙ k .types-same; scans-same = h .scans-same ∙ k .scans-same; typed-again = λ y. h .typed-again (k .typed-again y) }
 
 -- ---- each kind of plan keeps what its input keeps
 
 in-filter : (e : Expr) {q p : Plan} → ok (filter e p) ≡ true → Keeps q p → Keeps (filter e q) (filter e p)
 unfolding rows schema types scans typed
-in-filter e {q} {p} o h = record { schemas = h .schemas; row-lists = λ W. rw (h .schemas, h .row-lists W); well = filter-ok e q p (h .schemas) (h .well) o; types-same = h .types-same; scans-same = h .scans-same; typed-again = λ y. filter-typed e q p (h .schemas) (h .types-same) (h .typed-again (and-r _ _ y)) y }
+in-filter e {q} {p} o h = record { schemas = h .schemas; row-lists = λ W d. rw (h .schemas, h .row-lists W d); well = filter-ok e q p (h .schemas) (h .well) o; types-same = h .types-same; scans-same = h .scans-same; typed-again = λ y. filter-typed e q p (h .schemas) (h .types-same) (h .typed-again (and-r _ _ y)) y }
 
 in-project : (es : List Entry) {q p : Plan} → ok (project es p) ≡ true → Keeps q p → Keeps (project es q) (project es p)
 unfolding rows schema types scans typed
-in-project es {q} {p} o h = record { schemas = refl; row-lists = λ W. rw (h .schemas, h .row-lists W); well = project-ok es q p (h .schemas) (h .well) o; types-same = rw (h .schemas, h .types-same); scans-same = h .scans-same; typed-again = λ y. project-typed es q p (h .schemas) (h .types-same) (h .typed-again (and-r _ _ y)) y }
+in-project es {q} {p} o h = record { schemas = refl; row-lists = λ W d. rw (h .schemas, h .row-lists W d); well = project-ok es q p (h .schemas) (h .well) o; types-same = rw (h .schemas, h .types-same); scans-same = h .scans-same; typed-again = λ y. project-typed es q p (h .schemas) (h .types-same) (h .typed-again (and-r _ _ y)) y }
 
 in-left : (k : Kind) {q l : Plan} (r : Plan) (on : List Pair) (g : Option Expr) → ok (join k l r on g) ≡ true → Keeps q l → Keeps (join k q r on g) (join k l r on g)
 unfolding rows schema rule types scans typed
-in-left k {q} {l} r on g o h = record { schemas = rw (h .schemas); row-lists = λ W. rw (h .schemas, h .row-lists W); well = join-ok k q l r r on g g (h .schemas) refl (h .well) (and-r _ _ (and-r _ _ (and-r _ _ (and-r _ _ o)))) (and-l _ _ (and-r _ _ (and-r _ _ o))) o; types-same = rw (h .types-same); scans-same = rw (h .scans-same); typed-again = λ y. join-typed k q l r r on g g (h .schemas) refl (h .types-same) refl (h .typed-again (and-l _ _ (and-r _ _ (and-r _ _ y)))) (and-r _ _ (and-r _ _ (and-r _ _ y))) (and-l _ _ (and-r _ _ y)) y }
+in-left k {q} {l} r on g o h = record { schemas = rw (h .schemas); row-lists = λ W d. rw (h .schemas, h .row-lists W (fit-left W (scans l) (scans r) d)); well = join-ok k q l r r on g g (h .schemas) refl (h .well) (and-r _ _ (and-r _ _ (and-r _ _ (and-r _ _ o)))) (and-l _ _ (and-r _ _ (and-r _ _ o))) o; types-same = rw (h .types-same); scans-same = rw (h .scans-same); typed-again = λ y. join-typed k q l r r on g g (h .schemas) refl (h .types-same) refl (h .typed-again (and-l _ _ (and-r _ _ (and-r _ _ y)))) (and-r _ _ (and-r _ _ (and-r _ _ y))) (and-l _ _ (and-r _ _ y)) y }
 
 in-right : (k : Kind) (l : Plan) {q r : Plan} (on : List Pair) (g : Option Expr) → ok (join k l r on g) ≡ true → Keeps q r → Keeps (join k l q on g) (join k l r on g)
 unfolding rows schema rule types scans typed
-in-right k l {q} {r} on g o h = record { schemas = rw (h .schemas); row-lists = λ W. rw (h .schemas, h .row-lists W); well = join-ok k l l q r on g g refl (h .schemas) (and-l _ _ (and-r _ _ (and-r _ _ (and-r _ _ o)))) (h .well) (and-l _ _ (and-r _ _ (and-r _ _ o))) o; types-same = rw (h .types-same); scans-same = rw (h .scans-same); typed-again = λ y. join-typed k l l q r on g g refl (h .schemas) refl (h .types-same) (and-l _ _ (and-r _ _ (and-r _ _ y))) (h .typed-again (and-r _ _ (and-r _ _ (and-r _ _ y)))) (and-l _ _ (and-r _ _ y)) y }
+in-right k l {q} {r} on g o h = record { schemas = rw (h .schemas); row-lists = λ W d. rw (h .schemas, h .row-lists W (fit-right W (scans l) (scans r) d)); well = join-ok k l l q r on g g refl (h .schemas) (and-l _ _ (and-r _ _ (and-r _ _ (and-r _ _ o)))) (h .well) (and-l _ _ (and-r _ _ (and-r _ _ o))) o; types-same = rw (h .types-same); scans-same = rw (h .scans-same); typed-again = λ y. join-typed k l l q r on g g refl (h .schemas) refl (h .types-same) (and-l _ _ (and-r _ _ (and-r _ _ y))) (h .typed-again (and-r _ _ (and-r _ _ (and-r _ _ y)))) (and-l _ _ (and-r _ _ y)) y }
 
 in-alias : (a : ℕ) {q p : Plan} → ok (alias a p) ≡ true → Keeps q p → Keeps (alias a q) (alias a p)
 unfolding rows schema rule types scans typed
@@ -50,11 +56,11 @@ in-alias a o h = record { schemas = rw (h .schemas); row-lists = h .row-lists; w
 
 in-distinct : {q p : Plan} → Keeps q p → Keeps (distinct q) (distinct p)
 unfolding rows schema rule types scans typed
-in-distinct h = record { schemas = h .schemas; row-lists = λ W. rw (h .row-lists W); well = h .well; types-same = h .types-same; scans-same = h .scans-same; typed-again = h .typed-again }
+in-distinct h = record { schemas = h .schemas; row-lists = λ W d. rw (h .row-lists W d); well = h .well; types-same = h .types-same; scans-same = h .scans-same; typed-again = h .typed-again }
 
 in-sort : (f : Option ℕ) (ks : List Key) {q p : Plan} → ok (sort f ks p) ≡ true → Keeps q p → Keeps (sort f ks q) (sort f ks p)
 unfolding rows schema rule types scans typed
-in-sort f ks {q} {p} o h = record { schemas = h .schemas; row-lists = λ W. rw (h .schemas, h .row-lists W); well = and-intro (rw (h .schemas) (and-l _ _ o)) (h .well); types-same = h .types-same; scans-same = h .scans-same; typed-again = λ y. sort-typed f ks q p (h .schemas) (h .types-same) (h .typed-again (and-r _ _ y)) y }
+in-sort f ks {q} {p} o h = record { schemas = h .schemas; row-lists = λ W d. rw (h .schemas, h .row-lists W d); well = and-intro (rw (h .schemas) (and-l _ _ o)) (h .well); types-same = h .types-same; scans-same = h .scans-same; typed-again = λ y. sort-typed f ks q p (h .schemas) (h .types-same) (h .typed-again (and-r _ _ y)) y }
 
 in-repartition : {q p : Plan} → Keeps q p → Keeps (repartition q) (repartition p)
 unfolding rows schema rule types scans typed
@@ -62,20 +68,20 @@ in-repartition h = record { schemas = h .schemas; row-lists = h .row-lists; well
 
 in-limit : (i j : ℕ) {q p : Plan} → Keeps q p → Keeps (limit i j q) (limit i j p)
 unfolding rows schema rule types scans typed
-in-limit i j h = record { schemas = h .schemas; row-lists = λ W. rw (h .row-lists W); well = h .well; types-same = h .types-same; scans-same = h .scans-same; typed-again = h .typed-again }
+in-limit i j h = record { schemas = h .schemas; row-lists = λ W d. rw (h .row-lists W d); well = h .well; types-same = h .types-same; scans-same = h .scans-same; typed-again = h .typed-again }
 
 in-aggregate : (gs : List Entry) (ags : List AggEntry) {q p : Plan} → ok (aggregate gs ags p) ≡ true → Keeps q p → Keeps (aggregate gs ags q) (aggregate gs ags p)
 unfolding rows schema types scans typed
-in-aggregate gs ags {q} {p} o h = record { schemas = refl; row-lists = λ W. rw (h .schemas, h .row-lists W); well = aggregate-ok gs ags q p (h .schemas) (h .well) o; types-same = rw (h .schemas, h .types-same); scans-same = h .scans-same; typed-again = λ y. aggregate-typed gs ags q p (h .schemas) (h .types-same) (h .typed-again (and-r _ _ (and-r _ _ y))) y }
+in-aggregate gs ags {q} {p} o h = record { schemas = refl; row-lists = λ W d. rw (h .schemas, h .row-lists W d); well = aggregate-ok gs ags q p (h .schemas) (h .well) o; types-same = rw (h .schemas, h .types-same); scans-same = h .scans-same; typed-again = λ y. aggregate-typed gs ags q p (h .schemas) (h .types-same) (h .typed-again (and-r _ _ (and-r _ _ y))) y }
 
 in-window : (ws : List WinEntry) {q p : Plan} → ok (window ws p) ≡ true → Keeps q p → Keeps (window ws q) (window ws p)
 unfolding rows schema types scans typed
-in-window ws {q} {p} o h = record { schemas = rw (h .schemas); row-lists = λ W. rw (h .schemas, h .row-lists W); well = window-ok ws q p (h .schemas) (h .well) o; types-same = rw (h .types-same); scans-same = h .scans-same; typed-again = λ y. window-typed ws q p (h .schemas) (h .types-same) (h .typed-again (and-r _ _ y)) y }
+in-window ws {q} {p} o h = record { schemas = rw (h .schemas); row-lists = λ W d. rw (h .schemas, h .row-lists W d); well = window-ok ws q p (h .schemas) (h .well) o; types-same = rw (h .types-same); scans-same = h .scans-same; typed-again = λ y. window-typed ws q p (h .schemas) (h .types-same) (h .typed-again (and-r _ _ y)) y }
 
 -- the inputs of a Union
 record KeepsAll (n : ℕ) (qs ps : Plans) : Type 0 where
   schemas : schema-first qs ≡ schema-first ps
-  row-lists : (W : World) → rows-all W qs ≡ rows-all W ps
+  row-lists : (W : World) → ScansFit W (scans-all ps) → rows-all W qs ≡ rows-all W ps
   well : ok-all n qs ≡ true
   types-same : types-first qs ≡ types-first ps
   scans-same : scans-all qs ≡ scans-all ps
@@ -87,11 +93,11 @@ in-union h = record { schemas = h .schemas; row-lists = h .row-lists; well = rw 
 
 in-first : (n : ℕ) {q p : Plan} (ps : Plans) → ok-all n (pcons p ps) ≡ true → Keeps q p → KeepsAll n (pcons q ps) (pcons p ps)
 unfolding rows schema rule types scans typed
-in-first n ps o h = record { schemas = h .schemas; row-lists = λ W. ap (_++ rows-all W ps) (h .row-lists W); well = and-intro (rw (h .schemas) (and-l _ _ o)) (and-intro (h .well) (and-r _ _ (and-r _ _ o))); types-same = h .types-same; scans-same = ap (_++ scans-all ps) (h .scans-same); typed-again = λ ts y. and-intro (rw (h .types-same) (and-l _ _ y)) (and-intro (h .typed-again (and-l _ _ (and-r _ _ y))) (and-r _ _ (and-r _ _ y))) }
+in-first n {p = p} ps o h = record { schemas = h .schemas; row-lists = λ W d. ap (_++ rows-all W ps) (h .row-lists W (fit-left W (scans p) (scans-all ps) d)); well = and-intro (rw (h .schemas) (and-l _ _ o)) (and-intro (h .well) (and-r _ _ (and-r _ _ o))); types-same = h .types-same; scans-same = ap (_++ scans-all ps) (h .scans-same); typed-again = λ ts y. and-intro (rw (h .types-same) (and-l _ _ y)) (and-intro (h .typed-again (and-l _ _ (and-r _ _ y))) (and-r _ _ (and-r _ _ y))) }
 
 in-later : (n : ℕ) (p : Plan) {qs ps : Plans} → ok-all n (pcons p ps) ≡ true → KeepsAll n qs ps → KeepsAll n (pcons p qs) (pcons p ps)
 unfolding rows schema rule types scans typed
-in-later n p o h = record { schemas = refl; row-lists = λ W. ap (rows W p ++_) (h .row-lists W); well = and-intro (and-l _ _ o) (and-intro (and-l _ _ (and-r _ _ o)) (h .well)); types-same = refl; scans-same = ap (scans p ++_) (h .scans-same); typed-again = λ ts y. and-intro (and-l _ _ y) (and-intro (and-l _ _ (and-r _ _ y)) (h .typed-again ts (and-r _ _ (and-r _ _ y)))) }
+in-later n p {ps = ps} o h = record { schemas = refl; row-lists = λ W d. ap (rows W p ++_) (h .row-lists W (fit-right W (scans p) (scans-all ps) d)); well = and-intro (and-l _ _ o) (and-intro (and-l _ _ (and-r _ _ o)) (h .well)); types-same = refl; scans-same = ap (scans p ++_) (h .scans-same); typed-again = λ ts y. and-intro (and-l _ _ y) (and-intro (and-l _ _ (and-r _ _ y)) (h .typed-again ts (and-r _ _ (and-r _ _ y)))) }
 
 -- ---- a plan in its place: it is ok, and what keeps it, put in its place, keeps the whole
 
@@ -212,7 +218,7 @@ after-calls [] p = p
 after-calls (c ∷ cs) p = after-calls cs (left-by p (rewrite-call (c .place) (c .room) p))
 
 pub record Kept (q p : Plan) : Type 0 where
-  pub same-rows : (W : World) → rows W q ≡ rows W p
+  pub same-rows : (W : World) → TablesFit W p → rows W q ≡ rows W p
   pub same-schema : schema q ≡ schema p
   pub same-types : types q ≡ types p
   pub accepted-again : accepted q ≡ true

@@ -5,7 +5,7 @@ use mathlib.Core.List.{List, [], _∷_}
 use Rattle.plan.specs.Lists.{_&_, keep, all}
 use Rattle.plan.proofs.Lists.{and-l, and-r, and-intro, and-true, and-assoc, keep-all, keep-cong, all-of, all-append}
 use Rattle.plan.specs.Syntax.{truth, Name, and, or, cmp, Expr, col, num, bool, nul, bin, neg, test, between, inlist, fn, Exprs, enil, econs, Plan, filter}
-use Rattle.meaning.specs.Meaning.{Env, World, eval, evals, isT, binary, not3, tested, negate, among, sats, rows, look}
+use Rattle.meaning.specs.Meaning.{Env, World, eval, evals, isT, binary, not3, tested, negate, in-list, sats, rows, look}
 use Rattle.meaning.proofs.Logic.{isT-tri}
 use Rattle.plan.specs.Schema.{schema}
 use Rattle.plan.specs.Columns.{on-cols, on-cols-all}
@@ -60,7 +60,7 @@ module _ (W : World) where
       eval-cong (neg a) h = ap not3 (eval-cong a h)
       eval-cong (test t a) h = ap (λ v. truth (tested t v)) (eval-cong a h)
       eval-cong (between n a l u) h = let h₁ = and-r (on-cols c a) _ h in rw (eval-cong a (and-l (on-cols c a) _ h), eval-cong l (and-l (on-cols c l) _ h₁), eval-cong u (and-r (on-cols c l) _ h₁))
-      eval-cong (inlist n a xs) h = ap₂ (λ v vs. negate n (among v vs)) (eval-cong a (and-l _ _ h)) (evals-cong xs (and-r (on-cols c a) _ h))
+      eval-cong (inlist n a xs) h = ap₂ (λ v vs. negate n (in-list v vs)) (eval-cong a (and-l _ _ h)) (evals-cong xs (and-r (on-cols c a) _ h))
       eval-cong (fn p q r xs) h = ap (W .fun p q r) (evals-cong xs h)
 
       evals-cong : (xs : Exprs) → on-cols-all c xs ≡ true → evals W ρ xs ≡ evals W σ xs

@@ -6,7 +6,7 @@ use lib.ListN.{length-map}
 use Rattle.plan.specs.Lists.{_&_, any, put, keep}
 use Rattle.plan.proofs.Lists.{and-l, and-r, and-comm, All, anil, acons, All-map, All-mapped, All-keep, all-of, keep-cong, keep-keep, keep-map, all-cong}
 use Rattle.plan.specs.Syntax.{Value, null, int, truth, Name, Expr, Entry, AggEntry, WinEntry, Plan, filter, distinct}
-use Rattle.meaning.specs.Meaning.{World, Env, Row, isT, sameV, sameRow, nub, look, eval, sat, sats, entries, agg-entries, windowed, aggregated, rows}
+use Rattle.meaning.specs.Meaning.{World, Env, Row, isT, sameV, sameRow, first-occurrences, look, eval, sat, sats, entries, agg-entries, windowed, aggregated, rows}
 use Rattle.plan.specs.Schema.{same, schema, has}
 use Rattle.plan.proofs.Names.{nodup, same-eq}
 use Rattle.rewrite.specs.Utils.{replace-cols}
@@ -67,23 +67,23 @@ map-cong f g (acons h hs) = ap₂ _∷_ h (map-cong f g hs)
 -- ---- Distinct
 
 module _ (p : Row → Bool) where
-  keep-nub : (xs : List Row) → keep p (nub xs) ≡ nub (keep p xs)
+  keep-first-occurrences : (xs : List Row) → keep p (first-occurrences xs) ≡ first-occurrences (keep p xs)
   unfolding keep put
-  keep-nub [] = refl
-  keep-nub (x ∷ xs) = go (p x) refl (keep-nub xs)
+  keep-first-occurrences [] = refl
+  keep-first-occurrences (x ∷ xs) = go (p x) refl (keep-first-occurrences xs)
     where
       other : (y : Row) → p x ≡ false → (b : Bool) → sameRow x y ≡ b → p y ≡ true → not b ≡ true
       other y e true s k = sym e ∙ ap p (sameRow-eq x y s) ∙ k
       other y e false s k = refl
 
-      go : (b : Bool) → p x ≡ b → keep p (nub xs) ≡ nub (keep p xs) → put b x (keep p (keep (λ s. not (sameRow x s)) (nub xs))) ≡ nub (put b x (keep p xs))
-      go true e k = ap (x ∷_) (keep-keep p _ (nub xs) ∙ keep-cong _ _ (all-of (λ y. and-comm _ _) (nub xs)) ∙ sym (keep-keep _ p (nub xs)) ∙ ap (keep (λ s. not (sameRow x s))) k)
-      go false e k = keep-keep p _ (nub xs) ∙ keep-cong _ _ (all-of (λ y. implied _ _ (other y e _ refl)) (nub xs)) ∙ k
+      go : (b : Bool) → p x ≡ b → keep p (first-occurrences xs) ≡ first-occurrences (keep p xs) → put b x (keep p (keep (λ s. not (sameRow x s)) (first-occurrences xs))) ≡ first-occurrences (put b x (keep p xs))
+      go true e k = ap (x ∷_) (keep-keep p _ (first-occurrences xs) ∙ keep-cong _ _ (all-of (λ y. and-comm _ _) (first-occurrences xs)) ∙ sym (keep-keep _ p (first-occurrences xs)) ∙ ap (keep (λ s. not (sameRow x s))) k)
+      go false e k = keep-keep p _ (first-occurrences xs) ∙ keep-cong _ _ (all-of (λ y. implied _ _ (other y e _ refl)) (first-occurrences xs)) ∙ k
 
 module _ (W : World) where
   pub distinct-rows : (e : Expr) (p : Plan) → rows W (filter e (distinct p)) ≡ rows W (distinct (filter e p))
   unfolding rows schema
-  distinct-rows e p = keep-nub (sat W (schema p) e) (rows W p)
+  distinct-rows e p = keep-first-occurrences (sat W (schema p) e) (rows W p)
 
 -- ---- Window
 
@@ -119,9 +119,9 @@ module _ (W : World) where
 
 -- ---- Aggregate
 
-All-nub : {P : Row → Type 0} {xs : List Row} → All P xs → All P (nub xs)
-All-nub anil = anil
-All-nub (acons h hs) = acons h (All-keep _ (All-nub hs))
+pub All-first-occurrences : {P : Row → Type 0} {xs : List Row} → All P xs → All P (first-occurrences xs)
+All-first-occurrences anil = anil
+All-first-occurrences (acons h hs) = acons h (All-keep _ (All-first-occurrences hs))
 
 module _ (W : World) (s : List Name) (gs : List Entry) (ags : List AggEntry) (M : List Expr) (over : Over (names gs) M) where
   abbrev pub group : Row → List Row → List Row
@@ -134,14 +134,14 @@ module _ (W : World) (s : List Name) (gs : List Entry) (ags : List AggEntry) (M 
   group-kept : (rs : List Row) (k : Row) → sats W (names gs) M k ≡ true → group k rs ≡ group k (keep (sats W s (map (replace-cols (pick gs)) M)) rs)
   group-kept rs k h = sym (keep-keep _ _ rs ∙ keep-cong _ _ (all-of (λ r. implied _ _ (λ i. moved-sats r ∙ ap (sats W (names gs) M) (sym (sameRow-eq k _ i)) ∙ h)) rs))
 
-  keys-kept : (rs : List Row) → keep (sats W (names gs) M) (nub (map (entries W s gs) rs)) ≡ nub (map (entries W s gs) (keep (sats W s (map (replace-cols (pick gs)) M)) rs))
-  keys-kept rs = keep-nub _ _ ∙ ap nub (keep-map _ _ rs ∙ ap (map _) (keep-cong _ _ (all-of (λ r. sym (moved-sats r)) rs)))
+  keys-kept : (rs : List Row) → keep (sats W (names gs) M) (first-occurrences (map (entries W s gs) rs)) ≡ first-occurrences (map (entries W s gs) (keep (sats W s (map (replace-cols (pick gs)) M)) rs))
+  keys-kept rs = keep-first-occurrences _ _ ∙ ap first-occurrences (keep-map _ _ rs ∙ ap (map _) (keep-cong _ _ (all-of (λ r. sym (moved-sats r)) rs)))
 
   pub with-aggs-kept : (an : List Name) → nodup (names gs ++ an) ≡ true → (rs : List Row) →
-      keep (sats W (names gs ++ an) M) (map (λ k. k ++ agg-entries W s ags (group k rs)) (nub (map (entries W s gs) rs)))
-      ≡ map (λ k. k ++ agg-entries W s ags (group k (keep (sats W s (map (replace-cols (pick gs)) M)) rs))) (nub (map (entries W s gs) (keep (sats W s (map (replace-cols (pick gs)) M)) rs)))
+      keep (sats W (names gs ++ an) M) (map (λ k. k ++ agg-entries W s ags (group k rs)) (first-occurrences (map (entries W s gs) rs)))
+      ≡ map (λ k. k ++ agg-entries W s ags (group k (keep (sats W s (map (replace-cols (pick gs)) M)) rs))) (first-occurrences (map (entries W s gs) (keep (sats W s (map (replace-cols (pick gs)) M)) rs)))
   with-aggs-kept an n rs =
       keep-map _ _ _
-      ∙ ap (map _) (keep-cong _ _ (All-map (λ k w. sym (left-sats W (names gs) an n k _ w over)) (All-nub (All-mapped _ (all-of (λ r. length-map gs _ ∙ sym (length-map gs _)) rs)))))
+      ∙ ap (map _) (keep-cong _ _ (All-map (λ k w. sym (left-sats W (names gs) an n k _ w over)) (All-first-occurrences (All-mapped _ (all-of (λ r. length-map gs _ ∙ sym (length-map gs _)) rs)))))
       ∙ map-cong _ _ (All-map (λ k h. ap (λ ts. k ++ agg-entries W s ags ts) (group-kept rs k h)) (passes _ _))
       ∙ ap (map _) (keys-kept rs)

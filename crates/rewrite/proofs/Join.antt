@@ -7,7 +7,7 @@ use lib.ListN.{length, length-replicate}
 use Rattle.plan.specs.Lists.{_&_, all}
 use Rattle.plan.proofs.Lists.{and-left-comm, and-sort, All, All-map, all-cong}
 use Rattle.plan.specs.Syntax.{null, eq, Name, Expr, Pair, inner, left, right, leftSemi, rightSemi, leftAnti, rightAnti, Plan, join}
-use Rattle.meaning.specs.Meaning.{World, Env, Row, isT, compare, look, eval, sats, sat?, keyed, matching, nulls, rows}
+use Rattle.meaning.specs.Meaning.{World, Env, Row, isT, compare, look, eval, sats, sat?, keys-match, matching, nulls, rows}
 use Rattle.plan.specs.Schema.{schema, has}
 use Rattle.plan.proofs.Names.{nodup, apart}
 use Rattle.meaning.proofs.Names.{look-left, look-right}
@@ -54,8 +54,8 @@ module _ (W : World) where
     pub right-sats : {es : List Expr} → Over t es → sats W t es b ≡ sats W (s ++ t) es (a ++ b)
     right-sats h = all-cong _ _ (All-map (λ e k. ap isT (right-eval e k)) h)
 
-    pub keyed-in : {on : List Pair} → All (λ (k : Pair). (on-cols (has s) (k .lhs) ≡ true) × (on-cols (has t) (k .rhs) ≡ true)) on → keyed W s t on a b ≡ keys-in (look (s ++ t) (a ++ b)) on
-    keyed-in h = all-cong _ _ (All-map (λ (k : Pair) hk. ap isT (ap₂ (compare eq) (left-eval (k .lhs) (hk .0)) (right-eval (k .rhs) (hk .1)))) h)
+    pub keys-match-in : {on : List Pair} → All (λ (k : Pair). (on-cols (has s) (k .lhs) ≡ true) × (on-cols (has t) (k .rhs) ≡ true)) on → keys-match W s t on a b ≡ keys-in (look (s ++ t) (a ++ b)) on
+    keys-match-in h = all-cong _ _ (All-map (λ (k : Pair) hk. ap isT (ap₂ (compare eq) (left-eval (k .lhs) (hk .0)) (right-eval (k .rhs) (hk .1)))) h)
 
   -- two inputs, the keys, and the lists: P above, G in the filter; L, R to the sides, F in the filter, K above
   module _ (l r : Plan) (on : List Pair)
@@ -68,7 +68,7 @@ module _ (W : World) where
     -- what each test says of a pair of rows, in the pair's environment
     module _ (a b : Row) (wa : Wide (schema l) a) where
       match-at : (es : List Expr) → matching W (schema l) (schema r) on (conjunction es) a b ≡ keys-in (look (schema l ++ schema r) (a ++ b)) on & holds-all (look (schema l ++ schema r) (a ++ b)) es
-      match-at es = ap₂ _&_ (keyed-in (schema l) (schema r) ok a b wa on-ok) (sat?-conj (schema l ++ schema r) es (a ++ b))
+      match-at es = ap₂ _&_ (keys-match-in (schema l) (schema r) ok a b wa on-ok) (sat?-conj (schema l ++ schema r) es (a ++ b))
 
       l-at : sats W (schema l) L a ≡ holds-all (look (schema l ++ schema r) (a ++ b)) L
       l-at = left-sats (schema l) (schema r) ok a b wa overL

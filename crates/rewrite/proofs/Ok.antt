@@ -7,18 +7,17 @@ use mathlib.Core.Option.{Option, none, some}
 use lib.ListN.{length, take, drop, length-map, length-append, length-replicate}
 use borrow.Author.Tests.{eqb-true}
 use Rattle.plan.proofs.Lists.{and-l, and-r, All, anil, acons, All-map, All-mapped, All-append, All-keep, All-flat, all-of}
-use Rattle.plan.specs.Syntax.{null, Name, Entry, Kind, inner, left, right, full, leftSemi, rightSemi, leftAnti, rightAnti, Plan, scan, filter, project, join, alias, union, distinct, sort, repartition, limit, aggregate, window, Plans, pnil, pcons}
-use Rattle.meaning.specs.Meaning.{World, Row, fit, entries, joined, outer, or-else, nulls, nub, insert, sorted, fetched, key-under, group-keys, rows, rows-all}
+use Rattle.plan.specs.Syntax.{null, Name, Field, Entry, Kind, inner, left, right, full, leftSemi, rightSemi, leftAnti, rightAnti, Plan, scan, filter, project, join, alias, union, distinct, sort, repartition, limit, aggregate, window, Plans, pnil, pcons}
+use Rattle.meaning.specs.Meaning.{World, Row, entries, joined, outer, or-else, nulls, insert, sorted, fetched, sorts-before, group-keys, rows, rows-all}
+use Rattle.meaning.specs.Tables.{ScansFit, TablesFit}
+use Rattle.meaning.proofs.Tables.{fit-left, fit-right, scan-wide}
+use Rattle.plan.specs.Types.{scans, scans-all}
 use Rattle.plan.specs.Schema.{schema, sides}
 use Rattle.acceptance.proofs.NamesRule.{rule, ok, ok-all}
 use Rattle.rewrite.proofs.Join.{Wide}
+use Rattle.rewrite.proofs.Groups.{All-first-occurrences}
 
 -- ---- each row has a value for each field
-
-length-fit : (n : ℕ) (r : Row) → length (fit n r) ≡ n
-length-fit zero r = refl
-length-fit (suc n) [] = ap suc (length-fit n [])
-length-fit (suc n) (v ∷ r) = ap suc (length-fit n r)
 
 module _ {A : Type 0} {P : A → Type 0} where
   All-take : (n : ℕ) {xs : List A} → All P xs → All P (take n xs)
@@ -53,10 +52,6 @@ module _ {A : Type 0} {P : A → Type 0} where
   All-or-else d h anil = acons h anil
   All-or-else d h (acons k ks) = acons k ks
 
-All-nub : {P : Row → Type 0} {xs : List Row} → All P xs → All P (nub xs)
-All-nub anil = anil
-All-nub (acons h hs) = acons h (All-keep _ (All-nub hs))
-
 wide-append : (s t : List Name) (a b : Row) → Wide s a → Wide t b → Wide (s ++ t) (a ++ b)
 wide-append s t a b h k = simp length-append (ap₂ _+_ h k)
 
@@ -76,25 +71,36 @@ joined-wide rightAnti m s t hl hr = All-keep _ hr
 module _ (W : World) where
   grouped-wide : (s : List Name) (gs : List Entry) (rs : List Row) → All (λ k. length k ≡ length gs) (group-keys gs (map (entries W s gs) rs))
   grouped-wide s [] rs = acons refl anil
-  grouped-wide s (g ∷ gs) rs = All-nub (All-mapped _ (all-of (λ r. length-map (g ∷ gs) _) rs))
+  grouped-wide s (g ∷ gs) rs = All-first-occurrences (All-mapped _ (all-of (λ r. length-map (g ∷ gs) _) rs))
 
   mutual
-    unfolding rows schema rule
+    unfolding rows schema scans rule
 
-    pub rows-wide : (p : Plan) → ok p ≡ true → All (Wide (schema p)) (rows W p)
-    rows-wide (scan t fs es) h = All-keep _ (All-mapped _ (all-of (λ r. length-fit (length fs) r ∙ sym (length-map fs _)) (W .table t)))
-    rows-wide (filter e p) h = All-keep _ (rows-wide p (and-r _ _ h))
-    rows-wide (project es p) h = All-mapped _ (all-of (λ r. length-map es _ ∙ sym (length-map es _)) (rows W p))
-    rows-wide (join k l r on f) h = let h′ = and-r _ _ (and-r _ _ (and-r _ _ h)) in joined-wide k _ (schema l) (schema r) (rows-wide l (and-l _ _ h′)) (rows-wide r (and-r _ _ h′))
-    rows-wide (alias q p) h = All-map (λ r e. e ∙ sym (length-map (schema p) _)) (rows-wide p (and-r _ _ h))
-    rows-wide (union ps) h = rows-all-wide ps _ h
-    rows-wide (distinct p) h = All-nub (rows-wide p h)
-    rows-wide (sort f ks p) h = All-fetched f (All-sorted (key-under W (schema p) ks) (rows-wide p (and-r _ _ h)))
-    rows-wide (repartition p) h = rows-wide p h
-    rows-wide (limit n k p) h = All-take n (All-drop k (rows-wide p h))
-    rows-wide (aggregate gs ags p) h = All-mapped _ (All-map (λ k e. simp (length-append, length-map) (ap (_+ length ags) e)) (grouped-wide (schema p) gs (rows W p)))
-    rows-wide (window ws p) h = All-mapped _ (All-map (λ r e. simp (length-append, length-map) (ap (_+ length ws) e)) (rows-wide p (and-r _ _ (and-r _ _ h))))
+    -- in a world whose tables fit the plan
+    pub rows-wide : (p : Plan) → ok p ≡ true → TablesFit W p → All (Wide (schema p)) (rows W p)
+    rows-wide (scan t fs es) h d =
+        All-keep _ (All-map (λ r e. e ∙ length-map fs _ ∙ sym (length-map fs _)) (scan-wide W (record { table = t; row-types = map (λ (f : Field). f .ty) fs }) d))
+    rows-wide (filter e p) h d = All-keep _ (rows-wide p (and-r _ _ h) d)
+    rows-wide (project es p) h d = All-mapped _ (all-of (λ r. length-map es _ ∙ sym (length-map es _)) (rows W p))
+    rows-wide (join k l r on f) h d =
+        let h′ = and-r _ _ (and-r _ _ (and-r _ _ h)) in
+        joined-wide k _ (schema l) (schema r)
+        (rows-wide l (and-l _ _ h′) (fit-left W (scans l) (scans r) d))
+        (rows-wide r (and-r _ _ h′) (fit-right W (scans l) (scans r) d))
+    rows-wide (alias q p) h d = All-map (λ r e. e ∙ sym (length-map (schema p) _)) (rows-wide p (and-r _ _ h) d)
+    rows-wide (union ps) h d = rows-all-wide ps _ h d
+    rows-wide (distinct p) h d = All-first-occurrences (rows-wide p h d)
+    rows-wide (sort f ks p) h d = All-fetched f (All-sorted (sorts-before W (schema p) ks) (rows-wide p (and-r _ _ h) d))
+    rows-wide (repartition p) h d = rows-wide p h d
+    rows-wide (limit n k p) h d = All-take n (All-drop k (rows-wide p h d))
+    rows-wide (aggregate gs ags p) h d =
+        All-mapped _ (All-map (λ k e. simp (length-append, length-map) (ap (_+ length ags) e)) (grouped-wide (schema p) gs (rows W p)))
+    rows-wide (window ws p) h d =
+        All-mapped _ (All-map (λ r e. simp (length-append, length-map) (ap (_+ length ws) e)) (rows-wide p (and-r _ _ (and-r _ _ h)) d))
 
-    rows-all-wide : (ps : Plans) (n : ℕ) → ok-all n ps ≡ true → All (λ r. length r ≡ n) (rows-all W ps)
-    rows-all-wide pnil n h = anil
-    rows-all-wide (pcons p ps) n h = All-append (All-map (λ r e. e ∙ eqb-true _ n (and-l _ _ h)) (rows-wide p (and-l _ _ (and-r _ _ h)))) (rows-all-wide ps n (and-r _ _ (and-r _ _ h)))
+    rows-all-wide : (ps : Plans) (n : ℕ) → ok-all n ps ≡ true → ScansFit W (scans-all ps) → All (λ r. length r ≡ n) (rows-all W ps)
+    rows-all-wide pnil n h d = anil
+    rows-all-wide (pcons p ps) n h d =
+        All-append
+        (All-map (λ r e. e ∙ eqb-true _ n (and-l _ _ h)) (rows-wide p (and-l _ _ (and-r _ _ h)) (fit-left W (scans p) (scans-all ps) d)))
+        (rows-all-wide ps n (and-r _ _ (and-r _ _ h)) (fit-right W (scans p) (scans-all ps) d))

@@ -7,7 +7,7 @@ use mathlib.Core.Option.{Option, none, some}
 use Rattle.plan.specs.Lists.{_&_, put, keep, all, flat}
 use Rattle.plan.proofs.Lists.{and-left-comm, and-l, and-r, and-intro, All, All-map, All-append, All-keep, all-parts, all-append}
 use Rattle.plan.specs.Syntax.{Name, Expr, Pair, Kind, inner, left, right, full, leftSemi, rightSemi, leftAnti, rightAnti, Plan, join}
-use Rattle.meaning.specs.Meaning.{World, Env, Row, isT, eval, look, sat?, matching, joined, keyed, rows}
+use Rattle.meaning.specs.Meaning.{World, Env, Row, isT, eval, look, sat?, matching, joined, keys-match, rows}
 use Rattle.plan.specs.Schema.{schema, sides, has}
 use Rattle.plan.proofs.Names.{nodup}
 use Rattle.plan.specs.Columns.{on-cols}
@@ -215,7 +215,7 @@ module _ (W : World) where
   split?-sat s (some e) r = sat?-conj W s (split-conjunction e) r ∙ all-split W (look s r) e
 
   split?-match : (s t : List Name) (on : List Pair) (f : Option Expr) → matching W s t on (conjunction (split-conjunction? f)) ≡ matching W s t on f
-  split?-match s t on f = fun-ext (λ a. fun-ext (λ b. ap (keyed W s t on a b &_) (split?-sat (s ++ t) f (a ++ b))))
+  split?-match s t on f = fun-ext (λ a. fun-ext (λ b. ap (keys-match W s t on a b &_) (split?-sat (s ++ t) f (a ++ b))))
 
   pub split?-rows : (k : Kind) (l r : Plan) (on : List Pair) (f : Option Expr) → rows W (join k l r on (conjunction (split-conjunction? f))) ≡ rows W (join k l r on f)
   unfolding rows

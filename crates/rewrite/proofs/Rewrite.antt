@@ -9,6 +9,8 @@ use Rattle.plan.specs.Lists.{_&_, choose, any, put, keep, all}
 use Rattle.plan.proofs.Lists.{and-assoc, and-comm, and-l, and-r, and-intro, All, anil, acons, All-map, All-append, All-keep, all-of, keep-all, keep-cong, keep-keep, all-parts, all-append}
 use Rattle.plan.specs.Syntax.{Name, Expr, Field, Entry, Pair, AggEntry, WinEntry, Kind, Plan, scan, filter, project, join, alias, union, distinct, sort, repartition, limit, aggregate, window, Plans}
 use Rattle.meaning.specs.Meaning.{World, Row, look, sat, sats, sat?, rows}
+use Rattle.meaning.specs.Tables.{ScansFit, TablesFit}
+use Rattle.meaning.proofs.Tables.{fit-left, fit-right}
 use Rattle.plan.specs.Schema.{same, schema, schema-first, requalify, sides, has}
 use Rattle.plan.proofs.Names.{same-eq}
 use Rattle.rewrite.specs.Utils.{is-empty, is-volatile, replace-cols, split-conjunction, split-conjunction?, conjoin, conjunction, with-filters, unique}
@@ -33,14 +35,14 @@ use Rattle.rewrite.proofs.References.{all-true, true-all, unique-all, u
 -- q may stand where p stands
 pub record Keeps (q p : Plan) : Type 0 where
   pub schemas : schema q ≡ schema p
-  pub row-lists : (W : World) → rows W q ≡ rows W p
+  pub row-lists : (W : World) → TablesFit W p → rows W q ≡ rows W p
   pub well : ok q ≡ true
   pub types-same : types q ≡ types p
   pub scans-same : scans q ≡ scans p
   pub typed-again : typed p ≡ true → typed q ≡ true
 
 pub keeps-self : {p : Plan} → ok p ≡ true → Keeps p p
-keeps-self o = record { schemas = refl; row-lists = λ W. refl; well = o; types-same = refl; scans-same = refl; typed-again = λ y. y }
+keeps-self o = record { schemas = refl; row-lists = λ W d. refl; well = o; types-same = refl; scans-same = refl; typed-again = λ y. y }
 
 either-keeps : (b : Bool) (x y : Transformed) {p : Plan} → Keeps (x .plan) p → Keeps (y .plan) p → Keeps (choose b x y .plan) p
 unfolding choose
@@ -103,7 +105,7 @@ module _ (e : Expr) (t : ℕ) (fs : List Field) (es : List Expr) where
   unfolding rewrite-scan rule schema types scans
   scan-keeps h o = either-keeps (is-empty (supported-filters fs e)) _ _ (keeps-self (and-intro h o)) (record {
     schemas = filtered-schema _ _;
-    row-lists = scan-rows;
+    row-lists = λ W d. scan-rows W;
     well = with-filters-ok (scan t fs (unique (es ++ supported-filters fs e)))
         (All-append (All-keep _ (All-keep _ cs)) (All-keep _ cs))
         (and-intro (and-l _ _ o) (true-all _ (unique-over _ (All-append (all-true _ es (and-r _ _ o)) (All-keep _ (All-keep _ cs))))));
@@ -121,7 +123,7 @@ project-keeps : (e : Expr) (es : List Entry) (p : Plan) → reads (names es) e �
 unfolding rewrite-projection rule schema types scans
 project-keeps e es p h o = either-keeps (is-empty (move (pushable es) e)) _ _ (keeps-self (and-intro h o)) (record {
   schemas = filtered-schema _ _;
-  row-lists = λ W. project-rows W es p e h (pushable es);
+  row-lists = λ W d. project-rows W es p e h (pushable es);
   well = with-filters-ok (project es (with-filters (map (replace-cols (pick es)) (move (pushable es) e)) p))
       (stay-over (names es) (pushable es) e h)
       (project-ok es (with-filters (map (replace-cols (pick es)) (move (pushable es) e)) p) p (filtered-schema (map (replace-cols (pick es)) (move (pushable es) e)) p) (with-filters-ok p (picked-over (schema p) es (and-l _ _ (and-r _ _ o)) (move-over (names es) (pushable es) e h)) (and-r _ _ (and-r _ _ o))) o);
@@ -137,10 +139,10 @@ module _ (k : Kind) (l r : Plan) (on : List Pair) (f : Option Expr) (o : ok (joi
   unfolding rule
   sides-ok = and-r _ _ (and-r _ _ (and-r _ _ o))
 
-  join-rows : (W : World) → rows W (push-down-all-join k l r on P (split-conjunction? f) .plan) ≡ rows W (with-filters P (join k l r on f))
-  unfolding rule schema
-  join-rows W =
-      sym (push-join-rows W l r on (names-nodup _ (and-l _ _ o)) (All-map (λ k t. (and-l _ _ t, and-r _ _ t)) (all-true _ on (and-l _ _ (and-r _ _ o)))) (rows-wide W l (and-l _ _ sides-ok)) (rows-wide W r (and-r _ _ sides-ok)) P (split-conjunction? f) k h)
+  join-rows : (W : World) → TablesFit W (join k l r on f) → rows W (push-down-all-join k l r on P (split-conjunction? f) .plan) ≡ rows W (with-filters P (join k l r on f))
+  unfolding rule schema scans
+  join-rows W d =
+      sym (push-join-rows W l r on (names-nodup _ (and-l _ _ o)) (All-map (λ k t. (and-l _ _ t, and-r _ _ t)) (all-true _ on (and-l _ _ (and-r _ _ o)))) (rows-wide W l (and-l _ _ sides-ok) (fit-left W (scans l) (scans r) d)) (rows-wide W r (and-r _ _ sides-ok) (fit-right W (scans l) (scans r) d)) P (split-conjunction? f) k h)
       ∙ filtered-rows W P _ ∙ ap (keep _) (split?-rows W k l r on f) ∙ sym (filtered-rows W P (join k l r on f))
 
   -- in the place of a plan T that is the join under P
@@ -148,7 +150,7 @@ module _ (k : Kind) (l r : Plan) (on : List Pair) (f : Option Expr) (o : ok (joi
   unfolding push-down-all-join schema rule types scans
   join-keeps T st rt tt′ ct yt = record {
     schemas = simp filtered-schema st;
-    row-lists = λ W. join-rows W ∙ rt W;
+    row-lists = λ W d. join-rows W (subst (ScansFit W) (sym ct) d) ∙ rt W;
     well = with-filters-ok _
         (simp filtered-schema (keep-over (schema l) (schema r) on P (split-conjunction? f) k h))
         (join-ok k (with-filters L l) l (with-filters R r) r on f (conjunction (J ++ F)) (filtered-schema L l) (filtered-schema R r)
@@ -179,7 +181,7 @@ alias-keeps : (e : Expr) (q : ℕ) (p : Plan) → reads (map (requalify q) (sche
 unfolding rule schema types scans
 alias-keeps e q p h o = record {
   schemas = refl;
-  row-lists = λ W. sym (alias-rows W e q p (and-intro h o));
+  row-lists = λ W d. sym (alias-rows W e q p (and-intro h o));
   well = and-intro (and-l _ _ o) (and-intro (renamed-reads (map (requalify q) (schema p)) (schema p) e (length-map (schema p) (requalify q)) h) (and-r _ _ o));
   types-same = refl;
   scans-same = refl;
@@ -190,7 +192,7 @@ union-keeps : (e : Expr) (ps : Plans) → reads (schema-first ps) e ≡ true →
 unfolding rule schema types scans
 union-keeps e ps h o = record {
   schemas = union-schema (schema-first ps) e ps;
-  row-lists = λ W. sym (union-rows W e ps (and-intro h o));
+  row-lists = λ W d. sym (union-rows W e ps (and-intro h o));
   well = subst (λ n. ok-all n (filter-each (schema-first ps) e ps) ≡ true) (ap length (sym (union-schema (schema-first ps) e ps))) (filter-each-ok (schema-first ps) e (length (schema-first ps)) ps h refl o);
   types-same = each-types (schema-first ps) e ps;
   scans-same = each-scans (schema-first ps) e ps;
@@ -220,7 +222,7 @@ aggregate-keeps : (e : Expr) (gs : List Entry) (ags : List AggEntry) (p : Plan) 
 unfolding rewrite-aggregate rule schema types scans
 aggregate-keeps e gs ags p h o = record {
   schemas = filtered-schema _ _;
-  row-lists = λ W. agg-rows W e gs ags p o;
+  row-lists = λ W d. agg-rows W e gs ags p o;
   well = with-filters-ok _ (stay-over _ (in-groups gs) e h)
       (aggregate-ok gs ags (with-filters (map (replace-cols (pick gs)) (move (in-groups gs) e)) p) p (filtered-schema (map (replace-cols (pick gs)) (move (in-groups gs) e)) p) (with-filters-ok p (picked-over (schema p) gs (and-l _ _ (and-r _ _ o)) (in-groups-over gs e)) (and-r _ _ (and-r _ _ (and-r _ _ o)))) o);
   types-same = simp (types-filtered, filtered-schema);
@@ -255,9 +257,9 @@ window-keeps : (e : Expr) (ws : List WinEntry) (p : Plan) → reads (schema (win
 unfolding rewrite-window rows schema rule types scans
 window-keeps e ws p h o = record {
   schemas = simp filtered-schema;
-  row-lists = λ W.
+  row-lists = λ W d.
       simp (filtered-rows W, filtered-schema)
-      (ap (keep (sats W (schema (window ws p)) (stay (in-partitions ws) e))) (sym (windowed-kept W (schema p) (move (in-partitions ws) e) ws _ (names-nodup _ (and-l _ _ o)) (transpose _ ws (passes (in-partitions ws) (split-conjunction e))) over (rows-wide W p (and-r _ _ (and-r _ _ o)))))
+      (ap (keep (sats W (schema (window ws p)) (stay (in-partitions ws) e))) (sym (windowed-kept W (schema p) (move (in-partitions ws) e) ws _ (names-nodup _ (and-l _ _ o)) (transpose _ ws (passes (in-partitions ws) (split-conjunction e))) over (rows-wide W p (and-r _ _ (and-r _ _ o)) d)))
       ∙ rejoin W (schema (window ws p)) (in-partitions ws) e _);
   well = with-filters-ok _ (rw (filtered-schema) (stay-over _ (in-partitions ws) e h)) (window-ok ws (with-filters (move (in-partitions ws) e) p) p (filtered-schema (move (in-partitions ws) e) p) (with-filters-ok p over (and-r _ _ (and-r _ _ o))) o);
   types-same = simp types-filtered;
@@ -272,10 +274,10 @@ window-keeps e ws p h o = record {
 
 resume-keeps : (p : Plan) (e : Expr) (x : Option Expr) → ok p ≡ true → ((W : World) (r : Row) → sat? W (schema p) x r ≡ sat W (schema p) e r) → reads? (schema p) x ≡ true → (boolean (field-types p) e ≡ true → boolean? (field-types p) x ≡ true) → ((y : Expr) → reads (schema p) y ≡ true → Keeps (rewrite-filter y p .plan) (filter y p)) → Keeps (resume x (λ y. rewrite-filter y p) p .plan) (filter e p)
 unfolding rows schema types scans typed
-resume-keeps p e none o f h b ih = record { schemas = refl; row-lists = λ W. sym (keep-all (rows W p)) ∙ keep-cong _ _ (all-of (f W) (rows W p)); well = o; types-same = refl; scans-same = refl; typed-again = λ y. and-r _ _ y }
+resume-keeps p e none o f h b ih = record { schemas = refl; row-lists = λ W d. sym (keep-all (rows W p)) ∙ keep-cong _ _ (all-of (f W) (rows W p)); well = o; types-same = refl; scans-same = refl; typed-again = λ y. and-r _ _ y }
 resume-keeps p e (some y) o f h b ih =
     let k = ih y h in
-    record { schemas = k .schemas; row-lists = λ W. k .row-lists W ∙ keep-cong _ _ (all-of (f W) (rows W p)); well = k .well; types-same = k .types-same; scans-same = k .scans-same; typed-again = λ z. k .typed-again (and-intro (b (and-l _ _ z)) (and-r _ _ z)) }
+    record { schemas = k .schemas; row-lists = λ W d. k .row-lists W d ∙ keep-cong _ _ (all-of (f W) (rows W p)); well = k .well; types-same = k .types-same; scans-same = k .scans-same; typed-again = λ z. k .typed-again (and-intro (b (and-l _ _ z)) (and-r _ _ z)) }
 
 -- ---- two Filters merged
 
@@ -284,11 +286,11 @@ unfolding with-filters merged conjunction schema types scans typed
 merged-keeps p e b h k o ih = go (merged e b) (unique-over (schema p) (All-append (split-cols _ b k) (split-cols _ e h))) (λ W. merge-rows W e b p) (λ z. unique-all (All-append (bools-split _ b (and-l _ _ (and-r _ _ z))) (bools-split _ e (and-l _ _ z))))
   where
     go : (m : List Expr) → Over (schema p) m → ((W : World) → rows W (with-filters m p) ≡ rows W (filter e (filter b p))) → (typed (filter e (filter b p)) ≡ true → Bools (field-types p) m) → Keeps (resume (simplify-merged (conjunction m)) (λ x. rewrite-filter x p) p .plan) (filter e (filter b p))
-    go [] i q t = record { schemas = refl; row-lists = q; well = o; types-same = refl; scans-same = refl; typed-again = λ z. and-r _ _ (and-r _ _ z) }
+    go [] i q t = record { schemas = refl; row-lists = λ W d. q W; well = o; types-same = refl; scans-same = refl; typed-again = λ z. and-r _ _ (and-r _ _ z) }
     go (x ∷ xs) i q t =
         let c : Expr = conjoin x xs in
         let n : Keeps (resume (simplify-filter c) (λ y. rewrite-filter y p) p .plan) (filter c p) = resume-keeps p c (simplify-filter c) o (λ W r. simplify-filter-true c W (schema p) r) (simplify-filter-reads c (schema p) (conjunction-reads (schema p) i)) (simplify-filter-boolean (field-types p) c) ih in
-        record { schemas = n .schemas; row-lists = λ W. n .row-lists W ∙ q W; well = n .well; types-same = n .types-same; scans-same = n .scans-same; typed-again = λ z. n .typed-again (and-intro (conjunction-boolean (field-types p) (t z)) (and-r _ _ (and-r _ _ z))) }
+        record { schemas = n .schemas; row-lists = λ W d. n .row-lists W d ∙ q W; well = n .well; types-same = n .types-same; scans-same = n .scans-same; typed-again = λ z. n .typed-again (and-intro (conjunction-boolean (field-types p) (t z)) (and-r _ _ (and-r _ _ z))) }
 
 -- ---- the rewrite
 
@@ -300,10 +302,10 @@ filter-keeps (project es p) e h o = project-keeps e es p h o
 filter-keeps (join k l r on f) e h o = join-keeps k l r on f o (split-conjunction e) (split-cols _ e h) (filter e (join k l r on f)) refl (λ W. split-rows W e (join k l r on f)) refl refl (λ z. (bools-split _ e (and-l _ _ z), and-r _ _ z))
 filter-keeps (alias q p) e h o = alias-keeps e q p h o
 filter-keeps (union ps) e h o = union-keeps e ps h o
-filter-keeps (distinct p) e h o = record { schemas = refl; row-lists = λ W. sym (distinct-rows W e p); well = and-intro h o; types-same = refl; scans-same = refl; typed-again = λ z. z }
-filter-keeps (sort none ks p) e h o = record { schemas = refl; row-lists = λ W. sym (sort-rows W e ks p); well = and-intro (and-l _ _ o) (and-intro h (and-r _ _ o)); types-same = refl; scans-same = refl; typed-again = λ z. and-intro (and-l _ _ (and-r _ _ z)) (and-intro (and-l _ _ z) (and-r _ _ (and-r _ _ z))) }
+filter-keeps (distinct p) e h o = record { schemas = refl; row-lists = λ W d. sym (distinct-rows W e p); well = and-intro h o; types-same = refl; scans-same = refl; typed-again = λ z. z }
+filter-keeps (sort none ks p) e h o = record { schemas = refl; row-lists = λ W d. sym (sort-rows W e ks p); well = and-intro (and-l _ _ o) (and-intro h (and-r _ _ o)); types-same = refl; scans-same = refl; typed-again = λ z. and-intro (and-l _ _ (and-r _ _ z)) (and-intro (and-l _ _ z) (and-r _ _ (and-r _ _ z))) }
 filter-keeps (sort (some n) ks p) e h o = keeps-self (and-intro h o)
-filter-keeps (repartition p) e h o = record { schemas = refl; row-lists = λ W. refl; well = and-intro h o; types-same = refl; scans-same = refl; typed-again = λ z. z }
+filter-keeps (repartition p) e h o = record { schemas = refl; row-lists = λ W d. refl; well = and-intro h o; types-same = refl; scans-same = refl; typed-again = λ z. z }
 filter-keeps (limit n k p) e h o = keeps-self (and-intro h o)
 filter-keeps (aggregate gs ags p) e h o = aggregate-keeps e gs ags p h o
 filter-keeps (window ws p) e h o = window-keeps e ws p h o

@@ -3,7 +3,7 @@ use mathlib.Core.Path.{_≡_, refl, ap, ap₂}
 use mathlib.Core.Bool.{Bool, true, false, _||_}
 use mathlib.Core.List.{_∷_}
 use Rattle.plan.specs.Syntax.{truth, Expr, col, num, bool, nul, bin, neg, test, between, inlist, fn, Exprs, enil, econs}
-use Rattle.meaning.specs.Meaning.{Env, World, eval, evals, binary, not3, tested, negate, among}
+use Rattle.meaning.specs.Meaning.{Env, World, eval, evals, binary, not3, tested, negate, in-list}
 use Rattle.rewrite.specs.Utils.{any-fn, any-fn-all}
 
 neither-left : (a b : Bool) → a || b ≡ false → a ≡ false
@@ -38,7 +38,7 @@ module _ (W U : World) (ρ : Env) where
         let eu : eval W ρ u ≡ eval U ρ u = same-in-all-worlds u (neither-right (calls l) _ k) in
         rw (ea, el, eu)
     same-in-all-worlds (inlist n a xs) h =
-        ap₂ (λ v vs. negate n (among v vs)) (same-in-all-worlds a (neither-left _ _ h)) (all-same xs (neither-right (calls a) _ h))
+        ap₂ (λ v vs. negate n (in-list v vs)) (same-in-all-worlds a (neither-left _ _ h)) (all-same xs (neither-right (calls a) _ h))
     same-in-all-worlds (fn p q r xs) h = let impossible : true ≡ false = h in cc
 
     all-same : (xs : Exprs) → any-fn-all (λ q. true) xs ≡ false → evals W ρ xs ≡ evals U ρ xs

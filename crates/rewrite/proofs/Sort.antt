@@ -10,7 +10,7 @@ use borrow.Author.Tests.{ltb-true, ltb-false, le-ltb}
 use Rattle.plan.specs.Lists.{_&_, put, keep}
 use Rattle.plan.proofs.Lists.{All, anil, acons, All-map, All-keep}
 use Rattle.plan.specs.Syntax.{Value, Name, Expr, Key, Plan, filter, sort}
-use Rattle.meaning.specs.Meaning.{World, isN, code, before, lex, insert, sorted, key-under, rows}
+use Rattle.meaning.specs.Meaning.{World, isN, code, before, lex, insert, sorted, sorts-before, rows}
 use Rattle.plan.specs.Schema.{schema}
 
 -- a strict order whose ties are an equivalence
@@ -152,7 +152,7 @@ module _ {A : Type 0} (u v : A → A → Bool) (Ou : Order u) (Ov : Order v) whe
   lex-order = record { asym = lex-asym; trans = lex-trans }
 
 module _ (W : World) where
-  key-order : (s : List Name) (ks : List Key) → Order (key-under W s ks)
+  key-order : (s : List Name) (ks : List Key) → Order (sorts-before W s ks)
   key-order s [] = record { asym = λ a b h. refl; trans = λ a b c h k. refl }
   key-order s (k ∷ ks) = lex-order _ _ (record { asym = λ a b. before-asym (k .desc) _ _; trans = λ a b c. before-trans (k .desc) _ _ _ }) (key-order s ks)
 
