@@ -1,4 +1,5 @@
 pub mod Limits
+pub mod Pass
 pub mod PushDownFilter
 pub mod ReorderPredicates
 pub mod RewriteAt

@@ -8,11 +8,12 @@ use Rattle.image.specs.Flat.{enc}
 use Rattle.image.specs.Limits.{recordBytes}
 use Rattle.plan.specs.Lists.{choose}
 use Rattle.plan.specs.Syntax.{Plan, scan}
-use Rattle.plan.specs.Trees.{planTree}
+use Rattle.plan.specs.Trees.{bitOf, planTree}
 use Rattle.plan.specs.Read.{planAt}
 use Rattle.acceptance.specs.Check.{Links, tree, broken, linked, Verdict, verdict, check}
 use Rattle.rewrite.specs.Limits.{sizeP}
-use Rattle.rewrite.specs.RewriteAt.{Answer, granted, refused, rewrite-call, PassAnswer, passed, pass-refused, pass-call, bit}
+use Rattle.rewrite.specs.RewriteAt.{Answer, granted, refused, rewrite-call}
+use Rattle.rewrite.specs.Pass.{PassAnswer, passed, pass-refused, pass-call}
 
 -- ---- images and plans
 
@@ -54,7 +55,7 @@ unfoldable pub no-rewrite : ℕ → Verdict → Rewritten
 no-rewrite room v = record { number = v .number; place = v .place; flag = 0; records = 0; output = zeros room }
 
 unfoldable pub rewritten : ℕ → Answer → Rewritten
-rewritten room (granted f q) = record { number = 0; place = 0; flag = bit f; records = sizeP q; output = filled room (imageOf q) }
+rewritten room (granted f q) = record { number = 0; place = 0; flag = bitOf f; records = sizeP q; output = filled room (imageOf q) }
 rewritten room (refused k r) = no-rewrite room (verdict k r)
 
 -- a call that asks something of the plan in the bytes: first the tests of the image, then what is asked (8, 11, 12)
