@@ -58,7 +58,8 @@ module _ (rule : Expr → Bool) where
   marks-in?-length (some e) = marks-in-length e ∙ omega arith
 
 -- a run of parts, in front of other trees
-run-length : {A : Type 0} (f : A → List Bool) (l : A → Label) (k : A → Forest) → ((x : A) → length (f x) ≡ suc (size (k x))) → (xs : List A) (ns : Forest) → size (each l k xs ns) ≡ length (flat f xs) + size ns
+run-length : {A : Type 0} (f : A → List Bool) (l : A → Label) (k : A → Forest) → ((x : A) → length (f x) ≡ suc (size (k x)))
+    → (xs : List A) (ns : Forest) → size (each l k xs ns) ≡ length (flat f xs) + size ns
 unfolding each flat
 run-length f l k h [] ns = omega arith
 run-length f l k h (x ∷ xs) ns = simp (length-append, h x, run-length f l k h xs ns) (omega arith)
@@ -87,14 +88,18 @@ module _ (R : Rules) where
     unfolding marks-of kidsP
 
     marks-below : (p : Plan) → length (marks-of R p) ≡ suc (size (kidsP p))
-    marks-below (scan t fs es) = simp (length-append, fields-length, run-length (marks-in (R .over (scan t fs es))) labelE kidsE (marks-in-length _)) (omega arith)
+    marks-below (scan t fs es) =
+        simp (length-append, fields-length, run-length (marks-in (R .over (scan t fs es))) labelE kidsE (marks-in-length _)) (omega arith)
     marks-below (filter e p) = simp (length-append, marks-in-length, marks-below p) (omega arith)
-    marks-below (project es p) = simp (length-append, run-length (entry-marks R p) entryLabel entryKids (λ e. one-length p (e .expr)), marks-below p) (omega arith)
-    marks-below (join k l r on f) = simp (length-append, run-length (pair-marks R l r) pairLabel pairKids (pair-length l r), marks-below l, marks-below r, marks-in?-length) (omega arith)
+    marks-below (project es p) =
+        simp (length-append, run-length (entry-marks R p) entryLabel entryKids (λ e. one-length p (e .expr)), marks-below p) (omega arith)
+    marks-below (join k l r on f) =
+        simp (length-append, run-length (pair-marks R l r) pairLabel pairKids (pair-length l r), marks-below l, marks-below r, marks-in?-length) (omega arith)
     marks-below (alias q p) = simp (marks-below p) (omega arith)
     marks-below (union ps) = simp (marks-below-all ps) (omega arith)
     marks-below (distinct p) = simp (marks-below p) (omega arith)
-    marks-below (sort f ks p) = simp (length-append, run-length (key-marks R p) keyLabel keyKids (λ k. one-length p (k .expr)), marks-below p) (omega arith)
+    marks-below (sort f ks p) =
+        simp (length-append, run-length (key-marks R p) keyLabel keyKids (λ k. one-length p (k .expr)), marks-below p) (omega arith)
     marks-below (repartition p) = simp (marks-below p) (omega arith)
     marks-below (limit n k p) = simp (marks-below p) (omega arith)
     marks-below (aggregate gs ags p) =
@@ -104,12 +109,13 @@ module _ (R : Rules) where
           run-length (agg-marks R p) aggLabel aggKids (λ a. one-length p (a .expr)),
           marks-below p,
         ) (omega arith)
-    marks-below (window ws p) = simp (length-append, run-length (win-marks R p) winLabel winKids (win-length p), marks-below p) (omega arith)
+    marks-below (window ws p) =
+        simp (length-append, run-length (win-marks R p) winLabel winKids (win-length p), marks-below p) (omega arith)
 
     marks-below-all : (ps : Plans) → length (marks-of-all R ps) ≡ size (forestP ps)
     marks-below-all pnil = refl
     marks-below-all (pcons p ps) = simp (length-append, marks-below p, marks-below-all ps) (omega arith)
 
   -- as many marks as the plan's tree has records: the place of a mark is the number of its record
-  pub marks-length : (p : Plan) → length (marks-of R p) ≡ sizeT (planTree p)
-  marks-length p = marks-below p
+  pub marks-of-length : (p : Plan) → length (marks-of R p) ≡ sizeT (planTree p)
+  marks-of-length p = marks-below p

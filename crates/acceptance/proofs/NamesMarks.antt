@@ -104,7 +104,8 @@ mutual
       let i = and-l _ _ (and-l _ _ (and-r _ _ g)) in
       let kl = names-kept l (and-l _ _ i) in
       let kr = names-kept r (and-r _ _ i) in
-      let keys = simp (reads-kept (schema l) (single-in l kl), reads-kept (schema r) (single-in r kr)) at (and-r _ _ (and-l _ _ (and-r _ _ g))) in
+      let pairs = and-r _ _ (and-l _ _ (and-r _ _ g)) in
+      let keys = simp (reads-kept (schema l) (single-in l kl), reads-kept (schema r) (single-in r kr)) at pairs in
       let own = simp (reads-kept? (schema l ++ schema r) (single _ b)) at (and-r _ _ (and-r _ _ g)) in
       and-intro b (and-intro keys (and-intro own (and-intro kl kr)))
   names-kept (alias q p) h = and-intro (and-l _ _ (and-l _ _ h)) (names-kept p (and-r _ _ h))
@@ -143,7 +144,8 @@ mutual
       (and-intro (sound-own (scan t fs es) h refl) (and-r _ _ h))
   kept-names (filter e p) h =
       let k = and-r _ _ h in
-      simp (all-append, reads-kept (schema p) (single-in p k)) (and-intro (sound-own (filter e p) h refl) (and-intro (and-l _ _ h) (kept-names p k)))
+      simp (all-append, reads-kept (schema p) (single-in p k))
+      (and-intro (sound-own (filter e p) h refl) (and-intro (and-l _ _ h) (kept-names p k)))
   kept-names (project es p) h =
       let k = and-r _ _ (and-r _ _ h) in
       simp (all-append, all-flat, true-and, reads-kept (schema p) (single-in p k))

@@ -49,7 +49,8 @@ all-boolean : (τ : Types) (es : List Expr) → all (boolean τ) es ≡ all (is-
 unfolding boolean
 all-boolean τ es = all-and (is-boolean τ) (well τ) es
 
-scan-kept : (τ : Types) (a : Bool) (fs : List Field) (es : List Expr) → (all (is-boolean τ) es & a) & kept (map field-mark fs ++ flat (types-in τ) es) ≡ all (boolean τ) es & (a & true)
+scan-kept : (τ : Types) (a : Bool) (fs : List Field) (es : List Expr)
+    → (all (is-boolean τ) es & a) & kept (map field-mark fs ++ flat (types-in τ) es) ≡ all (boolean τ) es & (a & true)
 scan-kept τ a fs es = simp (all-append, all-map, all-true, all-flat, well-kept, all-boolean, and-sort)
 
 -- the conjunctions below, regrouped: b of a predicate's type, w of what is below it, t and s of an input's types and scans
@@ -77,7 +78,8 @@ module _ (ss : List Scanned) where
     types-kept (scan t fs es) = scan-kept (field-types (scan t fs es)) (as-first ss (scanned t fs)) fs es
     types-kept (filter e p) = simp (all-append, well-kept, types-kept p) (filter-kept _ _ _ _)
     types-kept (project es p) = simp (all-append, all-flat, true-and, well-kept, types-kept p) (sym (and-assoc _ _ _))
-    types-kept (join k l r on f) = simp (all-append, all-flat, well-kept, types-kept l, types-kept r, ← (well-kept? (both-types l r) f)) (join-kept _ _ _ _ _ _ _)
+    types-kept (join k l r on f) =
+        simp (all-append, all-flat, well-kept, types-kept l, types-kept r, ← (well-kept? (both-types l r) f)) (join-kept _ _ _ _ _ _ _)
     types-kept (alias q p) = true-and _ ∙ types-kept p
     types-kept (union ps) = types-kept-all (types-first ps) ps
     types-kept (distinct p) = true-and _ ∙ types-kept p
@@ -85,9 +87,11 @@ module _ (ss : List Scanned) where
     types-kept (repartition p) = true-and _ ∙ types-kept p
     types-kept (limit n k p) = true-and _ ∙ types-kept p
     types-kept (aggregate gs ags p) = simp (all-append, all-flat, true-and, well-kept, types-kept p) (aggregate-kept _ _ _ _)
-    types-kept (window ws p) = simp (all-append, all-flat, all-map, all-true, true-and, and-true, well-kept, types-kept p) (sym (and-assoc _ _ _))
+    types-kept (window ws p) =
+        simp (all-append, all-flat, all-map, all-true, true-and, and-true, well-kept, types-kept p) (sym (and-assoc _ _ _))
 
-    types-kept-all : (ts : List ℕ) (ps : Plans) → united ts ps & kept (marks-of-all (type-rules ss) ps) ≡ typed-all ts ps & all (as-first ss) (scans-all ps)
+    types-kept-all : (ts : List ℕ) (ps : Plans)
+        → united ts ps & kept (marks-of-all (type-rules ss) ps) ≡ typed-all ts ps & all (as-first ss) (scans-all ps)
     types-kept-all ts pnil = refl
     types-kept-all ts (pcons p ps) = simp (all-append, types-kept p) (united-kept _ _ _ _ _ _ _ (types-kept-all ts ps))
 
@@ -127,7 +131,8 @@ as-later : (a : Scanned) (bs : List Scanned) (c : Scanned) → agree a c ≡ tru
 unfolding as-first first-scanned
 as-later a bs c h k = go (eqb (a .table) (c .table)) h
   where
-    go : (b : Bool) → not b || same-types (a .row-types) (c .row-types) ≡ true → same-types (c .row-types) (cond b (a .row-types) (first-scanned (c .table) bs)) ≡ true
+    go : (b : Bool) → not b || same-types (a .row-types) (c .row-types) ≡ true
+        → same-types (c .row-types) (cond b (a .row-types) (first-scanned (c .table) bs)) ≡ true
     go true h = same-types-of (c .row-types) (a .row-types) (sym (same-types-eq (a .row-types) (c .row-types) h))
     go false h = k
 
