@@ -1,6 +1,6 @@
--- Type (7): operands of comparisons, Between and InList share a type; And, Or, Not, tests 3 to 8, the predicate of a Filter and the filters of
--- scans and joins take booleans; the sides of a key pair share a type; Min and Max take integers; the inputs of a Union have equal types by
--- place; scans of one table share field types.
+-- Type (7): operands of comparisons, Between and InList share a type; And, Or, Not, tests 3 to 8, the predicate of a Filter and the filters
+-- of scans and joins take booleans; the sides of a key pair share a type; Min and Max take integers; the inputs of a Union have equal types
+-- by place; scans of one table share field types, and the later scan is named.
 use Prim.Native.Nat.{ℕ}
 use mathlib.Core.Bool.{Bool, true, false, _||_, cond}
 use mathlib.Core.List.{List, [], _∷_, map}
