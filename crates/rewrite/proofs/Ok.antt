@@ -11,7 +11,7 @@ use borrow.Author.Tests.{eqb-true, eq-eqb}
 use Rattle.plan.specs.Lists.{_&_, all, any}
 use Rattle.plan.proofs.Lists.{and-l, and-r, and-intro, All, anil, acons, All-map, All-mapped, All-append, All-keep, All-flat, all-of}
 use Rattle.plan.specs.Syntax.{null, Name, Expr, Field, Entry, Pair, Key, AggEntry, WinEntry, Kind, inner, left, right, full, leftSemi, rightSemi, leftAnti, rightAnti, Plan, scan, filter, project, join, alias, union, distinct, sort, repartition, limit, aggregate, window, Plans, pnil, pcons, nm}
-use Rattle.meaning.specs.Meaning.{World, Row, entries, joined, outer, or-else, nulls, insert, sorted, fetched, sorts-before, group-keys, rows, rows-all}
+use Rattle.meaning.specs.Meaning.{World, Row, entries, joined, outer, nulls, insert, sorted, fetched, sorts-before, group-keys, rows, rows-all}
 use Rattle.meaning.specs.Tables.{ScansFit, TablesFit}
 use Rattle.meaning.proofs.Tables.{fit-left, fit-right, scan-wide}
 use Rattle.plan.specs.Types.{scans, scans-all}
@@ -20,6 +20,7 @@ use Rattle.meaning.proofs.Names.{nodup}
 use Rattle.image.specs.Limits.{maxFields}
 use Rattle.plan.specs.Columns.{on-cols}
 use Rattle.rewrite.proofs.Join.{Wide}
+use Rattle.rewrite.proofs.JoinLists.{All-or-else}
 use Rattle.rewrite.proofs.Groups.{All-first-occurrences}
 
 -- the columns of an expression are names of the schema
@@ -165,10 +166,6 @@ module _ {A : Type 0} {P : A → Type 0} where
   All-sorted : (under : A → A → Bool) {xs : List A} → All P xs → All P (sorted under xs)
   All-sorted under anil = anil
   All-sorted under (acons {x = x} h hs) = All-insert under x h (All-sorted under hs)
-
-  All-or-else : {xs : List A} (d : A) → P d → All P xs → All P (or-else d xs)
-  All-or-else d h anil = acons h anil
-  All-or-else d h (acons k ks) = acons k ks
 
 wide-append : (s t : List Name) (a b : Row) → Wide s a → Wide t b → Wide (s ++ t) (a ++ b)
 wide-append s t a b h k = simp length-append (ap₂ _+_ h k)
