@@ -9,7 +9,8 @@ use lib.ListN.{length}
 use lib.Dec.{eqb, leb}
 use Rattle.plan.specs.Lists.{choose}
 use Rattle.plan.proofs.Lists.{and-l, and-r, and-intro}
-use Rattle.plan.specs.Syntax.{Expr, Entry, Pair, Key, AggEntry, WinEntry, Kind, Plan, scan, filter, project, join, alias, union, distinct, sort, repartition, limit, aggregate, window, Plans, pnil, pcons}
+use Rattle.plan.specs.Syntax.{Expr, Entry, Pair, Key, AggEntry, WinEntry, Kind, Plan, scan, filter, project, join, alias, union, distinct}
+use Rattle.plan.specs.Syntax.{sort, repartition, limit, aggregate, window, Plans, pnil, pcons}
 use Rattle.meaning.specs.Meaning.{World, rows, rows-all}
 use Rattle.meaning.specs.Tables.{ScansFit, TablesFit}
 use Rattle.meaning.proofs.Tables.{fit-left, fit-right}
@@ -17,7 +18,9 @@ use Rattle.plan.specs.Schema.{schema, schema-first}
 use Rattle.rewrite.specs.PushDownFilter.{rewrite}
 use Rattle.image.specs.Limits.{recordBytes}
 use Rattle.rewrite.specs.Limits.{sizeP, fits}
-use Rattle.rewrite.specs.RewriteAt.{Focus, FocusAll, here, inside, inside-all, first-of, later-of, focus, focus-all, Answer, granted, refused, result-fits, rewrite-in, rewriteAt, with-room, rewrite-call, next-visit, PassAnswer, passed, pass-refused, bit, visits, pass, pass-with-room, pass-call}
+use Rattle.rewrite.specs.RewriteAt.{Focus, FocusAll, here, inside, inside-all, first-of, later-of, focus, focus-all, Answer}
+use Rattle.rewrite.specs.RewriteAt.{granted, refused, result-fits, rewrite-in, rewriteAt, with-room, rewrite-call, next-visit}
+use Rattle.rewrite.specs.RewriteAt.{PassAnswer, passed, pass-refused, bit, visits, pass, pass-with-room, pass-call}
 use Rattle.rewrite.proofs.Ok.{ok, ok-all, rule}
 use Rattle.plan.specs.Types.{types, types-first, scans, scans-all}
 use Rattle.rewrite.proofs.Typed.{typed, typed-all, types-ok}

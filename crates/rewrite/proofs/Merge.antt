@@ -47,7 +47,8 @@ module _ (W : World) where
       ∙ keep-cong _ _ (all-of point (rows W p))
       ∙ sym (keep-keep (sat W (schema p) a) (sat W (schema p) b) (rows W p))
     where
-      point : (r : Row) → sats W (schema p) (unique (split-conjunction b ++ split-conjunction a)) r ≡ sat W (schema p) b r & sat W (schema p) a r
+      point : (r : Row)
+          → sats W (schema p) (unique (split-conjunction b ++ split-conjunction a)) r ≡ sat W (schema p) b r & sat W (schema p) a r
       point r =
           dedup-all _ (split-conjunction b ++ split-conjunction a) ∙ all-append _ (split-conjunction b) (split-conjunction a)
           ∙ ap₂ _&_ (all-split W (look (schema p) r) b) (all-split W (look (schema p) r) a)

@@ -24,6 +24,15 @@ record Order {A : Type 0} (u : A → A → Bool) : Type 0 where
 
 -- ---- filtering a sorted list
 
+module _ {A : Type 0} {P : A → Type 0} (u : A → A → Bool) where
+  pub All-insert : (x : A) {ys : List A} → P x → All P ys → All P (insert u x ys)
+  All-insert x h anil = acons h anil
+  All-insert x h (acons {x = y} {xs = ys} k ks) = go (u y x) (All-insert x h ks)
+    where
+      go : (b : Bool) → All P (insert u x ys) → All P (cond b (y ∷ insert u x ys) (x ∷ y ∷ ys))
+      go true hs = acons k hs
+      go false hs = acons h (acons k ks)
+
 data Sorted {A : Type 0} (u : A → A → Bool) : List A → Type 0 where
   snil : Sorted u []
   scons : {x : A} {xs : List A} → All (λ y. u y x ≡ false) xs → Sorted u xs → Sorted u (x ∷ xs)
@@ -57,20 +66,12 @@ module _ {A : Type 0} (u : A → A → Bool) (O : Order u) (p : A → Bool) wher
       go false e true q k = rw (h, q, e)
       go false e false q k = rw (h, q) (sym (ahead x (All-keep p (All-map (λ z hz. O .trans z y x hz e) a))))
 
-  All-insert : {P : A → Type 0} (x : A) {ys : List A} → P x → All P ys → All P (insert u x ys)
-  All-insert x h anil = acons h anil
-  All-insert {P} x h (acons {x = y} {xs = ys} k ks) = go (u y x) (All-insert x h ks)
-    where
-      go : (b : Bool) → All P (insert u x ys) → All P (cond b (y ∷ insert u x ys) (x ∷ y ∷ ys))
-      go true hs = acons k hs
-      go false hs = acons h (acons k ks)
-
   insert-sorted : (x : A) {ys : List A} → Sorted u ys → Sorted u (insert u x ys)
   insert-sorted x snil = scons anil snil
   insert-sorted x (scons {x = y} {xs = ys} a s) = go (u y x) refl (insert-sorted x s)
     where
       go : (b : Bool) → u y x ≡ b → Sorted u (insert u x ys) → Sorted u (cond b (y ∷ insert u x ys) (x ∷ y ∷ ys))
-      go true e k = scons (All-insert x (O .asym y x e) a) k
+      go true e k = scons (All-insert u x (O .asym y x e) a) k
       go false e k = scons (acons e (All-map (λ z hz. O .trans z y x hz e) a)) (scons a s)
 
   sorted-sorted : (xs : List A) → Sorted u (sorted u xs)
