@@ -1,4 +1,5 @@
 pub mod Integers
 pub mod Lists
+pub mod Measure
 pub mod Rebuilt
 pub mod Written

@@ -14,7 +14,8 @@ use Rattle.meaning.specs.Meaning.{World, rows, rows-all}
 use Rattle.plan.specs.Schema.{schema, schema-first}
 use Rattle.rewrite.specs.PushDownFilter.{rewrite}
 use Rattle.image.specs.Limits.{recordBytes}
-use Rattle.rewrite.specs.Limits.{sizeP, fits}
+use Rattle.plan.specs.Measure.{sizeP}
+use Rattle.rewrite.specs.Limits.{fits}
 use Rattle.rewrite.specs.RewriteAt.{Focus, FocusAll, here, inside, inside-all, first-of, later-of, focus, focus-all, Answer, granted, refused, result-fits, rewrite-in, rewriteAt, with-room, rewrite-call}
 use Rattle.rewrite.proofs.Ok.{ok, ok-all, rule}
 use Rattle.plan.specs.Types.{types, types-first, scans, scans-all}
