@@ -94,7 +94,8 @@ module _ (R : Rules) where
     marks-below (project es p) =
         simp (length-append, run-length (entry-marks R p) entryLabel entryKids (λ e. one-length p (e .expr)), marks-below p) (omega arith)
     marks-below (join k l r on f) =
-        simp (length-append, run-length (pair-marks R l r) pairLabel pairKids (pair-length l r), marks-below l, marks-below r, marks-in?-length) (omega arith)
+        let keys = run-length (pair-marks R l r) pairLabel pairKids (pair-length l r) on (filterKids f) in
+        simp (length-append, keys, marks-below l, marks-below r, marks-in?-length) (omega arith)
     marks-below (alias q p) = simp (marks-below p) (omega arith)
     marks-below (union ps) = simp (marks-below-all ps) (omega arith)
     marks-below (distinct p) = simp (marks-below p) (omega arith)

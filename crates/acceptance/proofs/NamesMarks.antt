@@ -163,7 +163,8 @@ mutual
         reads-kept (schema r) (single-in r hr),
         reads-kept? (schema l ++ schema r) (single _ b),
       )
-      (and-intro (sound-own (join k l r on f) h b) (and-intro (and-intro (and-intro (kept-names l hl) (kept-names r hr)) (and-l _ _ (and-r _ _ h))) (and-l _ _ i)))
+      (and-intro (sound-own (join k l r on f) h b)
+      (and-intro (and-intro (and-intro (kept-names l hl) (kept-names r hr)) (and-l _ _ (and-r _ _ h))) (and-l _ _ i)))
   kept-names (alias q p) h = and-intro (sound-own (alias q p) h refl) (kept-names p (and-r _ _ h))
   kept-names (union ps) h = and-intro (sound-own (union ps) h refl) (kept-names-all _ ps h)
   kept-names (distinct p) h = and-intro (sound-own (distinct p) h refl) (kept-names p h)

@@ -32,7 +32,8 @@ unfoldable mutual
   rule w (project es p) = sound (map (λ (e : Entry). e .name) es) & (all (λ (e : Entry). reads (schema p) (e .expr)) es & rule w p)
   rule w (join k l r on f) =
       sound (schema l ++ schema r)
-      & (all (λ (k : Pair). reads (schema l) (k .lhs) & reads (schema r) (k .rhs)) on & (reads? (schema l ++ schema r) f & (rule w l & rule w r)))
+      & (all (λ (k : Pair). reads (schema l) (k .lhs) & reads (schema r) (k .rhs)) on
+      & (reads? (schema l ++ schema r) f & (rule w l & rule w r)))
   rule w (alias q p) = sound (map (requalify q) (schema p)) & rule w p
   rule w (union ps) = rule-all w (length (schema-first ps)) ps
   rule w (distinct p) = rule w p
@@ -141,7 +142,8 @@ mutual
   ok-names (project es p) h = and-intro (and-l _ _ h) (and-intro (and-l _ _ (and-r _ _ h)) (ok-names p (and-r _ _ (and-r _ _ h))))
   ok-names (join k l r on f) h =
       let i = and-r _ _ (and-r _ _ h) in
-      and-intro (and-l _ _ h) (and-intro (and-l _ _ (and-r _ _ h)) (and-intro (and-l _ _ i) (and-intro (ok-names l (and-l _ _ (and-r _ _ i))) (ok-names r (and-r _ _ (and-r _ _ i))))))
+      let inputs = and-intro (ok-names l (and-l _ _ (and-r _ _ i))) (ok-names r (and-r _ _ (and-r _ _ i))) in
+      and-intro (and-l _ _ h) (and-intro (and-l _ _ (and-r _ _ h)) (and-intro (and-l _ _ i) inputs))
   ok-names (alias q p) h = and-intro (and-l _ _ h) (ok-names p (and-r _ _ h))
   ok-names (union ps) h = ok-names-all ps _ h
   ok-names (distinct p) h = ok-names p h
@@ -149,8 +151,8 @@ mutual
   ok-names (repartition p) h = ok-names p h
   ok-names (limit n k p) h = ok-names p h
   ok-names (aggregate gs ags p) h =
-      and-intro (and-l _ _ h)
-      (and-intro (and-l _ _ (and-r _ _ h)) (and-intro (and-l _ _ (and-r _ _ (and-r _ _ h))) (ok-names p (and-r _ _ (and-r _ _ (and-r _ _ h))))))
+      let i = and-r _ _ (and-r _ _ h) in
+      and-intro (and-l _ _ h) (and-intro (and-l _ _ (and-r _ _ h)) (and-intro (and-l _ _ i) (ok-names p (and-r _ _ i))))
   ok-names (window ws p) h = and-intro (and-l _ _ h) (and-intro (and-l _ _ (and-r _ _ h)) (ok-names p (and-r _ _ (and-r _ _ h))))
 
   ok-names-all : (ps : Plans) (n : ℕ) → ok-all n ps ≡ true → rule-all (λ a b. true) n ps ≡ true

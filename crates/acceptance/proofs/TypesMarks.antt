@@ -115,7 +115,8 @@ module _ (f : ℕ → List ℕ) where
       go : (c : Bool) → eqb (a .table) (b .table) ≡ c → not c || same-types (a .row-types) (b .row-types) ≡ true
       go true e =
           same-types-of (a .row-types) (b .row-types)
-          (same-types-eq (a .row-types) (f (a .table)) h ∙ ap f (eqb-true (a .table) (b .table) e) ∙ sym (same-types-eq (b .row-types) (f (b .table)) k))
+          (same-types-eq (a .row-types) (f (a .table)) h ∙ ap f (eqb-true (a .table) (b .table) e)
+          ∙ sym (same-types-eq (b .row-types) (f (b .table)) k))
       go false e = refl
 
   all-agree-by : (bs : List Scanned) → all types-by bs ≡ true → all-agree bs ≡ true

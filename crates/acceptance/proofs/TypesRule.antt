@@ -102,7 +102,9 @@ mutual
   names-typed-ok (join k l r on f) h y =
       let i = and-r _ _ (and-r _ _ h) in
       let z = and-r _ _ (and-r _ _ y) in
-      and-intro (and-l _ _ h) (and-intro (and-l _ _ (and-r _ _ h)) (and-intro (and-l _ _ i) (and-intro (names-typed-ok l (and-l _ _ (and-r _ _ i)) (and-l _ _ z)) (names-typed-ok r (and-r _ _ (and-r _ _ i)) (and-r _ _ z)))))
+      let l-ok = names-typed-ok l (and-l _ _ (and-r _ _ i)) (and-l _ _ z) in
+      let r-ok = names-typed-ok r (and-r _ _ (and-r _ _ i)) (and-r _ _ z) in
+      and-intro (and-l _ _ h) (and-intro (and-l _ _ (and-r _ _ h)) (and-intro (and-l _ _ i) (and-intro l-ok r-ok)))
   names-typed-ok (alias q p) h y = and-intro (and-l _ _ h) (names-typed-ok p (and-r _ _ h) y)
   names-typed-ok (union ps) h y = names-typed-all ps (types-first ps) (length (schema-first ps)) (types-first-length ps) h y
   names-typed-ok (distinct p) h y = names-typed-ok p h y
@@ -121,4 +123,5 @@ mutual
   names-typed-all pnil ts n w h y = refl
   names-typed-all (pcons p ps) ts n w h y =
       and-intro (eq-eqb (length (schema p)) n (sym (types-length p) ∙ ap length (same-types-eq (types p) ts (and-l _ _ y)) ∙ w))
-      (and-intro (names-typed-ok p (and-l _ _ (and-r _ _ h)) (and-l _ _ (and-r _ _ y))) (names-typed-all ps ts n w (and-r _ _ (and-r _ _ h)) (and-r _ _ (and-r _ _ y))))
+      (and-intro (names-typed-ok p (and-l _ _ (and-r _ _ h)) (and-l _ _ (and-r _ _ y)))
+      (names-typed-all ps ts n w (and-r _ _ (and-r _ _ h)) (and-r _ _ (and-r _ _ y))))
