@@ -30,7 +30,9 @@ use Rattle.plan.specs.Trees.{planTree}
 use Rattle.plan.specs.Read.{planAt}
 use Rattle.plan.proofs.Written.{planAt-back}
 use Rattle.plan.proofs.Rebuilt.{Bounds, bounds, words-at, kind-e, kind-p, kind-w}
-use Rattle.acceptance.proofs.Accept.{accepted, word-drop, or-assoc}
+use Rattle.acceptance.proofs.Accept.{accepted}
+use Rattle.image.proofs.Standing.{word-drop}
+use Rattle.image.proofs.Lowest.{or-assoc}
 
 -- ---- what stands is read
 

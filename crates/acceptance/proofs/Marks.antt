@@ -9,11 +9,11 @@ use mathlib.Core.Option.{Option, some}
 use lib.ListN.{length, length-append}
 use Rattle.image.specs.Tree.{Label, Forest, none, size}
 use Rattle.image.specs.Flat.{sizeT}
-use Rattle.image.specs.Lowest.{nothing, orElse, unless}
+use Rattle.image.specs.Lowest.{nothing, orElse, unless, firstFalse}
 use Rattle.plan.specs.Lists.{_&_, all, flat}
 use Rattle.plan.specs.Syntax.{Name, Expr, col, num, bool, nul, bin, neg, test, between, inlist, fn, Exprs, enil, econs, Field, Pair, WinEntry, Plan, scan, filter, project, join, alias, union, distinct, sort, repartition, limit, aggregate, window, Plans, pnil, pcons}
 use Rattle.plan.specs.Trees.{columnLabel, labelE, kidsE, forestE, before, each, nothingBelow, fieldLabel, entryLabel, entryKids, pairLabel, pairKids, keyLabel, keyKids, aggLabel, aggKids, winLabel, winKids, filterKids, kidsP, forestP, planTree}
-use Rattle.acceptance.specs.Marks.{firstFalse, marks-in, marks-in-all, marks-in?, Rules, field-mark, entry-marks, pair-marks, key-marks, agg-marks, win-marks, marks-of, marks-of-all}
+use Rattle.acceptance.specs.Marks.{marks-in, marks-in-all, marks-in?, Rules, field-mark, entry-marks, pair-marks, key-marks, agg-marks, win-marks, marks-of, marks-of-all}
 
 -- all marks are true
 abbrev pub kept : List Bool → Bool

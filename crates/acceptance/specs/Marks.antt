@@ -1,17 +1,10 @@
 -- A mark for each record of a plan, in the order in which its image has them: true where the record keeps a rule.
 -- The record that a test names is the first whose mark is false.
-use Prim.Native.Nat.{ℕ, _+_}
 use mathlib.Core.Bool.{Bool, true}
 use mathlib.Core.List.{List, [], _∷_, _++_, map}
 use mathlib.Core.Option.{Option, none, some}
-use Rattle.image.specs.Lowest.{Found, nothing, orElse, unless}
 use Rattle.plan.specs.Lists.{flat}
 use Rattle.plan.specs.Syntax.{Expr, col, num, bool, nul, bin, neg, test, between, inlist, fn, Exprs, enil, econs, Field, Entry, Pair, Key, Agg, AggEntry, WinEntry, Plan, scan, filter, project, join, alias, union, distinct, sort, repartition, limit, aggregate, window, Plans, pnil, pcons}
-
--- the number of the first mark that is false, where the first of all has the number b
-unfoldable pub firstFalse : ℕ → List Bool → Found
-firstFalse b [] = nothing
-firstFalse b (m ∷ ms) = orElse (unless m b) (firstFalse (b + 1) ms)
 
 -- ---- expressions: the record, then its children in order
 

@@ -2,9 +2,8 @@
 use Prim.Native.Nat.{ℕ, zero, suc, _+_, _/_, _%_, _<_}
 use native.Mathlib.Omega.{arith}
 use mathlib.Core.List.{List, [], _∷_, _++_}
-use lib.ListN.{getD}
 use Rattle.image.specs.Word.{le, Bytes}
-use Rattle.image.specs.Tree.{Label, Forest, none, node, Tree, size, link}
+use Rattle.image.specs.Tree.{Label, Forest, none, node, Tree, size}
 use Rattle.image.specs.Flat.{bytesOf, encAny, enc}
 
 -- a list of bytes, built up

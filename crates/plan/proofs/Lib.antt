@@ -6,3 +6,4 @@ pub mod Rebuilt
 pub mod Types
 pub mod Written
 pub mod Literals
+pub mod PlanOf

@@ -1,9 +1,8 @@
 -- Accepted images and well-formed plans: each is the other's.
-use Prim.Native.Nat.{ℕ, _*_, _≤_, _/_}
-use native.Mathlib.Omega.{arith}
+use Prim.Native.Nat.{ℕ, _*_}
 use mathlib.Core.Path.{_≡_, refl, sym, ap, subst, _∙_}
-use mathlib.Core.List.{List, _++_}
-use lib.ListN.{length, take}
+use mathlib.Core.List.{List}
+use lib.ListN.{take}
 use lib.Seq.{take-at}
 use Rattle.image.specs.Limits.{recordBytes}
 use Rattle.image.specs.Flat.{sizeT}
@@ -12,11 +11,10 @@ use Rattle.plan.specs.Syntax.{Plan}
 use Rattle.plan.specs.Trees.{planTree}
 use Rattle.plan.specs.Measure.{sizeP}
 use Rattle.plan.proofs.Written.{planAt-back}
-use Rattle.acceptance.specs.Check.{verdict, check}
-use Rattle.acceptance.specs.Accepted.{WellFormed, Accepted}
+use Rattle.acceptance.specs.Accepted.{WellFormed}
 use Rattle.acceptance.proofs.Accept.{accepted}
 use Rattle.acceptance.proofs.Converse.{accepts, same-tree}
-use Rattle.rewrite.specs.OnBytes.{imageOf, planFromLinks, planIn, filled, zeros}
+use Rattle.rewrite.specs.OnBytes.{imageOf, planFromLinks, planIn, filled}
 use Rattle.rewrite.proofs.OnBytes.{tree-length}
 use Rattle.preservation.specs.Statement.{Image}
 

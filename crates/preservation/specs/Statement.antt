@@ -2,14 +2,12 @@
 -- To be read beside document 01's section 'Promises'. The proof is proofs/Demand3.antt.
 use Prim.Native.Nat.{ℕ, _*_}
 use mathlib.Core.Path.{_≡_}
-use mathlib.Core.Bool.{Bool, true, false}
 use mathlib.Core.List.{List, [], _∷_}
 use lib.Dec.{eqb}
 use lib.ListN.{take}
 use Rattle.image.specs.Limits.{recordBytes}
 use Rattle.image.specs.Word.{Bytes}
 use Rattle.plan.specs.Lists.{choose}
-use Rattle.plan.specs.Syntax.{Plan}
 use Rattle.meaning.specs.Meaning.{World, Row, rows}
 use Rattle.meaning.specs.Tables.{TablesFit, FunctionsFit}
 use Rattle.acceptance.specs.Check.{verdict, check}

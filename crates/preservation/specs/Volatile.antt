@@ -1,11 +1,9 @@
 -- Plans with no volatile function. "A function is volatile if its q is 1 or 3."
 use mathlib.Core.Path.{_≡_}
 use mathlib.Core.Bool.{Bool, false, _||_}
-use mathlib.Core.List.{List}
 use mathlib.Core.Option.{Option, none, some}
 use Rattle.plan.specs.Lists.{any}
-use Rattle.plan.specs.Syntax.{Expr, Entry, Pair, Key, AggEntry, WinEntry, Plans, pnil, pcons}
-use Rattle.plan.specs.Syntax.{Plan, scan, filter, project, join, alias, union, distinct, sort, repartition, limit, aggregate, window}
+use Rattle.plan.specs.Syntax.{Expr, Entry, Pair, Key, AggEntry, WinEntry, Plans, pnil, pcons, Plan, scan, filter, project, join, alias, union, distinct, sort, repartition, limit, aggregate, window}
 use Rattle.rewrite.specs.Utils.{is-volatile}
 
 unfoldable pub volatile? : Option Expr → Bool
