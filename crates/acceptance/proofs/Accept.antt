@@ -22,9 +22,12 @@ use Rattle.plan.specs.Kinds.{isPlan}
 use Rattle.plan.specs.Words.{wordsOk, Worded}
 use Rattle.plan.specs.Form.{formOk, badForm}
 use Rattle.image.specs.Lowest.{Found, nothing, found, orElse, unless, lowest, alone}
-use Rattle.acceptance.specs.Check.{bufferOk, badWords, Links, tree, broken, rooted, linked, tooDeep, badName, badType, Verdict, verdict, at, checkTree, checkLinks, check}
+use Rattle.acceptance.specs.Check.{bufferOk, badWords, Links, tree, broken, rooted, linked, tooDeep, Verdict, verdict, at, checkPlan, checkTree, checkLinks, check}
+use Rattle.acceptance.specs.Marks.{firstFalse}
+use Rattle.acceptance.specs.Names.{badName}
+use Rattle.acceptance.specs.Types.{badType}
 use Rattle.plan.specs.Syntax.{Plan}
-use Rattle.acceptance.specs.Accepted.{Clean, Well, Accepted}
+use Rattle.acceptance.specs.Accepted.{Accepted}
 use Rattle.plan.specs.Trees.{planTree}
 use Rattle.plan.specs.Read.{planAt, planOf, unlessFound}
 use Rattle.plan.proofs.Integers.{planAt-fits}
@@ -77,18 +80,13 @@ module _ {C : Type 0} (rule : C → Label → Forest → Bool) (hand : C → Lab
   marks-length c after none = refl
   marks-length c after (node l cs ns) = simp length-append (omega (arith, marks-length (hand c l cs .0) (hand c l cs .1) cs, marks-length after after ns))
 
--- the number of the first that is false, where the first of all has the number b
-abbrev pub firstFalse : ℕ → List Bool → Found
-firstFalse b [] = nothing
-firstFalse b (t ∷ ts) = orElse (unless t b) (firstFalse (b + 1) ts)
-
 pub or-assoc : (f g h : Found) → orElse (orElse f g) h ≡ orElse f (orElse g h)
 unfolding orElse
 or-assoc nothing g h = refl
 or-assoc (found r) g h = refl
 
 false-append : (b : ℕ) (xs ys : List Bool) → firstFalse b (xs ++ ys) ≡ orElse (firstFalse b xs) (firstFalse (b + length xs) ys)
-unfolding orElse
+unfolding firstFalse orElse
 false-append b [] ys = let e : b + 0 ≡ b = omega arith in rw e
 false-append b (x ∷ xs) ys =
     let e : b + 1 + length xs ≡ b + suc (length xs) = omega arith in
@@ -97,7 +95,7 @@ false-append b (x ∷ xs) ys =
 module _ {C : Type 0} (rule : C → Label → Forest → Bool) (hand : C → Label → Forest → C × C) where
   -- `lowest` is what its name says: the first of the forest's records, by number, of which the rule does not hold
   pub lowest-is : (c after : C) (b : ℕ) (f : Forest) → lowest rule hand c after b f ≡ firstFalse b (marks rule hand c after f)
-  unfolding lowest
+  unfolding lowest firstFalse
   lowest-is c after b none = refl
   lowest-is c after b (node l cs ns) =
       let ms = marks rule hand (hand c l cs .0) (hand c l cs .1) cs in
@@ -120,22 +118,25 @@ unfolding at
 at-rest n nothing v h e = e
 at-rest n (found r) v h e = absurd (omega (arith, ap (λ (x : Verdict). x .number) e))
 
-pub clean : (t : Tree) → checkTree t ≡ verdict 0 0 → Clean t
-unfolding checkTree
+-- the four tests of a tree find nothing
+record Clean (t : Tree) : Type 0 where
+  depth : tooDeep t ≡ nothing
+  form : badForm t ≡ nothing
+  names : badName (planAt t) ≡ nothing
+  types : badType (planAt t) ≡ nothing
+
+clean : (t : Tree) → checkTree t ≡ verdict 0 0 → Clean t
+unfolding checkTree checkPlan
 clean t h =
     let h₅ = at-rest 4 (tooDeep t) _ (omega arith) h in
     let h₆ = at-rest 5 (badForm t) _ (omega arith) h₅ in
-    let h₇ = at-rest 6 (badName t) _ (omega arith) h₆ in
+    let h₇ = at-rest 6 (badName (planAt t)) _ (omega arith) h₆ in
     record {
       depth = at-found 4 (tooDeep t) _ (omega arith) h;
       form = at-found 5 (badForm t) _ (omega arith) h₅;
-      names = at-found 6 (badName t) _ (omega arith) h₆;
-      types = at-found 7 (badType t) _ (omega arith) h₇;
+      names = at-found 6 (badName (planAt t)) _ (omega arith) h₆;
+      types = at-found 7 (badType (planAt t)) _ (omega arith) h₇;
     }
-
-pub cleaned : (t : Tree) → Clean t → checkTree t ≡ verdict 0 0
-unfolding checkTree at
-cleaned t c = rw (c .depth, c .form, c .names, c .types)
 
 pub links-tree : (k : Links) → checkLinks k ≡ verdict 0 0 → (t : Tree) × (k ≡ tree t) × (checkTree t ≡ verdict 0 0)
 links-tree (broken r) h = absurd (omega (arith, ap (λ (x : Verdict). x .number) h))
@@ -278,8 +279,6 @@ planOf-whole t p w h = go (badForm t) refl h
     go nothing e q = let g : planAt t ≡ p = cc in subst (λ (x : Plan). planTree x ≡ t) g (planTree-whole t w e)
     go (found r) e q = let z : _≡_ {A = ℕ} 0 1 = cc in absurd (omega arith)
 
--- ---- acceptance
-
 -- ---- from acceptance to a plan
 
 module _ (s : List ℕ) (n : ℕ) (t : Tree) (len : length s ≡ 32 * n) (some-records : 1 ≤ n) (h : linked s n ≡ tree t) where
@@ -334,7 +333,15 @@ accepted-tree s bytes b words t l c =
       planAt t,
       record {
         image = subst (λ (x : Tree). s ≡ enc 0 x) (sym q) (whole-image t s bytes (omega (arith, b .len)) k);
-        well = record { tests = subst Well (sym q) (record { count = omega (arith, b .most); words = w; clean = c }); integers = planAt-fits t w };
+        well = record {
+          records = subst (λ (x : Tree). sizeT x ≤ maxRecords) (sym q) (omega (arith, b .most));
+          words = subst (λ (x : Tree). Worded (alone x)) (sym q) w;
+          depth = subst (λ (x : Tree). tooDeep x ≡ nothing) (sym q) (c .depth);
+          form = subst (λ (x : Tree). badForm x ≡ nothing) (sym q) (c .form);
+          names = c .names;
+          types = c .types;
+          integers = planAt-fits t w;
+        };
       },
     )
 

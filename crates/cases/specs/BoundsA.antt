@@ -5,9 +5,10 @@ use mathlib.Core.List.{[], _∷_}
 use mathlib.Core.Option.{none, some}
 use lib.IntN.{negsuc}
 use Rattle.plan.specs.Syntax.{nm, eq, ne, lt, le, gt, ge, and, cmp, isNull, isNotNull, isTrue, num, bool, nul, bin, test, between, inlist, fn, enil, econs, count, min, max, inner, left, right, full, leftSemi, rightSemi, rightAnti, scan, filter, project, join, alias, union, distinct, sort, repartition, limit, aggregate, window, pnil, pcons}
-use Rattle.rewrite.specs.RewriteAt.{granted, passed, rewriteAt, pass}
+use Rattle.rewrite.specs.RewriteAt.{granted, rewriteAt}
+use Rattle.rewrite.specs.Pass.{passed, pass}
 use Rattle.rewrite.proofs.Opened.{opened}
-use Rattle.rewrite.proofs.PassTree.{pass-by-children}
+use Rattle.rewrite.proofs.PassByRecords.{pass-by-records}
 use Rattle.cases.specs.Run.{v, i, fd, en, pr, ky, ag, wn}
 use Rattle.cases.specs.Walked.{walked}
 
@@ -19,7 +20,7 @@ c1 : pass 10000 (filter (bin and (bin (cmp ge) (v 2 1) (i 0)) (bin and (bin and 
 unfolding opened
 c1 = refl
 
-w1 : pass-by-children 10000 (filter (bin and (bin (cmp ge) (v 2 1) (i 0)) (bin and (bin and (bin and (bin and (bin and (bin (cmp gt) (i 0) (v 3 1)) (bin (cmp lt) (v 3 1) (i 1))) (bin (cmp eq) (i 3) (v 2 1))) (bin (cmp ge) (i 1) (i 1))) (bin (cmp ge) (v 3 1) (nul 1))) (bin (cmp ne) (i 2) (v 2 1)))) (join inner (join inner (scan 2 (fd 0 101 1 false ∷ fd 0 102 1 true ∷ fd 0 103 2 false ∷ []) []) (scan 1 (fd 2 1 1 false ∷ fd 2 2 1 false ∷ []) ((bin (cmp ne) (i 3) (v 2 2)) ∷ (bin (cmp eq) (i 2) (v 2 1)) ∷ [])) [] none) (window (wn 0 104 max (i 1) (nm 3 1 ∷ nm 3 1 ∷ []) ∷ []) (scan 4 (fd 3 1 1 false ∷ []) [])) (pr (v 0 102) (v 3 1) ∷ []) (some (bin and (bin and (bin and (bin and (bin and (bin (cmp le) (v 0 101) (i 1)) (bin (cmp ge) (v 2 2) (i 1))) (bin (cmp lt) (v 0 104) (i 0))) (bin (cmp ge) (v 0 102) (i 2))) (fn 2 0 2 enil)) (bin (cmp eq) (v 0 103) (bool false)))))) ≡ passed 10 4 1 (join inner (join inner (filter (bin and (bin and (bin and (bin (cmp ge) (i 1) (i 1)) (bin (cmp le) (v 0 101) (i 1))) (bin (cmp eq) (v 0 103) (bool false))) (fn 2 0 2 enil)) (scan 2 (fd 0 101 1 false ∷ fd 0 102 1 true ∷ fd 0 103 2 false ∷ []) ((bin (cmp ge) (v 0 102) (nul 1)) ∷ (bin (cmp gt) (i 0) (v 0 102)) ∷ []))) (filter (bin and (bin and (bin and (bin (cmp ne) (i 2) (v 2 1)) (bin (cmp eq) (i 3) (v 2 1))) (bin (cmp ge) (v 2 1) (i 0))) (bin (cmp ge) (v 2 2) (i 1))) (scan 1 (fd 2 1 1 false ∷ fd 2 2 1 false ∷ []) ((bin (cmp ne) (i 3) (v 2 2)) ∷ (bin (cmp eq) (i 2) (v 2 1)) ∷ []))) [] none) (filter (bin (cmp lt) (v 0 104) (i 0)) (window (wn 0 104 max (i 1) (nm 3 1 ∷ nm 3 1 ∷ []) ∷ []) (filter (bin and (bin (cmp ge) (v 3 1) (nul 1)) (bin (cmp gt) (i 0) (v 3 1))) (scan 4 (fd 3 1 1 false ∷ []) [])))) (pr (v 0 102) (v 3 1) ∷ []) none)
+w1 : pass-by-records 10000 (filter (bin and (bin (cmp ge) (v 2 1) (i 0)) (bin and (bin and (bin and (bin and (bin and (bin (cmp gt) (i 0) (v 3 1)) (bin (cmp lt) (v 3 1) (i 1))) (bin (cmp eq) (i 3) (v 2 1))) (bin (cmp ge) (i 1) (i 1))) (bin (cmp ge) (v 3 1) (nul 1))) (bin (cmp ne) (i 2) (v 2 1)))) (join inner (join inner (scan 2 (fd 0 101 1 false ∷ fd 0 102 1 true ∷ fd 0 103 2 false ∷ []) []) (scan 1 (fd 2 1 1 false ∷ fd 2 2 1 false ∷ []) ((bin (cmp ne) (i 3) (v 2 2)) ∷ (bin (cmp eq) (i 2) (v 2 1)) ∷ [])) [] none) (window (wn 0 104 max (i 1) (nm 3 1 ∷ nm 3 1 ∷ []) ∷ []) (scan 4 (fd 3 1 1 false ∷ []) [])) (pr (v 0 102) (v 3 1) ∷ []) (some (bin and (bin and (bin and (bin and (bin and (bin (cmp le) (v 0 101) (i 1)) (bin (cmp ge) (v 2 2) (i 1))) (bin (cmp lt) (v 0 104) (i 0))) (bin (cmp ge) (v 0 102) (i 2))) (fn 2 0 2 enil)) (bin (cmp eq) (v 0 103) (bool false)))))) ≡ passed 10 4 1 (join inner (join inner (filter (bin and (bin and (bin and (bin (cmp ge) (i 1) (i 1)) (bin (cmp le) (v 0 101) (i 1))) (bin (cmp eq) (v 0 103) (bool false))) (fn 2 0 2 enil)) (scan 2 (fd 0 101 1 false ∷ fd 0 102 1 true ∷ fd 0 103 2 false ∷ []) ((bin (cmp ge) (v 0 102) (nul 1)) ∷ (bin (cmp gt) (i 0) (v 0 102)) ∷ []))) (filter (bin and (bin and (bin and (bin (cmp ne) (i 2) (v 2 1)) (bin (cmp eq) (i 3) (v 2 1))) (bin (cmp ge) (v 2 1) (i 0))) (bin (cmp ge) (v 2 2) (i 1))) (scan 1 (fd 2 1 1 false ∷ fd 2 2 1 false ∷ []) ((bin (cmp ne) (i 3) (v 2 2)) ∷ (bin (cmp eq) (i 2) (v 2 1)) ∷ []))) [] none) (filter (bin (cmp lt) (v 0 104) (i 0)) (window (wn 0 104 max (i 1) (nm 3 1 ∷ nm 3 1 ∷ []) ∷ []) (filter (bin and (bin (cmp ge) (v 3 1) (nul 1)) (bin (cmp gt) (i 0) (v 3 1))) (scan 4 (fd 3 1 1 false ∷ []) [])))) (pr (v 0 102) (v 3 1) ∷ []) none)
 unfolding walked
 w1 = refl
 
@@ -35,7 +36,7 @@ c4 : pass 10000 (filter (bin and (bin (cmp ge) (nul 1) (v 0 102)) (bin and (bin 
 unfolding opened
 c4 = refl
 
-w4 : pass-by-children 10000 (filter (bin and (bin (cmp ge) (nul 1) (v 0 102)) (bin and (bin (cmp le) (v 3 2) (bool false)) (bin (cmp ge) (v 0 101) (i 0)))) (join inner (distinct (scan 1 (fd 0 101 1 true ∷ fd 0 102 1 true ∷ []) [])) (project (en 2 1 (v 0 103) ∷ en 3 2 (bool true) ∷ []) (scan 1 (fd 0 103 1 false ∷ fd 0 104 1 false ∷ []) [])) [] (some (bin (cmp lt) (v 3 2) (bool true))))) ≡ passed 6 4 1 (join inner (distinct (scan 1 (fd 0 101 1 true ∷ fd 0 102 1 true ∷ []) ((bin (cmp ge) (nul 1) (v 0 102)) ∷ (bin (cmp ge) (v 0 101) (i 0)) ∷ []))) (project (en 2 1 (v 0 103) ∷ en 3 2 (bool true) ∷ []) (filter (bin (cmp le) (bool true) (bool false)) (scan 1 (fd 0 103 1 false ∷ fd 0 104 1 false ∷ []) []))) [] none)
+w4 : pass-by-records 10000 (filter (bin and (bin (cmp ge) (nul 1) (v 0 102)) (bin and (bin (cmp le) (v 3 2) (bool false)) (bin (cmp ge) (v 0 101) (i 0)))) (join inner (distinct (scan 1 (fd 0 101 1 true ∷ fd 0 102 1 true ∷ []) [])) (project (en 2 1 (v 0 103) ∷ en 3 2 (bool true) ∷ []) (scan 1 (fd 0 103 1 false ∷ fd 0 104 1 false ∷ []) [])) [] (some (bin (cmp lt) (v 3 2) (bool true))))) ≡ passed 6 4 1 (join inner (distinct (scan 1 (fd 0 101 1 true ∷ fd 0 102 1 true ∷ []) ((bin (cmp ge) (nul 1) (v 0 102)) ∷ (bin (cmp ge) (v 0 101) (i 0)) ∷ []))) (project (en 2 1 (v 0 103) ∷ en 3 2 (bool true) ∷ []) (filter (bin (cmp le) (bool true) (bool false)) (scan 1 (fd 0 103 1 false ∷ fd 0 104 1 false ∷ []) []))) [] none)
 unfolding walked
 w4 = refl
 
@@ -51,7 +52,7 @@ c7 : pass 10000 (sort none [] (aggregate (en 2 1 (v 2 1) ∷ []) (ag 0 101 max (
 unfolding opened
 c7 = refl
 
-w7 : pass-by-children 10000 (sort none [] (aggregate (en 2 1 (v 2 1) ∷ []) (ag 0 101 max (i 2) ∷ []) (scan 2 (fd 2 1 1 false ∷ fd 2 2 1 true ∷ fd 2 3 2 false ∷ []) []))) ≡ passed 3 0 1 (sort none [] (aggregate (en 2 1 (v 2 1) ∷ []) (ag 0 101 max (i 2) ∷ []) (scan 2 (fd 2 1 1 false ∷ fd 2 2 1 true ∷ fd 2 3 2 false ∷ []) [])))
+w7 : pass-by-records 10000 (sort none [] (aggregate (en 2 1 (v 2 1) ∷ []) (ag 0 101 max (i 2) ∷ []) (scan 2 (fd 2 1 1 false ∷ fd 2 2 1 true ∷ fd 2 3 2 false ∷ []) []))) ≡ passed 3 0 1 (sort none [] (aggregate (en 2 1 (v 2 1) ∷ []) (ag 0 101 max (i 2) ∷ []) (scan 2 (fd 2 1 1 false ∷ fd 2 2 1 true ∷ fd 2 3 2 false ∷ []) [])))
 unfolding walked
 w7 = refl
 
@@ -63,7 +64,7 @@ c9 : pass 10000 (filter (bin and (bin and (bin and (bin and (bin (cmp eq) (v 0 1
 unfolding opened
 c9 = refl
 
-w9 : pass-by-children 10000 (filter (bin and (bin and (bin and (bin and (bin (cmp eq) (v 0 101) (nul 1)) (bin (cmp le) (v 2 2) (bool true))) (bin (cmp le) (v 2 2) (bool true))) (bin (cmp gt) (v 2 2) (bool false))) (bin (cmp gt) (v 0 101) (i 2))) (project (en 0 101 (i 0) ∷ en 2 2 (v 2 3) ∷ []) (scan 2 (fd 2 1 1 false ∷ fd 2 2 1 false ∷ fd 2 3 2 false ∷ []) []))) ≡ passed 3 1 1 (project (en 0 101 (i 0) ∷ en 2 2 (v 2 3) ∷ []) (filter (bin and (bin and (bin and (bin (cmp eq) (i 0) (nul 1)) (bin (cmp gt) (i 0) (i 2))) (bin (cmp gt) (v 2 3) (bool false))) (bin (cmp le) (v 2 3) (bool true))) (scan 2 (fd 2 1 1 false ∷ fd 2 2 1 false ∷ fd 2 3 2 false ∷ []) [])))
+w9 : pass-by-records 10000 (filter (bin and (bin and (bin and (bin and (bin (cmp eq) (v 0 101) (nul 1)) (bin (cmp le) (v 2 2) (bool true))) (bin (cmp le) (v 2 2) (bool true))) (bin (cmp gt) (v 2 2) (bool false))) (bin (cmp gt) (v 0 101) (i 2))) (project (en 0 101 (i 0) ∷ en 2 2 (v 2 3) ∷ []) (scan 2 (fd 2 1 1 false ∷ fd 2 2 1 false ∷ fd 2 3 2 false ∷ []) []))) ≡ passed 3 1 1 (project (en 0 101 (i 0) ∷ en 2 2 (v 2 3) ∷ []) (filter (bin and (bin and (bin and (bin (cmp eq) (i 0) (nul 1)) (bin (cmp gt) (i 0) (i 2))) (bin (cmp gt) (v 2 3) (bool false))) (bin (cmp le) (v 2 3) (bool true))) (scan 2 (fd 2 1 1 false ∷ fd 2 2 1 false ∷ fd 2 3 2 false ∷ []) [])))
 unfolding walked
 w9 = refl
 
@@ -75,7 +76,7 @@ c11 : pass 10000 (filter (bin and (bool false) (bin (cmp ge) (nul 1) (v 5 1))) (
 unfolding opened
 c11 = refl
 
-w11 : pass-by-children 10000 (filter (bin and (bool false) (bin (cmp ge) (nul 1) (v 5 1))) (aggregate (en 4 2 (i 2) ∷ []) (ag 5 1 count (v 3 2) ∷ ag 6 1 count (v 3 1) ∷ []) (join inner (scan 3 (fd 2 1 2 true ∷ fd 2 2 1 true ∷ []) []) (scan 1 (fd 3 1 1 true ∷ fd 3 2 1 true ∷ []) []) (pr (v 2 2) (v 3 2) ∷ []) (some (bin and (bin and (bin (cmp ne) (nul 1) (v 2 2)) (bin and (bin (cmp gt) (v 3 1) (i 2)) (bin and (bin (cmp lt) (v 3 1) (i 1)) (bin (cmp lt) (v 3 1) (i 1))))) (bin (cmp le) (v 3 2) (i 3))))))) ≡ passed 6 4 1 (filter (bin (cmp ge) (nul 1) (v 5 1)) (aggregate (en 4 2 (i 2) ∷ []) (ag 5 1 count (v 3 2) ∷ ag 6 1 count (v 3 1) ∷ []) (join inner (filter (bool false) (scan 3 (fd 2 1 2 true ∷ fd 2 2 1 true ∷ []) ((bin (cmp le) (v 2 2) (i 3)) ∷ (bin (cmp ne) (nul 1) (v 2 2)) ∷ []))) (scan 1 (fd 3 1 1 true ∷ fd 3 2 1 true ∷ []) ((bin (cmp ne) (nul 1) (v 3 2)) ∷ (bin (cmp gt) (v 3 1) (i 2)) ∷ (bin (cmp lt) (v 3 1) (i 1)) ∷ (bin (cmp le) (v 3 2) (i 3)) ∷ [])) (pr (v 2 2) (v 3 2) ∷ []) none)))
+w11 : pass-by-records 10000 (filter (bin and (bool false) (bin (cmp ge) (nul 1) (v 5 1))) (aggregate (en 4 2 (i 2) ∷ []) (ag 5 1 count (v 3 2) ∷ ag 6 1 count (v 3 1) ∷ []) (join inner (scan 3 (fd 2 1 2 true ∷ fd 2 2 1 true ∷ []) []) (scan 1 (fd 3 1 1 true ∷ fd 3 2 1 true ∷ []) []) (pr (v 2 2) (v 3 2) ∷ []) (some (bin and (bin and (bin (cmp ne) (nul 1) (v 2 2)) (bin and (bin (cmp gt) (v 3 1) (i 2)) (bin and (bin (cmp lt) (v 3 1) (i 1)) (bin (cmp lt) (v 3 1) (i 1))))) (bin (cmp le) (v 3 2) (i 3))))))) ≡ passed 6 4 1 (filter (bin (cmp ge) (nul 1) (v 5 1)) (aggregate (en 4 2 (i 2) ∷ []) (ag 5 1 count (v 3 2) ∷ ag 6 1 count (v 3 1) ∷ []) (join inner (filter (bool false) (scan 3 (fd 2 1 2 true ∷ fd 2 2 1 true ∷ []) ((bin (cmp le) (v 2 2) (i 3)) ∷ (bin (cmp ne) (nul 1) (v 2 2)) ∷ []))) (scan 1 (fd 3 1 1 true ∷ fd 3 2 1 true ∷ []) ((bin (cmp ne) (nul 1) (v 3 2)) ∷ (bin (cmp gt) (v 3 1) (i 2)) ∷ (bin (cmp lt) (v 3 1) (i 1)) ∷ (bin (cmp le) (v 3 2) (i 3)) ∷ [])) (pr (v 2 2) (v 3 2) ∷ []) none)))
 unfolding walked
 w11 = refl
 
@@ -87,7 +88,7 @@ c13 : pass 0 (filter (bin and (bin (cmp ge) (i 3) (v 3 2)) (bin (cmp eq) (v 3 2)
 unfolding opened
 c13 = refl
 
-w13 : pass-by-children 0 (filter (bin and (bin (cmp ge) (i 3) (v 3 2)) (bin (cmp eq) (v 3 2) (i 1))) (aggregate [] (ag 2 3 min (v 0 101) ∷ ag 3 2 min (fn 0 0 1 (econs (i 3) (econs (v 0 101) enil))) ∷ []) (filter (bin and (bin (cmp gt) (i 3) (v 0 101)) (bin and (bin (cmp gt) (v 0 101) (i 2)) (bin and (bin (cmp ge) (v 0 101) (i 0)) (bin and (bin (cmp ge) (v 0 101) (i 0)) (bin (cmp ge) (v 0 101) (i 1)))))) (scan 4 (fd 0 101 1 true ∷ []) [])))) ≡ passed 0 0 0 (filter (bin and (bin (cmp ge) (i 3) (v 3 2)) (bin (cmp eq) (v 3 2) (i 1))) (aggregate [] (ag 2 3 min (v 0 101) ∷ ag 3 2 min (fn 0 0 1 (econs (i 3) (econs (v 0 101) enil))) ∷ []) (filter (bin and (bin (cmp gt) (i 3) (v 0 101)) (bin and (bin (cmp gt) (v 0 101) (i 2)) (bin and (bin (cmp ge) (v 0 101) (i 0)) (bin and (bin (cmp ge) (v 0 101) (i 0)) (bin (cmp ge) (v 0 101) (i 1)))))) (scan 4 (fd 0 101 1 true ∷ []) []))))
+w13 : pass-by-records 0 (filter (bin and (bin (cmp ge) (i 3) (v 3 2)) (bin (cmp eq) (v 3 2) (i 1))) (aggregate [] (ag 2 3 min (v 0 101) ∷ ag 3 2 min (fn 0 0 1 (econs (i 3) (econs (v 0 101) enil))) ∷ []) (filter (bin and (bin (cmp gt) (i 3) (v 0 101)) (bin and (bin (cmp gt) (v 0 101) (i 2)) (bin and (bin (cmp ge) (v 0 101) (i 0)) (bin and (bin (cmp ge) (v 0 101) (i 0)) (bin (cmp ge) (v 0 101) (i 1)))))) (scan 4 (fd 0 101 1 true ∷ []) [])))) ≡ passed 0 0 0 (filter (bin and (bin (cmp ge) (i 3) (v 3 2)) (bin (cmp eq) (v 3 2) (i 1))) (aggregate [] (ag 2 3 min (v 0 101) ∷ ag 3 2 min (fn 0 0 1 (econs (i 3) (econs (v 0 101) enil))) ∷ []) (filter (bin and (bin (cmp gt) (i 3) (v 0 101)) (bin and (bin (cmp gt) (v 0 101) (i 2)) (bin and (bin (cmp ge) (v 0 101) (i 0)) (bin and (bin (cmp ge) (v 0 101) (i 0)) (bin (cmp ge) (v 0 101) (i 1)))))) (scan 4 (fd 0 101 1 true ∷ []) []))))
 unfolding walked
 w13 = refl
 
@@ -99,7 +100,7 @@ c15 : pass 1 (filter (bin and (bin and (bin (cmp lt) (i 2) (v 0 101)) (bin and (
 unfolding opened
 c15 = refl
 
-w15 : pass-by-children 1 (filter (bin and (bin and (bin (cmp lt) (i 2) (v 0 101)) (bin and (bin and (bin and (bin and (bin (cmp eq) (v 2 1) (i 3)) (bin (cmp lt) (nul 1) (v 2 1))) (bin (cmp lt) (v 2 1) (i 0))) (bin (cmp le) (v 2 1) (i 2))) (bin (cmp gt) (v 2 1) (i 2)))) (bool false)) (window (wn 0 101 min (fn 1 0 1 enil) [] ∷ []) (filter (bin and (bin and (bin and (bin (cmp lt) (v 2 1) (i 0)) (bin and (bin and (bin and (bin (cmp ge) (v 2 1) (v 2 1)) (bin (cmp ge) (v 2 1) (i 1))) (bin (cmp eq) (v 2 1) (i 0))) (bin (cmp eq) (v 2 1) (i 1)))) (bin (cmp lt) (nul 1) (v 2 1))) (bin (cmp gt) (i 0) (v 2 1))) (scan 4 (fd 2 1 1 false ∷ []) [])))) ≡ passed 1 1 0 (filter (bin and (bin and (bin and (bin (cmp lt) (i 2) (v 0 101)) (bin (cmp eq) (v 2 1) (i 3))) (bin (cmp lt) (nul 1) (v 2 1))) (bin (cmp lt) (v 2 1) (i 0))) (window (wn 0 101 min (fn 1 0 1 enil) [] ∷ []) (filter (bool false) (filter (bin and (bin and (bin and (bin (cmp lt) (v 2 1) (i 0)) (bin and (bin and (bin and (bin (cmp ge) (v 2 1) (v 2 1)) (bin (cmp ge) (v 2 1) (i 1))) (bin (cmp eq) (v 2 1) (i 0))) (bin (cmp eq) (v 2 1) (i 1)))) (bin (cmp lt) (nul 1) (v 2 1))) (bin (cmp gt) (i 0) (v 2 1))) (scan 4 (fd 2 1 1 false ∷ []) [])))))
+w15 : pass-by-records 1 (filter (bin and (bin and (bin (cmp lt) (i 2) (v 0 101)) (bin and (bin and (bin and (bin and (bin (cmp eq) (v 2 1) (i 3)) (bin (cmp lt) (nul 1) (v 2 1))) (bin (cmp lt) (v 2 1) (i 0))) (bin (cmp le) (v 2 1) (i 2))) (bin (cmp gt) (v 2 1) (i 2)))) (bool false)) (window (wn 0 101 min (fn 1 0 1 enil) [] ∷ []) (filter (bin and (bin and (bin and (bin (cmp lt) (v 2 1) (i 0)) (bin and (bin and (bin and (bin (cmp ge) (v 2 1) (v 2 1)) (bin (cmp ge) (v 2 1) (i 1))) (bin (cmp eq) (v 2 1) (i 0))) (bin (cmp eq) (v 2 1) (i 1)))) (bin (cmp lt) (nul 1) (v 2 1))) (bin (cmp gt) (i 0) (v 2 1))) (scan 4 (fd 2 1 1 false ∷ []) [])))) ≡ passed 1 1 0 (filter (bin and (bin and (bin and (bin (cmp lt) (i 2) (v 0 101)) (bin (cmp eq) (v 2 1) (i 3))) (bin (cmp lt) (nul 1) (v 2 1))) (bin (cmp lt) (v 2 1) (i 0))) (window (wn 0 101 min (fn 1 0 1 enil) [] ∷ []) (filter (bool false) (filter (bin and (bin and (bin and (bin (cmp lt) (v 2 1) (i 0)) (bin and (bin and (bin and (bin (cmp ge) (v 2 1) (v 2 1)) (bin (cmp ge) (v 2 1) (i 1))) (bin (cmp eq) (v 2 1) (i 0))) (bin (cmp eq) (v 2 1) (i 1)))) (bin (cmp lt) (nul 1) (v 2 1))) (bin (cmp gt) (i 0) (v 2 1))) (scan 4 (fd 2 1 1 false ∷ []) [])))))
 unfolding walked
 w15 = refl
 
@@ -115,7 +116,7 @@ c18 : pass 10000 (filter (bin and (bin and (bin and (bin (cmp eq) (v 3 1) (nul 1
 unfolding opened
 c18 = refl
 
-w18 : pass-by-children 10000 (filter (bin and (bin and (bin and (bin (cmp eq) (v 3 1) (nul 1)) (bin (cmp ne) (v 3 1) (i 1))) (bin (cmp eq) (v 3 1) (i 0))) (bool false)) (aggregate [] (ag 3 1 count (i 3) ∷ []) (scan 4 (fd 2 1 1 true ∷ []) []))) ≡ passed 3 0 1 (filter (bin and (bin and (bin (cmp ne) (v 3 1) (i 1)) (bool false)) (bool false)) (aggregate [] (ag 3 1 count (i 3) ∷ []) (scan 4 (fd 2 1 1 true ∷ []) [])))
+w18 : pass-by-records 10000 (filter (bin and (bin and (bin and (bin (cmp eq) (v 3 1) (nul 1)) (bin (cmp ne) (v 3 1) (i 1))) (bin (cmp eq) (v 3 1) (i 0))) (bool false)) (aggregate [] (ag 3 1 count (i 3) ∷ []) (scan 4 (fd 2 1 1 true ∷ []) []))) ≡ passed 3 0 1 (filter (bin and (bin and (bin (cmp ne) (v 3 1) (i 1)) (bool false)) (bool false)) (aggregate [] (ag 3 1 count (i 3) ∷ []) (scan 4 (fd 2 1 1 true ∷ []) [])))
 unfolding walked
 w18 = refl
 
@@ -123,7 +124,7 @@ c19 : pass 1 (filter (bin and (bin and (bin (cmp eq) (i 1) (v 3 2)) (between fal
 unfolding opened
 c19 = refl
 
-w19 : pass-by-children 1 (filter (bin and (bin and (bin (cmp eq) (i 1) (v 3 2)) (between false (i 3) (i 2) (i 1))) (bin (cmp gt) (v 3 2) (i 0))) (join inner (project (en 0 101 (bool false) ∷ []) (scan 1 (fd 2 1 1 false ∷ fd 2 2 1 false ∷ []) [])) (sort none (ky false (v 3 2) ∷ []) (scan 3 (fd 3 1 2 false ∷ fd 3 2 1 true ∷ []) ((bin (cmp le) (v 3 2) (nul 1)) ∷ (bin (cmp ne) (v 3 2) (nul 1)) ∷ []))) (pr (i 0) (v 3 2) ∷ []) (some (bin and (bin and (bin and (bin (cmp ge) (v 3 2) (i 2)) (bin and (bin and (bin (cmp le) (v 3 2) (nul 1)) (bin (cmp ne) (v 3 2) (nul 1))) (bin (cmp lt) (v 3 2) (i 3)))) (bin (cmp eq) (v 3 2) (i 2))) (bin (cmp eq) (i 1) (v 3 2)))))) ≡ passed 1 1 0 (join inner (filter (between false (i 3) (i 2) (i 1)) (project (en 0 101 (bool false) ∷ []) (scan 1 (fd 2 1 1 false ∷ fd 2 2 1 false ∷ []) []))) (filter (bin and (bin and (bin and (bin and (bin and (bin and (bin and (bin (cmp eq) (i 1) (v 3 2)) (bin (cmp gt) (v 3 2) (i 0))) (bin (cmp ge) (v 3 2) (i 2))) (bin (cmp le) (v 3 2) (nul 1))) (bin (cmp ne) (v 3 2) (nul 1))) (bin (cmp lt) (v 3 2) (i 3))) (bin (cmp eq) (v 3 2) (i 2))) (bin (cmp eq) (i 1) (v 3 2))) (sort none (ky false (v 3 2) ∷ []) (scan 3 (fd 3 1 2 false ∷ fd 3 2 1 true ∷ []) ((bin (cmp le) (v 3 2) (nul 1)) ∷ (bin (cmp ne) (v 3 2) (nul 1)) ∷ [])))) (pr (i 0) (v 3 2) ∷ []) none)
+w19 : pass-by-records 1 (filter (bin and (bin and (bin (cmp eq) (i 1) (v 3 2)) (between false (i 3) (i 2) (i 1))) (bin (cmp gt) (v 3 2) (i 0))) (join inner (project (en 0 101 (bool false) ∷ []) (scan 1 (fd 2 1 1 false ∷ fd 2 2 1 false ∷ []) [])) (sort none (ky false (v 3 2) ∷ []) (scan 3 (fd 3 1 2 false ∷ fd 3 2 1 true ∷ []) ((bin (cmp le) (v 3 2) (nul 1)) ∷ (bin (cmp ne) (v 3 2) (nul 1)) ∷ []))) (pr (i 0) (v 3 2) ∷ []) (some (bin and (bin and (bin and (bin (cmp ge) (v 3 2) (i 2)) (bin and (bin and (bin (cmp le) (v 3 2) (nul 1)) (bin (cmp ne) (v 3 2) (nul 1))) (bin (cmp lt) (v 3 2) (i 3)))) (bin (cmp eq) (v 3 2) (i 2))) (bin (cmp eq) (i 1) (v 3 2)))))) ≡ passed 1 1 0 (join inner (filter (between false (i 3) (i 2) (i 1)) (project (en 0 101 (bool false) ∷ []) (scan 1 (fd 2 1 1 false ∷ fd 2 2 1 false ∷ []) []))) (filter (bin and (bin and (bin and (bin and (bin and (bin and (bin and (bin (cmp eq) (i 1) (v 3 2)) (bin (cmp gt) (v 3 2) (i 0))) (bin (cmp ge) (v 3 2) (i 2))) (bin (cmp le) (v 3 2) (nul 1))) (bin (cmp ne) (v 3 2) (nul 1))) (bin (cmp lt) (v 3 2) (i 3))) (bin (cmp eq) (v 3 2) (i 2))) (bin (cmp eq) (i 1) (v 3 2))) (sort none (ky false (v 3 2) ∷ []) (scan 3 (fd 3 1 2 false ∷ fd 3 2 1 true ∷ []) ((bin (cmp le) (v 3 2) (nul 1)) ∷ (bin (cmp ne) (v 3 2) (nul 1)) ∷ [])))) (pr (i 0) (v 3 2) ∷ []) none)
 unfolding walked
 w19 = refl
 
@@ -139,7 +140,7 @@ c22 : pass 0 (join right (scan 2 (fd 2 1 1 false ∷ fd 2 2 1 true ∷ fd 2 3 2 
 unfolding opened
 c22 = refl
 
-w22 : pass-by-children 0 (join right (scan 2 (fd 2 1 1 false ∷ fd 2 2 1 true ∷ fd 2 3 2 false ∷ []) []) (scan 3 (fd 3 1 2 true ∷ fd 3 2 1 true ∷ []) []) (pr (v 2 1) (v 3 2) ∷ []) (some (bin (cmp lt) (nul 1) (v 2 2)))) ≡ passed 0 0 0 (join right (scan 2 (fd 2 1 1 false ∷ fd 2 2 1 true ∷ fd 2 3 2 false ∷ []) []) (scan 3 (fd 3 1 2 true ∷ fd 3 2 1 true ∷ []) []) (pr (v 2 1) (v 3 2) ∷ []) (some (bin (cmp lt) (nul 1) (v 2 2))))
+w22 : pass-by-records 0 (join right (scan 2 (fd 2 1 1 false ∷ fd 2 2 1 true ∷ fd 2 3 2 false ∷ []) []) (scan 3 (fd 3 1 2 true ∷ fd 3 2 1 true ∷ []) []) (pr (v 2 1) (v 3 2) ∷ []) (some (bin (cmp lt) (nul 1) (v 2 2)))) ≡ passed 0 0 0 (join right (scan 2 (fd 2 1 1 false ∷ fd 2 2 1 true ∷ fd 2 3 2 false ∷ []) []) (scan 3 (fd 3 1 2 true ∷ fd 3 2 1 true ∷ []) []) (pr (v 2 1) (v 3 2) ∷ []) (some (bin (cmp lt) (nul 1) (v 2 2))))
 unfolding walked
 w22 = refl
 
@@ -151,7 +152,7 @@ c24 : pass 2 (filter (bin (cmp lt) (i 2) (v 3 1)) (aggregate (en 2 1 (v 2 2) ∷
 unfolding opened
 c24 = refl
 
-w24 : pass-by-children 2 (filter (bin (cmp lt) (i 2) (v 3 1)) (aggregate (en 2 1 (v 2 2) ∷ []) (ag 3 1 max (i 2) ∷ ag 4 1 min (v 2 1) ∷ []) (filter (bin and (bin (cmp gt) (v 2 2) (i 2)) (bin and (bin and (fn 2 0 2 (econs (bool true) enil)) (bin (cmp ne) (v 2 1) (i 2))) (bin (cmp ne) (v 2 1) (i 2)))) (scan 1 (fd 2 1 1 false ∷ fd 2 2 1 false ∷ []) [])))) ≡ passed 2 0 0 (filter (bin (cmp lt) (i 2) (v 3 1)) (aggregate (en 2 1 (v 2 2) ∷ []) (ag 3 1 max (i 2) ∷ ag 4 1 min (v 2 1) ∷ []) (filter (bin and (bin (cmp gt) (v 2 2) (i 2)) (bin and (bin and (fn 2 0 2 (econs (bool true) enil)) (bin (cmp ne) (v 2 1) (i 2))) (bin (cmp ne) (v 2 1) (i 2)))) (scan 1 (fd 2 1 1 false ∷ fd 2 2 1 false ∷ []) []))))
+w24 : pass-by-records 2 (filter (bin (cmp lt) (i 2) (v 3 1)) (aggregate (en 2 1 (v 2 2) ∷ []) (ag 3 1 max (i 2) ∷ ag 4 1 min (v 2 1) ∷ []) (filter (bin and (bin (cmp gt) (v 2 2) (i 2)) (bin and (bin and (fn 2 0 2 (econs (bool true) enil)) (bin (cmp ne) (v 2 1) (i 2))) (bin (cmp ne) (v 2 1) (i 2)))) (scan 1 (fd 2 1 1 false ∷ fd 2 2 1 false ∷ []) [])))) ≡ passed 2 0 0 (filter (bin (cmp lt) (i 2) (v 3 1)) (aggregate (en 2 1 (v 2 2) ∷ []) (ag 3 1 max (i 2) ∷ ag 4 1 min (v 2 1) ∷ []) (filter (bin and (bin (cmp gt) (v 2 2) (i 2)) (bin and (bin and (fn 2 0 2 (econs (bool true) enil)) (bin (cmp ne) (v 2 1) (i 2))) (bin (cmp ne) (v 2 1) (i 2)))) (scan 1 (fd 2 1 1 false ∷ fd 2 2 1 false ∷ []) []))))
 unfolding walked
 w24 = refl
 
@@ -159,7 +160,7 @@ c25 : pass 5 (filter (bin and (bin (cmp le) (v 2 3) (bool true)) (bin (cmp ge) (
 unfolding opened
 c25 = refl
 
-w25 : pass-by-children 5 (filter (bin and (bin (cmp le) (v 2 3) (bool true)) (bin (cmp ge) (nul 1) (v 2 1))) (window (wn 3 1 count (i 3) (nm 2 2 ∷ nm 2 1 ∷ []) ∷ wn 0 101 min (v 2 2) (nm 2 3 ∷ []) ∷ []) (scan 2 (fd 2 1 1 false ∷ fd 2 2 1 false ∷ fd 2 3 2 true ∷ []) []))) ≡ passed 3 0 1 (filter (bin and (bin (cmp le) (v 2 3) (bool true)) (bin (cmp ge) (nul 1) (v 2 1))) (window (wn 3 1 count (i 3) (nm 2 2 ∷ nm 2 1 ∷ []) ∷ wn 0 101 min (v 2 2) (nm 2 3 ∷ []) ∷ []) (scan 2 (fd 2 1 1 false ∷ fd 2 2 1 false ∷ fd 2 3 2 true ∷ []) [])))
+w25 : pass-by-records 5 (filter (bin and (bin (cmp le) (v 2 3) (bool true)) (bin (cmp ge) (nul 1) (v 2 1))) (window (wn 3 1 count (i 3) (nm 2 2 ∷ nm 2 1 ∷ []) ∷ wn 0 101 min (v 2 2) (nm 2 3 ∷ []) ∷ []) (scan 2 (fd 2 1 1 false ∷ fd 2 2 1 false ∷ fd 2 3 2 true ∷ []) []))) ≡ passed 3 0 1 (filter (bin and (bin (cmp le) (v 2 3) (bool true)) (bin (cmp ge) (nul 1) (v 2 1))) (window (wn 3 1 count (i 3) (nm 2 2 ∷ nm 2 1 ∷ []) ∷ wn 0 101 min (v 2 2) (nm 2 3 ∷ []) ∷ []) (scan 2 (fd 2 1 1 false ∷ fd 2 2 1 false ∷ fd 2 3 2 true ∷ []) [])))
 unfolding walked
 w25 = refl
 
@@ -175,7 +176,7 @@ c28 : pass 10000 (filter (bin (cmp ge) (v 2 2) (i 1)) (sort (some 0) (ky true (v
 unfolding opened
 c28 = refl
 
-w28 : pass-by-children 10000 (filter (bin (cmp ge) (v 2 2) (i 1)) (sort (some 0) (ky true (v 2 1) ∷ []) (scan 2 (fd 2 1 1 true ∷ fd 2 2 1 true ∷ fd 2 3 2 true ∷ []) ((bin (cmp gt) (v 2 2) (i 3)) ∷ (bin (cmp eq) (v 2 2) (i 3)) ∷ [])))) ≡ passed 3 0 1 (filter (bin (cmp ge) (v 2 2) (i 1)) (sort (some 0) (ky true (v 2 1) ∷ []) (scan 2 (fd 2 1 1 true ∷ fd 2 2 1 true ∷ fd 2 3 2 true ∷ []) ((bin (cmp gt) (v 2 2) (i 3)) ∷ (bin (cmp eq) (v 2 2) (i 3)) ∷ []))))
+w28 : pass-by-records 10000 (filter (bin (cmp ge) (v 2 2) (i 1)) (sort (some 0) (ky true (v 2 1) ∷ []) (scan 2 (fd 2 1 1 true ∷ fd 2 2 1 true ∷ fd 2 3 2 true ∷ []) ((bin (cmp gt) (v 2 2) (i 3)) ∷ (bin (cmp eq) (v 2 2) (i 3)) ∷ [])))) ≡ passed 3 0 1 (filter (bin (cmp ge) (v 2 2) (i 1)) (sort (some 0) (ky true (v 2 1) ∷ []) (scan 2 (fd 2 1 1 true ∷ fd 2 2 1 true ∷ fd 2 3 2 true ∷ []) ((bin (cmp gt) (v 2 2) (i 3)) ∷ (bin (cmp eq) (v 2 2) (i 3)) ∷ []))))
 unfolding walked
 w28 = refl
 
@@ -183,7 +184,7 @@ c29 : pass 10000 (filter (bin and (bin and (bin (cmp ge) (v 2 1) (i 3)) (bin (cm
 unfolding opened
 c29 = refl
 
-w29 : pass-by-children 10000 (filter (bin and (bin and (bin (cmp ge) (v 2 1) (i 3)) (bin (cmp gt) (i 2) (v 2 1))) (bin (cmp ge) (v 2 1) (nul 1))) (join inner (scan 2 (fd 2 1 1 false ∷ fd 2 2 1 false ∷ fd 2 3 2 false ∷ []) ((bin (cmp lt) (v 2 1) (nul 1)) ∷ (bin (cmp lt) (v 2 1) (nul 1)) ∷ [])) (scan 4 (fd 3 1 1 true ∷ []) ((bin (cmp le) (v 3 1) (i 3)) ∷ (test isTrue (bool false)) ∷ [])) (pr (v 2 1) (v 3 1) ∷ []) (some (bin and (bin and (bin (cmp eq) (i 3) (v 2 1)) (bin (cmp le) (v 3 1) (i 0))) (bin (cmp ne) (nul 1) (v 2 2)))))) ≡ passed 4 2 1 (join inner (filter (bin and (bin and (bin and (bin (cmp ne) (nul 1) (v 2 2)) (bin (cmp eq) (i 3) (v 2 1))) (bin (cmp ge) (v 2 1) (nul 1))) (bin (cmp le) (v 2 1) (i 0))) (scan 2 (fd 2 1 1 false ∷ fd 2 2 1 false ∷ fd 2 3 2 false ∷ []) ((bin (cmp lt) (v 2 1) (nul 1)) ∷ (bin (cmp lt) (v 2 1) (nul 1)) ∷ []))) (scan 4 (fd 3 1 1 true ∷ []) ((bin (cmp le) (v 3 1) (i 3)) ∷ (test isTrue (bool false)) ∷ (bin (cmp eq) (i 3) (v 3 1)) ∷ (bin (cmp ge) (v 3 1) (nul 1)) ∷ (bin (cmp le) (v 3 1) (i 0)) ∷ [])) (pr (v 2 1) (v 3 1) ∷ []) none)
+w29 : pass-by-records 10000 (filter (bin and (bin and (bin (cmp ge) (v 2 1) (i 3)) (bin (cmp gt) (i 2) (v 2 1))) (bin (cmp ge) (v 2 1) (nul 1))) (join inner (scan 2 (fd 2 1 1 false ∷ fd 2 2 1 false ∷ fd 2 3 2 false ∷ []) ((bin (cmp lt) (v 2 1) (nul 1)) ∷ (bin (cmp lt) (v 2 1) (nul 1)) ∷ [])) (scan 4 (fd 3 1 1 true ∷ []) ((bin (cmp le) (v 3 1) (i 3)) ∷ (test isTrue (bool false)) ∷ [])) (pr (v 2 1) (v 3 1) ∷ []) (some (bin and (bin and (bin (cmp eq) (i 3) (v 2 1)) (bin (cmp le) (v 3 1) (i 0))) (bin (cmp ne) (nul 1) (v 2 2)))))) ≡ passed 4 2 1 (join inner (filter (bin and (bin and (bin and (bin (cmp ne) (nul 1) (v 2 2)) (bin (cmp eq) (i 3) (v 2 1))) (bin (cmp ge) (v 2 1) (nul 1))) (bin (cmp le) (v 2 1) (i 0))) (scan 2 (fd 2 1 1 false ∷ fd 2 2 1 false ∷ fd 2 3 2 false ∷ []) ((bin (cmp lt) (v 2 1) (nul 1)) ∷ (bin (cmp lt) (v 2 1) (nul 1)) ∷ []))) (scan 4 (fd 3 1 1 true ∷ []) ((bin (cmp le) (v 3 1) (i 3)) ∷ (test isTrue (bool false)) ∷ (bin (cmp eq) (i 3) (v 3 1)) ∷ (bin (cmp ge) (v 3 1) (nul 1)) ∷ (bin (cmp le) (v 3 1) (i 0)) ∷ [])) (pr (v 2 1) (v 3 1) ∷ []) none)
 unfolding walked
 w29 = refl
 
@@ -195,7 +196,7 @@ c31 : pass 10000 (filter (bin and (bin and (bin and (bin and (bin and (bin (cmp 
 unfolding opened
 c31 = refl
 
-w31 : pass-by-children 10000 (filter (bin and (bin and (bin and (bin and (bin and (bin (cmp lt) (i 2) (v 0 105)) (bin (cmp lt) (i 2) (v 0 105))) (bin (cmp le) (i 2) (v 0 105))) (fn 0 0 2 (econs (bool true) (econs (bool true) enil)))) (bin (cmp ge) (i 1) (v 0 105))) (bin (cmp le) (i 3) (v 0 105))) (aggregate [] (ag 0 105 min (v 2 1) ∷ []) (union (pcons (scan 4 (fd 2 1 1 true ∷ []) []) (pcons (project (en 0 101 (v 3 2) ∷ []) (scan 2 (fd 3 1 1 true ∷ fd 3 2 1 false ∷ fd 3 3 2 false ∷ []) [])) (pcons (project (en 0 104 (i 3) ∷ []) (scan 3 (fd 0 102 2 false ∷ fd 0 103 1 true ∷ []) [])) pnil)))))) ≡ passed 8 0 1 (filter (bin and (bin and (bin (cmp le) (i 3) (v 0 105)) (bin (cmp ge) (i 1) (v 0 105))) (fn 0 0 2 (econs (bool true) (econs (bool true) enil)))) (aggregate [] (ag 0 105 min (v 2 1) ∷ []) (union (pcons (scan 4 (fd 2 1 1 true ∷ []) []) (pcons (project (en 0 101 (v 3 2) ∷ []) (scan 2 (fd 3 1 1 true ∷ fd 3 2 1 false ∷ fd 3 3 2 false ∷ []) [])) (pcons (project (en 0 104 (i 3) ∷ []) (scan 3 (fd 0 102 2 false ∷ fd 0 103 1 true ∷ []) [])) pnil))))))
+w31 : pass-by-records 10000 (filter (bin and (bin and (bin and (bin and (bin and (bin (cmp lt) (i 2) (v 0 105)) (bin (cmp lt) (i 2) (v 0 105))) (bin (cmp le) (i 2) (v 0 105))) (fn 0 0 2 (econs (bool true) (econs (bool true) enil)))) (bin (cmp ge) (i 1) (v 0 105))) (bin (cmp le) (i 3) (v 0 105))) (aggregate [] (ag 0 105 min (v 2 1) ∷ []) (union (pcons (scan 4 (fd 2 1 1 true ∷ []) []) (pcons (project (en 0 101 (v 3 2) ∷ []) (scan 2 (fd 3 1 1 true ∷ fd 3 2 1 false ∷ fd 3 3 2 false ∷ []) [])) (pcons (project (en 0 104 (i 3) ∷ []) (scan 3 (fd 0 102 2 false ∷ fd 0 103 1 true ∷ []) [])) pnil)))))) ≡ passed 8 0 1 (filter (bin and (bin and (bin (cmp le) (i 3) (v 0 105)) (bin (cmp ge) (i 1) (v 0 105))) (fn 0 0 2 (econs (bool true) (econs (bool true) enil)))) (aggregate [] (ag 0 105 min (v 2 1) ∷ []) (union (pcons (scan 4 (fd 2 1 1 true ∷ []) []) (pcons (project (en 0 101 (v 3 2) ∷ []) (scan 2 (fd 3 1 1 true ∷ fd 3 2 1 false ∷ fd 3 3 2 false ∷ []) [])) (pcons (project (en 0 104 (i 3) ∷ []) (scan 3 (fd 0 102 2 false ∷ fd 0 103 1 true ∷ []) [])) pnil))))))
 unfolding walked
 w31 = refl
 
@@ -203,7 +204,7 @@ c32 : pass 10000 (filter (bin and (bool false) (bin and (bin and (bin and (bin a
 unfolding opened
 c32 = refl
 
-w32 : pass-by-children 10000 (filter (bin and (bool false) (bin and (bin and (bin and (bin and (bin and (bool false) (bool false)) (bool false)) (bool false)) (bool false)) (bin (cmp gt) (i 1) (nul 1)))) (union (pcons (filter (bin and (bin and (bool false) (bool false)) (bool false)) (scan 5 [] [])) (pcons (scan 5 [] []) pnil)))) ≡ passed 5 1 1 (union (pcons (filter (bin and (bool false) (bin (cmp gt) (i 1) (nul 1))) (scan 5 [] [])) (pcons (filter (bin and (bool false) (bin and (bin and (bin and (bin and (bin and (bool false) (bool false)) (bool false)) (bool false)) (bool false)) (bin (cmp gt) (i 1) (nul 1)))) (scan 5 [] [])) pnil)))
+w32 : pass-by-records 10000 (filter (bin and (bool false) (bin and (bin and (bin and (bin and (bin and (bool false) (bool false)) (bool false)) (bool false)) (bool false)) (bin (cmp gt) (i 1) (nul 1)))) (union (pcons (filter (bin and (bin and (bool false) (bool false)) (bool false)) (scan 5 [] [])) (pcons (scan 5 [] []) pnil)))) ≡ passed 5 1 1 (union (pcons (filter (bin and (bool false) (bin (cmp gt) (i 1) (nul 1))) (scan 5 [] [])) (pcons (filter (bin and (bool false) (bin and (bin and (bin and (bin and (bin and (bool false) (bool false)) (bool false)) (bool false)) (bool false)) (bin (cmp gt) (i 1) (nul 1)))) (scan 5 [] [])) pnil)))
 unfolding walked
 w32 = refl
 
@@ -215,7 +216,7 @@ c34 : pass 10000 (filter (bin and (bin (cmp gt) (v 0 102) (i 2)) (bin (cmp le) (
 unfolding opened
 c34 = refl
 
-w34 : pass-by-children 10000 (filter (bin and (bin (cmp gt) (v 0 102) (i 2)) (bin (cmp le) (v 0 102) (i 3))) (join rightSemi (scan 2 (fd 2 1 1 false ∷ fd 2 2 1 true ∷ fd 2 3 2 false ∷ []) []) (scan 3 (fd 0 101 2 true ∷ fd 0 102 1 true ∷ []) []) [] (some (bin (cmp lt) (v 0 102) (i 2))))) ≡ passed 3 2 1 (join rightSemi (scan 2 (fd 2 1 1 false ∷ fd 2 2 1 true ∷ fd 2 3 2 false ∷ []) []) (scan 3 (fd 0 101 2 true ∷ fd 0 102 1 true ∷ []) ((bin (cmp gt) (v 0 102) (i 2)) ∷ (bin (cmp lt) (v 0 102) (i 2)) ∷ [])) [] none)
+w34 : pass-by-records 10000 (filter (bin and (bin (cmp gt) (v 0 102) (i 2)) (bin (cmp le) (v 0 102) (i 3))) (join rightSemi (scan 2 (fd 2 1 1 false ∷ fd 2 2 1 true ∷ fd 2 3 2 false ∷ []) []) (scan 3 (fd 0 101 2 true ∷ fd 0 102 1 true ∷ []) []) [] (some (bin (cmp lt) (v 0 102) (i 2))))) ≡ passed 3 2 1 (join rightSemi (scan 2 (fd 2 1 1 false ∷ fd 2 2 1 true ∷ fd 2 3 2 false ∷ []) []) (scan 3 (fd 0 101 2 true ∷ fd 0 102 1 true ∷ []) ((bin (cmp gt) (v 0 102) (i 2)) ∷ (bin (cmp lt) (v 0 102) (i 2)) ∷ [])) [] none)
 unfolding walked
 w34 = refl
 
@@ -231,7 +232,7 @@ c37 : pass 10000 (filter (bool false) (scan 4 (fd 2 1 1 false ∷ []) [])) ≡ p
 unfolding opened
 c37 = refl
 
-w37 : pass-by-children 10000 (filter (bool false) (scan 4 (fd 2 1 1 false ∷ []) [])) ≡ passed 2 0 1 (filter (bool false) (scan 4 (fd 2 1 1 false ∷ []) []))
+w37 : pass-by-records 10000 (filter (bool false) (scan 4 (fd 2 1 1 false ∷ []) [])) ≡ passed 2 0 1 (filter (bool false) (scan 4 (fd 2 1 1 false ∷ []) []))
 unfolding walked
 w37 = refl
 
@@ -263,7 +264,7 @@ c44 : pass 10000 (filter (bin and (bin (cmp gt) (i 2) (v 4 1)) (bin and (bin (cm
 unfolding opened
 c44 = refl
 
-w44 : pass-by-children 10000 (filter (bin and (bin (cmp gt) (i 2) (v 4 1)) (bin and (bin (cmp gt) (bool false) (v 3 3)) (bin (cmp ge) (v 4 1) (i 0)))) (join inner (join rightAnti (scan 4 (fd 2 1 1 false ∷ []) ((bin (cmp eq) (v 2 1) (i 1)) ∷ (bin (cmp eq) (v 2 1) (i 1)) ∷ [])) (scan 2 (fd 3 1 1 true ∷ fd 3 2 1 true ∷ fd 3 3 2 true ∷ []) []) (pr (v 2 1) (v 3 2) ∷ pr (v 2 1) (v 3 2) ∷ []) none) (filter (bin and (bin (cmp gt) (nul 1) (v 4 1)) (bin (cmp le) (v 4 1) (v 4 1))) (scan 4 (fd 4 1 1 true ∷ []) [])) [] none)) ≡ passed 5 4 1 (join inner (join rightAnti (scan 4 (fd 2 1 1 false ∷ []) ((bin (cmp eq) (v 2 1) (i 1)) ∷ (bin (cmp eq) (v 2 1) (i 1)) ∷ [])) (scan 2 (fd 3 1 1 true ∷ fd 3 2 1 true ∷ fd 3 3 2 true ∷ []) ((bin (cmp gt) (bool false) (v 3 3)) ∷ [])) (pr (v 2 1) (v 3 2) ∷ pr (v 2 1) (v 3 2) ∷ []) none) (scan 4 (fd 4 1 1 true ∷ []) ((bin (cmp le) (v 4 1) (v 4 1)) ∷ (bin (cmp ge) (v 4 1) (i 0)) ∷ (bin (cmp gt) (nul 1) (v 4 1)) ∷ [])) [] none)
+w44 : pass-by-records 10000 (filter (bin and (bin (cmp gt) (i 2) (v 4 1)) (bin and (bin (cmp gt) (bool false) (v 3 3)) (bin (cmp ge) (v 4 1) (i 0)))) (join inner (join rightAnti (scan 4 (fd 2 1 1 false ∷ []) ((bin (cmp eq) (v 2 1) (i 1)) ∷ (bin (cmp eq) (v 2 1) (i 1)) ∷ [])) (scan 2 (fd 3 1 1 true ∷ fd 3 2 1 true ∷ fd 3 3 2 true ∷ []) []) (pr (v 2 1) (v 3 2) ∷ pr (v 2 1) (v 3 2) ∷ []) none) (filter (bin and (bin (cmp gt) (nul 1) (v 4 1)) (bin (cmp le) (v 4 1) (v 4 1))) (scan 4 (fd 4 1 1 true ∷ []) [])) [] none)) ≡ passed 5 4 1 (join inner (join rightAnti (scan 4 (fd 2 1 1 false ∷ []) ((bin (cmp eq) (v 2 1) (i 1)) ∷ (bin (cmp eq) (v 2 1) (i 1)) ∷ [])) (scan 2 (fd 3 1 1 true ∷ fd 3 2 1 true ∷ fd 3 3 2 true ∷ []) ((bin (cmp gt) (bool false) (v 3 3)) ∷ [])) (pr (v 2 1) (v 3 2) ∷ pr (v 2 1) (v 3 2) ∷ []) none) (scan 4 (fd 4 1 1 true ∷ []) ((bin (cmp le) (v 4 1) (v 4 1)) ∷ (bin (cmp ge) (v 4 1) (i 0)) ∷ (bin (cmp gt) (nul 1) (v 4 1)) ∷ [])) [] none)
 unfolding walked
 w44 = refl
 
@@ -271,7 +272,7 @@ c45 : pass 10000 (filter (bin and (bool true) (bool false)) (sort none [] (filte
 unfolding opened
 c45 = refl
 
-w45 : pass-by-children 10000 (filter (bin and (bool true) (bool false)) (sort none [] (filter (bin and (bool false) (bin and (bool false) (bool true))) (scan 5 [] [])))) ≡ passed 3 1 1 (sort none [] (filter (bin and (bool false) (bool true)) (scan 5 [] [])))
+w45 : pass-by-records 10000 (filter (bin and (bool true) (bool false)) (sort none [] (filter (bin and (bool false) (bin and (bool false) (bool true))) (scan 5 [] [])))) ≡ passed 3 1 1 (sort none [] (filter (bin and (bool false) (bool true)) (scan 5 [] [])))
 unfolding walked
 w45 = refl
 
@@ -279,7 +280,7 @@ c46 : pass 3 (filter (bin and (bin and (bin (cmp ge) (v 6 2) (i 3)) (fn 1 2 2 (e
 unfolding opened
 c46 = refl
 
-w46 : pass-by-children 3 (filter (bin and (bin and (bin (cmp ge) (v 6 2) (i 3)) (fn 1 2 2 (econs (v 6 2) (econs (fn 2 0 1 (econs (i 1) enil)) enil)))) (bin (cmp lt) (v 6 2) (i 0))) (join rightSemi (union (pcons (scan 3 (fd 2 1 2 true ∷ fd 2 2 1 true ∷ []) []) (pcons (project (en 0 102 (bool true) ∷ en 3 3 (v 0 101) ∷ []) (scan 4 (fd 0 101 1 true ∷ []) [])) (pcons (project (en 0 103 (bool false) ∷ en 5 1 (v 4 1) ∷ []) (scan 4 (fd 4 1 1 true ∷ []) [])) pnil)))) (filter (bin (cmp le) (v 6 1) (bool true)) (scan 3 (fd 6 1 2 false ∷ fd 6 2 1 false ∷ []) [])) (pr (v 2 2) (v 6 2) ∷ pr (v 2 2) (v 6 2) ∷ []) none)) ≡ passed 3 1 0 (join rightSemi (union (pcons (scan 3 (fd 2 1 2 true ∷ fd 2 2 1 true ∷ []) []) (pcons (project (en 0 102 (bool true) ∷ en 3 3 (v 0 101) ∷ []) (scan 4 (fd 0 101 1 true ∷ []) [])) (pcons (project (en 0 103 (bool false) ∷ en 5 1 (v 4 1) ∷ []) (scan 4 (fd 4 1 1 true ∷ []) [])) pnil)))) (filter (bin and (bin and (bin (cmp ge) (v 6 2) (i 3)) (bin (cmp lt) (v 6 2) (i 0))) (fn 1 2 2 (econs (v 6 2) (econs (fn 2 0 1 (econs (i 1) enil)) enil)))) (filter (bin (cmp le) (v 6 1) (bool true)) (scan 3 (fd 6 1 2 false ∷ fd 6 2 1 false ∷ []) []))) (pr (v 2 2) (v 6 2) ∷ pr (v 2 2) (v 6 2) ∷ []) none)
+w46 : pass-by-records 3 (filter (bin and (bin and (bin (cmp ge) (v 6 2) (i 3)) (fn 1 2 2 (econs (v 6 2) (econs (fn 2 0 1 (econs (i 1) enil)) enil)))) (bin (cmp lt) (v 6 2) (i 0))) (join rightSemi (union (pcons (scan 3 (fd 2 1 2 true ∷ fd 2 2 1 true ∷ []) []) (pcons (project (en 0 102 (bool true) ∷ en 3 3 (v 0 101) ∷ []) (scan 4 (fd 0 101 1 true ∷ []) [])) (pcons (project (en 0 103 (bool false) ∷ en 5 1 (v 4 1) ∷ []) (scan 4 (fd 4 1 1 true ∷ []) [])) pnil)))) (filter (bin (cmp le) (v 6 1) (bool true)) (scan 3 (fd 6 1 2 false ∷ fd 6 2 1 false ∷ []) [])) (pr (v 2 2) (v 6 2) ∷ pr (v 2 2) (v 6 2) ∷ []) none)) ≡ passed 3 1 0 (join rightSemi (union (pcons (scan 3 (fd 2 1 2 true ∷ fd 2 2 1 true ∷ []) []) (pcons (project (en 0 102 (bool true) ∷ en 3 3 (v 0 101) ∷ []) (scan 4 (fd 0 101 1 true ∷ []) [])) (pcons (project (en 0 103 (bool false) ∷ en 5 1 (v 4 1) ∷ []) (scan 4 (fd 4 1 1 true ∷ []) [])) pnil)))) (filter (bin and (bin and (bin (cmp ge) (v 6 2) (i 3)) (bin (cmp lt) (v 6 2) (i 0))) (fn 1 2 2 (econs (v 6 2) (econs (fn 2 0 1 (econs (i 1) enil)) enil)))) (filter (bin (cmp le) (v 6 1) (bool true)) (scan 3 (fd 6 1 2 false ∷ fd 6 2 1 false ∷ []) []))) (pr (v 2 2) (v 6 2) ∷ pr (v 2 2) (v 6 2) ∷ []) none)
 unfolding walked
 w46 = refl
 
@@ -287,7 +288,7 @@ c47 : pass 10000 (filter (bin and (bin (cmp ge) (v 2 1) (i 1)) (bin (cmp ne) (i 
 unfolding opened
 c47 = refl
 
-w47 : pass-by-children 10000 (filter (bin and (bin (cmp ge) (v 2 1) (i 1)) (bin (cmp ne) (i 1) (v 2 1))) (alias 2 (filter (bin and (bin and (bin (cmp ne) (v 3 1) (i 2)) (bin and (bin and (bin and (fn 1 2 2 (econs (v 3 2) enil)) (bin (cmp ne) (v 3 1) (i 2))) (bin (cmp ne) (v 3 1) (i 2))) (bin (cmp lt) (i 2) (v 3 1)))) (bin (cmp ne) (v 3 2) (i 1))) (scan 1 (fd 3 1 1 true ∷ fd 3 2 1 true ∷ []) [])))) ≡ passed 2 2 1 (alias 2 (scan 1 (fd 3 1 1 true ∷ fd 3 2 1 true ∷ []) ((bin (cmp ne) (v 3 1) (i 2)) ∷ (bin (cmp ne) (v 3 2) (i 1)) ∷ (bin (cmp ne) (i 1) (v 3 1)) ∷ (bin (cmp lt) (i 2) (v 3 1)) ∷ (fn 1 2 2 (econs (v 3 2) enil)) ∷ [])))
+w47 : pass-by-records 10000 (filter (bin and (bin (cmp ge) (v 2 1) (i 1)) (bin (cmp ne) (i 1) (v 2 1))) (alias 2 (filter (bin and (bin and (bin (cmp ne) (v 3 1) (i 2)) (bin and (bin and (bin and (fn 1 2 2 (econs (v 3 2) enil)) (bin (cmp ne) (v 3 1) (i 2))) (bin (cmp ne) (v 3 1) (i 2))) (bin (cmp lt) (i 2) (v 3 1)))) (bin (cmp ne) (v 3 2) (i 1))) (scan 1 (fd 3 1 1 true ∷ fd 3 2 1 true ∷ []) [])))) ≡ passed 2 2 1 (alias 2 (scan 1 (fd 3 1 1 true ∷ fd 3 2 1 true ∷ []) ((bin (cmp ne) (v 3 1) (i 2)) ∷ (bin (cmp ne) (v 3 2) (i 1)) ∷ (bin (cmp ne) (i 1) (v 3 1)) ∷ (bin (cmp lt) (i 2) (v 3 1)) ∷ (fn 1 2 2 (econs (v 3 2) enil)) ∷ [])))
 unfolding walked
 w47 = refl
 
@@ -319,7 +320,7 @@ c54 : pass 10000 (filter (bin and (bin and (fn 2 1 2 enil) (bin and (bin and (bo
 unfolding opened
 c54 = refl
 
-w54 : pass-by-children 10000 (filter (bin and (bin and (fn 2 1 2 enil) (bin and (bin and (bool true) (bin and (bin and (bin (cmp ge) (i 0) (v 2 1)) (fn 1 0 2 (econs (i 3) (econs (v 2 3) enil)))) (bin (cmp eq) (nul 1) (v 2 1)))) (fn 1 0 2 (econs (i 3) (econs (v 2 3) enil))))) (bin (cmp ne) (i 3) (v 2 2))) (distinct (scan 2 (fd 2 1 1 false ∷ fd 2 2 1 false ∷ fd 2 3 2 true ∷ []) []))) ≡ passed 3 2 1 (distinct (filter (bin and (bin and (bin and (bin and (bool true) (bin (cmp ge) (i 0) (v 2 1))) (bin (cmp eq) (nul 1) (v 2 1))) (bin (cmp ne) (i 3) (v 2 2))) (fn 2 1 2 enil)) (scan 2 (fd 2 1 1 false ∷ fd 2 2 1 false ∷ fd 2 3 2 true ∷ []) ((fn 1 0 2 (econs (i 3) (econs (v 2 3) enil))) ∷ []))))
+w54 : pass-by-records 10000 (filter (bin and (bin and (fn 2 1 2 enil) (bin and (bin and (bool true) (bin and (bin and (bin (cmp ge) (i 0) (v 2 1)) (fn 1 0 2 (econs (i 3) (econs (v 2 3) enil)))) (bin (cmp eq) (nul 1) (v 2 1)))) (fn 1 0 2 (econs (i 3) (econs (v 2 3) enil))))) (bin (cmp ne) (i 3) (v 2 2))) (distinct (scan 2 (fd 2 1 1 false ∷ fd 2 2 1 false ∷ fd 2 3 2 true ∷ []) []))) ≡ passed 3 2 1 (distinct (filter (bin and (bin and (bin and (bin and (bool true) (bin (cmp ge) (i 0) (v 2 1))) (bin (cmp eq) (nul 1) (v 2 1))) (bin (cmp ne) (i 3) (v 2 2))) (fn 2 1 2 enil)) (scan 2 (fd 2 1 1 false ∷ fd 2 2 1 false ∷ fd 2 3 2 true ∷ []) ((fn 1 0 2 (econs (i 3) (econs (v 2 3) enil))) ∷ []))))
 unfolding walked
 w54 = refl
 
@@ -327,7 +328,7 @@ c55 : pass 10000 (filter (bin and (bin and (bin (cmp gt) (v 2 2) (i 1)) (bin (cm
 unfolding opened
 c55 = refl
 
-w55 : pass-by-children 10000 (filter (bin and (bin and (bin (cmp gt) (v 2 2) (i 1)) (bin (cmp gt) (v 2 2) (i 3))) (bin (cmp eq) (i 0) (v 2 2))) (distinct (filter (bin and (bin and (bin and (bin and (bin and (bin (cmp gt) (v 2 2) (i 9223372036854775807)) (bin (cmp ne) (v 2 2) (nul 1))) (bin (cmp le) (v 2 2) (i 1))) (test isNotNull (v 2 2))) (bin (cmp gt) (v 2 2) (nul 1))) (bin (cmp ne) (v 2 2) (i 2))) (scan 3 (fd 2 1 2 false ∷ fd 2 2 1 false ∷ []) [])))) ≡ passed 3 1 1 (distinct (filter (bin and (bin and (bin and (bin and (bin and (bin (cmp ne) (v 2 2) (nul 1)) (test isNotNull (v 2 2))) (bin (cmp ne) (v 2 2) (i 2))) (bin (cmp eq) (i 0) (v 2 2))) (bin (cmp gt) (v 2 2) (nul 1))) (bin (cmp le) (v 2 2) (i 1))) (scan 3 (fd 2 1 2 false ∷ fd 2 2 1 false ∷ []) [])))
+w55 : pass-by-records 10000 (filter (bin and (bin and (bin (cmp gt) (v 2 2) (i 1)) (bin (cmp gt) (v 2 2) (i 3))) (bin (cmp eq) (i 0) (v 2 2))) (distinct (filter (bin and (bin and (bin and (bin and (bin and (bin (cmp gt) (v 2 2) (i 9223372036854775807)) (bin (cmp ne) (v 2 2) (nul 1))) (bin (cmp le) (v 2 2) (i 1))) (test isNotNull (v 2 2))) (bin (cmp gt) (v 2 2) (nul 1))) (bin (cmp ne) (v 2 2) (i 2))) (scan 3 (fd 2 1 2 false ∷ fd 2 2 1 false ∷ []) [])))) ≡ passed 3 1 1 (distinct (filter (bin and (bin and (bin and (bin and (bin and (bin (cmp ne) (v 2 2) (nul 1)) (test isNotNull (v 2 2))) (bin (cmp ne) (v 2 2) (i 2))) (bin (cmp eq) (i 0) (v 2 2))) (bin (cmp gt) (v 2 2) (nul 1))) (bin (cmp le) (v 2 2) (i 1))) (scan 3 (fd 2 1 2 false ∷ fd 2 2 1 false ∷ []) [])))
 unfolding walked
 w55 = refl
 
@@ -339,7 +340,7 @@ c57 : pass 10000 (filter (bin and (bin and (bin and (bin (cmp eq) (i 2) (v 2 1))
 unfolding opened
 c57 = refl
 
-w57 : pass-by-children 10000 (filter (bin and (bin and (bin and (bin (cmp eq) (i 2) (v 2 1)) (bin (cmp ge) (v 2 1) (i 0))) (bool false)) (bin (cmp eq) (nul 1) (v 2 1))) (filter (bin and (bin and (bin and (bin (cmp le) (v 2 1) (i 3)) (bin (cmp gt) (v 2 1) (nul 1))) (bin (cmp gt) (v 2 1) (i 3))) (bin (cmp ne) (v 2 1) (i 3))) (scan 4 (fd 2 1 1 true ∷ []) []))) ≡ passed 2 1 1 (filter (bool false) (scan 4 (fd 2 1 1 true ∷ []) ((bin (cmp ne) (v 2 1) (i 3)) ∷ (bin (cmp gt) (v 2 1) (nul 1)) ∷ (bin (cmp le) (v 2 1) (i 3)) ∷ [])))
+w57 : pass-by-records 10000 (filter (bin and (bin and (bin and (bin (cmp eq) (i 2) (v 2 1)) (bin (cmp ge) (v 2 1) (i 0))) (bool false)) (bin (cmp eq) (nul 1) (v 2 1))) (filter (bin and (bin and (bin and (bin (cmp le) (v 2 1) (i 3)) (bin (cmp gt) (v 2 1) (nul 1))) (bin (cmp gt) (v 2 1) (i 3))) (bin (cmp ne) (v 2 1) (i 3))) (scan 4 (fd 2 1 1 true ∷ []) []))) ≡ passed 2 1 1 (filter (bool false) (scan 4 (fd 2 1 1 true ∷ []) ((bin (cmp ne) (v 2 1) (i 3)) ∷ (bin (cmp gt) (v 2 1) (nul 1)) ∷ (bin (cmp le) (v 2 1) (i 3)) ∷ [])))
 unfolding walked
 w57 = refl
 
@@ -347,7 +348,7 @@ c58 : pass 10000 (filter (bin and (bin and (bin and (fn 2 2 2 enil) (between tru
 unfolding opened
 c58 = refl
 
-w58 : pass-by-children 10000 (filter (bin and (bin and (bin and (fn 2 2 2 enil) (between true (fn 2 0 1 enil) (v 2 2) (v 2 2))) (bin (cmp gt) (v 3 2) (i 0))) (bin (cmp le) (num (negsuc 9223372036854775807)) (v 2 2))) (join right (scan 3 (fd 2 1 2 true ∷ fd 2 2 1 false ∷ []) ((between true (fn 2 0 1 enil) (v 2 2) (v 2 2)) ∷ (bin (cmp le) (v 2 2) (nul 1)) ∷ [])) (scan 3 (fd 3 1 2 false ∷ fd 3 2 1 false ∷ []) ((bin (cmp eq) (v 3 2) (i 3)) ∷ [])) [] none)) ≡ passed 5 1 1 (filter (bin and (bin (cmp le) (num (negsuc 9223372036854775807)) (v 2 2)) (between true (fn 2 0 1 enil) (v 2 2) (v 2 2))) (join right (scan 3 (fd 2 1 2 true ∷ fd 2 2 1 false ∷ []) ((between true (fn 2 0 1 enil) (v 2 2) (v 2 2)) ∷ (bin (cmp le) (v 2 2) (nul 1)) ∷ [])) (filter (bin and (bin (cmp gt) (v 3 2) (i 0)) (fn 2 2 2 enil)) (scan 3 (fd 3 1 2 false ∷ fd 3 2 1 false ∷ []) ((bin (cmp eq) (v 3 2) (i 3)) ∷ []))) [] none))
+w58 : pass-by-records 10000 (filter (bin and (bin and (bin and (fn 2 2 2 enil) (between true (fn 2 0 1 enil) (v 2 2) (v 2 2))) (bin (cmp gt) (v 3 2) (i 0))) (bin (cmp le) (num (negsuc 9223372036854775807)) (v 2 2))) (join right (scan 3 (fd 2 1 2 true ∷ fd 2 2 1 false ∷ []) ((between true (fn 2 0 1 enil) (v 2 2) (v 2 2)) ∷ (bin (cmp le) (v 2 2) (nul 1)) ∷ [])) (scan 3 (fd 3 1 2 false ∷ fd 3 2 1 false ∷ []) ((bin (cmp eq) (v 3 2) (i 3)) ∷ [])) [] none)) ≡ passed 5 1 1 (filter (bin and (bin (cmp le) (num (negsuc 9223372036854775807)) (v 2 2)) (between true (fn 2 0 1 enil) (v 2 2) (v 2 2))) (join right (scan 3 (fd 2 1 2 true ∷ fd 2 2 1 false ∷ []) ((between true (fn 2 0 1 enil) (v 2 2) (v 2 2)) ∷ (bin (cmp le) (v 2 2) (nul 1)) ∷ [])) (filter (bin and (bin (cmp gt) (v 3 2) (i 0)) (fn 2 2 2 enil)) (scan 3 (fd 3 1 2 false ∷ fd 3 2 1 false ∷ []) ((bin (cmp eq) (v 3 2) (i 3)) ∷ []))) [] none))
 unfolding walked
 w58 = refl
 
@@ -359,7 +360,7 @@ c60 : pass 10000 (filter (bin and (bin and (bin and (bin and (bin and (bin (cmp 
 unfolding opened
 c60 = refl
 
-w60 : pass-by-children 10000 (filter (bin and (bin and (bin and (bin and (bin and (bin (cmp ge) (v 2 2) (i 3)) (bin (cmp lt) (i 3) (v 0 101))) (bin (cmp ne) (v 2 1) (i 3))) (bin (cmp ge) (i 2) (v 0 101))) (bin (cmp ge) (i 2) (v 0 101))) (bool false)) (window (wn 0 101 count (v 2 2) [] ∷ []) (scan 1 (fd 2 1 1 true ∷ fd 2 2 1 true ∷ []) []))) ≡ passed 4 1 1 (filter (bin and (bin and (bin and (bin (cmp ne) (v 2 1) (i 3)) (bin (cmp lt) (i 3) (v 0 101))) (bin (cmp ge) (i 2) (v 0 101))) (bin (cmp ge) (v 2 2) (i 3))) (window (wn 0 101 count (v 2 2) [] ∷ []) (filter (bool false) (scan 1 (fd 2 1 1 true ∷ fd 2 2 1 true ∷ []) []))))
+w60 : pass-by-records 10000 (filter (bin and (bin and (bin and (bin and (bin and (bin (cmp ge) (v 2 2) (i 3)) (bin (cmp lt) (i 3) (v 0 101))) (bin (cmp ne) (v 2 1) (i 3))) (bin (cmp ge) (i 2) (v 0 101))) (bin (cmp ge) (i 2) (v 0 101))) (bool false)) (window (wn 0 101 count (v 2 2) [] ∷ []) (scan 1 (fd 2 1 1 true ∷ fd 2 2 1 true ∷ []) []))) ≡ passed 4 1 1 (filter (bin and (bin and (bin and (bin (cmp ne) (v 2 1) (i 3)) (bin (cmp lt) (i 3) (v 0 101))) (bin (cmp ge) (i 2) (v 0 101))) (bin (cmp ge) (v 2 2) (i 3))) (window (wn 0 101 count (v 2 2) [] ∷ []) (filter (bool false) (scan 1 (fd 2 1 1 true ∷ fd 2 2 1 true ∷ []) []))))
 unfolding walked
 w60 = refl
 
@@ -367,7 +368,7 @@ c61 : pass 10000 (filter (bin and (bin (cmp eq) (v 2 2) (i 1)) (bin and (bin and
 unfolding opened
 c61 = refl
 
-w61 : pass-by-children 10000 (filter (bin and (bin (cmp eq) (v 2 2) (i 1)) (bin and (bin and (bin and (bin and (bin (cmp ne) (v 2 1) (bool false)) (bin (cmp gt) (v 2 1) (bool false))) (bin (cmp ge) (v 2 2) (i 2))) (between false (v 2 2) (v 2 2) (nul 1))) (bin (cmp lt) (i 0) (v 2 2)))) (filter (bin and (bin and (bin (cmp lt) (i 1) (v 2 2)) (bin (cmp gt) (v 2 1) (bool false))) (between false (v 2 2) (v 2 2) (nul 1))) (limit 0 1 (scan 3 (fd 2 1 2 true ∷ fd 2 2 1 false ∷ []) [])))) ≡ passed 3 0 1 (filter (bin and (bin and (bin and (bin and (between false (v 2 2) (v 2 2) (nul 1)) (bin (cmp ne) (v 2 1) (bool false))) (bin (cmp gt) (v 2 1) (bool false))) (bin (cmp eq) (v 2 2) (i 1))) (bin (cmp ge) (v 2 2) (i 2))) (limit 0 1 (scan 3 (fd 2 1 2 true ∷ fd 2 2 1 false ∷ []) [])))
+w61 : pass-by-records 10000 (filter (bin and (bin (cmp eq) (v 2 2) (i 1)) (bin and (bin and (bin and (bin and (bin (cmp ne) (v 2 1) (bool false)) (bin (cmp gt) (v 2 1) (bool false))) (bin (cmp ge) (v 2 2) (i 2))) (between false (v 2 2) (v 2 2) (nul 1))) (bin (cmp lt) (i 0) (v 2 2)))) (filter (bin and (bin and (bin (cmp lt) (i 1) (v 2 2)) (bin (cmp gt) (v 2 1) (bool false))) (between false (v 2 2) (v 2 2) (nul 1))) (limit 0 1 (scan 3 (fd 2 1 2 true ∷ fd 2 2 1 false ∷ []) [])))) ≡ passed 3 0 1 (filter (bin and (bin and (bin and (bin and (between false (v 2 2) (v 2 2) (nul 1)) (bin (cmp ne) (v 2 1) (bool false))) (bin (cmp gt) (v 2 1) (bool false))) (bin (cmp eq) (v 2 2) (i 1))) (bin (cmp ge) (v 2 2) (i 2))) (limit 0 1 (scan 3 (fd 2 1 2 true ∷ fd 2 2 1 false ∷ []) [])))
 unfolding walked
 w61 = refl
 
@@ -379,7 +380,7 @@ c63 : pass 10000 (filter (bin and (bin (cmp lt) (i 0) (v 0 101)) (bin and (bin a
 unfolding opened
 c63 = refl
 
-w63 : pass-by-children 10000 (filter (bin and (bin (cmp lt) (i 0) (v 0 101)) (bin and (bin and (bin (cmp lt) (i 0) (v 0 101)) (bool false)) (bin (cmp lt) (i 2) (v 0 102)))) (project (en 0 101 (v 2 1) ∷ en 0 102 (v 2 1) ∷ []) (scan 1 (fd 2 1 1 false ∷ fd 2 2 1 false ∷ []) []))) ≡ passed 3 1 1 (project (en 0 101 (v 2 1) ∷ en 0 102 (v 2 1) ∷ []) (filter (bin and (bool false) (bin (cmp lt) (i 2) (v 2 1))) (scan 1 (fd 2 1 1 false ∷ fd 2 2 1 false ∷ []) [])))
+w63 : pass-by-records 10000 (filter (bin and (bin (cmp lt) (i 0) (v 0 101)) (bin and (bin and (bin (cmp lt) (i 0) (v 0 101)) (bool false)) (bin (cmp lt) (i 2) (v 0 102)))) (project (en 0 101 (v 2 1) ∷ en 0 102 (v 2 1) ∷ []) (scan 1 (fd 2 1 1 false ∷ fd 2 2 1 false ∷ []) []))) ≡ passed 3 1 1 (project (en 0 101 (v 2 1) ∷ en 0 102 (v 2 1) ∷ []) (filter (bin and (bool false) (bin (cmp lt) (i 2) (v 2 1))) (scan 1 (fd 2 1 1 false ∷ fd 2 2 1 false ∷ []) [])))
 unfolding walked
 w63 = refl
 
@@ -391,7 +392,7 @@ c65 : pass 10000 (filter (fn 1 1 2 (econs (v 2 101) (econs (bool true) enil))) (
 unfolding opened
 c65 = refl
 
-w65 : pass-by-children 10000 (filter (fn 1 1 2 (econs (v 2 101) (econs (bool true) enil))) (alias 2 (window (wn 0 101 max (v 3 2) (nm 3 2 ∷ nm 3 2 ∷ []) ∷ []) (scan 3 (fd 3 1 2 true ∷ fd 3 2 1 false ∷ []) [])))) ≡ passed 4 1 1 (alias 2 (filter (fn 1 1 2 (econs (v 0 101) (econs (bool true) enil))) (window (wn 0 101 max (v 3 2) (nm 3 2 ∷ nm 3 2 ∷ []) ∷ []) (scan 3 (fd 3 1 2 true ∷ fd 3 2 1 false ∷ []) []))))
+w65 : pass-by-records 10000 (filter (fn 1 1 2 (econs (v 2 101) (econs (bool true) enil))) (alias 2 (window (wn 0 101 max (v 3 2) (nm 3 2 ∷ nm 3 2 ∷ []) ∷ []) (scan 3 (fd 3 1 2 true ∷ fd 3 2 1 false ∷ []) [])))) ≡ passed 4 1 1 (alias 2 (filter (fn 1 1 2 (econs (v 0 101) (econs (bool true) enil))) (window (wn 0 101 max (v 3 2) (nm 3 2 ∷ nm 3 2 ∷ []) ∷ []) (scan 3 (fd 3 1 2 true ∷ fd 3 2 1 false ∷ []) []))))
 unfolding walked
 w65 = refl
 
@@ -411,7 +412,7 @@ c69 : pass 4 (filter (bin and (bin and (bin and (bin and (bin and (bin and (fn 2
 unfolding opened
 c69 = refl
 
-w69 : pass-by-children 4 (filter (bin and (bin and (bin and (bin and (bin and (bin and (fn 2 3 2 enil) (bin (cmp gt) (v 2 1) (i 0))) (bin (cmp gt) (i 0) (v 2 1))) (bin (cmp ge) (v 2 2) (i 0))) (bin (cmp gt) (i 3) (v 2 2))) (bin (cmp eq) (v 2 1) (i 3))) (bin (cmp gt) (nul 1) (v 2 1))) (scan 2 (fd 2 1 1 true ∷ fd 2 2 1 false ∷ fd 2 3 2 false ∷ []) [])) ≡ passed 2 1 1 (filter (bin and (bin and (bin (cmp ge) (v 2 2) (i 0)) (bin (cmp gt) (i 3) (v 2 2))) (fn 2 3 2 enil)) (scan 2 (fd 2 1 1 true ∷ fd 2 2 1 false ∷ fd 2 3 2 false ∷ []) ((bin (cmp eq) (v 2 1) (i 3)) ∷ (bin (cmp gt) (v 2 1) (i 0)) ∷ (bin (cmp gt) (nul 1) (v 2 1)) ∷ [])))
+w69 : pass-by-records 4 (filter (bin and (bin and (bin and (bin and (bin and (bin and (fn 2 3 2 enil) (bin (cmp gt) (v 2 1) (i 0))) (bin (cmp gt) (i 0) (v 2 1))) (bin (cmp ge) (v 2 2) (i 0))) (bin (cmp gt) (i 3) (v 2 2))) (bin (cmp eq) (v 2 1) (i 3))) (bin (cmp gt) (nul 1) (v 2 1))) (scan 2 (fd 2 1 1 true ∷ fd 2 2 1 false ∷ fd 2 3 2 false ∷ []) [])) ≡ passed 2 1 1 (filter (bin and (bin and (bin (cmp ge) (v 2 2) (i 0)) (bin (cmp gt) (i 3) (v 2 2))) (fn 2 3 2 enil)) (scan 2 (fd 2 1 1 true ∷ fd 2 2 1 false ∷ fd 2 3 2 false ∷ []) ((bin (cmp eq) (v 2 1) (i 3)) ∷ (bin (cmp gt) (v 2 1) (i 0)) ∷ (bin (cmp gt) (nul 1) (v 2 1)) ∷ [])))
 unfolding walked
 w69 = refl
 
@@ -435,7 +436,7 @@ c74 : pass 10000 (join inner (join full (scan 4 (fd 2 1 1 false ∷ []) []) (sca
 unfolding opened
 c74 = refl
 
-w74 : pass-by-children 10000 (join inner (join full (scan 4 (fd 2 1 1 false ∷ []) []) (scan 2 (fd 0 101 1 false ∷ fd 0 102 1 true ∷ fd 0 103 2 false ∷ []) []) (pr (v 2 1) (v 0 102) ∷ []) (some (bin and (bin and (bin and (bin and (bin and (bin (cmp ne) (nul 2) (v 0 103)) (bin and (test isNull (v 0 102)) (bin (cmp lt) (v 2 1) (i 3)))) (bin (cmp le) (i 1) (v 2 1))) (bin (cmp lt) (v 0 102) (i 3))) (bin (cmp ge) (v 0 102) (i 0))) (bin (cmp gt) (i 2) (v 2 1))))) (filter (bin and (bin (cmp ne) (v 3 2) (i 0)) (bin (cmp lt) (i 1) (v 3 2))) (scan 2 (fd 3 1 1 false ∷ fd 3 2 1 true ∷ fd 3 3 2 false ∷ []) [])) (pr (v 0 102) (i 1) ∷ []) (some (bin and (bin and (bin and (bin and (bin (cmp ne) (v 2 1) (i 3)) (bin (cmp ge) (i 1) (v 3 1))) (bin (cmp lt) (v 0 102) (i 9223372036854775807))) (bin (cmp ge) (v 0 102) (i 0))) (bin (cmp gt) (v 2 1) (i 1))))) ≡ passed 7 2 1 (join inner (filter (bin and (bin and (bin and (bin (cmp ne) (v 2 1) (i 3)) (bin (cmp lt) (v 0 102) (i 9223372036854775807))) (bin (cmp ge) (v 0 102) (i 0))) (bin (cmp gt) (v 2 1) (i 1))) (join full (scan 4 (fd 2 1 1 false ∷ []) []) (scan 2 (fd 0 101 1 false ∷ fd 0 102 1 true ∷ fd 0 103 2 false ∷ []) []) (pr (v 2 1) (v 0 102) ∷ []) (some (bin and (bin and (bin and (bin and (bin and (bin and (bin (cmp ne) (nul 2) (v 0 103)) (test isNull (v 0 102))) (bin (cmp lt) (v 2 1) (i 3))) (bin (cmp le) (i 1) (v 2 1))) (bin (cmp lt) (v 0 102) (i 3))) (bin (cmp ge) (v 0 102) (i 0))) (bin (cmp gt) (i 2) (v 2 1)))))) (filter (bin (cmp ge) (i 1) (v 3 1)) (scan 2 (fd 3 1 1 false ∷ fd 3 2 1 true ∷ fd 3 3 2 false ∷ []) ((bin (cmp ne) (v 3 2) (i 0)) ∷ (bin (cmp lt) (i 1) (v 3 2)) ∷ []))) (pr (v 0 102) (i 1) ∷ []) none)
+w74 : pass-by-records 10000 (join inner (join full (scan 4 (fd 2 1 1 false ∷ []) []) (scan 2 (fd 0 101 1 false ∷ fd 0 102 1 true ∷ fd 0 103 2 false ∷ []) []) (pr (v 2 1) (v 0 102) ∷ []) (some (bin and (bin and (bin and (bin and (bin and (bin (cmp ne) (nul 2) (v 0 103)) (bin and (test isNull (v 0 102)) (bin (cmp lt) (v 2 1) (i 3)))) (bin (cmp le) (i 1) (v 2 1))) (bin (cmp lt) (v 0 102) (i 3))) (bin (cmp ge) (v 0 102) (i 0))) (bin (cmp gt) (i 2) (v 2 1))))) (filter (bin and (bin (cmp ne) (v 3 2) (i 0)) (bin (cmp lt) (i 1) (v 3 2))) (scan 2 (fd 3 1 1 false ∷ fd 3 2 1 true ∷ fd 3 3 2 false ∷ []) [])) (pr (v 0 102) (i 1) ∷ []) (some (bin and (bin and (bin and (bin and (bin (cmp ne) (v 2 1) (i 3)) (bin (cmp ge) (i 1) (v 3 1))) (bin (cmp lt) (v 0 102) (i 9223372036854775807))) (bin (cmp ge) (v 0 102) (i 0))) (bin (cmp gt) (v 2 1) (i 1))))) ≡ passed 7 2 1 (join inner (filter (bin and (bin and (bin and (bin (cmp ne) (v 2 1) (i 3)) (bin (cmp lt) (v 0 102) (i 9223372036854775807))) (bin (cmp ge) (v 0 102) (i 0))) (bin (cmp gt) (v 2 1) (i 1))) (join full (scan 4 (fd 2 1 1 false ∷ []) []) (scan 2 (fd 0 101 1 false ∷ fd 0 102 1 true ∷ fd 0 103 2 false ∷ []) []) (pr (v 2 1) (v 0 102) ∷ []) (some (bin and (bin and (bin and (bin and (bin and (bin and (bin (cmp ne) (nul 2) (v 0 103)) (test isNull (v 0 102))) (bin (cmp lt) (v 2 1) (i 3))) (bin (cmp le) (i 1) (v 2 1))) (bin (cmp lt) (v 0 102) (i 3))) (bin (cmp ge) (v 0 102) (i 0))) (bin (cmp gt) (i 2) (v 2 1)))))) (filter (bin (cmp ge) (i 1) (v 3 1)) (scan 2 (fd 3 1 1 false ∷ fd 3 2 1 true ∷ fd 3 3 2 false ∷ []) ((bin (cmp ne) (v 3 2) (i 0)) ∷ (bin (cmp lt) (i 1) (v 3 2)) ∷ []))) (pr (v 0 102) (i 1) ∷ []) none)
 unfolding walked
 w74 = refl
 
@@ -443,7 +444,7 @@ c75 : pass 10000 (filter (bool false) (scan 5 [] [])) ≡ passed 2 0 1 (filter (
 unfolding opened
 c75 = refl
 
-w75 : pass-by-children 10000 (filter (bool false) (scan 5 [] [])) ≡ passed 2 0 1 (filter (bool false) (scan 5 [] []))
+w75 : pass-by-records 10000 (filter (bool false) (scan 5 [] [])) ≡ passed 2 0 1 (filter (bool false) (scan 5 [] []))
 unfolding walked
 w75 = refl
 
@@ -471,7 +472,7 @@ c81 : pass 10000 (filter (bin and (bin and (bin and (bin and (bin and (bin and (
 unfolding opened
 c81 = refl
 
-w81 : pass-by-children 10000 (filter (bin and (bin and (bin and (bin and (bin and (bin and (bin (cmp lt) (v 2 1) (i 1)) (inlist true (i 1) (econs (v 2 1) enil))) (bin (cmp lt) (v 2 1) (i 3))) (bin (cmp le) (v 2 1) (nul 1))) (bin (cmp gt) (v 2 1) (i 2))) (bin (cmp le) (i 2) (v 2 1))) (bin (cmp le) (v 2 1) (i 1))) (scan 4 (fd 2 1 1 true ∷ []) [])) ≡ passed 1 1 1 (scan 4 (fd 2 1 1 true ∷ []) ((inlist true (i 1) (econs (v 2 1) enil)) ∷ (bin (cmp gt) (v 2 1) (i 2)) ∷ (bin (cmp le) (v 2 1) (nul 1)) ∷ []))
+w81 : pass-by-records 10000 (filter (bin and (bin and (bin and (bin and (bin and (bin and (bin (cmp lt) (v 2 1) (i 1)) (inlist true (i 1) (econs (v 2 1) enil))) (bin (cmp lt) (v 2 1) (i 3))) (bin (cmp le) (v 2 1) (nul 1))) (bin (cmp gt) (v 2 1) (i 2))) (bin (cmp le) (i 2) (v 2 1))) (bin (cmp le) (v 2 1) (i 1))) (scan 4 (fd 2 1 1 true ∷ []) [])) ≡ passed 1 1 1 (scan 4 (fd 2 1 1 true ∷ []) ((inlist true (i 1) (econs (v 2 1) enil)) ∷ (bin (cmp gt) (v 2 1) (i 2)) ∷ (bin (cmp le) (v 2 1) (nul 1)) ∷ []))
 unfolding walked
 w81 = refl
 
@@ -487,7 +488,7 @@ c84 : pass 10000 (filter (bin and (bin and (bin and (bin and (bin and (bin (cmp 
 unfolding opened
 c84 = refl
 
-w84 : pass-by-children 10000 (filter (bin and (bin and (bin and (bin and (bin and (bin (cmp lt) (i 2) (v 2 2)) (fn 2 2 2 enil)) (bin (cmp le) (v 2 2) (i 2))) (bin (cmp le) (v 2 2) (i 2))) (bin (cmp ge) (i 1) (v 2 2))) (bin (cmp lt) (v 2 2) (i 3))) (distinct (sort none [] (scan 3 (fd 2 1 2 false ∷ fd 2 2 1 false ∷ []) [])))) ≡ passed 4 2 1 (distinct (sort none [] (filter (bin and (bin and (bin (cmp lt) (i 2) (v 2 2)) (bin (cmp ge) (i 1) (v 2 2))) (fn 2 2 2 enil)) (scan 3 (fd 2 1 2 false ∷ fd 2 2 1 false ∷ []) []))))
+w84 : pass-by-records 10000 (filter (bin and (bin and (bin and (bin and (bin and (bin (cmp lt) (i 2) (v 2 2)) (fn 2 2 2 enil)) (bin (cmp le) (v 2 2) (i 2))) (bin (cmp le) (v 2 2) (i 2))) (bin (cmp ge) (i 1) (v 2 2))) (bin (cmp lt) (v 2 2) (i 3))) (distinct (sort none [] (scan 3 (fd 2 1 2 false ∷ fd 2 2 1 false ∷ []) [])))) ≡ passed 4 2 1 (distinct (sort none [] (filter (bin and (bin and (bin (cmp lt) (i 2) (v 2 2)) (bin (cmp ge) (i 1) (v 2 2))) (fn 2 2 2 enil)) (scan 3 (fd 2 1 2 false ∷ fd 2 2 1 false ∷ []) []))))
 unfolding walked
 w84 = refl
 
@@ -495,7 +496,7 @@ c85 : pass 10000 (filter (bin and (bin (cmp ne) (v 2 1) (i 3)) (bool true)) (joi
 unfolding opened
 c85 = refl
 
-w85 : pass-by-children 10000 (filter (bin and (bin (cmp ne) (v 2 1) (i 3)) (bool true)) (join leftSemi (scan 1 (fd 2 1 1 false ∷ fd 2 2 1 false ∷ []) []) (scan 3 (fd 3 1 2 true ∷ fd 3 2 1 true ∷ []) []) [] (some (bin (cmp ne) (v 2 1) (i 3))))) ≡ passed 4 1 1 (join leftSemi (filter (bin and (bin and (bin (cmp ne) (v 2 1) (i 3)) (bool true)) (bin (cmp ne) (v 2 1) (i 3))) (scan 1 (fd 2 1 1 false ∷ fd 2 2 1 false ∷ []) [])) (scan 3 (fd 3 1 2 true ∷ fd 3 2 1 true ∷ []) []) [] none)
+w85 : pass-by-records 10000 (filter (bin and (bin (cmp ne) (v 2 1) (i 3)) (bool true)) (join leftSemi (scan 1 (fd 2 1 1 false ∷ fd 2 2 1 false ∷ []) []) (scan 3 (fd 3 1 2 true ∷ fd 3 2 1 true ∷ []) []) [] (some (bin (cmp ne) (v 2 1) (i 3))))) ≡ passed 4 1 1 (join leftSemi (filter (bin and (bin and (bin (cmp ne) (v 2 1) (i 3)) (bool true)) (bin (cmp ne) (v 2 1) (i 3))) (scan 1 (fd 2 1 1 false ∷ fd 2 2 1 false ∷ []) [])) (scan 3 (fd 3 1 2 true ∷ fd 3 2 1 true ∷ []) []) [] none)
 unfolding walked
 w85 = refl
 
@@ -507,7 +508,7 @@ c87 : pass 10000 (join right (union (pcons (scan 4 (fd 2 1 1 true ∷ []) []) (p
 unfolding opened
 c87 = refl
 
-w87 : pass-by-children 10000 (join right (union (pcons (scan 4 (fd 2 1 1 true ∷ []) []) (pcons (project (en 4 3 (v 3 2) ∷ []) (scan 3 (fd 3 1 2 true ∷ fd 3 2 1 true ∷ []) [])) pnil))) (scan 4 (fd 5 1 1 false ∷ []) []) (pr (v 2 1) (v 5 1) ∷ pr (v 2 1) (v 5 1) ∷ []) none) ≡ passed 6 0 1 (join right (union (pcons (scan 4 (fd 2 1 1 true ∷ []) []) (pcons (project (en 4 3 (v 3 2) ∷ []) (scan 3 (fd 3 1 2 true ∷ fd 3 2 1 true ∷ []) [])) pnil))) (scan 4 (fd 5 1 1 false ∷ []) []) (pr (v 2 1) (v 5 1) ∷ pr (v 2 1) (v 5 1) ∷ []) none)
+w87 : pass-by-records 10000 (join right (union (pcons (scan 4 (fd 2 1 1 true ∷ []) []) (pcons (project (en 4 3 (v 3 2) ∷ []) (scan 3 (fd 3 1 2 true ∷ fd 3 2 1 true ∷ []) [])) pnil))) (scan 4 (fd 5 1 1 false ∷ []) []) (pr (v 2 1) (v 5 1) ∷ pr (v 2 1) (v 5 1) ∷ []) none) ≡ passed 6 0 1 (join right (union (pcons (scan 4 (fd 2 1 1 true ∷ []) []) (pcons (project (en 4 3 (v 3 2) ∷ []) (scan 3 (fd 3 1 2 true ∷ fd 3 2 1 true ∷ []) [])) pnil))) (scan 4 (fd 5 1 1 false ∷ []) []) (pr (v 2 1) (v 5 1) ∷ pr (v 2 1) (v 5 1) ∷ []) none)
 unfolding walked
 w87 = refl
 
@@ -531,7 +532,7 @@ c92 : pass 10000 (filter (bin and (bin and (bin and (bin and (bin (cmp ge) (i 3)
 unfolding opened
 c92 = refl
 
-w92 : pass-by-children 10000 (filter (bin and (bin and (bin and (bin and (bin (cmp ge) (i 3) (v 5 2)) (bin and (bin and (bin (cmp le) (v 5 2) (i 3)) (bin (cmp eq) (bool true) (v 5 1))) (bin (cmp lt) (v 3 3) (i 4294967296)))) (bin (cmp gt) (v 3 3) (i 2))) (bin (cmp ge) (i 0) (v 3 3))) (bin (cmp gt) (i 1) (v 3 3))) (join inner (aggregate [] (ag 3 3 max (v 2 2) ∷ []) (scan 1 (fd 2 1 1 true ∷ fd 2 2 1 true ∷ []) [])) (join rightSemi (scan 5 [] []) (scan 3 (fd 5 1 2 true ∷ fd 5 2 1 false ∷ []) []) [] none) (pr (v 3 3) (v 5 2) ∷ pr (v 3 3) (v 5 2) ∷ []) none)) ≡ passed 8 3 1 (join inner (filter (bin and (bin (cmp gt) (v 3 3) (i 2)) (bin (cmp ge) (i 0) (v 3 3))) (aggregate [] (ag 3 3 max (v 2 2) ∷ []) (scan 1 (fd 2 1 1 true ∷ fd 2 2 1 true ∷ []) []))) (join rightSemi (scan 5 [] []) (filter (bin and (bin (cmp gt) (v 5 2) (i 2)) (bin (cmp ge) (i 0) (v 5 2))) (scan 3 (fd 5 1 2 true ∷ fd 5 2 1 false ∷ []) ((bin (cmp eq) (bool true) (v 5 1)) ∷ []))) [] none) (pr (v 3 3) (v 5 2) ∷ pr (v 3 3) (v 5 2) ∷ []) none)
+w92 : pass-by-records 10000 (filter (bin and (bin and (bin and (bin and (bin (cmp ge) (i 3) (v 5 2)) (bin and (bin and (bin (cmp le) (v 5 2) (i 3)) (bin (cmp eq) (bool true) (v 5 1))) (bin (cmp lt) (v 3 3) (i 4294967296)))) (bin (cmp gt) (v 3 3) (i 2))) (bin (cmp ge) (i 0) (v 3 3))) (bin (cmp gt) (i 1) (v 3 3))) (join inner (aggregate [] (ag 3 3 max (v 2 2) ∷ []) (scan 1 (fd 2 1 1 true ∷ fd 2 2 1 true ∷ []) [])) (join rightSemi (scan 5 [] []) (scan 3 (fd 5 1 2 true ∷ fd 5 2 1 false ∷ []) []) [] none) (pr (v 3 3) (v 5 2) ∷ pr (v 3 3) (v 5 2) ∷ []) none)) ≡ passed 8 3 1 (join inner (filter (bin and (bin (cmp gt) (v 3 3) (i 2)) (bin (cmp ge) (i 0) (v 3 3))) (aggregate [] (ag 3 3 max (v 2 2) ∷ []) (scan 1 (fd 2 1 1 true ∷ fd 2 2 1 true ∷ []) []))) (join rightSemi (scan 5 [] []) (filter (bin and (bin (cmp gt) (v 5 2) (i 2)) (bin (cmp ge) (i 0) (v 5 2))) (scan 3 (fd 5 1 2 true ∷ fd 5 2 1 false ∷ []) ((bin (cmp eq) (bool true) (v 5 1)) ∷ []))) [] none) (pr (v 3 3) (v 5 2) ∷ pr (v 3 3) (v 5 2) ∷ []) none)
 unfolding walked
 w92 = refl
 
@@ -551,7 +552,7 @@ c96 : pass 10000 (filter (bin and (bin (cmp ge) (v 2 3) (bool true)) (bin and (b
 unfolding opened
 c96 = refl
 
-w96 : pass-by-children 10000 (filter (bin and (bin (cmp ge) (v 2 3) (bool true)) (bin and (bin and (bin and (bin (cmp ne) (nul 1) (v 2 2)) (bin (cmp gt) (bool true) (v 2 3))) (inlist false (v 2 2) (econs (v 2 2) (econs (v 2 2) enil)))) (bin (cmp lt) (i 3) (v 2 2)))) (join leftSemi (join leftSemi (scan 2 (fd 2 1 1 true ∷ fd 2 2 1 true ∷ fd 2 3 2 true ∷ []) []) (scan 4 (fd 3 1 1 false ∷ []) []) (pr (v 2 2) (v 3 1) ∷ []) none) (filter (bin (cmp le) (v 4 2) (i 3)) (scan 1 (fd 4 1 1 false ∷ fd 4 2 1 false ∷ []) ((bin (cmp le) (nul 1) (v 4 1)) ∷ (bin (cmp ne) (v 4 1) (i 3)) ∷ []))) [] none)) ≡ passed 6 3 1 (join leftSemi (join leftSemi (scan 2 (fd 2 1 1 true ∷ fd 2 2 1 true ∷ fd 2 3 2 true ∷ []) ((bin (cmp ge) (v 2 3) (bool true)) ∷ (bin (cmp ne) (nul 1) (v 2 2)) ∷ (bin (cmp gt) (bool true) (v 2 3)) ∷ (inlist false (v 2 2) (econs (v 2 2) (econs (v 2 2) enil))) ∷ (bin (cmp lt) (i 3) (v 2 2)) ∷ [])) (scan 4 (fd 3 1 1 false ∷ []) []) (pr (v 2 2) (v 3 1) ∷ []) none) (filter (bin (cmp le) (v 4 2) (i 3)) (scan 1 (fd 4 1 1 false ∷ fd 4 2 1 false ∷ []) ((bin (cmp le) (nul 1) (v 4 1)) ∷ (bin (cmp ne) (v 4 1) (i 3)) ∷ []))) [] none)
+w96 : pass-by-records 10000 (filter (bin and (bin (cmp ge) (v 2 3) (bool true)) (bin and (bin and (bin and (bin (cmp ne) (nul 1) (v 2 2)) (bin (cmp gt) (bool true) (v 2 3))) (inlist false (v 2 2) (econs (v 2 2) (econs (v 2 2) enil)))) (bin (cmp lt) (i 3) (v 2 2)))) (join leftSemi (join leftSemi (scan 2 (fd 2 1 1 true ∷ fd 2 2 1 true ∷ fd 2 3 2 true ∷ []) []) (scan 4 (fd 3 1 1 false ∷ []) []) (pr (v 2 2) (v 3 1) ∷ []) none) (filter (bin (cmp le) (v 4 2) (i 3)) (scan 1 (fd 4 1 1 false ∷ fd 4 2 1 false ∷ []) ((bin (cmp le) (nul 1) (v 4 1)) ∷ (bin (cmp ne) (v 4 1) (i 3)) ∷ []))) [] none)) ≡ passed 6 3 1 (join leftSemi (join leftSemi (scan 2 (fd 2 1 1 true ∷ fd 2 2 1 true ∷ fd 2 3 2 true ∷ []) ((bin (cmp ge) (v 2 3) (bool true)) ∷ (bin (cmp ne) (nul 1) (v 2 2)) ∷ (bin (cmp gt) (bool true) (v 2 3)) ∷ (inlist false (v 2 2) (econs (v 2 2) (econs (v 2 2) enil))) ∷ (bin (cmp lt) (i 3) (v 2 2)) ∷ [])) (scan 4 (fd 3 1 1 false ∷ []) []) (pr (v 2 2) (v 3 1) ∷ []) none) (filter (bin (cmp le) (v 4 2) (i 3)) (scan 1 (fd 4 1 1 false ∷ fd 4 2 1 false ∷ []) ((bin (cmp le) (nul 1) (v 4 1)) ∷ (bin (cmp ne) (v 4 1) (i 3)) ∷ []))) [] none)
 unfolding walked
 w96 = refl
 
@@ -563,7 +564,7 @@ c98 : pass 10000 (filter (bin and (bin (cmp gt) (v 2 3) (bool false)) (bin (cmp 
 unfolding opened
 c98 = refl
 
-w98 : pass-by-children 10000 (filter (bin and (bin (cmp gt) (v 2 3) (bool false)) (bin (cmp gt) (i 2) (v 2 1))) (scan 2 (fd 2 1 1 false ∷ fd 2 2 1 false ∷ fd 2 3 2 false ∷ []) [])) ≡ passed 2 0 1 (filter (bin and (bin (cmp gt) (v 2 3) (bool false)) (bin (cmp gt) (i 2) (v 2 1))) (scan 2 (fd 2 1 1 false ∷ fd 2 2 1 false ∷ fd 2 3 2 false ∷ []) []))
+w98 : pass-by-records 10000 (filter (bin and (bin (cmp gt) (v 2 3) (bool false)) (bin (cmp gt) (i 2) (v 2 1))) (scan 2 (fd 2 1 1 false ∷ fd 2 2 1 false ∷ fd 2 3 2 false ∷ []) [])) ≡ passed 2 0 1 (filter (bin and (bin (cmp gt) (v 2 3) (bool false)) (bin (cmp gt) (i 2) (v 2 1))) (scan 2 (fd 2 1 1 false ∷ fd 2 2 1 false ∷ fd 2 3 2 false ∷ []) []))
 unfolding walked
 w98 = refl
 
@@ -571,7 +572,7 @@ c99 : pass 0 (sort none [] (project (en 0 104 (nul 1) ∷ []) (scan 2 (fd 0 101 
 unfolding opened
 c99 = refl
 
-w99 : pass-by-children 0 (sort none [] (project (en 0 104 (nul 1) ∷ []) (scan 2 (fd 0 101 1 true ∷ fd 0 102 1 true ∷ fd 0 103 2 false ∷ []) []))) ≡ passed 0 0 0 (sort none [] (project (en 0 104 (nul 1) ∷ []) (scan 2 (fd 0 101 1 true ∷ fd 0 102 1 true ∷ fd 0 103 2 false ∷ []) [])))
+w99 : pass-by-records 0 (sort none [] (project (en 0 104 (nul 1) ∷ []) (scan 2 (fd 0 101 1 true ∷ fd 0 102 1 true ∷ fd 0 103 2 false ∷ []) []))) ≡ passed 0 0 0 (sort none [] (project (en 0 104 (nul 1) ∷ []) (scan 2 (fd 0 101 1 true ∷ fd 0 102 1 true ∷ fd 0 103 2 false ∷ []) [])))
 unfolding walked
 w99 = refl
 
@@ -583,7 +584,7 @@ c101 : pass 10000 (filter (bin and (bin and (bin and (bin and (bin and (bool tru
 unfolding opened
 c101 = refl
 
-w101 : pass-by-children 10000 (filter (bin and (bin and (bin and (bin and (bin and (bool true) (bin and (bin (cmp eq) (i 1) (v 3 1)) (bin (cmp lt) (v 3 1) (i 0)))) (bin (cmp lt) (v 0 101) (i 0))) (bin (cmp gt) (v 3 1) (i 2))) (inlist true (v 3 1) (econs (i 3) enil))) (bin (cmp ge) (v 0 101) (i 0))) (aggregate (en 0 101 (i 0) ∷ en 3 1 (v 2 1) ∷ []) [] (filter (bin and (bin and (bin (cmp lt) (v 2 3) (bool true)) (bin and (bin (cmp lt) (v 2 3) (bool true)) (bin and (bin and (bin and (bin (cmp ge) (v 2 2) (num (negsuc 9223372036854775807))) (bin (cmp eq) (v 2 1) (i 1))) (bin (cmp le) (v 2 2) (i 2))) (bin (cmp ne) (v 2 2) (i 3))))) (inlist false (i 0) (econs (v 2 2) enil))) (scan 2 (fd 2 1 1 true ∷ fd 2 2 1 true ∷ fd 2 3 2 true ∷ []) ((bin (cmp eq) (v 2 1) (i 2)) ∷ (bin (cmp lt) (v 2 1) (i 2)) ∷ []))))) ≡ passed 3 2 1 (aggregate (en 0 101 (i 0) ∷ en 3 1 (v 2 1) ∷ []) [] (filter (bin and (bin and (bool true) (bin (cmp lt) (i 0) (i 0))) (bin (cmp ge) (i 0) (i 0))) (scan 2 (fd 2 1 1 true ∷ fd 2 2 1 true ∷ fd 2 3 2 true ∷ []) ((bin (cmp eq) (v 2 1) (i 2)) ∷ (bin (cmp lt) (v 2 1) (i 2)) ∷ (bin (cmp ne) (v 2 2) (i 3)) ∷ (inlist false (i 0) (econs (v 2 2) enil)) ∷ (inlist true (v 2 1) (econs (i 3) enil)) ∷ (bin (cmp eq) (i 1) (v 2 1)) ∷ (bin (cmp gt) (v 2 1) (i 2)) ∷ (bin (cmp lt) (v 2 1) (i 0)) ∷ (bin (cmp ge) (v 2 2) (num (negsuc 9223372036854775807))) ∷ (bin (cmp le) (v 2 2) (i 2)) ∷ (bin (cmp lt) (v 2 3) (bool true)) ∷ []))))
+w101 : pass-by-records 10000 (filter (bin and (bin and (bin and (bin and (bin and (bool true) (bin and (bin (cmp eq) (i 1) (v 3 1)) (bin (cmp lt) (v 3 1) (i 0)))) (bin (cmp lt) (v 0 101) (i 0))) (bin (cmp gt) (v 3 1) (i 2))) (inlist true (v 3 1) (econs (i 3) enil))) (bin (cmp ge) (v 0 101) (i 0))) (aggregate (en 0 101 (i 0) ∷ en 3 1 (v 2 1) ∷ []) [] (filter (bin and (bin and (bin (cmp lt) (v 2 3) (bool true)) (bin and (bin (cmp lt) (v 2 3) (bool true)) (bin and (bin and (bin and (bin (cmp ge) (v 2 2) (num (negsuc 9223372036854775807))) (bin (cmp eq) (v 2 1) (i 1))) (bin (cmp le) (v 2 2) (i 2))) (bin (cmp ne) (v 2 2) (i 3))))) (inlist false (i 0) (econs (v 2 2) enil))) (scan 2 (fd 2 1 1 true ∷ fd 2 2 1 true ∷ fd 2 3 2 true ∷ []) ((bin (cmp eq) (v 2 1) (i 2)) ∷ (bin (cmp lt) (v 2 1) (i 2)) ∷ []))))) ≡ passed 3 2 1 (aggregate (en 0 101 (i 0) ∷ en 3 1 (v 2 1) ∷ []) [] (filter (bin and (bin and (bool true) (bin (cmp lt) (i 0) (i 0))) (bin (cmp ge) (i 0) (i 0))) (scan 2 (fd 2 1 1 true ∷ fd 2 2 1 true ∷ fd 2 3 2 true ∷ []) ((bin (cmp eq) (v 2 1) (i 2)) ∷ (bin (cmp lt) (v 2 1) (i 2)) ∷ (bin (cmp ne) (v 2 2) (i 3)) ∷ (inlist false (i 0) (econs (v 2 2) enil)) ∷ (inlist true (v 2 1) (econs (i 3) enil)) ∷ (bin (cmp eq) (i 1) (v 2 1)) ∷ (bin (cmp gt) (v 2 1) (i 2)) ∷ (bin (cmp lt) (v 2 1) (i 0)) ∷ (bin (cmp ge) (v 2 2) (num (negsuc 9223372036854775807))) ∷ (bin (cmp le) (v 2 2) (i 2)) ∷ (bin (cmp lt) (v 2 3) (bool true)) ∷ []))))
 unfolding walked
 w101 = refl
 
@@ -631,7 +632,7 @@ c112 : pass 10000 (filter (bin (cmp gt) (i 0) (v 2 2)) (union (pcons (repartitio
 unfolding opened
 c112 = refl
 
-w112 : pass-by-children 10000 (filter (bin (cmp gt) (i 0) (v 2 2)) (union (pcons (repartition (scan 3 (fd 2 1 2 false ∷ fd 2 2 1 false ∷ []) [])) (pcons (project (en 4 2 (bool false) ∷ en 5 3 (v 3 1) ∷ []) (limit 2 1 (scan 1 (fd 3 1 1 true ∷ fd 3 2 1 true ∷ []) []))) (pcons (alias 6 (scan 3 (fd 7 1 2 true ∷ fd 7 2 1 true ∷ []) ((between false (v 7 2) (v 7 2) (fn 2 2 1 (econs (v 7 2) enil))) ∷ (bin (cmp ne) (v 7 2) (i 0)) ∷ []))) pnil))))) ≡ passed 10 5 1 (union (pcons (repartition (filter (bin (cmp gt) (i 0) (v 2 2)) (scan 3 (fd 2 1 2 false ∷ fd 2 2 1 false ∷ []) []))) (pcons (project (en 4 2 (bool false) ∷ en 5 3 (v 3 1) ∷ []) (filter (bin (cmp gt) (i 0) (v 3 1)) (limit 2 1 (scan 1 (fd 3 1 1 true ∷ fd 3 2 1 true ∷ []) [])))) (pcons (alias 6 (scan 3 (fd 7 1 2 true ∷ fd 7 2 1 true ∷ []) ((between false (v 7 2) (v 7 2) (fn 2 2 1 (econs (v 7 2) enil))) ∷ (bin (cmp ne) (v 7 2) (i 0)) ∷ (bin (cmp gt) (i 0) (v 7 2)) ∷ []))) pnil))))
+w112 : pass-by-records 10000 (filter (bin (cmp gt) (i 0) (v 2 2)) (union (pcons (repartition (scan 3 (fd 2 1 2 false ∷ fd 2 2 1 false ∷ []) [])) (pcons (project (en 4 2 (bool false) ∷ en 5 3 (v 3 1) ∷ []) (limit 2 1 (scan 1 (fd 3 1 1 true ∷ fd 3 2 1 true ∷ []) []))) (pcons (alias 6 (scan 3 (fd 7 1 2 true ∷ fd 7 2 1 true ∷ []) ((between false (v 7 2) (v 7 2) (fn 2 2 1 (econs (v 7 2) enil))) ∷ (bin (cmp ne) (v 7 2) (i 0)) ∷ []))) pnil))))) ≡ passed 10 5 1 (union (pcons (repartition (filter (bin (cmp gt) (i 0) (v 2 2)) (scan 3 (fd 2 1 2 false ∷ fd 2 2 1 false ∷ []) []))) (pcons (project (en 4 2 (bool false) ∷ en 5 3 (v 3 1) ∷ []) (filter (bin (cmp gt) (i 0) (v 3 1)) (limit 2 1 (scan 1 (fd 3 1 1 true ∷ fd 3 2 1 true ∷ []) [])))) (pcons (alias 6 (scan 3 (fd 7 1 2 true ∷ fd 7 2 1 true ∷ []) ((between false (v 7 2) (v 7 2) (fn 2 2 1 (econs (v 7 2) enil))) ∷ (bin (cmp ne) (v 7 2) (i 0)) ∷ (bin (cmp gt) (i 0) (v 7 2)) ∷ []))) pnil))))
 unfolding walked
 w112 = refl
 
@@ -639,7 +640,7 @@ c113 : pass 3 (filter (bin and (bin (cmp lt) (bool true) (v 2 3)) (bin and (bin 
 unfolding opened
 c113 = refl
 
-w113 : pass-by-children 3 (filter (bin and (bin (cmp lt) (bool true) (v 2 3)) (bin and (bin (cmp ne) (v 2 3) (bool true)) (fn 1 0 2 enil))) (sort none (ky false (v 2 2) ∷ []) (scan 2 (fd 2 1 1 true ∷ fd 2 2 1 true ∷ fd 2 3 2 true ∷ []) []))) ≡ passed 3 2 1 (sort none (ky false (v 2 2) ∷ []) (filter (fn 1 0 2 enil) (scan 2 (fd 2 1 1 true ∷ fd 2 2 1 true ∷ fd 2 3 2 true ∷ []) ((bin (cmp ne) (v 2 3) (bool true)) ∷ (bin (cmp lt) (bool true) (v 2 3)) ∷ []))))
+w113 : pass-by-records 3 (filter (bin and (bin (cmp lt) (bool true) (v 2 3)) (bin and (bin (cmp ne) (v 2 3) (bool true)) (fn 1 0 2 enil))) (sort none (ky false (v 2 2) ∷ []) (scan 2 (fd 2 1 1 true ∷ fd 2 2 1 true ∷ fd 2 3 2 true ∷ []) []))) ≡ passed 3 2 1 (sort none (ky false (v 2 2) ∷ []) (filter (fn 1 0 2 enil) (scan 2 (fd 2 1 1 true ∷ fd 2 2 1 true ∷ fd 2 3 2 true ∷ []) ((bin (cmp ne) (v 2 3) (bool true)) ∷ (bin (cmp lt) (bool true) (v 2 3)) ∷ []))))
 unfolding walked
 w113 = refl
 
@@ -651,7 +652,7 @@ c115 : pass 1 (filter (bin and (bin and (bin and (bin and (bin and (bin and (boo
 unfolding opened
 c115 = refl
 
-w115 : pass-by-children 1 (filter (bin and (bin and (bin and (bin and (bin and (bin and (bool true) (bin (cmp ge) (v 0 101) (i 3))) (bin (cmp ge) (i 0) (v 0 101))) (bin (cmp ne) (i 3) (v 0 101))) (bool true)) (bool true)) (bin (cmp lt) (v 0 101) (i 0))) (join full (filter (bin and (bin and (bin and (bool true) (bin and (bool true) (bool false))) (bool true)) (bool false)) (scan 5 [] [])) (aggregate [] (ag 0 101 count (i 0) ∷ []) (scan 3 (fd 3 1 2 true ∷ fd 3 2 1 true ∷ []) [])) (pr (i 3) (v 0 101) ∷ []) (some (fn 0 3 2 enil)))) ≡ passed 1 0 0 (filter (bin and (bin and (bin and (bin and (bin and (bool true) (bin (cmp ne) (i 3) (v 0 101))) (bool true)) (bool true)) (bin (cmp ge) (v 0 101) (i 3))) (bin (cmp lt) (v 0 101) (i 0))) (join full (filter (bin and (bin and (bin and (bool true) (bin and (bool true) (bool false))) (bool true)) (bool false)) (scan 5 [] [])) (aggregate [] (ag 0 101 count (i 0) ∷ []) (scan 3 (fd 3 1 2 true ∷ fd 3 2 1 true ∷ []) [])) (pr (i 3) (v 0 101) ∷ []) (some (fn 0 3 2 enil))))
+w115 : pass-by-records 1 (filter (bin and (bin and (bin and (bin and (bin and (bin and (bool true) (bin (cmp ge) (v 0 101) (i 3))) (bin (cmp ge) (i 0) (v 0 101))) (bin (cmp ne) (i 3) (v 0 101))) (bool true)) (bool true)) (bin (cmp lt) (v 0 101) (i 0))) (join full (filter (bin and (bin and (bin and (bool true) (bin and (bool true) (bool false))) (bool true)) (bool false)) (scan 5 [] [])) (aggregate [] (ag 0 101 count (i 0) ∷ []) (scan 3 (fd 3 1 2 true ∷ fd 3 2 1 true ∷ []) [])) (pr (i 3) (v 0 101) ∷ []) (some (fn 0 3 2 enil)))) ≡ passed 1 0 0 (filter (bin and (bin and (bin and (bin and (bin and (bool true) (bin (cmp ne) (i 3) (v 0 101))) (bool true)) (bool true)) (bin (cmp ge) (v 0 101) (i 3))) (bin (cmp lt) (v 0 101) (i 0))) (join full (filter (bin and (bin and (bin and (bool true) (bin and (bool true) (bool false))) (bool true)) (bool false)) (scan 5 [] [])) (aggregate [] (ag 0 101 count (i 0) ∷ []) (scan 3 (fd 3 1 2 true ∷ fd 3 2 1 true ∷ []) [])) (pr (i 3) (v 0 101) ∷ []) (some (fn 0 3 2 enil))))
 unfolding walked
 w115 = refl
 
@@ -667,7 +668,7 @@ c118 : pass 10000 (filter (bin and (bin and (bin (cmp lt) (v 2 2) (i 0)) (bin (c
 unfolding opened
 c118 = refl
 
-w118 : pass-by-children 10000 (filter (bin and (bin and (bin (cmp lt) (v 2 2) (i 0)) (bin (cmp lt) (v 2 2) (i 2))) (bin (cmp lt) (i 2) (v 2 1))) (join right (scan 2 (fd 2 1 1 false ∷ fd 2 2 1 false ∷ fd 2 3 2 true ∷ []) []) (scan 4 (fd 3 1 1 true ∷ []) []) (pr (v 2 2) (v 3 1) ∷ pr (v 2 1) (v 3 1) ∷ []) none)) ≡ passed 4 0 1 (filter (bin and (bin (cmp lt) (i 2) (v 2 1)) (bin (cmp lt) (v 2 2) (i 0))) (join right (scan 2 (fd 2 1 1 false ∷ fd 2 2 1 false ∷ fd 2 3 2 true ∷ []) []) (scan 4 (fd 3 1 1 true ∷ []) []) (pr (v 2 2) (v 3 1) ∷ pr (v 2 1) (v 3 1) ∷ []) none))
+w118 : pass-by-records 10000 (filter (bin and (bin and (bin (cmp lt) (v 2 2) (i 0)) (bin (cmp lt) (v 2 2) (i 2))) (bin (cmp lt) (i 2) (v 2 1))) (join right (scan 2 (fd 2 1 1 false ∷ fd 2 2 1 false ∷ fd 2 3 2 true ∷ []) []) (scan 4 (fd 3 1 1 true ∷ []) []) (pr (v 2 2) (v 3 1) ∷ pr (v 2 1) (v 3 1) ∷ []) none)) ≡ passed 4 0 1 (filter (bin and (bin (cmp lt) (i 2) (v 2 1)) (bin (cmp lt) (v 2 2) (i 0))) (join right (scan 2 (fd 2 1 1 false ∷ fd 2 2 1 false ∷ fd 2 3 2 true ∷ []) []) (scan 4 (fd 3 1 1 true ∷ []) []) (pr (v 2 2) (v 3 1) ∷ pr (v 2 1) (v 3 1) ∷ []) none))
 unfolding walked
 w118 = refl
 

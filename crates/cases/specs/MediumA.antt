@@ -5,9 +5,10 @@ use mathlib.Core.List.{[], _∷_}
 use mathlib.Core.Option.{none, some}
 use lib.IntN.{negsuc}
 use Rattle.plan.specs.Syntax.{nm, eq, ne, lt, le, gt, ge, and, or, cmp, isNull, isNotNull, isTrue, isFalse, isUnknown, isNotTrue, isNotFalse, isNotUnknown, num, bool, nul, bin, neg, test, between, inlist, fn, enil, econs, count, min, max, inner, left, right, full, leftSemi, rightSemi, leftAnti, rightAnti, scan, filter, project, join, alias, union, distinct, sort, repartition, limit, aggregate, window, pnil, pcons}
-use Rattle.rewrite.specs.RewriteAt.{granted, refused, passed, rewriteAt, pass}
+use Rattle.rewrite.specs.RewriteAt.{granted, refused, rewriteAt}
+use Rattle.rewrite.specs.Pass.{passed, pass}
 use Rattle.rewrite.proofs.Opened.{opened}
-use Rattle.rewrite.proofs.PassTree.{pass-by-children}
+use Rattle.rewrite.proofs.PassByRecords.{pass-by-records}
 use Rattle.cases.specs.Run.{v, i, fd, en, pr, ky, ag, wn}
 use Rattle.cases.specs.Walked.{walked}
 
@@ -23,7 +24,7 @@ c2 : pass 10000 (filter (bin (cmp eq) (v 2 1) (i 3)) (limit 0 0 (filter (bin and
 unfolding opened
 c2 = refl
 
-w2 : pass-by-children 10000 (filter (bin (cmp eq) (v 2 1) (i 3)) (limit 0 0 (filter (bin and (bin or (bin or (bin and (fn 0 3 2 (econs (v 2 1) (econs (v 2 1) enil))) (bin (cmp le) (v 2 1) (nul 1))) (between false (v 2 1) (i 1) (i 1))) (bin and (bin and (bin (cmp gt) (v 2 1) (nul 1)) (bin (cmp gt) (v 2 1) (nul 1))) (bin or (bin (cmp lt) (v 2 1) (i 3)) (fn 2 0 2 (econs (v 2 1) (econs (nul 1) enil)))))) (bin (cmp lt) (i 0) (v 2 1))) (scan 4 (fd 2 1 1 false ∷ []) [])))) ≡ passed 4 0 1 (filter (bin (cmp eq) (v 2 1) (i 3)) (limit 0 0 (filter (bin and (bin or (bin or (bin and (fn 0 3 2 (econs (v 2 1) (econs (v 2 1) enil))) (bin (cmp le) (v 2 1) (nul 1))) (between false (v 2 1) (i 1) (i 1))) (bin and (bin and (bin (cmp gt) (v 2 1) (nul 1)) (bin (cmp gt) (v 2 1) (nul 1))) (bin or (bin (cmp lt) (v 2 1) (i 3)) (fn 2 0 2 (econs (v 2 1) (econs (nul 1) enil)))))) (bin (cmp lt) (i 0) (v 2 1))) (scan 4 (fd 2 1 1 false ∷ []) []))))
+w2 : pass-by-records 10000 (filter (bin (cmp eq) (v 2 1) (i 3)) (limit 0 0 (filter (bin and (bin or (bin or (bin and (fn 0 3 2 (econs (v 2 1) (econs (v 2 1) enil))) (bin (cmp le) (v 2 1) (nul 1))) (between false (v 2 1) (i 1) (i 1))) (bin and (bin and (bin (cmp gt) (v 2 1) (nul 1)) (bin (cmp gt) (v 2 1) (nul 1))) (bin or (bin (cmp lt) (v 2 1) (i 3)) (fn 2 0 2 (econs (v 2 1) (econs (nul 1) enil)))))) (bin (cmp lt) (i 0) (v 2 1))) (scan 4 (fd 2 1 1 false ∷ []) [])))) ≡ passed 4 0 1 (filter (bin (cmp eq) (v 2 1) (i 3)) (limit 0 0 (filter (bin and (bin or (bin or (bin and (fn 0 3 2 (econs (v 2 1) (econs (v 2 1) enil))) (bin (cmp le) (v 2 1) (nul 1))) (between false (v 2 1) (i 1) (i 1))) (bin and (bin and (bin (cmp gt) (v 2 1) (nul 1)) (bin (cmp gt) (v 2 1) (nul 1))) (bin or (bin (cmp lt) (v 2 1) (i 3)) (fn 2 0 2 (econs (v 2 1) (econs (nul 1) enil)))))) (bin (cmp lt) (i 0) (v 2 1))) (scan 4 (fd 2 1 1 false ∷ []) []))))
 unfolding walked
 w2 = refl
 
@@ -43,7 +44,7 @@ c6 : pass 10000 (filter (bin and (bin and (neg (bin (cmp le) (v 2 2) (i 2))) (in
 unfolding opened
 c6 = refl
 
-w6 : pass-by-children 10000 (filter (bin and (bin and (neg (bin (cmp le) (v 2 2) (i 2))) (inlist true (v 2 1) (econs (v 2 1) (econs (nul 1) enil)))) (bin (cmp ne) (v 2 3) (nul 2))) (join inner (scan 2 (fd 2 1 1 false ∷ fd 2 2 1 false ∷ fd 2 3 2 false ∷ []) ((bin (cmp ge) (v 2 2) (v 2 1)) ∷ [])) (scan 5 [] []) [] (some (bin and (bin or (bin and (bin and (fn 0 2 2 (econs (bool false) enil)) (bin or (bin and (bin or (bin (cmp gt) (i 0) (v 2 1)) (fn 2 1 2 (econs (fn 1 0 2 enil) enil))) (inlist true (v 2 1) (econs (v 2 1) (econs (nul 1) enil)))) (bin (cmp le) (v 2 3) (bool true)))) (bin (cmp ge) (num (negsuc 0)) (v 2 1))) (v 2 3)) (bin (cmp eq) (v 2 3) (bool false)))))) ≡ passed 4 1 1 (join inner (filter (bin and (bin and (bin and (bin and (neg (bin (cmp le) (v 2 2) (i 2))) (inlist true (v 2 1) (econs (v 2 1) (econs (nul 1) enil)))) (bin (cmp ne) (v 2 3) (nul 2))) (bin or (bin and (bin and (fn 0 2 2 (econs (bool false) enil)) (bin or (bin and (bin or (bin (cmp gt) (i 0) (v 2 1)) (fn 2 1 2 (econs (fn 1 0 2 enil) enil))) (inlist true (v 2 1) (econs (v 2 1) (econs (nul 1) enil)))) (bin (cmp le) (v 2 3) (bool true)))) (bin (cmp ge) (num (negsuc 0)) (v 2 1))) (v 2 3))) (bin (cmp eq) (v 2 3) (bool false))) (scan 2 (fd 2 1 1 false ∷ fd 2 2 1 false ∷ fd 2 3 2 false ∷ []) ((bin (cmp ge) (v 2 2) (v 2 1)) ∷ []))) (scan 5 [] []) [] none)
+w6 : pass-by-records 10000 (filter (bin and (bin and (neg (bin (cmp le) (v 2 2) (i 2))) (inlist true (v 2 1) (econs (v 2 1) (econs (nul 1) enil)))) (bin (cmp ne) (v 2 3) (nul 2))) (join inner (scan 2 (fd 2 1 1 false ∷ fd 2 2 1 false ∷ fd 2 3 2 false ∷ []) ((bin (cmp ge) (v 2 2) (v 2 1)) ∷ [])) (scan 5 [] []) [] (some (bin and (bin or (bin and (bin and (fn 0 2 2 (econs (bool false) enil)) (bin or (bin and (bin or (bin (cmp gt) (i 0) (v 2 1)) (fn 2 1 2 (econs (fn 1 0 2 enil) enil))) (inlist true (v 2 1) (econs (v 2 1) (econs (nul 1) enil)))) (bin (cmp le) (v 2 3) (bool true)))) (bin (cmp ge) (num (negsuc 0)) (v 2 1))) (v 2 3)) (bin (cmp eq) (v 2 3) (bool false)))))) ≡ passed 4 1 1 (join inner (filter (bin and (bin and (bin and (bin and (neg (bin (cmp le) (v 2 2) (i 2))) (inlist true (v 2 1) (econs (v 2 1) (econs (nul 1) enil)))) (bin (cmp ne) (v 2 3) (nul 2))) (bin or (bin and (bin and (fn 0 2 2 (econs (bool false) enil)) (bin or (bin and (bin or (bin (cmp gt) (i 0) (v 2 1)) (fn 2 1 2 (econs (fn 1 0 2 enil) enil))) (inlist true (v 2 1) (econs (v 2 1) (econs (nul 1) enil)))) (bin (cmp le) (v 2 3) (bool true)))) (bin (cmp ge) (num (negsuc 0)) (v 2 1))) (v 2 3))) (bin (cmp eq) (v 2 3) (bool false))) (scan 2 (fd 2 1 1 false ∷ fd 2 2 1 false ∷ fd 2 3 2 false ∷ []) ((bin (cmp ge) (v 2 2) (v 2 1)) ∷ []))) (scan 5 [] []) [] none)
 unfolding walked
 w6 = refl
 
@@ -59,7 +60,7 @@ c9 : pass 10000 (filter (bool false) (union (pcons (scan 5 [] []) (pcons (scan 5
 unfolding opened
 c9 = refl
 
-w9 : pass-by-children 10000 (filter (bool false) (union (pcons (scan 5 [] []) (pcons (scan 5 [] []) (pcons (scan 5 [] []) pnil))))) ≡ passed 7 1 1 (union (pcons (filter (bool false) (scan 5 [] [])) (pcons (filter (bool false) (scan 5 [] [])) (pcons (filter (bool false) (scan 5 [] [])) pnil))))
+w9 : pass-by-records 10000 (filter (bool false) (union (pcons (scan 5 [] []) (pcons (scan 5 [] []) (pcons (scan 5 [] []) pnil))))) ≡ passed 7 1 1 (union (pcons (filter (bool false) (scan 5 [] [])) (pcons (filter (bool false) (scan 5 [] [])) (pcons (filter (bool false) (scan 5 [] [])) pnil))))
 unfolding walked
 w9 = refl
 
@@ -71,7 +72,7 @@ c11 : pass 10000 (filter (bin or (v 6 3) (bin and (bin and (bin (cmp lt) (i 0) (
 unfolding opened
 c11 = refl
 
-w11 : pass-by-children 10000 (filter (bin or (v 6 3) (bin and (bin and (bin (cmp lt) (i 0) (v 3 3)) (inlist false (i 2) (econs (i 1) (econs (i 3) enil)))) (bin (cmp ge) (i 1) (v 0 101)))) (join inner (aggregate (en 3 3 (v 3 1) ∷ []) (ag 0 101 count (v 2 1) ∷ ag 4 3 count (i 0) ∷ []) (join full (scan 1 (fd 2 1 1 true ∷ fd 2 2 1 true ∷ []) []) (scan 2 (fd 3 1 1 true ∷ fd 3 2 1 true ∷ fd 3 3 2 true ∷ []) ((bin (cmp ne) (v 3 2) (i 1)) ∷ [])) (pr (v 2 2) (v 3 2) ∷ pr (v 2 1) (v 3 1) ∷ []) none)) (join right (repartition (scan 3 (fd 5 1 2 true ∷ fd 5 2 1 true ∷ []) [])) (alias 6 (scan 2 (fd 7 1 1 false ∷ fd 7 2 1 false ∷ fd 7 3 2 false ∷ []) [])) [] (some (bin (cmp le) (i 1) (v 5 2)))) (pr (v 0 101) (v 6 1) ∷ []) (some (bin and (bin and (bin and (bin or (bin and (fn 0 3 2 enil) (bin (cmp lt) (fn 1 0 2 enil) (v 5 1))) (inlist false (v 0 101) (econs (v 3 3) (econs (fn 2 2 1 (econs (v 3 3) enil)) enil)))) (bin (cmp le) (bin (cmp le) (v 3 3) (i 0)) (v 6 3))) (bin (cmp ge) (v 5 2) (i 2))) (bin (cmp lt) (i 1) (v 3 3)))))) ≡ passed 14 6 1 (join inner (filter (bin or (fn 0 3 2 enil) (inlist false (v 0 101) (econs (v 3 3) (econs (fn 2 2 1 (econs (v 3 3) enil)) enil)))) (aggregate (en 3 3 (v 3 1) ∷ []) (ag 0 101 count (v 2 1) ∷ ag 4 3 count (i 0) ∷ []) (filter (bin (cmp lt) (i 1) (v 3 1)) (join full (scan 1 (fd 2 1 1 true ∷ fd 2 2 1 true ∷ []) []) (scan 2 (fd 3 1 1 true ∷ fd 3 2 1 true ∷ fd 3 3 2 true ∷ []) ((bin (cmp ne) (v 3 2) (i 1)) ∷ [])) (pr (v 2 2) (v 3 2) ∷ pr (v 2 1) (v 3 1) ∷ []) none)))) (filter (bin (cmp ge) (v 5 2) (i 2)) (join right (repartition (scan 3 (fd 5 1 2 true ∷ fd 5 2 1 true ∷ []) ((bin (cmp le) (i 1) (v 5 2)) ∷ []))) (alias 6 (filter (bin or (v 7 3) (inlist false (i 2) (econs (i 1) (econs (i 3) enil)))) (scan 2 (fd 7 1 1 false ∷ fd 7 2 1 false ∷ fd 7 3 2 false ∷ []) []))) [] none)) (pr (v 0 101) (v 6 1) ∷ []) (some (bin and (bin and (bin or (v 6 3) (bin and (bin and (bin (cmp lt) (i 0) (v 3 3)) (inlist false (i 2) (econs (i 1) (econs (i 3) enil)))) (bin (cmp ge) (i 1) (v 0 101)))) (bin or (bin and (fn 0 3 2 enil) (bin (cmp lt) (fn 1 0 2 enil) (v 5 1))) (inlist false (v 0 101) (econs (v 3 3) (econs (fn 2 2 1 (econs (v 3 3) enil)) enil))))) (bin (cmp le) (bin (cmp le) (v 3 3) (i 0)) (v 6 3)))))
+w11 : pass-by-records 10000 (filter (bin or (v 6 3) (bin and (bin and (bin (cmp lt) (i 0) (v 3 3)) (inlist false (i 2) (econs (i 1) (econs (i 3) enil)))) (bin (cmp ge) (i 1) (v 0 101)))) (join inner (aggregate (en 3 3 (v 3 1) ∷ []) (ag 0 101 count (v 2 1) ∷ ag 4 3 count (i 0) ∷ []) (join full (scan 1 (fd 2 1 1 true ∷ fd 2 2 1 true ∷ []) []) (scan 2 (fd 3 1 1 true ∷ fd 3 2 1 true ∷ fd 3 3 2 true ∷ []) ((bin (cmp ne) (v 3 2) (i 1)) ∷ [])) (pr (v 2 2) (v 3 2) ∷ pr (v 2 1) (v 3 1) ∷ []) none)) (join right (repartition (scan 3 (fd 5 1 2 true ∷ fd 5 2 1 true ∷ []) [])) (alias 6 (scan 2 (fd 7 1 1 false ∷ fd 7 2 1 false ∷ fd 7 3 2 false ∷ []) [])) [] (some (bin (cmp le) (i 1) (v 5 2)))) (pr (v 0 101) (v 6 1) ∷ []) (some (bin and (bin and (bin and (bin or (bin and (fn 0 3 2 enil) (bin (cmp lt) (fn 1 0 2 enil) (v 5 1))) (inlist false (v 0 101) (econs (v 3 3) (econs (fn 2 2 1 (econs (v 3 3) enil)) enil)))) (bin (cmp le) (bin (cmp le) (v 3 3) (i 0)) (v 6 3))) (bin (cmp ge) (v 5 2) (i 2))) (bin (cmp lt) (i 1) (v 3 3)))))) ≡ passed 14 6 1 (join inner (filter (bin or (fn 0 3 2 enil) (inlist false (v 0 101) (econs (v 3 3) (econs (fn 2 2 1 (econs (v 3 3) enil)) enil)))) (aggregate (en 3 3 (v 3 1) ∷ []) (ag 0 101 count (v 2 1) ∷ ag 4 3 count (i 0) ∷ []) (filter (bin (cmp lt) (i 1) (v 3 1)) (join full (scan 1 (fd 2 1 1 true ∷ fd 2 2 1 true ∷ []) []) (scan 2 (fd 3 1 1 true ∷ fd 3 2 1 true ∷ fd 3 3 2 true ∷ []) ((bin (cmp ne) (v 3 2) (i 1)) ∷ [])) (pr (v 2 2) (v 3 2) ∷ pr (v 2 1) (v 3 1) ∷ []) none)))) (filter (bin (cmp ge) (v 5 2) (i 2)) (join right (repartition (scan 3 (fd 5 1 2 true ∷ fd 5 2 1 true ∷ []) ((bin (cmp le) (i 1) (v 5 2)) ∷ []))) (alias 6 (filter (bin or (v 7 3) (inlist false (i 2) (econs (i 1) (econs (i 3) enil)))) (scan 2 (fd 7 1 1 false ∷ fd 7 2 1 false ∷ fd 7 3 2 false ∷ []) []))) [] none)) (pr (v 0 101) (v 6 1) ∷ []) (some (bin and (bin and (bin or (v 6 3) (bin and (bin and (bin (cmp lt) (i 0) (v 3 3)) (inlist false (i 2) (econs (i 1) (econs (i 3) enil)))) (bin (cmp ge) (i 1) (v 0 101)))) (bin or (bin and (fn 0 3 2 enil) (bin (cmp lt) (fn 1 0 2 enil) (v 5 1))) (inlist false (v 0 101) (econs (v 3 3) (econs (fn 2 2 1 (econs (v 3 3) enil)) enil))))) (bin (cmp le) (bin (cmp le) (v 3 3) (i 0)) (v 6 3)))))
 unfolding walked
 w11 = refl
 
@@ -83,7 +84,7 @@ c13 : pass 10000 (filter (test isNotFalse (bool false)) (join rightAnti (scan 4 
 unfolding opened
 c13 = refl
 
-w13 : pass-by-children 10000 (filter (test isNotFalse (bool false)) (join rightAnti (scan 4 (fd 2 1 1 false ∷ []) []) (scan 5 [] []) (pr (v 2 1) (i 3) ∷ []) (some (bin and (bin (cmp eq) (v 2 1) (i 3)) (bin and (bool false) (bin (cmp le) (i 3) (i 2))))))) ≡ passed 5 1 1 (join rightAnti (filter (bin and (bin and (bin (cmp eq) (v 2 1) (i 3)) (bool false)) (bin (cmp le) (i 3) (i 2))) (scan 4 (fd 2 1 1 false ∷ []) [])) (filter (test isNotFalse (bool false)) (scan 5 [] [])) (pr (v 2 1) (i 3) ∷ []) none)
+w13 : pass-by-records 10000 (filter (test isNotFalse (bool false)) (join rightAnti (scan 4 (fd 2 1 1 false ∷ []) []) (scan 5 [] []) (pr (v 2 1) (i 3) ∷ []) (some (bin and (bin (cmp eq) (v 2 1) (i 3)) (bin and (bool false) (bin (cmp le) (i 3) (i 2))))))) ≡ passed 5 1 1 (join rightAnti (filter (bin and (bin and (bin (cmp eq) (v 2 1) (i 3)) (bool false)) (bin (cmp le) (i 3) (i 2))) (scan 4 (fd 2 1 1 false ∷ []) [])) (filter (test isNotFalse (bool false)) (scan 5 [] [])) (pr (v 2 1) (i 3) ∷ []) none)
 unfolding walked
 w13 = refl
 
@@ -91,7 +92,7 @@ c14 : pass 10000 (join inner (scan 3 (fd 2 1 2 true ∷ fd 2 2 1 false ∷ []) [
 unfolding opened
 c14 = refl
 
-w14 : pass-by-children 10000 (join inner (scan 3 (fd 2 1 2 true ∷ fd 2 2 1 false ∷ []) []) (scan 4 (fd 3 1 1 true ∷ []) []) (pr (v 2 2) (v 3 1) ∷ pr (v 2 2) (i 0) ∷ []) none) ≡ passed 3 0 1 (join inner (scan 3 (fd 2 1 2 true ∷ fd 2 2 1 false ∷ []) []) (scan 4 (fd 3 1 1 true ∷ []) []) (pr (v 2 2) (v 3 1) ∷ pr (v 2 2) (i 0) ∷ []) none)
+w14 : pass-by-records 10000 (join inner (scan 3 (fd 2 1 2 true ∷ fd 2 2 1 false ∷ []) []) (scan 4 (fd 3 1 1 true ∷ []) []) (pr (v 2 2) (v 3 1) ∷ pr (v 2 2) (i 0) ∷ []) none) ≡ passed 3 0 1 (join inner (scan 3 (fd 2 1 2 true ∷ fd 2 2 1 false ∷ []) []) (scan 4 (fd 3 1 1 true ∷ []) []) (pr (v 2 2) (v 3 1) ∷ pr (v 2 2) (i 0) ∷ []) none)
 unfolding walked
 w14 = refl
 
@@ -99,7 +100,7 @@ c15 : pass 10000 (filter (bin and (bin and (bin or (bin and (bin and (bool false
 unfolding opened
 c15 = refl
 
-w15 : pass-by-children 10000 (filter (bin and (bin and (bin or (bin and (bin and (bool false) (bin or (bin and (fn 2 2 2 (econs (bool true) enil)) (fn 1 0 2 (econs (bool false) enil))) (bin and (bin and (fn 0 0 2 (econs (bool true) enil)) (test isNotFalse (bool false))) (bin (cmp ge) (i 0) (v 2 102))))) (fn 0 0 2 (econs (bool true) enil))) (bin or (bin and (inlist false (v 2 101) (econs (v 2 102) enil)) (bin (cmp eq) (v 2 102) (i 2))) (bin and (bool true) (bin (cmp gt) (v 2 102) (i 2))))) (bin (cmp ge) (v 2 102) (i 1))) (bin (cmp le) (v 2 102) (i 3))) (alias 2 (scan 1 (fd 0 101 1 false ∷ fd 0 102 1 true ∷ []) ((bin (cmp eq) (bool true) (bool false)) ∷ [])))) ≡ passed 3 2 1 (alias 2 (filter (bin or (bin and (bin and (bool false) (bin or (bin and (fn 2 2 2 (econs (bool true) enil)) (fn 1 0 2 (econs (bool false) enil))) (bin and (bin and (fn 0 0 2 (econs (bool true) enil)) (test isNotFalse (bool false))) (bin (cmp ge) (i 0) (v 0 102))))) (fn 0 0 2 (econs (bool true) enil))) (bin or (bin and (inlist false (v 0 101) (econs (v 0 102) enil)) (bin (cmp eq) (v 0 102) (i 2))) (bin and (bool true) (bin (cmp gt) (v 0 102) (i 2))))) (scan 1 (fd 0 101 1 false ∷ fd 0 102 1 true ∷ []) ((bin (cmp eq) (bool true) (bool false)) ∷ (bin (cmp ge) (v 0 102) (i 1)) ∷ (bin (cmp le) (v 0 102) (i 3)) ∷ []))))
+w15 : pass-by-records 10000 (filter (bin and (bin and (bin or (bin and (bin and (bool false) (bin or (bin and (fn 2 2 2 (econs (bool true) enil)) (fn 1 0 2 (econs (bool false) enil))) (bin and (bin and (fn 0 0 2 (econs (bool true) enil)) (test isNotFalse (bool false))) (bin (cmp ge) (i 0) (v 2 102))))) (fn 0 0 2 (econs (bool true) enil))) (bin or (bin and (inlist false (v 2 101) (econs (v 2 102) enil)) (bin (cmp eq) (v 2 102) (i 2))) (bin and (bool true) (bin (cmp gt) (v 2 102) (i 2))))) (bin (cmp ge) (v 2 102) (i 1))) (bin (cmp le) (v 2 102) (i 3))) (alias 2 (scan 1 (fd 0 101 1 false ∷ fd 0 102 1 true ∷ []) ((bin (cmp eq) (bool true) (bool false)) ∷ [])))) ≡ passed 3 2 1 (alias 2 (filter (bin or (bin and (bin and (bool false) (bin or (bin and (fn 2 2 2 (econs (bool true) enil)) (fn 1 0 2 (econs (bool false) enil))) (bin and (bin and (fn 0 0 2 (econs (bool true) enil)) (test isNotFalse (bool false))) (bin (cmp ge) (i 0) (v 0 102))))) (fn 0 0 2 (econs (bool true) enil))) (bin or (bin and (inlist false (v 0 101) (econs (v 0 102) enil)) (bin (cmp eq) (v 0 102) (i 2))) (bin and (bool true) (bin (cmp gt) (v 0 102) (i 2))))) (scan 1 (fd 0 101 1 false ∷ fd 0 102 1 true ∷ []) ((bin (cmp eq) (bool true) (bool false)) ∷ (bin (cmp ge) (v 0 102) (i 1)) ∷ (bin (cmp le) (v 0 102) (i 3)) ∷ []))))
 unfolding walked
 w15 = refl
 
@@ -171,7 +172,7 @@ c32 : pass 5 (filter (bin and (bin and (bin and (v 0 102) (bin or (bin and (bin 
 unfolding opened
 c32 = refl
 
-w32 : pass-by-children 5 (filter (bin and (bin and (bin and (v 0 102) (bin or (bin and (bin and (bin or (bin or (fn 2 0 2 (econs (v 0 102) enil)) (fn 0 2 2 enil)) (bin (cmp lt) (v 0 103) (v 0 101))) (bin (cmp eq) (bin (cmp ge) (v 0 103) (nul 1)) (fn 2 3 2 (econs (fn 1 0 2 enil) (econs (v 0 101) enil))))) (bin or (bin (cmp gt) (v 0 103) (i 3)) (bin and (bin (cmp ge) (v 0 102) (bool false)) (bin (cmp ne) (v 0 103) (nul 1))))) (bin or (bin and (v 0 102) (fn 2 0 2 (econs (v 0 102) (econs (v 0 102) enil)))) (inlist false (fn 0 1 1 enil) (econs (v 0 103) (econs (v 0 101) enil)))))) (bin (cmp ge) (i 2) (v 0 101))) (bin (cmp le) (v 0 103) (i 3))) (project (en 0 101 (v 2 1) ∷ en 0 102 (bin or (bin and (bin and (test isFalse (fn 1 0 2 (econs (bool false) (econs (bool false) enil)))) (bin (cmp lt) (v 2 1) (i 3))) (bin (cmp ge) (v 2 1) (num (negsuc 9223372036854775807)))) (bin and (fn 1 0 2 (econs (i 3) enil)) (bin or (bin (cmp le) (i 3) (v 2 1)) (bin and (bin and (test isTrue (bool true)) (bin (cmp le) (fn 2 0 1 (econs (fn 1 0 2 (econs (fn 0 0 2 (econs (i 1) (econs (v 2 1) enil))) enil)) enil)) (v 2 1))) (bool false))))) ∷ en 0 103 (v 2 1) ∷ []) (filter (bin and (fn 0 2 2 (econs (fn 0 2 2 (econs (v 2 1) enil)) enil)) (bin and (bin or (bin (cmp lt) (i 3) (v 2 1)) (bin and (bin or (bin (cmp le) (i 3) (v 2 1)) (bin and (bin and (test isTrue (bool true)) (bin (cmp le) (fn 2 0 1 (econs (fn 1 0 2 (econs (fn 0 0 2 (econs (i 1) (econs (v 2 1) enil))) enil)) enil)) (v 2 1))) (bool false))) (fn 1 0 2 enil))) (bin (cmp ge) (v 2 1) (nul 1)))) (alias 2 (scan 4 (fd 3 1 1 true ∷ []) []))))) ≡ passed 4 3 1 (project (en 0 101 (v 2 1) ∷ en 0 102 (bin or (bin and (bin and (test isFalse (fn 1 0 2 (econs (bool false) (econs (bool false) enil)))) (bin (cmp lt) (v 2 1) (i 3))) (bin (cmp ge) (v 2 1) (num (negsuc 9223372036854775807)))) (bin and (fn 1 0 2 (econs (i 3) enil)) (bin or (bin (cmp le) (i 3) (v 2 1)) (bin and (bin and (test isTrue (bool true)) (bin (cmp le) (fn 2 0 1 (econs (fn 1 0 2 (econs (fn 0 0 2 (econs (i 1) (econs (v 2 1) enil))) enil)) enil)) (v 2 1))) (bool false))))) ∷ en 0 103 (v 2 1) ∷ []) (alias 2 (filter (bin or (bin and (bin and (bin or (bin or (fn 2 0 2 (econs (bin or (bin and (bin and (test isFalse (fn 1 0 2 (econs (bool false) (econs (bool false) enil)))) (bin (cmp lt) (v 3 1) (i 3))) (bin (cmp ge) (v 3 1) (num (negsuc 9223372036854775807)))) (bin and (fn 1 0 2 (econs (i 3) enil)) (bin or (bin (cmp le) (i 3) (v 3 1)) (bin and (bin and (test isTrue (bool true)) (bin (cmp le) (fn 2 0 1 (econs (fn 1 0 2 (econs (fn 0 0 2 (econs (i 1) (econs (v 3 1) enil))) enil)) enil)) (v 3 1))) (bool false))))) enil)) (fn 0 2 2 enil)) (bin (cmp lt) (v 3 1) (v 3 1))) (bin (cmp eq) (bin (cmp ge) (v 3 1) (nul 1)) (fn 2 3 2 (econs (fn 1 0 2 enil) (econs (v 3 1) enil))))) (bin or (bin (cmp gt) (v 3 1) (i 3)) (bin and (bin (cmp ge) (bin or (bin and (bin and (test isFalse (fn 1 0 2 (econs (bool false) (econs (bool false) enil)))) (bin (cmp lt) (v 3 1) (i 3))) (bin (cmp ge) (v 3 1) (num (negsuc 9223372036854775807)))) (bin and (fn 1 0 2 (econs (i 3) enil)) (bin or (bin (cmp le) (i 3) (v 3 1)) (bin and (bin and (test isTrue (bool true)) (bin (cmp le) (fn 2 0 1 (econs (fn 1 0 2 (econs (fn 0 0 2 (econs (i 1) (econs (v 3 1) enil))) enil)) enil)) (v 3 1))) (bool false))))) (bool false)) (bin (cmp ne) (v 3 1) (nul 1))))) (bin or (bin and (bin or (bin and (bin and (test isFalse (fn 1 0 2 (econs (bool false) (econs (bool false) enil)))) (bin (cmp lt) (v 3 1) (i 3))) (bin (cmp ge) (v 3 1) (num (negsuc 9223372036854775807)))) (bin and (fn 1 0 2 (econs (i 3) enil)) (bin or (bin (cmp le) (i 3) (v 3 1)) (bin and (bin and (test isTrue (bool true)) (bin (cmp le) (fn 2 0 1 (econs (fn 1 0 2 (econs (fn 0 0 2 (econs (i 1) (econs (v 3 1) enil))) enil)) enil)) (v 3 1))) (bool false))))) (fn 2 0 2 (econs (bin or (bin and (bin and (test isFalse (fn 1 0 2 (econs (bool false) (econs (bool false) enil)))) (bin (cmp lt) (v 3 1) (i 3))) (bin (cmp ge) (v 3 1) (num (negsuc 9223372036854775807)))) (bin and (fn 1 0 2 (econs (i 3) enil)) (bin or (bin (cmp le) (i 3) (v 3 1)) (bin and (bin and (test isTrue (bool true)) (bin (cmp le) (fn 2 0 1 (econs (fn 1 0 2 (econs (fn 0 0 2 (econs (i 1) (econs (v 3 1) enil))) enil)) enil)) (v 3 1))) (bool false))))) (econs (bin or (bin and (bin and (test isFalse (fn 1 0 2 (econs (bool false) (econs (bool false) enil)))) (bin (cmp lt) (v 3 1) (i 3))) (bin (cmp ge) (v 3 1) (num (negsuc 9223372036854775807)))) (bin and (fn 1 0 2 (econs (i 3) enil)) (bin or (bin (cmp le) (i 3) (v 3 1)) (bin and (bin and (test isTrue (bool true)) (bin (cmp le) (fn 2 0 1 (econs (fn 1 0 2 (econs (fn 0 0 2 (econs (i 1) (econs (v 3 1) enil))) enil)) enil)) (v 3 1))) (bool false))))) enil)))) (inlist false (fn 0 1 1 enil) (econs (v 3 1) (econs (v 3 1) enil))))) (scan 4 (fd 3 1 1 true ∷ []) ((fn 0 2 2 (econs (fn 0 2 2 (econs (v 3 1) enil)) enil)) ∷ (bin or (bin (cmp lt) (i 3) (v 3 1)) (bin and (bin or (bin (cmp le) (i 3) (v 3 1)) (bin and (bin and (test isTrue (bool true)) (bin (cmp le) (fn 2 0 1 (econs (fn 1 0 2 (econs (fn 0 0 2 (econs (i 1) (econs (v 3 1) enil))) enil)) enil)) (v 3 1))) (bool false))) (fn 1 0 2 enil))) ∷ (bin (cmp ge) (v 3 1) (nul 1)) ∷ (bin or (bin and (bin and (test isFalse (fn 1 0 2 (econs (bool false) (econs (bool false) enil)))) (bin (cmp lt) (v 3 1) (i 3))) (bin (cmp ge) (v 3 1) (num (negsuc 9223372036854775807)))) (bin and (fn 1 0 2 (econs (i 3) enil)) (bin or (bin (cmp le) (i 3) (v 3 1)) (bin and (bin and (test isTrue (bool true)) (bin (cmp le) (fn 2 0 1 (econs (fn 1 0 2 (econs (fn 0 0 2 (econs (i 1) (econs (v 3 1) enil))) enil)) enil)) (v 3 1))) (bool false))))) ∷ (bin (cmp ge) (i 2) (v 3 1)) ∷ [])))))
+w32 : pass-by-records 5 (filter (bin and (bin and (bin and (v 0 102) (bin or (bin and (bin and (bin or (bin or (fn 2 0 2 (econs (v 0 102) enil)) (fn 0 2 2 enil)) (bin (cmp lt) (v 0 103) (v 0 101))) (bin (cmp eq) (bin (cmp ge) (v 0 103) (nul 1)) (fn 2 3 2 (econs (fn 1 0 2 enil) (econs (v 0 101) enil))))) (bin or (bin (cmp gt) (v 0 103) (i 3)) (bin and (bin (cmp ge) (v 0 102) (bool false)) (bin (cmp ne) (v 0 103) (nul 1))))) (bin or (bin and (v 0 102) (fn 2 0 2 (econs (v 0 102) (econs (v 0 102) enil)))) (inlist false (fn 0 1 1 enil) (econs (v 0 103) (econs (v 0 101) enil)))))) (bin (cmp ge) (i 2) (v 0 101))) (bin (cmp le) (v 0 103) (i 3))) (project (en 0 101 (v 2 1) ∷ en 0 102 (bin or (bin and (bin and (test isFalse (fn 1 0 2 (econs (bool false) (econs (bool false) enil)))) (bin (cmp lt) (v 2 1) (i 3))) (bin (cmp ge) (v 2 1) (num (negsuc 9223372036854775807)))) (bin and (fn 1 0 2 (econs (i 3) enil)) (bin or (bin (cmp le) (i 3) (v 2 1)) (bin and (bin and (test isTrue (bool true)) (bin (cmp le) (fn 2 0 1 (econs (fn 1 0 2 (econs (fn 0 0 2 (econs (i 1) (econs (v 2 1) enil))) enil)) enil)) (v 2 1))) (bool false))))) ∷ en 0 103 (v 2 1) ∷ []) (filter (bin and (fn 0 2 2 (econs (fn 0 2 2 (econs (v 2 1) enil)) enil)) (bin and (bin or (bin (cmp lt) (i 3) (v 2 1)) (bin and (bin or (bin (cmp le) (i 3) (v 2 1)) (bin and (bin and (test isTrue (bool true)) (bin (cmp le) (fn 2 0 1 (econs (fn 1 0 2 (econs (fn 0 0 2 (econs (i 1) (econs (v 2 1) enil))) enil)) enil)) (v 2 1))) (bool false))) (fn 1 0 2 enil))) (bin (cmp ge) (v 2 1) (nul 1)))) (alias 2 (scan 4 (fd 3 1 1 true ∷ []) []))))) ≡ passed 4 3 1 (project (en 0 101 (v 2 1) ∷ en 0 102 (bin or (bin and (bin and (test isFalse (fn 1 0 2 (econs (bool false) (econs (bool false) enil)))) (bin (cmp lt) (v 2 1) (i 3))) (bin (cmp ge) (v 2 1) (num (negsuc 9223372036854775807)))) (bin and (fn 1 0 2 (econs (i 3) enil)) (bin or (bin (cmp le) (i 3) (v 2 1)) (bin and (bin and (test isTrue (bool true)) (bin (cmp le) (fn 2 0 1 (econs (fn 1 0 2 (econs (fn 0 0 2 (econs (i 1) (econs (v 2 1) enil))) enil)) enil)) (v 2 1))) (bool false))))) ∷ en 0 103 (v 2 1) ∷ []) (alias 2 (filter (bin or (bin and (bin and (bin or (bin or (fn 2 0 2 (econs (bin or (bin and (bin and (test isFalse (fn 1 0 2 (econs (bool false) (econs (bool false) enil)))) (bin (cmp lt) (v 3 1) (i 3))) (bin (cmp ge) (v 3 1) (num (negsuc 9223372036854775807)))) (bin and (fn 1 0 2 (econs (i 3) enil)) (bin or (bin (cmp le) (i 3) (v 3 1)) (bin and (bin and (test isTrue (bool true)) (bin (cmp le) (fn 2 0 1 (econs (fn 1 0 2 (econs (fn 0 0 2 (econs (i 1) (econs (v 3 1) enil))) enil)) enil)) (v 3 1))) (bool false))))) enil)) (fn 0 2 2 enil)) (bin (cmp lt) (v 3 1) (v 3 1))) (bin (cmp eq) (bin (cmp ge) (v 3 1) (nul 1)) (fn 2 3 2 (econs (fn 1 0 2 enil) (econs (v 3 1) enil))))) (bin or (bin (cmp gt) (v 3 1) (i 3)) (bin and (bin (cmp ge) (bin or (bin and (bin and (test isFalse (fn 1 0 2 (econs (bool false) (econs (bool false) enil)))) (bin (cmp lt) (v 3 1) (i 3))) (bin (cmp ge) (v 3 1) (num (negsuc 9223372036854775807)))) (bin and (fn 1 0 2 (econs (i 3) enil)) (bin or (bin (cmp le) (i 3) (v 3 1)) (bin and (bin and (test isTrue (bool true)) (bin (cmp le) (fn 2 0 1 (econs (fn 1 0 2 (econs (fn 0 0 2 (econs (i 1) (econs (v 3 1) enil))) enil)) enil)) (v 3 1))) (bool false))))) (bool false)) (bin (cmp ne) (v 3 1) (nul 1))))) (bin or (bin and (bin or (bin and (bin and (test isFalse (fn 1 0 2 (econs (bool false) (econs (bool false) enil)))) (bin (cmp lt) (v 3 1) (i 3))) (bin (cmp ge) (v 3 1) (num (negsuc 9223372036854775807)))) (bin and (fn 1 0 2 (econs (i 3) enil)) (bin or (bin (cmp le) (i 3) (v 3 1)) (bin and (bin and (test isTrue (bool true)) (bin (cmp le) (fn 2 0 1 (econs (fn 1 0 2 (econs (fn 0 0 2 (econs (i 1) (econs (v 3 1) enil))) enil)) enil)) (v 3 1))) (bool false))))) (fn 2 0 2 (econs (bin or (bin and (bin and (test isFalse (fn 1 0 2 (econs (bool false) (econs (bool false) enil)))) (bin (cmp lt) (v 3 1) (i 3))) (bin (cmp ge) (v 3 1) (num (negsuc 9223372036854775807)))) (bin and (fn 1 0 2 (econs (i 3) enil)) (bin or (bin (cmp le) (i 3) (v 3 1)) (bin and (bin and (test isTrue (bool true)) (bin (cmp le) (fn 2 0 1 (econs (fn 1 0 2 (econs (fn 0 0 2 (econs (i 1) (econs (v 3 1) enil))) enil)) enil)) (v 3 1))) (bool false))))) (econs (bin or (bin and (bin and (test isFalse (fn 1 0 2 (econs (bool false) (econs (bool false) enil)))) (bin (cmp lt) (v 3 1) (i 3))) (bin (cmp ge) (v 3 1) (num (negsuc 9223372036854775807)))) (bin and (fn 1 0 2 (econs (i 3) enil)) (bin or (bin (cmp le) (i 3) (v 3 1)) (bin and (bin and (test isTrue (bool true)) (bin (cmp le) (fn 2 0 1 (econs (fn 1 0 2 (econs (fn 0 0 2 (econs (i 1) (econs (v 3 1) enil))) enil)) enil)) (v 3 1))) (bool false))))) enil)))) (inlist false (fn 0 1 1 enil) (econs (v 3 1) (econs (v 3 1) enil))))) (scan 4 (fd 3 1 1 true ∷ []) ((fn 0 2 2 (econs (fn 0 2 2 (econs (v 3 1) enil)) enil)) ∷ (bin or (bin (cmp lt) (i 3) (v 3 1)) (bin and (bin or (bin (cmp le) (i 3) (v 3 1)) (bin and (bin and (test isTrue (bool true)) (bin (cmp le) (fn 2 0 1 (econs (fn 1 0 2 (econs (fn 0 0 2 (econs (i 1) (econs (v 3 1) enil))) enil)) enil)) (v 3 1))) (bool false))) (fn 1 0 2 enil))) ∷ (bin (cmp ge) (v 3 1) (nul 1)) ∷ (bin or (bin and (bin and (test isFalse (fn 1 0 2 (econs (bool false) (econs (bool false) enil)))) (bin (cmp lt) (v 3 1) (i 3))) (bin (cmp ge) (v 3 1) (num (negsuc 9223372036854775807)))) (bin and (fn 1 0 2 (econs (i 3) enil)) (bin or (bin (cmp le) (i 3) (v 3 1)) (bin and (bin and (test isTrue (bool true)) (bin (cmp le) (fn 2 0 1 (econs (fn 1 0 2 (econs (fn 0 0 2 (econs (i 1) (econs (v 3 1) enil))) enil)) enil)) (v 3 1))) (bool false))))) ∷ (bin (cmp ge) (i 2) (v 3 1)) ∷ [])))))
 unfolding walked
 w32 = refl
 
@@ -179,7 +180,7 @@ c33 : pass 10000 (filter (bin and (bin and (bin (cmp ge) (i 3) (v 5 3)) (bool fa
 unfolding opened
 c33 = refl
 
-w33 : pass-by-children 10000 (filter (bin and (bin and (bin (cmp ge) (i 3) (v 5 3)) (bool false)) (bool true)) (distinct (filter (bin or (bin or (bin and (inlist true (v 5 3) (econs (v 4 3) (econs (v 5 3) enil))) (bin (cmp le) (v 2 2) (i 0))) (between true (v 2 2) (i 0) (v 2 2))) (bin and (bin or (bool true) (test isFalse (bin (cmp ne) (v 4 3) (i 3)))) (bin or (bin and (bin and (bin (cmp gt) (i 2) (v 5 3)) (bin (cmp ne) (v 2 2) (i 2))) (bin (cmp le) (v 2 2) (i 0))) (bin and (between false (i 1) (i 1) (fn 2 0 1 (econs (bool true) enil))) (bin (cmp eq) (v 2 1) (i 1)))))) (window (wn 4 3 max (v 2 2) (nm 2 1 ∷ []) ∷ wn 5 3 min (v 2 1) (nm 2 2 ∷ nm 2 1 ∷ []) ∷ []) (filter (bin and (bool true) (bin (cmp lt) (i 2) (v 2 1))) (alias 2 (scan 1 (fd 3 1 1 true ∷ fd 3 2 1 false ∷ []) []))))))) ≡ passed 6 4 1 (distinct (filter (bin and (bin (cmp ge) (i 3) (v 5 3)) (bin or (bin or (bin and (inlist true (v 5 3) (econs (v 4 3) (econs (v 5 3) enil))) (bin (cmp le) (v 2 2) (i 0))) (between true (v 2 2) (i 0) (v 2 2))) (bin and (bin or (bool true) (test isFalse (bin (cmp ne) (v 4 3) (i 3)))) (bin or (bin and (bin and (bin (cmp gt) (i 2) (v 5 3)) (bin (cmp ne) (v 2 2) (i 2))) (bin (cmp le) (v 2 2) (i 0))) (bin and (between false (i 1) (i 1) (fn 2 0 1 (econs (bool true) enil))) (bin (cmp eq) (v 2 1) (i 1))))))) (window (wn 4 3 max (v 2 2) (nm 2 1 ∷ []) ∷ wn 5 3 min (v 2 1) (nm 2 2 ∷ nm 2 1 ∷ []) ∷ []) (alias 2 (filter (bin and (bool true) (bool false)) (scan 1 (fd 3 1 1 true ∷ fd 3 2 1 false ∷ []) ((bin (cmp lt) (i 2) (v 3 1)) ∷ [])))))))
+w33 : pass-by-records 10000 (filter (bin and (bin and (bin (cmp ge) (i 3) (v 5 3)) (bool false)) (bool true)) (distinct (filter (bin or (bin or (bin and (inlist true (v 5 3) (econs (v 4 3) (econs (v 5 3) enil))) (bin (cmp le) (v 2 2) (i 0))) (between true (v 2 2) (i 0) (v 2 2))) (bin and (bin or (bool true) (test isFalse (bin (cmp ne) (v 4 3) (i 3)))) (bin or (bin and (bin and (bin (cmp gt) (i 2) (v 5 3)) (bin (cmp ne) (v 2 2) (i 2))) (bin (cmp le) (v 2 2) (i 0))) (bin and (between false (i 1) (i 1) (fn 2 0 1 (econs (bool true) enil))) (bin (cmp eq) (v 2 1) (i 1)))))) (window (wn 4 3 max (v 2 2) (nm 2 1 ∷ []) ∷ wn 5 3 min (v 2 1) (nm 2 2 ∷ nm 2 1 ∷ []) ∷ []) (filter (bin and (bool true) (bin (cmp lt) (i 2) (v 2 1))) (alias 2 (scan 1 (fd 3 1 1 true ∷ fd 3 2 1 false ∷ []) []))))))) ≡ passed 6 4 1 (distinct (filter (bin and (bin (cmp ge) (i 3) (v 5 3)) (bin or (bin or (bin and (inlist true (v 5 3) (econs (v 4 3) (econs (v 5 3) enil))) (bin (cmp le) (v 2 2) (i 0))) (between true (v 2 2) (i 0) (v 2 2))) (bin and (bin or (bool true) (test isFalse (bin (cmp ne) (v 4 3) (i 3)))) (bin or (bin and (bin and (bin (cmp gt) (i 2) (v 5 3)) (bin (cmp ne) (v 2 2) (i 2))) (bin (cmp le) (v 2 2) (i 0))) (bin and (between false (i 1) (i 1) (fn 2 0 1 (econs (bool true) enil))) (bin (cmp eq) (v 2 1) (i 1))))))) (window (wn 4 3 max (v 2 2) (nm 2 1 ∷ []) ∷ wn 5 3 min (v 2 1) (nm 2 2 ∷ nm 2 1 ∷ []) ∷ []) (alias 2 (filter (bin and (bool true) (bool false)) (scan 1 (fd 3 1 1 true ∷ fd 3 2 1 false ∷ []) ((bin (cmp lt) (i 2) (v 3 1)) ∷ [])))))))
 unfolding walked
 w33 = refl
 
@@ -231,7 +232,7 @@ c45 : pass 10000 (filter (bin and (bin and (bin (cmp gt) (v 5 3) (i 2)) (bool tr
 unfolding opened
 c45 = refl
 
-w45 : pass-by-children 10000 (filter (bin and (bin and (bin (cmp gt) (v 5 3) (i 2)) (bool true)) (bin or (bin and (bin or (bool true) (bin (cmp ne) (v 5 3) (i 3))) (test isNotFalse (nul 2))) (bin or (test isTrue (between false (v 6 3) (v 6 3) (v 5 3))) (bin or (bin and (bin and (between false (fn 1 0 1 enil) (num (negsuc 0)) (v 6 3)) (fn 0 0 2 (econs (v 5 3) enil))) (bin (cmp ge) (v 6 3) (i 0))) (bin or (bin and (fn 0 0 2 (econs (bool false) (econs (bool false) enil))) (test isNotFalse (bool false))) (between true (i 3) (v 6 3) (i 1))))))) (join inner (filter (bin and (bool false) (bool true)) (filter (bool false) (filter (bin and (bin and (fn 2 1 2 (econs (i 0) enil)) (fn 0 3 2 (econs (fn 1 0 2 (econs (bool false) (econs (bool false) enil))) (econs (i 1) enil)))) (neg (bin or (bin or (bool true) (fn 2 0 2 (econs (bool false) (econs (i 3) enil)))) (inlist false (nul 1) (econs (fn 0 2 1 enil) enil))))) (alias 2 (scan 5 [] []))))) (filter (bin or (bin (cmp eq) (v 6 3) (i 3)) (bin and (bin or (bin and (bin and (bin (cmp ne) (v 6 3) (i 3)) (inlist false (nul 1) (econs (fn 0 2 1 enil) enil))) (test isFalse (bool false))) (bin and (bin (cmp eq) (i 2) (v 6 3)) (bin (cmp ge) (v 5 3) (nul 1)))) (bool true))) (aggregate (en 5 3 (i 3) ∷ []) (ag 6 3 count (i 0) ∷ []) (project (en 5 3 (bool false) ∷ []) (filter (bin and (test isNull (v 4 1)) (bin (cmp gt) (v 4 1) (v 4 1))) (scan 4 (fd 4 1 1 false ∷ []) []))))) [] none)) ≡ passed 9 4 1 (join inner (alias 2 (filter (bin and (bin and (bin and (bin and (fn 2 1 2 (econs (i 0) enil)) (fn 0 3 2 (econs (fn 1 0 2 (econs (bool false) (econs (bool false) enil))) (econs (i 1) enil)))) (neg (bin or (bin or (bool true) (fn 2 0 2 (econs (bool false) (econs (i 3) enil)))) (inlist false (nul 1) (econs (fn 0 2 1 enil) enil))))) (bool false)) (bool true)) (scan 5 [] []))) (filter (bin and (bin or (bin (cmp eq) (v 6 3) (i 3)) (bin and (bin or (bin and (bin and (bin (cmp ne) (v 6 3) (i 3)) (inlist false (nul 1) (econs (fn 0 2 1 enil) enil))) (test isFalse (bool false))) (bin and (bin (cmp eq) (i 2) (v 6 3)) (bin (cmp ge) (v 5 3) (nul 1)))) (bool true))) (bin or (bin and (bin or (bool true) (bin (cmp ne) (v 5 3) (i 3))) (test isNotFalse (nul 2))) (bin or (test isTrue (between false (v 6 3) (v 6 3) (v 5 3))) (bin or (bin and (bin and (between false (fn 1 0 1 enil) (num (negsuc 0)) (v 6 3)) (fn 0 0 2 (econs (v 5 3) enil))) (bin (cmp ge) (v 6 3) (i 0))) (bin or (bin and (fn 0 0 2 (econs (bool false) (econs (bool false) enil))) (test isNotFalse (bool false))) (between true (i 3) (v 6 3) (i 1))))))) (aggregate (en 5 3 (i 3) ∷ []) (ag 6 3 count (i 0) ∷ []) (project (en 5 3 (bool false) ∷ []) (filter (bin and (bin and (test isNull (v 4 1)) (bin (cmp gt) (v 4 1) (v 4 1))) (bin (cmp gt) (i 3) (i 2))) (scan 4 (fd 4 1 1 false ∷ []) []))))) [] none)
+w45 : pass-by-records 10000 (filter (bin and (bin and (bin (cmp gt) (v 5 3) (i 2)) (bool true)) (bin or (bin and (bin or (bool true) (bin (cmp ne) (v 5 3) (i 3))) (test isNotFalse (nul 2))) (bin or (test isTrue (between false (v 6 3) (v 6 3) (v 5 3))) (bin or (bin and (bin and (between false (fn 1 0 1 enil) (num (negsuc 0)) (v 6 3)) (fn 0 0 2 (econs (v 5 3) enil))) (bin (cmp ge) (v 6 3) (i 0))) (bin or (bin and (fn 0 0 2 (econs (bool false) (econs (bool false) enil))) (test isNotFalse (bool false))) (between true (i 3) (v 6 3) (i 1))))))) (join inner (filter (bin and (bool false) (bool true)) (filter (bool false) (filter (bin and (bin and (fn 2 1 2 (econs (i 0) enil)) (fn 0 3 2 (econs (fn 1 0 2 (econs (bool false) (econs (bool false) enil))) (econs (i 1) enil)))) (neg (bin or (bin or (bool true) (fn 2 0 2 (econs (bool false) (econs (i 3) enil)))) (inlist false (nul 1) (econs (fn 0 2 1 enil) enil))))) (alias 2 (scan 5 [] []))))) (filter (bin or (bin (cmp eq) (v 6 3) (i 3)) (bin and (bin or (bin and (bin and (bin (cmp ne) (v 6 3) (i 3)) (inlist false (nul 1) (econs (fn 0 2 1 enil) enil))) (test isFalse (bool false))) (bin and (bin (cmp eq) (i 2) (v 6 3)) (bin (cmp ge) (v 5 3) (nul 1)))) (bool true))) (aggregate (en 5 3 (i 3) ∷ []) (ag 6 3 count (i 0) ∷ []) (project (en 5 3 (bool false) ∷ []) (filter (bin and (test isNull (v 4 1)) (bin (cmp gt) (v 4 1) (v 4 1))) (scan 4 (fd 4 1 1 false ∷ []) []))))) [] none)) ≡ passed 9 4 1 (join inner (alias 2 (filter (bin and (bin and (bin and (bin and (fn 2 1 2 (econs (i 0) enil)) (fn 0 3 2 (econs (fn 1 0 2 (econs (bool false) (econs (bool false) enil))) (econs (i 1) enil)))) (neg (bin or (bin or (bool true) (fn 2 0 2 (econs (bool false) (econs (i 3) enil)))) (inlist false (nul 1) (econs (fn 0 2 1 enil) enil))))) (bool false)) (bool true)) (scan 5 [] []))) (filter (bin and (bin or (bin (cmp eq) (v 6 3) (i 3)) (bin and (bin or (bin and (bin and (bin (cmp ne) (v 6 3) (i 3)) (inlist false (nul 1) (econs (fn 0 2 1 enil) enil))) (test isFalse (bool false))) (bin and (bin (cmp eq) (i 2) (v 6 3)) (bin (cmp ge) (v 5 3) (nul 1)))) (bool true))) (bin or (bin and (bin or (bool true) (bin (cmp ne) (v 5 3) (i 3))) (test isNotFalse (nul 2))) (bin or (test isTrue (between false (v 6 3) (v 6 3) (v 5 3))) (bin or (bin and (bin and (between false (fn 1 0 1 enil) (num (negsuc 0)) (v 6 3)) (fn 0 0 2 (econs (v 5 3) enil))) (bin (cmp ge) (v 6 3) (i 0))) (bin or (bin and (fn 0 0 2 (econs (bool false) (econs (bool false) enil))) (test isNotFalse (bool false))) (between true (i 3) (v 6 3) (i 1))))))) (aggregate (en 5 3 (i 3) ∷ []) (ag 6 3 count (i 0) ∷ []) (project (en 5 3 (bool false) ∷ []) (filter (bin and (bin and (test isNull (v 4 1)) (bin (cmp gt) (v 4 1) (v 4 1))) (bin (cmp gt) (i 3) (i 2))) (scan 4 (fd 4 1 1 false ∷ []) []))))) [] none)
 unfolding walked
 w45 = refl
 
@@ -243,7 +244,7 @@ c47 : pass 10000 (project (en 0 101 (i 3) ∷ en 0 102 (v 2 1) ∷ en 2 1 (v 2 1
 unfolding opened
 c47 = refl
 
-w47 : pass-by-children 10000 (project (en 0 101 (i 3) ∷ en 0 102 (v 2 1) ∷ en 2 1 (v 2 1) ∷ []) (scan 1 (fd 2 1 1 true ∷ fd 2 2 1 true ∷ []) [])) ≡ passed 2 0 1 (project (en 0 101 (i 3) ∷ en 0 102 (v 2 1) ∷ en 2 1 (v 2 1) ∷ []) (scan 1 (fd 2 1 1 true ∷ fd 2 2 1 true ∷ []) []))
+w47 : pass-by-records 10000 (project (en 0 101 (i 3) ∷ en 0 102 (v 2 1) ∷ en 2 1 (v 2 1) ∷ []) (scan 1 (fd 2 1 1 true ∷ fd 2 2 1 true ∷ []) [])) ≡ passed 2 0 1 (project (en 0 101 (i 3) ∷ en 0 102 (v 2 1) ∷ en 2 1 (v 2 1) ∷ []) (scan 1 (fd 2 1 1 true ∷ fd 2 2 1 true ∷ []) []))
 unfolding walked
 w47 = refl
 
@@ -251,7 +252,7 @@ c48 : pass 10000 (join inner (join inner (join leftSemi (repartition (window (wn
 unfolding opened
 c48 = refl
 
-w48 : pass-by-children 10000 (join inner (join inner (join leftSemi (repartition (window (wn 3 3 max (v 2 2) (nm 2 3 ∷ nm 2 2 ∷ []) ∷ wn 4 1 count (v 2 1) (nm 2 3 ∷ []) ∷ []) (scan 2 (fd 2 1 1 false ∷ fd 2 2 1 false ∷ fd 2 3 2 true ∷ []) []))) (alias 5 (join rightAnti (scan 2 (fd 6 1 1 true ∷ fd 6 2 1 false ∷ fd 6 3 2 true ∷ []) []) (scan 1 (fd 7 1 1 true ∷ fd 7 2 1 true ∷ []) []) (pr (v 6 2) (v 7 2) ∷ []) none)) (pr (v 2 1) (v 5 1) ∷ []) none) (join inner (filter (bool false) (sort none [] (scan 5 [] []))) (join inner (aggregate (en 10 3 (i 2) ∷ []) [] (scan 3 (fd 9 1 2 false ∷ fd 9 2 1 false ∷ []) [])) (filter (bin and (inlist false (i 2) (econs (i 0) enil)) (bin (cmp eq) (v 11 1) (fn 0 3 1 (econs (bool false) (econs (bool false) enil))))) (scan 2 (fd 11 1 1 false ∷ fd 11 2 1 true ∷ fd 11 3 2 false ∷ []) ((fn 1 0 2 (econs (fn 1 0 2 enil) enil)) ∷ (fn 2 0 2 (econs (bin (cmp ne) (bool true) (v 11 3)) enil)) ∷ []))) (pr (v 10 3) (v 11 2) ∷ []) (some (bin (cmp eq) (fn 1 0 1 (econs (fn 2 1 2 (econs (v 11 3) enil)) enil)) (fn 1 0 1 (econs (v 11 2) (econs (v 11 1) enil)))))) [] none) [] (some (bin and (nul 2) (bin and (bin and (inlist false (v 2 2) (econs (i 3) (econs (v 3 3) enil))) (bin (cmp eq) (v 11 3) (bool false))) (test isNotTrue (v 11 3)))))) (sort none [] (alias 2 (join rightAnti (filter (bin and (bin and (bin (cmp gt) (v 13 1) (i 1)) (bool false)) (inlist true (nul 1) (econs (i 1) (econs (i 3) enil)))) (scan 1 (fd 13 1 1 false ∷ fd 13 2 1 true ∷ []) ((bool true) ∷ []))) (union (pcons (scan 4 (fd 0 101 1 false ∷ []) ((bin (cmp ge) (v 0 101) (i 0)) ∷ [])) (pcons (project (en 0 102 (v 14 1) ∷ []) (scan 2 (fd 14 1 1 true ∷ fd 14 2 1 true ∷ fd 14 3 2 true ∷ []) [])) (pcons (scan 4 (fd 15 1 1 true ∷ []) []) pnil)))) [] none))) (pr (v 11 1) (v 2 101) ∷ []) none) ≡ passed 31 7 1 (join inner (join inner (join leftSemi (repartition (filter (inlist false (v 2 2) (econs (i 3) (econs (v 3 3) enil))) (window (wn 3 3 max (v 2 2) (nm 2 3 ∷ nm 2 2 ∷ []) ∷ wn 4 1 count (v 2 1) (nm 2 3 ∷ []) ∷ []) (filter (nul 2) (scan 2 (fd 2 1 1 false ∷ fd 2 2 1 false ∷ fd 2 3 2 true ∷ []) []))))) (alias 5 (join rightAnti (scan 2 (fd 6 1 1 true ∷ fd 6 2 1 false ∷ fd 6 3 2 true ∷ []) []) (scan 1 (fd 7 1 1 true ∷ fd 7 2 1 true ∷ []) []) (pr (v 6 2) (v 7 2) ∷ []) none)) (pr (v 2 1) (v 5 1) ∷ []) none) (join inner (sort none [] (filter (bool false) (scan 5 [] []))) (join inner (aggregate (en 10 3 (i 2) ∷ []) [] (scan 3 (fd 9 1 2 false ∷ fd 9 2 1 false ∷ []) [])) (filter (bin and (bin and (bin and (bin and (inlist false (i 2) (econs (i 0) enil)) (bin (cmp eq) (v 11 1) (fn 0 3 1 (econs (bool false) (econs (bool false) enil))))) (bin (cmp eq) (v 11 3) (bool false))) (test isNotTrue (v 11 3))) (bin (cmp eq) (fn 1 0 1 (econs (fn 2 1 2 (econs (v 11 3) enil)) enil)) (fn 1 0 1 (econs (v 11 2) (econs (v 11 1) enil))))) (scan 2 (fd 11 1 1 false ∷ fd 11 2 1 true ∷ fd 11 3 2 false ∷ []) ((fn 1 0 2 (econs (fn 1 0 2 enil) enil)) ∷ (fn 2 0 2 (econs (bin (cmp ne) (bool true) (v 11 3)) enil)) ∷ []))) (pr (v 10 3) (v 11 2) ∷ []) none) [] none) [] none) (sort none [] (alias 2 (join rightAnti (filter (bin and (bin and (bin (cmp gt) (v 13 1) (i 1)) (bool false)) (inlist true (nul 1) (econs (i 1) (econs (i 3) enil)))) (scan 1 (fd 13 1 1 false ∷ fd 13 2 1 true ∷ []) ((bool true) ∷ []))) (union (pcons (scan 4 (fd 0 101 1 false ∷ []) ((bin (cmp ge) (v 0 101) (i 0)) ∷ [])) (pcons (project (en 0 102 (v 14 1) ∷ []) (scan 2 (fd 14 1 1 true ∷ fd 14 2 1 true ∷ fd 14 3 2 true ∷ []) [])) (pcons (scan 4 (fd 15 1 1 true ∷ []) []) pnil)))) [] none))) (pr (v 11 1) (v 2 101) ∷ []) none)
+w48 : pass-by-records 10000 (join inner (join inner (join leftSemi (repartition (window (wn 3 3 max (v 2 2) (nm 2 3 ∷ nm 2 2 ∷ []) ∷ wn 4 1 count (v 2 1) (nm 2 3 ∷ []) ∷ []) (scan 2 (fd 2 1 1 false ∷ fd 2 2 1 false ∷ fd 2 3 2 true ∷ []) []))) (alias 5 (join rightAnti (scan 2 (fd 6 1 1 true ∷ fd 6 2 1 false ∷ fd 6 3 2 true ∷ []) []) (scan 1 (fd 7 1 1 true ∷ fd 7 2 1 true ∷ []) []) (pr (v 6 2) (v 7 2) ∷ []) none)) (pr (v 2 1) (v 5 1) ∷ []) none) (join inner (filter (bool false) (sort none [] (scan 5 [] []))) (join inner (aggregate (en 10 3 (i 2) ∷ []) [] (scan 3 (fd 9 1 2 false ∷ fd 9 2 1 false ∷ []) [])) (filter (bin and (inlist false (i 2) (econs (i 0) enil)) (bin (cmp eq) (v 11 1) (fn 0 3 1 (econs (bool false) (econs (bool false) enil))))) (scan 2 (fd 11 1 1 false ∷ fd 11 2 1 true ∷ fd 11 3 2 false ∷ []) ((fn 1 0 2 (econs (fn 1 0 2 enil) enil)) ∷ (fn 2 0 2 (econs (bin (cmp ne) (bool true) (v 11 3)) enil)) ∷ []))) (pr (v 10 3) (v 11 2) ∷ []) (some (bin (cmp eq) (fn 1 0 1 (econs (fn 2 1 2 (econs (v 11 3) enil)) enil)) (fn 1 0 1 (econs (v 11 2) (econs (v 11 1) enil)))))) [] none) [] (some (bin and (nul 2) (bin and (bin and (inlist false (v 2 2) (econs (i 3) (econs (v 3 3) enil))) (bin (cmp eq) (v 11 3) (bool false))) (test isNotTrue (v 11 3)))))) (sort none [] (alias 2 (join rightAnti (filter (bin and (bin and (bin (cmp gt) (v 13 1) (i 1)) (bool false)) (inlist true (nul 1) (econs (i 1) (econs (i 3) enil)))) (scan 1 (fd 13 1 1 false ∷ fd 13 2 1 true ∷ []) ((bool true) ∷ []))) (union (pcons (scan 4 (fd 0 101 1 false ∷ []) ((bin (cmp ge) (v 0 101) (i 0)) ∷ [])) (pcons (project (en 0 102 (v 14 1) ∷ []) (scan 2 (fd 14 1 1 true ∷ fd 14 2 1 true ∷ fd 14 3 2 true ∷ []) [])) (pcons (scan 4 (fd 15 1 1 true ∷ []) []) pnil)))) [] none))) (pr (v 11 1) (v 2 101) ∷ []) none) ≡ passed 31 7 1 (join inner (join inner (join leftSemi (repartition (filter (inlist false (v 2 2) (econs (i 3) (econs (v 3 3) enil))) (window (wn 3 3 max (v 2 2) (nm 2 3 ∷ nm 2 2 ∷ []) ∷ wn 4 1 count (v 2 1) (nm 2 3 ∷ []) ∷ []) (filter (nul 2) (scan 2 (fd 2 1 1 false ∷ fd 2 2 1 false ∷ fd 2 3 2 true ∷ []) []))))) (alias 5 (join rightAnti (scan 2 (fd 6 1 1 true ∷ fd 6 2 1 false ∷ fd 6 3 2 true ∷ []) []) (scan 1 (fd 7 1 1 true ∷ fd 7 2 1 true ∷ []) []) (pr (v 6 2) (v 7 2) ∷ []) none)) (pr (v 2 1) (v 5 1) ∷ []) none) (join inner (sort none [] (filter (bool false) (scan 5 [] []))) (join inner (aggregate (en 10 3 (i 2) ∷ []) [] (scan 3 (fd 9 1 2 false ∷ fd 9 2 1 false ∷ []) [])) (filter (bin and (bin and (bin and (bin and (inlist false (i 2) (econs (i 0) enil)) (bin (cmp eq) (v 11 1) (fn 0 3 1 (econs (bool false) (econs (bool false) enil))))) (bin (cmp eq) (v 11 3) (bool false))) (test isNotTrue (v 11 3))) (bin (cmp eq) (fn 1 0 1 (econs (fn 2 1 2 (econs (v 11 3) enil)) enil)) (fn 1 0 1 (econs (v 11 2) (econs (v 11 1) enil))))) (scan 2 (fd 11 1 1 false ∷ fd 11 2 1 true ∷ fd 11 3 2 false ∷ []) ((fn 1 0 2 (econs (fn 1 0 2 enil) enil)) ∷ (fn 2 0 2 (econs (bin (cmp ne) (bool true) (v 11 3)) enil)) ∷ []))) (pr (v 10 3) (v 11 2) ∷ []) none) [] none) [] none) (sort none [] (alias 2 (join rightAnti (filter (bin and (bin and (bin (cmp gt) (v 13 1) (i 1)) (bool false)) (inlist true (nul 1) (econs (i 1) (econs (i 3) enil)))) (scan 1 (fd 13 1 1 false ∷ fd 13 2 1 true ∷ []) ((bool true) ∷ []))) (union (pcons (scan 4 (fd 0 101 1 false ∷ []) ((bin (cmp ge) (v 0 101) (i 0)) ∷ [])) (pcons (project (en 0 102 (v 14 1) ∷ []) (scan 2 (fd 14 1 1 true ∷ fd 14 2 1 true ∷ fd 14 3 2 true ∷ []) [])) (pcons (scan 4 (fd 15 1 1 true ∷ []) []) pnil)))) [] none))) (pr (v 11 1) (v 2 101) ∷ []) none)
 unfolding walked
 w48 = refl
 
@@ -263,7 +264,7 @@ c50 : pass 10000 (filter (bin (cmp eq) (i 3) (v 0 104)) (aggregate [] (ag 0 104 
 unfolding opened
 c50 = refl
 
-w50 : pass-by-children 10000 (filter (bin (cmp eq) (i 3) (v 0 104)) (aggregate [] (ag 0 104 min (v 2 2) ∷ []) (union (pcons (sort none [] (filter (bin and (bin and (bin and (bin (cmp lt) (v 2 1) (i 2)) (between false (i 3) (v 2 2) (v 2 2))) (bin (cmp gt) (bool true) (bin (cmp eq) (v 2 1) (num (negsuc 9223372036854775807))))) (v 2 3)) (join leftSemi (scan 2 (fd 2 1 1 false ∷ fd 2 2 1 true ∷ fd 2 3 2 false ∷ []) []) (scan 4 (fd 0 101 1 true ∷ []) []) (pr (v 2 1) (v 0 101) ∷ []) none))) (pcons (project (en 0 102 (v 4 2) ∷ en 0 103 (v 4 1) ∷ en 5 2 (bool false) ∷ []) (join inner (distinct (distinct (scan 1 (fd 3 1 1 false ∷ fd 3 2 1 true ∷ []) []))) (filter (bin and (bin and (bin (cmp ne) (v 4 2) (i 2)) (bin (cmp lt) (i 2) (v 4 1))) (bin (cmp ne) (v 4 1) (fn 0 0 1 enil))) (distinct (scan 1 (fd 4 1 1 true ∷ fd 4 2 1 true ∷ []) []))) (pr (i 1) (i 1) ∷ []) (some (bin and (between false (fn 1 0 1 (econs (fn 1 0 2 (econs (bool false) (econs (v 4 1) enil))) (econs (v 3 2) enil))) (v 4 2) (v 3 2)) (bin (cmp le) (v 3 1) (i 3)))))) pnil))))) ≡ passed 16 7 1 (filter (bin (cmp eq) (i 3) (v 0 104)) (aggregate [] (ag 0 104 min (v 2 2) ∷ []) (union (pcons (sort none [] (join leftSemi (filter (bin and (bin and (bin (cmp lt) (v 2 1) (i 2)) (bin (cmp gt) (bool true) (bin (cmp eq) (v 2 1) (num (negsuc 9223372036854775807))))) (v 2 3)) (scan 2 (fd 2 1 1 false ∷ fd 2 2 1 true ∷ fd 2 3 2 false ∷ []) ((between false (i 3) (v 2 2) (v 2 2)) ∷ []))) (scan 4 (fd 0 101 1 true ∷ []) []) (pr (v 2 1) (v 0 101) ∷ []) none)) (pcons (project (en 0 102 (v 4 2) ∷ en 0 103 (v 4 1) ∷ en 5 2 (bool false) ∷ []) (join inner (distinct (distinct (filter (bin (cmp le) (v 3 1) (i 3)) (scan 1 (fd 3 1 1 false ∷ fd 3 2 1 true ∷ []) [])))) (distinct (scan 1 (fd 4 1 1 true ∷ fd 4 2 1 true ∷ []) ((bin (cmp ne) (v 4 2) (i 2)) ∷ (bin (cmp lt) (i 2) (v 4 1)) ∷ (bin (cmp ne) (v 4 1) (fn 0 0 1 enil)) ∷ []))) (pr (i 1) (i 1) ∷ []) (some (between false (fn 1 0 1 (econs (fn 1 0 2 (econs (bool false) (econs (v 4 1) enil))) (econs (v 3 2) enil))) (v 4 2) (v 3 2))))) pnil)))))
+w50 : pass-by-records 10000 (filter (bin (cmp eq) (i 3) (v 0 104)) (aggregate [] (ag 0 104 min (v 2 2) ∷ []) (union (pcons (sort none [] (filter (bin and (bin and (bin and (bin (cmp lt) (v 2 1) (i 2)) (between false (i 3) (v 2 2) (v 2 2))) (bin (cmp gt) (bool true) (bin (cmp eq) (v 2 1) (num (negsuc 9223372036854775807))))) (v 2 3)) (join leftSemi (scan 2 (fd 2 1 1 false ∷ fd 2 2 1 true ∷ fd 2 3 2 false ∷ []) []) (scan 4 (fd 0 101 1 true ∷ []) []) (pr (v 2 1) (v 0 101) ∷ []) none))) (pcons (project (en 0 102 (v 4 2) ∷ en 0 103 (v 4 1) ∷ en 5 2 (bool false) ∷ []) (join inner (distinct (distinct (scan 1 (fd 3 1 1 false ∷ fd 3 2 1 true ∷ []) []))) (filter (bin and (bin and (bin (cmp ne) (v 4 2) (i 2)) (bin (cmp lt) (i 2) (v 4 1))) (bin (cmp ne) (v 4 1) (fn 0 0 1 enil))) (distinct (scan 1 (fd 4 1 1 true ∷ fd 4 2 1 true ∷ []) []))) (pr (i 1) (i 1) ∷ []) (some (bin and (between false (fn 1 0 1 (econs (fn 1 0 2 (econs (bool false) (econs (v 4 1) enil))) (econs (v 3 2) enil))) (v 4 2) (v 3 2)) (bin (cmp le) (v 3 1) (i 3)))))) pnil))))) ≡ passed 16 7 1 (filter (bin (cmp eq) (i 3) (v 0 104)) (aggregate [] (ag 0 104 min (v 2 2) ∷ []) (union (pcons (sort none [] (join leftSemi (filter (bin and (bin and (bin (cmp lt) (v 2 1) (i 2)) (bin (cmp gt) (bool true) (bin (cmp eq) (v 2 1) (num (negsuc 9223372036854775807))))) (v 2 3)) (scan 2 (fd 2 1 1 false ∷ fd 2 2 1 true ∷ fd 2 3 2 false ∷ []) ((between false (i 3) (v 2 2) (v 2 2)) ∷ []))) (scan 4 (fd 0 101 1 true ∷ []) []) (pr (v 2 1) (v 0 101) ∷ []) none)) (pcons (project (en 0 102 (v 4 2) ∷ en 0 103 (v 4 1) ∷ en 5 2 (bool false) ∷ []) (join inner (distinct (distinct (filter (bin (cmp le) (v 3 1) (i 3)) (scan 1 (fd 3 1 1 false ∷ fd 3 2 1 true ∷ []) [])))) (distinct (scan 1 (fd 4 1 1 true ∷ fd 4 2 1 true ∷ []) ((bin (cmp ne) (v 4 2) (i 2)) ∷ (bin (cmp lt) (i 2) (v 4 1)) ∷ (bin (cmp ne) (v 4 1) (fn 0 0 1 enil)) ∷ []))) (pr (i 1) (i 1) ∷ []) (some (between false (fn 1 0 1 (econs (fn 1 0 2 (econs (bool false) (econs (v 4 1) enil))) (econs (v 3 2) enil))) (v 4 2) (v 3 2))))) pnil)))))
 unfolding walked
 w50 = refl
 
@@ -271,7 +272,7 @@ c51 : pass 5 (filter (bin and (bin and (test isNotTrue (v 2 3)) (bin (cmp eq) (i
 unfolding opened
 c51 = refl
 
-w51 : pass-by-children 5 (filter (bin and (bin and (test isNotTrue (v 2 3)) (bin (cmp eq) (i 1) (v 0 101))) (bin (cmp lt) (i 3) (v 0 101))) (join inner (filter (bin and (v 2 3) (bin (cmp lt) (v 2 1) (i 1))) (join leftSemi (scan 2 (fd 2 1 1 false ∷ fd 2 2 1 true ∷ fd 2 3 2 true ∷ []) []) (scan 1 (fd 3 1 1 true ∷ fd 3 2 1 true ∷ []) ((bin (cmp le) (i 2) (v 3 2)) ∷ [])) [] (some (bin (cmp le) (v 2 1) (i 2))))) (union (pcons (filter (bin (cmp ge) (i 1) (v 0 102)) (scan 1 (fd 0 101 1 false ∷ fd 0 102 1 false ∷ []) [])) (pcons (project (en 0 104 (i 1) ∷ en 0 105 (v 7 3) ∷ []) (aggregate (en 0 103 (v 4 2) ∷ en 5 2 (v 4 3) ∷ []) (ag 6 3 count (v 4 1) ∷ ag 7 3 count (v 4 1) ∷ []) (scan 2 (fd 4 1 1 false ∷ fd 4 2 1 false ∷ fd 4 3 2 false ∷ []) []))) (pcons (project (en 0 106 (v 9 1) ∷ en 10 1 (nul 1) ∷ []) (window (wn 9 1 count (num (negsuc 9223372036854775807)) [] ∷ []) (scan 5 [] []))) pnil)))) [] none)) ≡ passed 5 3 0 (join inner (join leftSemi (filter (bin (cmp lt) (v 2 1) (i 1)) (scan 2 (fd 2 1 1 false ∷ fd 2 2 1 true ∷ fd 2 3 2 true ∷ []) ((v 2 3) ∷ (test isNotTrue (v 2 3)) ∷ []))) (scan 1 (fd 3 1 1 true ∷ fd 3 2 1 true ∷ []) ((bin (cmp le) (i 2) (v 3 2)) ∷ [])) [] none) (filter (bin and (bin (cmp eq) (i 1) (v 0 101)) (bin (cmp lt) (i 3) (v 0 101))) (union (pcons (filter (bin (cmp ge) (i 1) (v 0 102)) (scan 1 (fd 0 101 1 false ∷ fd 0 102 1 false ∷ []) [])) (pcons (project (en 0 104 (i 1) ∷ en 0 105 (v 7 3) ∷ []) (aggregate (en 0 103 (v 4 2) ∷ en 5 2 (v 4 3) ∷ []) (ag 6 3 count (v 4 1) ∷ ag 7 3 count (v 4 1) ∷ []) (scan 2 (fd 4 1 1 false ∷ fd 4 2 1 false ∷ fd 4 3 2 false ∷ []) []))) (pcons (project (en 0 106 (v 9 1) ∷ en 10 1 (nul 1) ∷ []) (window (wn 9 1 count (num (negsuc 9223372036854775807)) [] ∷ []) (scan 5 [] []))) pnil))))) [] none)
+w51 : pass-by-records 5 (filter (bin and (bin and (test isNotTrue (v 2 3)) (bin (cmp eq) (i 1) (v 0 101))) (bin (cmp lt) (i 3) (v 0 101))) (join inner (filter (bin and (v 2 3) (bin (cmp lt) (v 2 1) (i 1))) (join leftSemi (scan 2 (fd 2 1 1 false ∷ fd 2 2 1 true ∷ fd 2 3 2 true ∷ []) []) (scan 1 (fd 3 1 1 true ∷ fd 3 2 1 true ∷ []) ((bin (cmp le) (i 2) (v 3 2)) ∷ [])) [] (some (bin (cmp le) (v 2 1) (i 2))))) (union (pcons (filter (bin (cmp ge) (i 1) (v 0 102)) (scan 1 (fd 0 101 1 false ∷ fd 0 102 1 false ∷ []) [])) (pcons (project (en 0 104 (i 1) ∷ en 0 105 (v 7 3) ∷ []) (aggregate (en 0 103 (v 4 2) ∷ en 5 2 (v 4 3) ∷ []) (ag 6 3 count (v 4 1) ∷ ag 7 3 count (v 4 1) ∷ []) (scan 2 (fd 4 1 1 false ∷ fd 4 2 1 false ∷ fd 4 3 2 false ∷ []) []))) (pcons (project (en 0 106 (v 9 1) ∷ en 10 1 (nul 1) ∷ []) (window (wn 9 1 count (num (negsuc 9223372036854775807)) [] ∷ []) (scan 5 [] []))) pnil)))) [] none)) ≡ passed 5 3 0 (join inner (join leftSemi (filter (bin (cmp lt) (v 2 1) (i 1)) (scan 2 (fd 2 1 1 false ∷ fd 2 2 1 true ∷ fd 2 3 2 true ∷ []) ((v 2 3) ∷ (test isNotTrue (v 2 3)) ∷ []))) (scan 1 (fd 3 1 1 true ∷ fd 3 2 1 true ∷ []) ((bin (cmp le) (i 2) (v 3 2)) ∷ [])) [] none) (filter (bin and (bin (cmp eq) (i 1) (v 0 101)) (bin (cmp lt) (i 3) (v 0 101))) (union (pcons (filter (bin (cmp ge) (i 1) (v 0 102)) (scan 1 (fd 0 101 1 false ∷ fd 0 102 1 false ∷ []) [])) (pcons (project (en 0 104 (i 1) ∷ en 0 105 (v 7 3) ∷ []) (aggregate (en 0 103 (v 4 2) ∷ en 5 2 (v 4 3) ∷ []) (ag 6 3 count (v 4 1) ∷ ag 7 3 count (v 4 1) ∷ []) (scan 2 (fd 4 1 1 false ∷ fd 4 2 1 false ∷ fd 4 3 2 false ∷ []) []))) (pcons (project (en 0 106 (v 9 1) ∷ en 10 1 (nul 1) ∷ []) (window (wn 9 1 count (num (negsuc 9223372036854775807)) [] ∷ []) (scan 5 [] []))) pnil))))) [] none)
 unfolding walked
 w51 = refl
 
@@ -283,7 +284,7 @@ c53 : pass 10000 (filter (bin and (bin (cmp ne) (i 0) (v 2 2)) (bin and (bin and
 unfolding opened
 c53 = refl
 
-w53 : pass-by-children 10000 (filter (bin and (bin (cmp ne) (i 0) (v 2 2)) (bin and (bin and (bin or (bin or (bin and (between false (v 2 2) (v 2 1) (i 2)) (fn 1 0 2 enil)) (bin (cmp eq) (v 2 3) (bool false))) (bin and (bin (cmp eq) (v 2 1) (i 2)) (fn 2 0 2 (econs (fn 1 0 2 (econs (v 2 1) (econs (bool true) enil))) (econs (v 2 1) enil))))) (bin (cmp ne) (v 2 1) (v 2 2))) (fn 0 0 2 (econs (v 2 2) (econs (bool true) enil))))) (join leftSemi (filter (bin and (bin (cmp ne) (v 2 1) (i 3)) (bin and (bin and (bin or (bin and (bool false) (bin (cmp lt) (i 3) (v 2 2))) (bin and (bin and (neg (nul 2)) (bin or (bool false) (fn 2 2 2 (econs (v 2 1) enil)))) (fn 0 2 2 enil))) (bin (cmp lt) (v 2 2) (i 2))) (bool false))) (filter (bin and (bin and (bin and (bin (cmp ne) (i 0) (v 2 2)) (bin (cmp eq) (i 0) (v 2 1))) (bin (cmp eq) (i 0) (v 2 1))) (test isNull (v 2 3))) (scan 2 (fd 2 1 1 false ∷ fd 2 2 1 true ∷ fd 2 3 2 false ∷ []) []))) (filter (between true (v 3 1) (i 0) (fn 1 0 1 enil)) (sort none (ky true (i 0) ∷ []) (scan 4 (fd 3 1 1 false ∷ []) []))) (pr (v 2 1) (v 3 1) ∷ pr (v 2 1) (v 3 1) ∷ []) none)) ≡ passed 6 3 1 (join leftSemi (filter (bin and (bin and (bin and (bin and (bin and (bin and (test isNull (v 2 3)) (bin (cmp ne) (v 2 1) (i 3))) (bool false)) (bin (cmp ne) (v 2 1) (v 2 2))) (bin (cmp eq) (i 0) (v 2 1))) (bin or (bin and (bool false) (bin (cmp lt) (i 3) (v 2 2))) (bin and (bin and (neg (nul 2)) (bin or (bool false) (fn 2 2 2 (econs (v 2 1) enil)))) (fn 0 2 2 enil)))) (bin or (bin or (bin and (between false (v 2 2) (v 2 1) (i 2)) (fn 1 0 2 enil)) (bin (cmp eq) (v 2 3) (bool false))) (bin and (bin (cmp eq) (v 2 1) (i 2)) (fn 2 0 2 (econs (fn 1 0 2 (econs (v 2 1) (econs (bool true) enil))) (econs (v 2 1) enil)))))) (scan 2 (fd 2 1 1 false ∷ fd 2 2 1 true ∷ fd 2 3 2 false ∷ []) ((bin (cmp ne) (i 0) (v 2 2)) ∷ (bin (cmp lt) (v 2 2) (i 2)) ∷ (fn 0 0 2 (econs (v 2 2) (econs (bool true) enil))) ∷ []))) (sort none (ky true (i 0) ∷ []) (filter (between true (v 3 1) (i 0) (fn 1 0 1 enil)) (scan 4 (fd 3 1 1 false ∷ []) []))) (pr (v 2 1) (v 3 1) ∷ pr (v 2 1) (v 3 1) ∷ []) none)
+w53 : pass-by-records 10000 (filter (bin and (bin (cmp ne) (i 0) (v 2 2)) (bin and (bin and (bin or (bin or (bin and (between false (v 2 2) (v 2 1) (i 2)) (fn 1 0 2 enil)) (bin (cmp eq) (v 2 3) (bool false))) (bin and (bin (cmp eq) (v 2 1) (i 2)) (fn 2 0 2 (econs (fn 1 0 2 (econs (v 2 1) (econs (bool true) enil))) (econs (v 2 1) enil))))) (bin (cmp ne) (v 2 1) (v 2 2))) (fn 0 0 2 (econs (v 2 2) (econs (bool true) enil))))) (join leftSemi (filter (bin and (bin (cmp ne) (v 2 1) (i 3)) (bin and (bin and (bin or (bin and (bool false) (bin (cmp lt) (i 3) (v 2 2))) (bin and (bin and (neg (nul 2)) (bin or (bool false) (fn 2 2 2 (econs (v 2 1) enil)))) (fn 0 2 2 enil))) (bin (cmp lt) (v 2 2) (i 2))) (bool false))) (filter (bin and (bin and (bin and (bin (cmp ne) (i 0) (v 2 2)) (bin (cmp eq) (i 0) (v 2 1))) (bin (cmp eq) (i 0) (v 2 1))) (test isNull (v 2 3))) (scan 2 (fd 2 1 1 false ∷ fd 2 2 1 true ∷ fd 2 3 2 false ∷ []) []))) (filter (between true (v 3 1) (i 0) (fn 1 0 1 enil)) (sort none (ky true (i 0) ∷ []) (scan 4 (fd 3 1 1 false ∷ []) []))) (pr (v 2 1) (v 3 1) ∷ pr (v 2 1) (v 3 1) ∷ []) none)) ≡ passed 6 3 1 (join leftSemi (filter (bin and (bin and (bin and (bin and (bin and (bin and (test isNull (v 2 3)) (bin (cmp ne) (v 2 1) (i 3))) (bool false)) (bin (cmp ne) (v 2 1) (v 2 2))) (bin (cmp eq) (i 0) (v 2 1))) (bin or (bin and (bool false) (bin (cmp lt) (i 3) (v 2 2))) (bin and (bin and (neg (nul 2)) (bin or (bool false) (fn 2 2 2 (econs (v 2 1) enil)))) (fn 0 2 2 enil)))) (bin or (bin or (bin and (between false (v 2 2) (v 2 1) (i 2)) (fn 1 0 2 enil)) (bin (cmp eq) (v 2 3) (bool false))) (bin and (bin (cmp eq) (v 2 1) (i 2)) (fn 2 0 2 (econs (fn 1 0 2 (econs (v 2 1) (econs (bool true) enil))) (econs (v 2 1) enil)))))) (scan 2 (fd 2 1 1 false ∷ fd 2 2 1 true ∷ fd 2 3 2 false ∷ []) ((bin (cmp ne) (i 0) (v 2 2)) ∷ (bin (cmp lt) (v 2 2) (i 2)) ∷ (fn 0 0 2 (econs (v 2 2) (econs (bool true) enil))) ∷ []))) (sort none (ky true (i 0) ∷ []) (filter (between true (v 3 1) (i 0) (fn 1 0 1 enil)) (scan 4 (fd 3 1 1 false ∷ []) []))) (pr (v 2 1) (v 3 1) ∷ pr (v 2 1) (v 3 1) ∷ []) none)
 unfolding walked
 w53 = refl
 
@@ -295,7 +296,7 @@ c55 : pass 10000 (filter (bin and (fn 2 0 2 (econs (v 2 2) enil)) (bin (cmp ge) 
 unfolding opened
 c55 = refl
 
-w55 : pass-by-children 10000 (filter (bin and (fn 2 0 2 (econs (v 2 2) enil)) (bin (cmp ge) (bool true) (v 2 3))) (filter (fn 2 0 2 (econs (v 2 2) enil)) (sort none (ky true (v 2 1) ∷ []) (scan 2 (fd 2 1 1 true ∷ fd 2 2 1 true ∷ fd 2 3 2 true ∷ []) [])))) ≡ passed 2 2 1 (sort none (ky true (v 2 1) ∷ []) (scan 2 (fd 2 1 1 true ∷ fd 2 2 1 true ∷ fd 2 3 2 true ∷ []) ((bin (cmp ge) (bool true) (v 2 3)) ∷ (fn 2 0 2 (econs (v 2 2) enil)) ∷ [])))
+w55 : pass-by-records 10000 (filter (bin and (fn 2 0 2 (econs (v 2 2) enil)) (bin (cmp ge) (bool true) (v 2 3))) (filter (fn 2 0 2 (econs (v 2 2) enil)) (sort none (ky true (v 2 1) ∷ []) (scan 2 (fd 2 1 1 true ∷ fd 2 2 1 true ∷ fd 2 3 2 true ∷ []) [])))) ≡ passed 2 2 1 (sort none (ky true (v 2 1) ∷ []) (scan 2 (fd 2 1 1 true ∷ fd 2 2 1 true ∷ fd 2 3 2 true ∷ []) ((bin (cmp ge) (bool true) (v 2 3)) ∷ (fn 2 0 2 (econs (v 2 2) enil)) ∷ [])))
 unfolding walked
 w55 = refl
 
@@ -303,7 +304,7 @@ c56 : pass 10000 (distinct (join inner (filter (bin and (bool false) (bin and (b
 unfolding opened
 c56 = refl
 
-w56 : pass-by-children 10000 (distinct (join inner (filter (bin and (bool false) (bin and (bin and (bin (cmp eq) (i 3) (v 2 2)) (bin or (bin and (bin (cmp eq) (i 3) (v 2 2)) (bin or (bin or (bin (cmp ge) (bool false) (bool false)) (bool true)) (bin or (bin and (fn 2 0 2 enil) (bool true)) (bool false)))) (bin and (bin or (bin (cmp le) (v 2 1) (i 2)) (bool true)) (bin (cmp eq) (i 0) (v 2 2))))) (fn 0 0 2 (econs (v 2 2) enil)))) (repartition (scan 1 (fd 2 1 1 false ∷ fd 2 2 1 false ∷ []) []))) (filter (inlist false (i 3) (econs (i 0) enil)) (union (pcons (scan 1 (fd 3 1 1 true ∷ fd 3 2 1 true ∷ []) []) (pcons (scan 1 (fd 4 1 1 false ∷ fd 4 2 1 false ∷ []) []) (pcons (scan 1 (fd 5 1 1 true ∷ fd 5 2 1 true ∷ []) []) pnil))))) [] none)) ≡ passed 12 2 1 (distinct (join inner (repartition (filter (bin and (bin and (bin and (bool false) (bin (cmp eq) (i 3) (v 2 2))) (bin or (bin and (bin (cmp eq) (i 3) (v 2 2)) (bin or (bin or (bin (cmp ge) (bool false) (bool false)) (bool true)) (bin or (bin and (fn 2 0 2 enil) (bool true)) (bool false)))) (bin and (bin or (bin (cmp le) (v 2 1) (i 2)) (bool true)) (bin (cmp eq) (i 0) (v 2 2))))) (fn 0 0 2 (econs (v 2 2) enil))) (scan 1 (fd 2 1 1 false ∷ fd 2 2 1 false ∷ []) []))) (union (pcons (filter (inlist false (i 3) (econs (i 0) enil)) (scan 1 (fd 3 1 1 true ∷ fd 3 2 1 true ∷ []) [])) (pcons (filter (inlist false (i 3) (econs (i 0) enil)) (scan 1 (fd 4 1 1 false ∷ fd 4 2 1 false ∷ []) [])) (pcons (filter (inlist false (i 3) (econs (i 0) enil)) (scan 1 (fd 5 1 1 true ∷ fd 5 2 1 true ∷ []) [])) pnil)))) [] none))
+w56 : pass-by-records 10000 (distinct (join inner (filter (bin and (bool false) (bin and (bin and (bin (cmp eq) (i 3) (v 2 2)) (bin or (bin and (bin (cmp eq) (i 3) (v 2 2)) (bin or (bin or (bin (cmp ge) (bool false) (bool false)) (bool true)) (bin or (bin and (fn 2 0 2 enil) (bool true)) (bool false)))) (bin and (bin or (bin (cmp le) (v 2 1) (i 2)) (bool true)) (bin (cmp eq) (i 0) (v 2 2))))) (fn 0 0 2 (econs (v 2 2) enil)))) (repartition (scan 1 (fd 2 1 1 false ∷ fd 2 2 1 false ∷ []) []))) (filter (inlist false (i 3) (econs (i 0) enil)) (union (pcons (scan 1 (fd 3 1 1 true ∷ fd 3 2 1 true ∷ []) []) (pcons (scan 1 (fd 4 1 1 false ∷ fd 4 2 1 false ∷ []) []) (pcons (scan 1 (fd 5 1 1 true ∷ fd 5 2 1 true ∷ []) []) pnil))))) [] none)) ≡ passed 12 2 1 (distinct (join inner (repartition (filter (bin and (bin and (bin and (bool false) (bin (cmp eq) (i 3) (v 2 2))) (bin or (bin and (bin (cmp eq) (i 3) (v 2 2)) (bin or (bin or (bin (cmp ge) (bool false) (bool false)) (bool true)) (bin or (bin and (fn 2 0 2 enil) (bool true)) (bool false)))) (bin and (bin or (bin (cmp le) (v 2 1) (i 2)) (bool true)) (bin (cmp eq) (i 0) (v 2 2))))) (fn 0 0 2 (econs (v 2 2) enil))) (scan 1 (fd 2 1 1 false ∷ fd 2 2 1 false ∷ []) []))) (union (pcons (filter (inlist false (i 3) (econs (i 0) enil)) (scan 1 (fd 3 1 1 true ∷ fd 3 2 1 true ∷ []) [])) (pcons (filter (inlist false (i 3) (econs (i 0) enil)) (scan 1 (fd 4 1 1 false ∷ fd 4 2 1 false ∷ []) [])) (pcons (filter (inlist false (i 3) (econs (i 0) enil)) (scan 1 (fd 5 1 1 true ∷ fd 5 2 1 true ∷ []) [])) pnil)))) [] none))
 unfolding walked
 w56 = refl
 
@@ -323,7 +324,7 @@ c60 : pass 10000 (filter (bool true) (project (en 5 1 (i 2) ∷ en 0 105 (v 2 2)
 unfolding opened
 c60 = refl
 
-w60 : pass-by-children 10000 (filter (bool true) (project (en 5 1 (i 2) ∷ en 0 105 (v 2 2) ∷ []) (window (wn 4 1 count (v 2 1) (nm 2 2 ∷ nm 2 1 ∷ []) ∷ []) (filter (bin and (bin and (bin and (neg (v 2 3)) (bin (cmp lt) (nul 2) (v 2 3))) (bin (cmp eq) (v 2 3) (bool true))) (between false (v 2 2) (v 2 2) (v 2 2))) (union (pcons (scan 2 (fd 2 1 1 false ∷ fd 2 2 1 true ∷ fd 2 3 2 true ∷ []) []) (pcons (project (en 0 103 (i 2) ∷ en 3 1 (v 0 102) ∷ en 0 104 (v 0 101) ∷ []) (scan 3 (fd 0 101 2 false ∷ fd 0 102 1 true ∷ []) ((bin or (bin (cmp ge) (i 1) (v 0 102)) (bin or (bin or (bin (cmp lt) (v 0 102) (i 0)) (bin (cmp ne) (v 0 102) (i 0))) (bin and (bin (cmp lt) (v 0 101) (bool true)) (bin (cmp ge) (v 0 102) (i 0))))) ∷ []))) pnil))))))) ≡ passed 8 6 1 (project (en 5 1 (i 2) ∷ en 0 105 (v 2 2) ∷ []) (window (wn 4 1 count (v 2 1) (nm 2 2 ∷ nm 2 1 ∷ []) ∷ []) (union (pcons (filter (bool true) (scan 2 (fd 2 1 1 false ∷ fd 2 2 1 true ∷ fd 2 3 2 true ∷ []) ((neg (v 2 3)) ∷ (bin (cmp lt) (nul 2) (v 2 3)) ∷ (bin (cmp eq) (v 2 3) (bool true)) ∷ (between false (v 2 2) (v 2 2) (v 2 2)) ∷ []))) (pcons (project (en 0 103 (i 2) ∷ en 3 1 (v 0 102) ∷ en 0 104 (v 0 101) ∷ []) (filter (bin and (bin and (bin and (neg (v 0 101)) (bin (cmp lt) (nul 2) (v 0 101))) (bin (cmp eq) (v 0 101) (bool true))) (bool true)) (scan 3 (fd 0 101 2 false ∷ fd 0 102 1 true ∷ []) ((bin or (bin (cmp ge) (i 1) (v 0 102)) (bin or (bin or (bin (cmp lt) (v 0 102) (i 0)) (bin (cmp ne) (v 0 102) (i 0))) (bin and (bin (cmp lt) (v 0 101) (bool true)) (bin (cmp ge) (v 0 102) (i 0))))) ∷ (between false (v 0 102) (v 0 102) (v 0 102)) ∷ [])))) pnil)))))
+w60 : pass-by-records 10000 (filter (bool true) (project (en 5 1 (i 2) ∷ en 0 105 (v 2 2) ∷ []) (window (wn 4 1 count (v 2 1) (nm 2 2 ∷ nm 2 1 ∷ []) ∷ []) (filter (bin and (bin and (bin and (neg (v 2 3)) (bin (cmp lt) (nul 2) (v 2 3))) (bin (cmp eq) (v 2 3) (bool true))) (between false (v 2 2) (v 2 2) (v 2 2))) (union (pcons (scan 2 (fd 2 1 1 false ∷ fd 2 2 1 true ∷ fd 2 3 2 true ∷ []) []) (pcons (project (en 0 103 (i 2) ∷ en 3 1 (v 0 102) ∷ en 0 104 (v 0 101) ∷ []) (scan 3 (fd 0 101 2 false ∷ fd 0 102 1 true ∷ []) ((bin or (bin (cmp ge) (i 1) (v 0 102)) (bin or (bin or (bin (cmp lt) (v 0 102) (i 0)) (bin (cmp ne) (v 0 102) (i 0))) (bin and (bin (cmp lt) (v 0 101) (bool true)) (bin (cmp ge) (v 0 102) (i 0))))) ∷ []))) pnil))))))) ≡ passed 8 6 1 (project (en 5 1 (i 2) ∷ en 0 105 (v 2 2) ∷ []) (window (wn 4 1 count (v 2 1) (nm 2 2 ∷ nm 2 1 ∷ []) ∷ []) (union (pcons (filter (bool true) (scan 2 (fd 2 1 1 false ∷ fd 2 2 1 true ∷ fd 2 3 2 true ∷ []) ((neg (v 2 3)) ∷ (bin (cmp lt) (nul 2) (v 2 3)) ∷ (bin (cmp eq) (v 2 3) (bool true)) ∷ (between false (v 2 2) (v 2 2) (v 2 2)) ∷ []))) (pcons (project (en 0 103 (i 2) ∷ en 3 1 (v 0 102) ∷ en 0 104 (v 0 101) ∷ []) (filter (bin and (bin and (bin and (neg (v 0 101)) (bin (cmp lt) (nul 2) (v 0 101))) (bin (cmp eq) (v 0 101) (bool true))) (bool true)) (scan 3 (fd 0 101 2 false ∷ fd 0 102 1 true ∷ []) ((bin or (bin (cmp ge) (i 1) (v 0 102)) (bin or (bin or (bin (cmp lt) (v 0 102) (i 0)) (bin (cmp ne) (v 0 102) (i 0))) (bin and (bin (cmp lt) (v 0 101) (bool true)) (bin (cmp ge) (v 0 102) (i 0))))) ∷ (between false (v 0 102) (v 0 102) (v 0 102)) ∷ [])))) pnil)))))
 unfolding walked
 w60 = refl
 
@@ -339,7 +340,7 @@ c63 : pass 10000 (join left (filter (bin and (bin (cmp eq) (v 2 1) (v 2 1)) (bin
 unfolding opened
 c63 = refl
 
-w63 : pass-by-children 10000 (join left (filter (bin and (bin (cmp eq) (v 2 1) (v 2 1)) (bin (cmp le) (v 2 1) (i 1))) (project (en 2 2 (nul 1) ∷ en 2 1 (v 2 1) ∷ en 3 2 (v 2 1) ∷ []) (filter (bin and (bin (cmp ge) (v 2 2) (i 0)) (bin or (bin and (bin and (bin (cmp ge) (v 2 2) (i 0)) (bin (cmp ge) (v 2 2) (i 0))) (bin (cmp eq) (i 0) (v 2 1))) (inlist true (v 2 2) (econs (v 2 1) (econs (i 0) enil))))) (scan 1 (fd 2 1 1 true ∷ fd 2 2 1 true ∷ []) [])))) (filter (bin and (bin (cmp lt) (v 0 103) (i 2)) (bin (cmp gt) (num (negsuc 0)) (v 0 102))) (join rightAnti (project (en 0 101 (v 4 2) ∷ []) (scan 3 (fd 4 1 2 false ∷ fd 4 2 1 false ∷ []) [])) (aggregate (en 0 102 (v 5 2) ∷ []) (ag 0 103 max (v 5 2) ∷ []) (scan 2 (fd 5 1 1 false ∷ fd 5 2 1 false ∷ fd 5 3 2 false ∷ []) ((bool false) ∷ []))) (pr (v 0 101) (v 0 103) ∷ pr (v 0 101) (v 0 102) ∷ []) (some (bin (cmp le) (i 0) (v 0 101))))) [] none) ≡ passed 11 5 1 (join left (project (en 2 2 (nul 1) ∷ en 2 1 (v 2 1) ∷ en 3 2 (v 2 1) ∷ []) (scan 1 (fd 2 1 1 true ∷ fd 2 2 1 true ∷ []) ((bin (cmp ge) (v 2 2) (i 0)) ∷ (bin or (bin and (bin and (bin (cmp ge) (v 2 2) (i 0)) (bin (cmp ge) (v 2 2) (i 0))) (bin (cmp eq) (i 0) (v 2 1))) (inlist true (v 2 2) (econs (v 2 1) (econs (i 0) enil)))) ∷ (bin (cmp eq) (v 2 1) (v 2 1)) ∷ (bin (cmp le) (v 2 1) (i 1)) ∷ []))) (join rightAnti (project (en 0 101 (v 4 2) ∷ []) (filter (bin (cmp le) (i 0) (v 4 2)) (scan 3 (fd 4 1 2 false ∷ fd 4 2 1 false ∷ []) []))) (filter (bin (cmp lt) (v 0 103) (i 2)) (aggregate (en 0 102 (v 5 2) ∷ []) (ag 0 103 max (v 5 2) ∷ []) (filter (bin (cmp gt) (num (negsuc 0)) (v 5 2)) (scan 2 (fd 5 1 1 false ∷ fd 5 2 1 false ∷ fd 5 3 2 false ∷ []) ((bool false) ∷ []))))) (pr (v 0 101) (v 0 103) ∷ pr (v 0 101) (v 0 102) ∷ []) none) [] none)
+w63 : pass-by-records 10000 (join left (filter (bin and (bin (cmp eq) (v 2 1) (v 2 1)) (bin (cmp le) (v 2 1) (i 1))) (project (en 2 2 (nul 1) ∷ en 2 1 (v 2 1) ∷ en 3 2 (v 2 1) ∷ []) (filter (bin and (bin (cmp ge) (v 2 2) (i 0)) (bin or (bin and (bin and (bin (cmp ge) (v 2 2) (i 0)) (bin (cmp ge) (v 2 2) (i 0))) (bin (cmp eq) (i 0) (v 2 1))) (inlist true (v 2 2) (econs (v 2 1) (econs (i 0) enil))))) (scan 1 (fd 2 1 1 true ∷ fd 2 2 1 true ∷ []) [])))) (filter (bin and (bin (cmp lt) (v 0 103) (i 2)) (bin (cmp gt) (num (negsuc 0)) (v 0 102))) (join rightAnti (project (en 0 101 (v 4 2) ∷ []) (scan 3 (fd 4 1 2 false ∷ fd 4 2 1 false ∷ []) [])) (aggregate (en 0 102 (v 5 2) ∷ []) (ag 0 103 max (v 5 2) ∷ []) (scan 2 (fd 5 1 1 false ∷ fd 5 2 1 false ∷ fd 5 3 2 false ∷ []) ((bool false) ∷ []))) (pr (v 0 101) (v 0 103) ∷ pr (v 0 101) (v 0 102) ∷ []) (some (bin (cmp le) (i 0) (v 0 101))))) [] none) ≡ passed 11 5 1 (join left (project (en 2 2 (nul 1) ∷ en 2 1 (v 2 1) ∷ en 3 2 (v 2 1) ∷ []) (scan 1 (fd 2 1 1 true ∷ fd 2 2 1 true ∷ []) ((bin (cmp ge) (v 2 2) (i 0)) ∷ (bin or (bin and (bin and (bin (cmp ge) (v 2 2) (i 0)) (bin (cmp ge) (v 2 2) (i 0))) (bin (cmp eq) (i 0) (v 2 1))) (inlist true (v 2 2) (econs (v 2 1) (econs (i 0) enil)))) ∷ (bin (cmp eq) (v 2 1) (v 2 1)) ∷ (bin (cmp le) (v 2 1) (i 1)) ∷ []))) (join rightAnti (project (en 0 101 (v 4 2) ∷ []) (filter (bin (cmp le) (i 0) (v 4 2)) (scan 3 (fd 4 1 2 false ∷ fd 4 2 1 false ∷ []) []))) (filter (bin (cmp lt) (v 0 103) (i 2)) (aggregate (en 0 102 (v 5 2) ∷ []) (ag 0 103 max (v 5 2) ∷ []) (filter (bin (cmp gt) (num (negsuc 0)) (v 5 2)) (scan 2 (fd 5 1 1 false ∷ fd 5 2 1 false ∷ fd 5 3 2 false ∷ []) ((bool false) ∷ []))))) (pr (v 0 101) (v 0 103) ∷ pr (v 0 101) (v 0 102) ∷ []) none) [] none)
 unfolding walked
 w63 = refl
 
@@ -363,7 +364,7 @@ c68 : pass 10000 (filter (bin and (fn 1 0 2 enil) (bin (cmp le) (i 9223372036854
 unfolding opened
 c68 = refl
 
-w68 : pass-by-children 10000 (filter (bin and (fn 1 0 2 enil) (bin (cmp le) (i 9223372036854775807) (v 2 101))) (alias 2 (filter (bin and (bin (cmp gt) (v 0 101) (i 0)) (bin (cmp eq) (i 1) (v 4 1))) (project (en 0 101 (i 1) ∷ en 4 1 (i 0) ∷ en 0 102 (v 3 1) ∷ []) (scan 2 (fd 3 1 1 false ∷ fd 3 2 1 false ∷ fd 3 3 2 false ∷ []) []))))) ≡ passed 4 2 1 (alias 2 (project (en 0 101 (i 1) ∷ en 4 1 (i 0) ∷ en 0 102 (v 3 1) ∷ []) (filter (bin and (bin and (bin (cmp le) (i 9223372036854775807) (i 1)) (bin (cmp eq) (i 1) (i 0))) (fn 1 0 2 enil)) (scan 2 (fd 3 1 1 false ∷ fd 3 2 1 false ∷ fd 3 3 2 false ∷ []) []))))
+w68 : pass-by-records 10000 (filter (bin and (fn 1 0 2 enil) (bin (cmp le) (i 9223372036854775807) (v 2 101))) (alias 2 (filter (bin and (bin (cmp gt) (v 0 101) (i 0)) (bin (cmp eq) (i 1) (v 4 1))) (project (en 0 101 (i 1) ∷ en 4 1 (i 0) ∷ en 0 102 (v 3 1) ∷ []) (scan 2 (fd 3 1 1 false ∷ fd 3 2 1 false ∷ fd 3 3 2 false ∷ []) []))))) ≡ passed 4 2 1 (alias 2 (project (en 0 101 (i 1) ∷ en 4 1 (i 0) ∷ en 0 102 (v 3 1) ∷ []) (filter (bin and (bin and (bin (cmp le) (i 9223372036854775807) (i 1)) (bin (cmp eq) (i 1) (i 0))) (fn 1 0 2 enil)) (scan 2 (fd 3 1 1 false ∷ fd 3 2 1 false ∷ fd 3 3 2 false ∷ []) []))))
 unfolding walked
 w68 = refl
 
@@ -371,7 +372,7 @@ c69 : pass 10000 (alias 2 (scan 5 [] [])) ≡ passed 2 0 1 (alias 2 (scan 5 [] [
 unfolding opened
 c69 = refl
 
-w69 : pass-by-children 10000 (alias 2 (scan 5 [] [])) ≡ passed 2 0 1 (alias 2 (scan 5 [] []))
+w69 : pass-by-records 10000 (alias 2 (scan 5 [] [])) ≡ passed 2 0 1 (alias 2 (scan 5 [] []))
 unfolding walked
 w69 = refl
 
@@ -387,7 +388,7 @@ c72 : pass 10000 (filter (bin or (bin (cmp ge) (v 5 3) (i 3)) (bin and (inlist f
 unfolding opened
 c72 = refl
 
-w72 : pass-by-children 10000 (filter (bin or (bin (cmp ge) (v 5 3) (i 3)) (bin and (inlist false (v 5 3) (econs (v 2 1) enil)) (bin (cmp eq) (i 0) (v 2 1)))) (union (pcons (filter (bin or (bin and (bin or (bin and (bin and (bool true) (bin (cmp ne) (i 0) (v 5 3))) (fn 2 0 2 (econs (v 2 1) enil))) (bin or (fn 1 2 2 (econs (bool true) enil)) (fn 1 3 2 enil))) (fn 1 2 2 (econs (bool true) enil))) (bin (cmp ne) (v 5 3) (i 2))) (window (wn 5 3 min (i 2) (nm 2 1 ∷ nm 2 1 ∷ []) ∷ []) (join leftSemi (alias 2 (scan 4 (fd 3 1 1 true ∷ []) [])) (filter (bin and (bin (cmp le) (v 4 2) (i 3)) (bin (cmp le) (v 4 1) (v 4 2))) (scan 1 (fd 4 1 1 false ∷ fd 4 2 1 false ∷ []) [])) (pr (v 2 1) (v 4 1) ∷ []) none))) (pcons (project (en 8 3 (v 6 103) ∷ en 0 105 (v 6 102) ∷ []) (alias 6 (window (wn 0 103 max (fn 0 0 1 (econs (v 0 102) (econs (bool true) enil))) [] ∷ wn 0 104 count (fn 1 0 1 (econs (v 0 102) (econs (fn 1 0 2 enil) enil))) (nm 0 102 ∷ nm 0 102 ∷ []) ∷ []) (aggregate [] (ag 0 102 count (v 0 101) ∷ []) (window (wn 0 101 count (v 7 1) [] ∷ []) (scan 4 (fd 7 1 1 false ∷ []) [])))))) (pcons (project (en 12 2 (v 10 2) ∷ en 13 3 (v 0 106) ∷ []) (sort none [] (filter (bin and (bin or (bin (cmp gt) (v 0 106) (v 0 106)) (bin and (inlist false (v 0 106) (econs (fn 2 0 1 (econs (v 11 2) (econs (v 11 2) enil))) (econs (i 3) enil))) (bin (cmp lt) (v 10 2) (i 0)))) (bin and (fn 2 2 2 enil) (bin (cmp eq) (v 10 2) (i 0)))) (project (en 10 2 (v 9 1) ∷ en 11 2 (v 10 1) ∷ en 0 106 (v 9 1) ∷ []) (join left (scan 4 (fd 9 1 1 false ∷ []) []) (scan 3 (fd 10 1 2 false ∷ fd 10 2 1 false ∷ []) []) (pr (fn 1 0 1 (econs (nul 2) (econs (fn 1 0 2 enil) enil))) (v 10 2) ∷ pr (v 9 1) (v 10 2) ∷ []) none))))) pnil))))) ≡ passed 23 7 1 (union (pcons (filter (bin and (bin or (bin and (bin or (bin and (bin and (bool true) (bin (cmp ne) (i 0) (v 5 3))) (fn 2 0 2 (econs (v 2 1) enil))) (bin or (fn 1 2 2 (econs (bool true) enil)) (fn 1 3 2 enil))) (fn 1 2 2 (econs (bool true) enil))) (bin (cmp ne) (v 5 3) (i 2))) (bin or (bin (cmp ge) (v 5 3) (i 3)) (bin and (inlist false (v 5 3) (econs (v 2 1) enil)) (bin (cmp eq) (i 0) (v 2 1))))) (window (wn 5 3 min (i 2) (nm 2 1 ∷ nm 2 1 ∷ []) ∷ []) (join leftSemi (alias 2 (scan 4 (fd 3 1 1 true ∷ []) [])) (filter (bin and (bin (cmp le) (v 4 2) (i 3)) (bin (cmp le) (v 4 1) (v 4 2))) (scan 1 (fd 4 1 1 false ∷ fd 4 2 1 false ∷ []) [])) (pr (v 2 1) (v 4 1) ∷ []) none))) (pcons (project (en 8 3 (v 6 103) ∷ en 0 105 (v 6 102) ∷ []) (alias 6 (filter (bin or (bin (cmp ge) (v 0 102) (i 3)) (bin and (inlist false (v 0 102) (econs (v 0 103) enil)) (bin (cmp eq) (i 0) (v 0 103)))) (window (wn 0 103 max (fn 0 0 1 (econs (v 0 102) (econs (bool true) enil))) [] ∷ wn 0 104 count (fn 1 0 1 (econs (v 0 102) (econs (fn 1 0 2 enil) enil))) (nm 0 102 ∷ nm 0 102 ∷ []) ∷ []) (aggregate [] (ag 0 102 count (v 0 101) ∷ []) (window (wn 0 101 count (v 7 1) [] ∷ []) (scan 4 (fd 7 1 1 false ∷ []) []))))))) (pcons (project (en 12 2 (v 10 2) ∷ en 13 3 (v 0 106) ∷ []) (sort none [] (project (en 10 2 (v 9 1) ∷ en 11 2 (v 10 1) ∷ en 0 106 (v 9 1) ∷ []) (filter (bin or (bin (cmp gt) (v 9 1) (v 9 1)) (bin and (inlist false (v 9 1) (econs (fn 2 0 1 (econs (v 10 1) (econs (v 10 1) enil))) (econs (i 3) enil))) (bin (cmp lt) (v 9 1) (i 0)))) (join left (filter (bin and (bin and (bin and (bin or (bin (cmp ge) (v 9 1) (i 3)) (bin and (inlist false (v 9 1) (econs (v 9 1) enil)) (bin (cmp eq) (i 0) (v 9 1)))) (bin or (bin (cmp gt) (v 9 1) (v 9 1)) (bin (cmp lt) (v 9 1) (i 0)))) (bin (cmp eq) (v 9 1) (i 0))) (fn 2 2 2 enil)) (scan 4 (fd 9 1 1 false ∷ []) [])) (scan 3 (fd 10 1 2 false ∷ fd 10 2 1 false ∷ []) []) (pr (fn 1 0 1 (econs (nul 2) (econs (fn 1 0 2 enil) enil))) (v 10 2) ∷ pr (v 9 1) (v 10 2) ∷ []) none))))) pnil))))
+w72 : pass-by-records 10000 (filter (bin or (bin (cmp ge) (v 5 3) (i 3)) (bin and (inlist false (v 5 3) (econs (v 2 1) enil)) (bin (cmp eq) (i 0) (v 2 1)))) (union (pcons (filter (bin or (bin and (bin or (bin and (bin and (bool true) (bin (cmp ne) (i 0) (v 5 3))) (fn 2 0 2 (econs (v 2 1) enil))) (bin or (fn 1 2 2 (econs (bool true) enil)) (fn 1 3 2 enil))) (fn 1 2 2 (econs (bool true) enil))) (bin (cmp ne) (v 5 3) (i 2))) (window (wn 5 3 min (i 2) (nm 2 1 ∷ nm 2 1 ∷ []) ∷ []) (join leftSemi (alias 2 (scan 4 (fd 3 1 1 true ∷ []) [])) (filter (bin and (bin (cmp le) (v 4 2) (i 3)) (bin (cmp le) (v 4 1) (v 4 2))) (scan 1 (fd 4 1 1 false ∷ fd 4 2 1 false ∷ []) [])) (pr (v 2 1) (v 4 1) ∷ []) none))) (pcons (project (en 8 3 (v 6 103) ∷ en 0 105 (v 6 102) ∷ []) (alias 6 (window (wn 0 103 max (fn 0 0 1 (econs (v 0 102) (econs (bool true) enil))) [] ∷ wn 0 104 count (fn 1 0 1 (econs (v 0 102) (econs (fn 1 0 2 enil) enil))) (nm 0 102 ∷ nm 0 102 ∷ []) ∷ []) (aggregate [] (ag 0 102 count (v 0 101) ∷ []) (window (wn 0 101 count (v 7 1) [] ∷ []) (scan 4 (fd 7 1 1 false ∷ []) [])))))) (pcons (project (en 12 2 (v 10 2) ∷ en 13 3 (v 0 106) ∷ []) (sort none [] (filter (bin and (bin or (bin (cmp gt) (v 0 106) (v 0 106)) (bin and (inlist false (v 0 106) (econs (fn 2 0 1 (econs (v 11 2) (econs (v 11 2) enil))) (econs (i 3) enil))) (bin (cmp lt) (v 10 2) (i 0)))) (bin and (fn 2 2 2 enil) (bin (cmp eq) (v 10 2) (i 0)))) (project (en 10 2 (v 9 1) ∷ en 11 2 (v 10 1) ∷ en 0 106 (v 9 1) ∷ []) (join left (scan 4 (fd 9 1 1 false ∷ []) []) (scan 3 (fd 10 1 2 false ∷ fd 10 2 1 false ∷ []) []) (pr (fn 1 0 1 (econs (nul 2) (econs (fn 1 0 2 enil) enil))) (v 10 2) ∷ pr (v 9 1) (v 10 2) ∷ []) none))))) pnil))))) ≡ passed 23 7 1 (union (pcons (filter (bin and (bin or (bin and (bin or (bin and (bin and (bool true) (bin (cmp ne) (i 0) (v 5 3))) (fn 2 0 2 (econs (v 2 1) enil))) (bin or (fn 1 2 2 (econs (bool true) enil)) (fn 1 3 2 enil))) (fn 1 2 2 (econs (bool true) enil))) (bin (cmp ne) (v 5 3) (i 2))) (bin or (bin (cmp ge) (v 5 3) (i 3)) (bin and (inlist false (v 5 3) (econs (v 2 1) enil)) (bin (cmp eq) (i 0) (v 2 1))))) (window (wn 5 3 min (i 2) (nm 2 1 ∷ nm 2 1 ∷ []) ∷ []) (join leftSemi (alias 2 (scan 4 (fd 3 1 1 true ∷ []) [])) (filter (bin and (bin (cmp le) (v 4 2) (i 3)) (bin (cmp le) (v 4 1) (v 4 2))) (scan 1 (fd 4 1 1 false ∷ fd 4 2 1 false ∷ []) [])) (pr (v 2 1) (v 4 1) ∷ []) none))) (pcons (project (en 8 3 (v 6 103) ∷ en 0 105 (v 6 102) ∷ []) (alias 6 (filter (bin or (bin (cmp ge) (v 0 102) (i 3)) (bin and (inlist false (v 0 102) (econs (v 0 103) enil)) (bin (cmp eq) (i 0) (v 0 103)))) (window (wn 0 103 max (fn 0 0 1 (econs (v 0 102) (econs (bool true) enil))) [] ∷ wn 0 104 count (fn 1 0 1 (econs (v 0 102) (econs (fn 1 0 2 enil) enil))) (nm 0 102 ∷ nm 0 102 ∷ []) ∷ []) (aggregate [] (ag 0 102 count (v 0 101) ∷ []) (window (wn 0 101 count (v 7 1) [] ∷ []) (scan 4 (fd 7 1 1 false ∷ []) []))))))) (pcons (project (en 12 2 (v 10 2) ∷ en 13 3 (v 0 106) ∷ []) (sort none [] (project (en 10 2 (v 9 1) ∷ en 11 2 (v 10 1) ∷ en 0 106 (v 9 1) ∷ []) (filter (bin or (bin (cmp gt) (v 9 1) (v 9 1)) (bin and (inlist false (v 9 1) (econs (fn 2 0 1 (econs (v 10 1) (econs (v 10 1) enil))) (econs (i 3) enil))) (bin (cmp lt) (v 9 1) (i 0)))) (join left (filter (bin and (bin and (bin and (bin or (bin (cmp ge) (v 9 1) (i 3)) (bin and (inlist false (v 9 1) (econs (v 9 1) enil)) (bin (cmp eq) (i 0) (v 9 1)))) (bin or (bin (cmp gt) (v 9 1) (v 9 1)) (bin (cmp lt) (v 9 1) (i 0)))) (bin (cmp eq) (v 9 1) (i 0))) (fn 2 2 2 enil)) (scan 4 (fd 9 1 1 false ∷ []) [])) (scan 3 (fd 10 1 2 false ∷ fd 10 2 1 false ∷ []) []) (pr (fn 1 0 1 (econs (nul 2) (econs (fn 1 0 2 enil) enil))) (v 10 2) ∷ pr (v 9 1) (v 10 2) ∷ []) none))))) pnil))))
 unfolding walked
 w72 = refl
 
@@ -403,7 +404,7 @@ c75 : pass 10000 (filter (bin and (fn 1 0 2 (econs (i 0) (econs (v 0 103) enil))
 unfolding opened
 c75 = refl
 
-w75 : pass-by-children 10000 (filter (bin and (fn 1 0 2 (econs (i 0) (econs (v 0 103) enil))) (fn 0 0 2 (econs (v 2 2) enil))) (join inner (filter (bin and (inlist false (i 2) (econs (v 2 2) (econs (nul 1) enil))) (test isNotNull (v 2 1))) (scan 3 (fd 2 1 2 false ∷ fd 2 2 1 true ∷ []) [])) (join inner (scan 3 (fd 3 1 2 false ∷ fd 3 2 1 false ∷ []) []) (scan 2 (fd 0 101 1 false ∷ fd 0 102 1 false ∷ fd 0 103 2 false ∷ []) ((bin (cmp le) (v 0 101) (v 0 102)) ∷ [])) [] (some (bin and (bin and (bin or (bin or (v 3 1) (bool true)) (bin or (bin or (bin and (between true (v 0 102) (nul 1) (v 0 102)) (inlist false (fn 2 1 1 (econs (nul 2) (econs (v 0 103) enil))) (econs (v 0 101) enil))) (bin and (fn 1 0 2 enil) (between true (i 3) (v 3 2) (v 0 101)))) (inlist false (i 3) (econs (i 1) (econs (i 3) enil))))) (bin and (bin or (fn 2 0 2 enil) (bin (cmp ge) (v 0 102) (i 3))) (bin (cmp le) (v 0 101) (v 0 102)))) (bin or (fn 2 0 2 enil) (bin (cmp ge) (v 0 102) (i 3)))))) (pr (v 2 2) (v 3 2) ∷ []) (some (bin (cmp lt) (v 2 2) (nul 1))))) ≡ passed 8 3 1 (join inner (filter (test isNotNull (v 2 1)) (scan 3 (fd 2 1 2 false ∷ fd 2 2 1 true ∷ []) ((inlist false (i 2) (econs (v 2 2) (econs (nul 1) enil))) ∷ (bin (cmp lt) (v 2 2) (nul 1)) ∷ (fn 0 0 2 (econs (v 2 2) enil)) ∷ []))) (join inner (filter (bin and (bin (cmp lt) (v 3 2) (nul 1)) (fn 0 0 2 (econs (v 3 2) enil))) (scan 3 (fd 3 1 2 false ∷ fd 3 2 1 false ∷ []) [])) (filter (bin and (bin and (bin and (bin (cmp le) (v 0 101) (v 0 102)) (fn 1 0 2 (econs (i 0) (econs (v 0 103) enil)))) (bin or (fn 2 0 2 enil) (bin (cmp ge) (v 0 102) (i 3)))) (bin or (fn 2 0 2 enil) (bin (cmp ge) (v 0 102) (i 3)))) (scan 2 (fd 0 101 1 false ∷ fd 0 102 1 false ∷ fd 0 103 2 false ∷ []) ((bin (cmp le) (v 0 101) (v 0 102)) ∷ []))) [] (some (bin or (bin or (v 3 1) (bool true)) (bin or (bin or (bin and (between true (v 0 102) (nul 1) (v 0 102)) (inlist false (fn 2 1 1 (econs (nul 2) (econs (v 0 103) enil))) (econs (v 0 101) enil))) (bin and (fn 1 0 2 enil) (between true (i 3) (v 3 2) (v 0 101)))) (inlist false (i 3) (econs (i 1) (econs (i 3) enil))))))) (pr (v 2 2) (v 3 2) ∷ []) none)
+w75 : pass-by-records 10000 (filter (bin and (fn 1 0 2 (econs (i 0) (econs (v 0 103) enil))) (fn 0 0 2 (econs (v 2 2) enil))) (join inner (filter (bin and (inlist false (i 2) (econs (v 2 2) (econs (nul 1) enil))) (test isNotNull (v 2 1))) (scan 3 (fd 2 1 2 false ∷ fd 2 2 1 true ∷ []) [])) (join inner (scan 3 (fd 3 1 2 false ∷ fd 3 2 1 false ∷ []) []) (scan 2 (fd 0 101 1 false ∷ fd 0 102 1 false ∷ fd 0 103 2 false ∷ []) ((bin (cmp le) (v 0 101) (v 0 102)) ∷ [])) [] (some (bin and (bin and (bin or (bin or (v 3 1) (bool true)) (bin or (bin or (bin and (between true (v 0 102) (nul 1) (v 0 102)) (inlist false (fn 2 1 1 (econs (nul 2) (econs (v 0 103) enil))) (econs (v 0 101) enil))) (bin and (fn 1 0 2 enil) (between true (i 3) (v 3 2) (v 0 101)))) (inlist false (i 3) (econs (i 1) (econs (i 3) enil))))) (bin and (bin or (fn 2 0 2 enil) (bin (cmp ge) (v 0 102) (i 3))) (bin (cmp le) (v 0 101) (v 0 102)))) (bin or (fn 2 0 2 enil) (bin (cmp ge) (v 0 102) (i 3)))))) (pr (v 2 2) (v 3 2) ∷ []) (some (bin (cmp lt) (v 2 2) (nul 1))))) ≡ passed 8 3 1 (join inner (filter (test isNotNull (v 2 1)) (scan 3 (fd 2 1 2 false ∷ fd 2 2 1 true ∷ []) ((inlist false (i 2) (econs (v 2 2) (econs (nul 1) enil))) ∷ (bin (cmp lt) (v 2 2) (nul 1)) ∷ (fn 0 0 2 (econs (v 2 2) enil)) ∷ []))) (join inner (filter (bin and (bin (cmp lt) (v 3 2) (nul 1)) (fn 0 0 2 (econs (v 3 2) enil))) (scan 3 (fd 3 1 2 false ∷ fd 3 2 1 false ∷ []) [])) (filter (bin and (bin and (bin and (bin (cmp le) (v 0 101) (v 0 102)) (fn 1 0 2 (econs (i 0) (econs (v 0 103) enil)))) (bin or (fn 2 0 2 enil) (bin (cmp ge) (v 0 102) (i 3)))) (bin or (fn 2 0 2 enil) (bin (cmp ge) (v 0 102) (i 3)))) (scan 2 (fd 0 101 1 false ∷ fd 0 102 1 false ∷ fd 0 103 2 false ∷ []) ((bin (cmp le) (v 0 101) (v 0 102)) ∷ []))) [] (some (bin or (bin or (v 3 1) (bool true)) (bin or (bin or (bin and (between true (v 0 102) (nul 1) (v 0 102)) (inlist false (fn 2 1 1 (econs (nul 2) (econs (v 0 103) enil))) (econs (v 0 101) enil))) (bin and (fn 1 0 2 enil) (between true (i 3) (v 3 2) (v 0 101)))) (inlist false (i 3) (econs (i 1) (econs (i 3) enil))))))) (pr (v 2 2) (v 3 2) ∷ []) none)
 unfolding walked
 w75 = refl
 
@@ -415,7 +416,7 @@ c77 : pass 10000 (filter (bin and (bin and (bin (cmp eq) (v 2 1) (i 0)) (neg (be
 unfolding opened
 c77 = refl
 
-w77 : pass-by-children 10000 (filter (bin and (bin and (bin (cmp eq) (v 2 1) (i 0)) (neg (between true (v 2 1) (v 2 1) (v 2 1)))) (bin (cmp le) (v 2 1) (i 0))) (union (pcons (scan 4 (fd 2 1 1 true ∷ []) ((between true (v 2 1) (v 2 1) (v 2 1)) ∷ (neg (between true (v 2 1) (v 2 1) (v 2 1))) ∷ [])) (pcons (project (en 4 1 (v 3 1) ∷ []) (scan 2 (fd 3 1 1 false ∷ fd 3 2 1 false ∷ fd 3 3 2 true ∷ []) [])) (pcons (project (en 6 1 (fn 2 3 1 enil) ∷ []) (scan 2 (fd 5 1 1 true ∷ fd 5 2 1 false ∷ fd 5 3 2 true ∷ []) [])) pnil))))) ≡ passed 8 3 1 (union (pcons (scan 4 (fd 2 1 1 true ∷ []) ((between true (v 2 1) (v 2 1) (v 2 1)) ∷ (neg (between true (v 2 1) (v 2 1) (v 2 1))) ∷ (bin (cmp eq) (v 2 1) (i 0)) ∷ (bin (cmp le) (v 2 1) (i 0)) ∷ [])) (pcons (project (en 4 1 (v 3 1) ∷ []) (filter (bin and (bin and (bin (cmp eq) (v 3 1) (i 0)) (neg (between true (v 3 1) (v 3 1) (v 3 1)))) (bin (cmp le) (v 3 1) (i 0))) (scan 2 (fd 3 1 1 false ∷ fd 3 2 1 false ∷ fd 3 3 2 true ∷ []) []))) (pcons (filter (bin and (bin and (bin (cmp eq) (v 6 1) (i 0)) (neg (between true (v 6 1) (v 6 1) (v 6 1)))) (bin (cmp le) (v 6 1) (i 0))) (project (en 6 1 (fn 2 3 1 enil) ∷ []) (scan 2 (fd 5 1 1 true ∷ fd 5 2 1 false ∷ fd 5 3 2 true ∷ []) []))) pnil))))
+w77 : pass-by-records 10000 (filter (bin and (bin and (bin (cmp eq) (v 2 1) (i 0)) (neg (between true (v 2 1) (v 2 1) (v 2 1)))) (bin (cmp le) (v 2 1) (i 0))) (union (pcons (scan 4 (fd 2 1 1 true ∷ []) ((between true (v 2 1) (v 2 1) (v 2 1)) ∷ (neg (between true (v 2 1) (v 2 1) (v 2 1))) ∷ [])) (pcons (project (en 4 1 (v 3 1) ∷ []) (scan 2 (fd 3 1 1 false ∷ fd 3 2 1 false ∷ fd 3 3 2 true ∷ []) [])) (pcons (project (en 6 1 (fn 2 3 1 enil) ∷ []) (scan 2 (fd 5 1 1 true ∷ fd 5 2 1 false ∷ fd 5 3 2 true ∷ []) [])) pnil))))) ≡ passed 8 3 1 (union (pcons (scan 4 (fd 2 1 1 true ∷ []) ((between true (v 2 1) (v 2 1) (v 2 1)) ∷ (neg (between true (v 2 1) (v 2 1) (v 2 1))) ∷ (bin (cmp eq) (v 2 1) (i 0)) ∷ (bin (cmp le) (v 2 1) (i 0)) ∷ [])) (pcons (project (en 4 1 (v 3 1) ∷ []) (filter (bin and (bin and (bin (cmp eq) (v 3 1) (i 0)) (neg (between true (v 3 1) (v 3 1) (v 3 1)))) (bin (cmp le) (v 3 1) (i 0))) (scan 2 (fd 3 1 1 false ∷ fd 3 2 1 false ∷ fd 3 3 2 true ∷ []) []))) (pcons (filter (bin and (bin and (bin (cmp eq) (v 6 1) (i 0)) (neg (between true (v 6 1) (v 6 1) (v 6 1)))) (bin (cmp le) (v 6 1) (i 0))) (project (en 6 1 (fn 2 3 1 enil) ∷ []) (scan 2 (fd 5 1 1 true ∷ fd 5 2 1 false ∷ fd 5 3 2 true ∷ []) []))) pnil))))
 unfolding walked
 w77 = refl
 
@@ -427,7 +428,7 @@ c79 : pass 10000 (filter (bin and (fn 0 0 2 (econs (bool false) enil)) (bin or (
 unfolding opened
 c79 = refl
 
-w79 : pass-by-children 10000 (filter (bin and (fn 0 0 2 (econs (bool false) enil)) (bin or (bin or (between false (i 3) (fn 1 0 1 enil) (fn 0 3 1 (econs (fn 0 0 1 (econs (bool false) (econs (bool true) enil))) (econs (v 0 105) enil)))) (bin (cmp ge) (v 0 105) (i 2))) (bool true))) (join inner (aggregate [] (ag 0 101 count (i 3) ∷ []) (filter (bin and (bin and (bin and (bin (cmp ne) (v 2 2) (i 3)) (bin or (bin and (bin and (bin (cmp eq) (v 3 1) (bool false)) (v 2 1)) (between false (v 3 2) (i 1) (v 2 2))) (v 2 1))) (neg (fn 0 0 2 (econs (nul 1) enil)))) (bin or (neg (between false (v 3 2) (v 2 2) (i 0))) (bin and (bool true) (between false (fn 1 2 1 (econs (v 2 2) (econs (fn 1 0 1 (econs (v 2 2) enil)) enil))) (v 2 2) (i 0))))) (join inner (filter (fn 2 0 2 enil) (scan 3 (fd 2 1 2 true ∷ fd 2 2 1 true ∷ []) [])) (filter (bin and (fn 2 0 2 enil) (bin (cmp gt) (i 1) (v 3 2))) (scan 3 (fd 3 1 2 false ∷ fd 3 2 1 true ∷ []) [])) (pr (v 2 2) (v 3 2) ∷ []) (some (bin or (bin and (inlist false (i 2) (econs (v 3 2) (econs (v 2 2) enil))) (neg (between false (v 3 2) (v 2 2) (i 0)))) (bin and (bin and (v 2 1) (bin (cmp lt) (v 2 2) (i 3))) (bool true))))))) (join leftSemi (aggregate (en 0 105 (v 6 1) ∷ []) [] (aggregate [] (ag 5 3 count (v 4 2) ∷ ag 6 1 count (i 3) ∷ []) (join inner (scan 2 (fd 4 1 1 false ∷ fd 4 2 1 true ∷ fd 4 3 2 false ∷ []) []) (scan 2 (fd 0 102 1 false ∷ fd 0 103 1 true ∷ fd 0 104 2 false ∷ []) []) (pr (v 4 2) (v 0 103) ∷ []) (some (test isTrue (bin (cmp lt) (i 0) (v 0 103))))))) (distinct (filter (bin and (bin (cmp le) (v 7 2) (i 3)) (bool false)) (repartition (scan 3 (fd 7 1 2 false ∷ fd 7 2 1 false ∷ []) [])))) [] none) (pr (i 0) (v 0 105) ∷ pr (v 0 101) (v 0 105) ∷ []) none)) ≡ passed 19 10 1 (join inner (filter (bin and (fn 0 0 2 (econs (bool false) enil)) (bin or (bin or (between false (i 3) (fn 1 0 1 enil) (fn 0 3 1 (econs (fn 0 0 1 (econs (bool false) (econs (bool true) enil))) (econs (v 0 101) enil)))) (bin (cmp ge) (v 0 101) (i 2))) (bool true))) (aggregate [] (ag 0 101 count (i 3) ∷ []) (join inner (filter (bin and (fn 2 0 2 enil) (neg (fn 0 0 2 (econs (nul 1) enil)))) (scan 3 (fd 2 1 2 true ∷ fd 2 2 1 true ∷ []) ((bin (cmp ne) (v 2 2) (i 3)) ∷ (bin or (v 2 1) (v 2 1)) ∷ []))) (filter (fn 2 0 2 enil) (scan 3 (fd 3 1 2 false ∷ fd 3 2 1 true ∷ []) ((bin (cmp ne) (v 3 2) (i 3)) ∷ (bin (cmp gt) (i 1) (v 3 2)) ∷ []))) (pr (v 2 2) (v 3 2) ∷ []) (some (bin and (bin and (bin or (bin and (bin and (bin (cmp eq) (v 3 1) (bool false)) (v 2 1)) (between false (v 3 2) (i 1) (v 2 2))) (v 2 1)) (bin or (neg (between false (v 3 2) (v 2 2) (i 0))) (bin and (bool true) (between false (fn 1 2 1 (econs (v 2 2) (econs (fn 1 0 1 (econs (v 2 2) enil)) enil))) (v 2 2) (i 0))))) (bin or (bin and (inlist false (i 2) (econs (v 3 2) (econs (v 2 2) enil))) (neg (between false (v 3 2) (v 2 2) (i 0)))) (bin and (bin and (v 2 1) (bin (cmp lt) (v 2 2) (i 3))) (bool true)))))))) (join leftSemi (aggregate (en 0 105 (v 6 1) ∷ []) [] (filter (bin or (bin or (between false (i 3) (fn 1 0 1 enil) (fn 0 3 1 (econs (fn 0 0 1 (econs (bool false) (econs (bool true) enil))) (econs (v 6 1) enil)))) (bin (cmp ge) (v 6 1) (i 2))) (bool true)) (aggregate [] (ag 5 3 count (v 4 2) ∷ ag 6 1 count (i 3) ∷ []) (join inner (scan 2 (fd 4 1 1 false ∷ fd 4 2 1 true ∷ fd 4 3 2 false ∷ []) ((test isTrue (bin (cmp lt) (i 0) (v 4 2))) ∷ [])) (scan 2 (fd 0 102 1 false ∷ fd 0 103 1 true ∷ fd 0 104 2 false ∷ []) ((test isTrue (bin (cmp lt) (i 0) (v 0 103))) ∷ [])) (pr (v 4 2) (v 0 103) ∷ []) none)))) (distinct (repartition (filter (bin and (bin (cmp le) (v 7 2) (i 3)) (bool false)) (scan 3 (fd 7 1 2 false ∷ fd 7 2 1 false ∷ []) [])))) [] none) (pr (i 0) (v 0 105) ∷ pr (v 0 101) (v 0 105) ∷ []) none)
+w79 : pass-by-records 10000 (filter (bin and (fn 0 0 2 (econs (bool false) enil)) (bin or (bin or (between false (i 3) (fn 1 0 1 enil) (fn 0 3 1 (econs (fn 0 0 1 (econs (bool false) (econs (bool true) enil))) (econs (v 0 105) enil)))) (bin (cmp ge) (v 0 105) (i 2))) (bool true))) (join inner (aggregate [] (ag 0 101 count (i 3) ∷ []) (filter (bin and (bin and (bin and (bin (cmp ne) (v 2 2) (i 3)) (bin or (bin and (bin and (bin (cmp eq) (v 3 1) (bool false)) (v 2 1)) (between false (v 3 2) (i 1) (v 2 2))) (v 2 1))) (neg (fn 0 0 2 (econs (nul 1) enil)))) (bin or (neg (between false (v 3 2) (v 2 2) (i 0))) (bin and (bool true) (between false (fn 1 2 1 (econs (v 2 2) (econs (fn 1 0 1 (econs (v 2 2) enil)) enil))) (v 2 2) (i 0))))) (join inner (filter (fn 2 0 2 enil) (scan 3 (fd 2 1 2 true ∷ fd 2 2 1 true ∷ []) [])) (filter (bin and (fn 2 0 2 enil) (bin (cmp gt) (i 1) (v 3 2))) (scan 3 (fd 3 1 2 false ∷ fd 3 2 1 true ∷ []) [])) (pr (v 2 2) (v 3 2) ∷ []) (some (bin or (bin and (inlist false (i 2) (econs (v 3 2) (econs (v 2 2) enil))) (neg (between false (v 3 2) (v 2 2) (i 0)))) (bin and (bin and (v 2 1) (bin (cmp lt) (v 2 2) (i 3))) (bool true))))))) (join leftSemi (aggregate (en 0 105 (v 6 1) ∷ []) [] (aggregate [] (ag 5 3 count (v 4 2) ∷ ag 6 1 count (i 3) ∷ []) (join inner (scan 2 (fd 4 1 1 false ∷ fd 4 2 1 true ∷ fd 4 3 2 false ∷ []) []) (scan 2 (fd 0 102 1 false ∷ fd 0 103 1 true ∷ fd 0 104 2 false ∷ []) []) (pr (v 4 2) (v 0 103) ∷ []) (some (test isTrue (bin (cmp lt) (i 0) (v 0 103))))))) (distinct (filter (bin and (bin (cmp le) (v 7 2) (i 3)) (bool false)) (repartition (scan 3 (fd 7 1 2 false ∷ fd 7 2 1 false ∷ []) [])))) [] none) (pr (i 0) (v 0 105) ∷ pr (v 0 101) (v 0 105) ∷ []) none)) ≡ passed 19 10 1 (join inner (filter (bin and (fn 0 0 2 (econs (bool false) enil)) (bin or (bin or (between false (i 3) (fn 1 0 1 enil) (fn 0 3 1 (econs (fn 0 0 1 (econs (bool false) (econs (bool true) enil))) (econs (v 0 101) enil)))) (bin (cmp ge) (v 0 101) (i 2))) (bool true))) (aggregate [] (ag 0 101 count (i 3) ∷ []) (join inner (filter (bin and (fn 2 0 2 enil) (neg (fn 0 0 2 (econs (nul 1) enil)))) (scan 3 (fd 2 1 2 true ∷ fd 2 2 1 true ∷ []) ((bin (cmp ne) (v 2 2) (i 3)) ∷ (bin or (v 2 1) (v 2 1)) ∷ []))) (filter (fn 2 0 2 enil) (scan 3 (fd 3 1 2 false ∷ fd 3 2 1 true ∷ []) ((bin (cmp ne) (v 3 2) (i 3)) ∷ (bin (cmp gt) (i 1) (v 3 2)) ∷ []))) (pr (v 2 2) (v 3 2) ∷ []) (some (bin and (bin and (bin or (bin and (bin and (bin (cmp eq) (v 3 1) (bool false)) (v 2 1)) (between false (v 3 2) (i 1) (v 2 2))) (v 2 1)) (bin or (neg (between false (v 3 2) (v 2 2) (i 0))) (bin and (bool true) (between false (fn 1 2 1 (econs (v 2 2) (econs (fn 1 0 1 (econs (v 2 2) enil)) enil))) (v 2 2) (i 0))))) (bin or (bin and (inlist false (i 2) (econs (v 3 2) (econs (v 2 2) enil))) (neg (between false (v 3 2) (v 2 2) (i 0)))) (bin and (bin and (v 2 1) (bin (cmp lt) (v 2 2) (i 3))) (bool true)))))))) (join leftSemi (aggregate (en 0 105 (v 6 1) ∷ []) [] (filter (bin or (bin or (between false (i 3) (fn 1 0 1 enil) (fn 0 3 1 (econs (fn 0 0 1 (econs (bool false) (econs (bool true) enil))) (econs (v 6 1) enil)))) (bin (cmp ge) (v 6 1) (i 2))) (bool true)) (aggregate [] (ag 5 3 count (v 4 2) ∷ ag 6 1 count (i 3) ∷ []) (join inner (scan 2 (fd 4 1 1 false ∷ fd 4 2 1 true ∷ fd 4 3 2 false ∷ []) ((test isTrue (bin (cmp lt) (i 0) (v 4 2))) ∷ [])) (scan 2 (fd 0 102 1 false ∷ fd 0 103 1 true ∷ fd 0 104 2 false ∷ []) ((test isTrue (bin (cmp lt) (i 0) (v 0 103))) ∷ [])) (pr (v 4 2) (v 0 103) ∷ []) none)))) (distinct (repartition (filter (bin and (bin (cmp le) (v 7 2) (i 3)) (bool false)) (scan 3 (fd 7 1 2 false ∷ fd 7 2 1 false ∷ []) [])))) [] none) (pr (i 0) (v 0 105) ∷ pr (v 0 101) (v 0 105) ∷ []) none)
 unfolding walked
 w79 = refl
 
@@ -447,7 +448,7 @@ c83 : pass 10000 (filter (bin and (bin and (bin (cmp le) (v 2 2) (i 0)) (v 2 1))
 unfolding opened
 c83 = refl
 
-w83 : pass-by-children 10000 (filter (bin and (bin and (bin (cmp le) (v 2 2) (i 0)) (v 2 1)) (bool true)) (window (wn 0 101 count (v 2 2) [] ∷ []) (filter (bin and (bin and (bin and (bin (cmp ne) (v 2 1) (v 2 1)) (bin (cmp ge) (v 2 2) (i 2))) (bin (cmp eq) (i 3) (v 2 2))) (bin or (bin and (fn 2 0 2 enil) (bin (cmp le) (v 2 2) (i 3))) (bin and (bin and (bin (cmp ne) (i 1) (v 2 2)) (inlist false (v 2 2) (econs (v 2 2) enil))) (bin (cmp ge) (v 2 2) (i 0))))) (scan 3 (fd 2 1 2 true ∷ fd 2 2 1 false ∷ []) [])))) ≡ passed 4 2 1 (filter (bin and (bin (cmp le) (v 2 2) (i 0)) (v 2 1)) (window (wn 0 101 count (v 2 2) [] ∷ []) (filter (bin and (bin and (bin and (bool true) (bin (cmp eq) (i 3) (v 2 2))) (bin (cmp ge) (v 2 2) (i 2))) (bin or (bin and (fn 2 0 2 enil) (bin (cmp le) (v 2 2) (i 3))) (bin and (bin and (bin (cmp ne) (i 1) (v 2 2)) (inlist false (v 2 2) (econs (v 2 2) enil))) (bin (cmp ge) (v 2 2) (i 0))))) (scan 3 (fd 2 1 2 true ∷ fd 2 2 1 false ∷ []) ((bin (cmp ne) (v 2 1) (v 2 1)) ∷ [])))))
+w83 : pass-by-records 10000 (filter (bin and (bin and (bin (cmp le) (v 2 2) (i 0)) (v 2 1)) (bool true)) (window (wn 0 101 count (v 2 2) [] ∷ []) (filter (bin and (bin and (bin and (bin (cmp ne) (v 2 1) (v 2 1)) (bin (cmp ge) (v 2 2) (i 2))) (bin (cmp eq) (i 3) (v 2 2))) (bin or (bin and (fn 2 0 2 enil) (bin (cmp le) (v 2 2) (i 3))) (bin and (bin and (bin (cmp ne) (i 1) (v 2 2)) (inlist false (v 2 2) (econs (v 2 2) enil))) (bin (cmp ge) (v 2 2) (i 0))))) (scan 3 (fd 2 1 2 true ∷ fd 2 2 1 false ∷ []) [])))) ≡ passed 4 2 1 (filter (bin and (bin (cmp le) (v 2 2) (i 0)) (v 2 1)) (window (wn 0 101 count (v 2 2) [] ∷ []) (filter (bin and (bin and (bin and (bool true) (bin (cmp eq) (i 3) (v 2 2))) (bin (cmp ge) (v 2 2) (i 2))) (bin or (bin and (fn 2 0 2 enil) (bin (cmp le) (v 2 2) (i 3))) (bin and (bin and (bin (cmp ne) (i 1) (v 2 2)) (inlist false (v 2 2) (econs (v 2 2) enil))) (bin (cmp ge) (v 2 2) (i 0))))) (scan 3 (fd 2 1 2 true ∷ fd 2 2 1 false ∷ []) ((bin (cmp ne) (v 2 1) (v 2 1)) ∷ [])))))
 unfolding walked
 w83 = refl
 
@@ -479,7 +480,7 @@ c90 : pass 10000 (filter (bin (cmp ne) (v 2 1) (i 0)) (scan 1 (fd 2 1 1 false �
 unfolding opened
 c90 = refl
 
-w90 : pass-by-children 10000 (filter (bin (cmp ne) (v 2 1) (i 0)) (scan 1 (fd 2 1 1 false ∷ fd 2 2 1 false ∷ []) [])) ≡ passed 2 0 1 (filter (bin (cmp ne) (v 2 1) (i 0)) (scan 1 (fd 2 1 1 false ∷ fd 2 2 1 false ∷ []) []))
+w90 : pass-by-records 10000 (filter (bin (cmp ne) (v 2 1) (i 0)) (scan 1 (fd 2 1 1 false ∷ fd 2 2 1 false ∷ []) [])) ≡ passed 2 0 1 (filter (bin (cmp ne) (v 2 1) (i 0)) (scan 1 (fd 2 1 1 false ∷ fd 2 2 1 false ∷ []) []))
 unfolding walked
 w90 = refl
 
@@ -487,7 +488,7 @@ c91 : pass 10000 (alias 2 (aggregate [] (ag 0 105 max (v 11 1) ∷ []) (join inn
 unfolding opened
 c91 = refl
 
-w91 : pass-by-children 10000 (alias 2 (aggregate [] (ag 0 105 max (v 11 1) ∷ []) (join inner (union (pcons (window (wn 0 101 max (i 3) [] ∷ wn 4 3 min (i 3) (nm 3 2 ∷ nm 3 2 ∷ []) ∷ []) (scan 3 (fd 3 1 2 false ∷ fd 3 2 1 false ∷ []) [])) (pcons (project (en 0 102 (bool true) ∷ en 6 3 (fn 1 0 1 (econs (i 3) enil)) ∷ en 7 1 (i 2) ∷ en 8 1 (i 3) ∷ []) (filter (bin and (bin or (bin or (bool true) (bool false)) (bin or (bool false) (between false (i 3) (i 3) (i 3)))) (bin and (fn 1 0 2 (econs (bool false) enil)) (bool false))) (scan 5 [] []))) (pcons (join full (scan 3 (fd 9 1 2 false ∷ fd 9 2 1 false ∷ []) []) (scan 1 (fd 10 1 1 true ∷ fd 10 2 1 false ∷ []) ((bin or (fn 0 0 2 (econs (bool false) (econs (bool false) enil))) (bin or (bin and (bool true) (bin (cmp le) (v 10 1) (fn 2 0 1 (econs (fn 0 2 2 (econs (v 10 2) enil)) enil)))) (neg (fn 0 1 2 (econs (bool true) enil))))) ∷ [])) [] (some (bin and (bin (cmp ne) (i 3) (v 9 2)) (bin (cmp gt) (i 2) (i 3))))) pnil)))) (window (wn 0 103 max (i 2) (nm 12 1 ∷ []) ∷ wn 0 104 max (v 11 1) (nm 11 2 ∷ []) ∷ []) (project (en 11 1 (v 11 2) ∷ en 12 1 (i 2) ∷ en 11 2 (v 11 1) ∷ []) (scan 1 (fd 11 1 1 true ∷ fd 11 2 1 false ∷ []) []))) [] none))) ≡ passed 15 0 1 (alias 2 (aggregate [] (ag 0 105 max (v 11 1) ∷ []) (join inner (union (pcons (window (wn 0 101 max (i 3) [] ∷ wn 4 3 min (i 3) (nm 3 2 ∷ nm 3 2 ∷ []) ∷ []) (scan 3 (fd 3 1 2 false ∷ fd 3 2 1 false ∷ []) [])) (pcons (project (en 0 102 (bool true) ∷ en 6 3 (fn 1 0 1 (econs (i 3) enil)) ∷ en 7 1 (i 2) ∷ en 8 1 (i 3) ∷ []) (filter (bin and (bin and (bin or (bin or (bool true) (bool false)) (bin or (bool false) (between false (i 3) (i 3) (i 3)))) (bool false)) (fn 1 0 2 (econs (bool false) enil))) (scan 5 [] []))) (pcons (join full (scan 3 (fd 9 1 2 false ∷ fd 9 2 1 false ∷ []) []) (scan 1 (fd 10 1 1 true ∷ fd 10 2 1 false ∷ []) ((bin or (fn 0 0 2 (econs (bool false) (econs (bool false) enil))) (bin or (bin and (bool true) (bin (cmp le) (v 10 1) (fn 2 0 1 (econs (fn 0 2 2 (econs (v 10 2) enil)) enil)))) (neg (fn 0 1 2 (econs (bool true) enil))))) ∷ [])) [] (some (bin and (bin (cmp ne) (i 3) (v 9 2)) (bin (cmp gt) (i 2) (i 3))))) pnil)))) (window (wn 0 103 max (i 2) (nm 12 1 ∷ []) ∷ wn 0 104 max (v 11 1) (nm 11 2 ∷ []) ∷ []) (project (en 11 1 (v 11 2) ∷ en 12 1 (i 2) ∷ en 11 2 (v 11 1) ∷ []) (scan 1 (fd 11 1 1 true ∷ fd 11 2 1 false ∷ []) []))) [] none)))
+w91 : pass-by-records 10000 (alias 2 (aggregate [] (ag 0 105 max (v 11 1) ∷ []) (join inner (union (pcons (window (wn 0 101 max (i 3) [] ∷ wn 4 3 min (i 3) (nm 3 2 ∷ nm 3 2 ∷ []) ∷ []) (scan 3 (fd 3 1 2 false ∷ fd 3 2 1 false ∷ []) [])) (pcons (project (en 0 102 (bool true) ∷ en 6 3 (fn 1 0 1 (econs (i 3) enil)) ∷ en 7 1 (i 2) ∷ en 8 1 (i 3) ∷ []) (filter (bin and (bin or (bin or (bool true) (bool false)) (bin or (bool false) (between false (i 3) (i 3) (i 3)))) (bin and (fn 1 0 2 (econs (bool false) enil)) (bool false))) (scan 5 [] []))) (pcons (join full (scan 3 (fd 9 1 2 false ∷ fd 9 2 1 false ∷ []) []) (scan 1 (fd 10 1 1 true ∷ fd 10 2 1 false ∷ []) ((bin or (fn 0 0 2 (econs (bool false) (econs (bool false) enil))) (bin or (bin and (bool true) (bin (cmp le) (v 10 1) (fn 2 0 1 (econs (fn 0 2 2 (econs (v 10 2) enil)) enil)))) (neg (fn 0 1 2 (econs (bool true) enil))))) ∷ [])) [] (some (bin and (bin (cmp ne) (i 3) (v 9 2)) (bin (cmp gt) (i 2) (i 3))))) pnil)))) (window (wn 0 103 max (i 2) (nm 12 1 ∷ []) ∷ wn 0 104 max (v 11 1) (nm 11 2 ∷ []) ∷ []) (project (en 11 1 (v 11 2) ∷ en 12 1 (i 2) ∷ en 11 2 (v 11 1) ∷ []) (scan 1 (fd 11 1 1 true ∷ fd 11 2 1 false ∷ []) []))) [] none))) ≡ passed 15 0 1 (alias 2 (aggregate [] (ag 0 105 max (v 11 1) ∷ []) (join inner (union (pcons (window (wn 0 101 max (i 3) [] ∷ wn 4 3 min (i 3) (nm 3 2 ∷ nm 3 2 ∷ []) ∷ []) (scan 3 (fd 3 1 2 false ∷ fd 3 2 1 false ∷ []) [])) (pcons (project (en 0 102 (bool true) ∷ en 6 3 (fn 1 0 1 (econs (i 3) enil)) ∷ en 7 1 (i 2) ∷ en 8 1 (i 3) ∷ []) (filter (bin and (bin and (bin or (bin or (bool true) (bool false)) (bin or (bool false) (between false (i 3) (i 3) (i 3)))) (bool false)) (fn 1 0 2 (econs (bool false) enil))) (scan 5 [] []))) (pcons (join full (scan 3 (fd 9 1 2 false ∷ fd 9 2 1 false ∷ []) []) (scan 1 (fd 10 1 1 true ∷ fd 10 2 1 false ∷ []) ((bin or (fn 0 0 2 (econs (bool false) (econs (bool false) enil))) (bin or (bin and (bool true) (bin (cmp le) (v 10 1) (fn 2 0 1 (econs (fn 0 2 2 (econs (v 10 2) enil)) enil)))) (neg (fn 0 1 2 (econs (bool true) enil))))) ∷ [])) [] (some (bin and (bin (cmp ne) (i 3) (v 9 2)) (bin (cmp gt) (i 2) (i 3))))) pnil)))) (window (wn 0 103 max (i 2) (nm 12 1 ∷ []) ∷ wn 0 104 max (v 11 1) (nm 11 2 ∷ []) ∷ []) (project (en 11 1 (v 11 2) ∷ en 12 1 (i 2) ∷ en 11 2 (v 11 1) ∷ []) (scan 1 (fd 11 1 1 true ∷ fd 11 2 1 false ∷ []) []))) [] none)))
 unfolding walked
 w91 = refl
 
@@ -507,7 +508,7 @@ c95 : pass 4 (filter (bin and (bin (cmp gt) (i 1) (v 2 1)) (test isTrue (bool fa
 unfolding opened
 c95 = refl
 
-w95 : pass-by-children 4 (filter (bin and (bin (cmp gt) (i 1) (v 2 1)) (test isTrue (bool false))) (project (en 0 101 (v 2 2) ∷ en 2 1 (i 2) ∷ en 5 2 (fn 2 1 1 (econs (bin (cmp lt) (v 2 1) (i 3)) enil)) ∷ []) (alias 2 (join rightSemi (scan 4 (fd 3 1 1 true ∷ []) []) (scan 1 (fd 4 1 1 false ∷ fd 4 2 1 true ∷ []) []) (pr (v 3 1) (v 4 2) ∷ pr (v 3 1) (v 4 2) ∷ []) none)))) ≡ passed 4 3 0 (project (en 0 101 (v 2 2) ∷ en 2 1 (i 2) ∷ en 5 2 (fn 2 1 1 (econs (bin (cmp lt) (v 2 1) (i 3)) enil)) ∷ []) (alias 2 (join rightSemi (scan 4 (fd 3 1 1 true ∷ []) []) (filter (bin and (bin (cmp gt) (i 1) (i 2)) (test isTrue (bool false))) (scan 1 (fd 4 1 1 false ∷ fd 4 2 1 true ∷ []) [])) (pr (v 3 1) (v 4 2) ∷ pr (v 3 1) (v 4 2) ∷ []) none)))
+w95 : pass-by-records 4 (filter (bin and (bin (cmp gt) (i 1) (v 2 1)) (test isTrue (bool false))) (project (en 0 101 (v 2 2) ∷ en 2 1 (i 2) ∷ en 5 2 (fn 2 1 1 (econs (bin (cmp lt) (v 2 1) (i 3)) enil)) ∷ []) (alias 2 (join rightSemi (scan 4 (fd 3 1 1 true ∷ []) []) (scan 1 (fd 4 1 1 false ∷ fd 4 2 1 true ∷ []) []) (pr (v 3 1) (v 4 2) ∷ pr (v 3 1) (v 4 2) ∷ []) none)))) ≡ passed 4 3 0 (project (en 0 101 (v 2 2) ∷ en 2 1 (i 2) ∷ en 5 2 (fn 2 1 1 (econs (bin (cmp lt) (v 2 1) (i 3)) enil)) ∷ []) (alias 2 (join rightSemi (scan 4 (fd 3 1 1 true ∷ []) []) (filter (bin and (bin (cmp gt) (i 1) (i 2)) (test isTrue (bool false))) (scan 1 (fd 4 1 1 false ∷ fd 4 2 1 true ∷ []) [])) (pr (v 3 1) (v 4 2) ∷ pr (v 3 1) (v 4 2) ∷ []) none)))
 unfolding walked
 w95 = refl
 
@@ -519,7 +520,7 @@ c97 : pass 10000 (filter (bin and (bin or (bin and (bin (cmp lt) (v 2 1) (bool t
 unfolding opened
 c97 = refl
 
-w97 : pass-by-children 10000 (filter (bin and (bin or (bin and (bin (cmp lt) (v 2 1) (bool true)) (bin or (fn 1 1 2 (econs (v 2 2) (econs (fn 2 3 2 enil) enil))) (bin and (bin or (v 2 1) (fn 1 1 2 (econs (v 2 2) (econs (fn 2 3 2 enil) enil)))) (fn 2 1 2 (econs (i 3) enil))))) (bin and (bin or (bin or (bin and (inlist true (v 2 2) (econs (v 2 2) enil)) (bin or (fn 1 1 2 (econs (v 2 2) (econs (fn 2 3 2 enil) enil))) (bin and (bin or (v 2 1) (fn 1 1 2 (econs (v 2 2) (econs (fn 2 3 2 enil) enil)))) (fn 2 1 2 (econs (i 3) enil))))) (fn 1 3 2 enil)) (bin and (fn 1 0 2 enil) (fn 0 0 2 (econs (fn 0 2 1 (econs (nul 1) enil)) (econs (v 2 1) enil))))) (bin (cmp gt) (v 2 2) (nul 1)))) (bin (cmp le) (v 2 2) (i 1))) (scan 3 (fd 2 1 2 true ∷ fd 2 2 1 true ∷ []) [])) ≡ passed 2 1 1 (filter (bin or (bin and (bin (cmp lt) (v 2 1) (bool true)) (bin or (fn 1 1 2 (econs (v 2 2) (econs (fn 2 3 2 enil) enil))) (bin and (bin or (v 2 1) (fn 1 1 2 (econs (v 2 2) (econs (fn 2 3 2 enil) enil)))) (fn 2 1 2 (econs (i 3) enil))))) (bin and (bin or (bin or (bin and (inlist true (v 2 2) (econs (v 2 2) enil)) (bin or (fn 1 1 2 (econs (v 2 2) (econs (fn 2 3 2 enil) enil))) (bin and (bin or (v 2 1) (fn 1 1 2 (econs (v 2 2) (econs (fn 2 3 2 enil) enil)))) (fn 2 1 2 (econs (i 3) enil))))) (fn 1 3 2 enil)) (bin and (fn 1 0 2 enil) (fn 0 0 2 (econs (fn 0 2 1 (econs (nul 1) enil)) (econs (v 2 1) enil))))) (bin (cmp gt) (v 2 2) (nul 1)))) (scan 3 (fd 2 1 2 true ∷ fd 2 2 1 true ∷ []) ((bin (cmp le) (v 2 2) (i 1)) ∷ [])))
+w97 : pass-by-records 10000 (filter (bin and (bin or (bin and (bin (cmp lt) (v 2 1) (bool true)) (bin or (fn 1 1 2 (econs (v 2 2) (econs (fn 2 3 2 enil) enil))) (bin and (bin or (v 2 1) (fn 1 1 2 (econs (v 2 2) (econs (fn 2 3 2 enil) enil)))) (fn 2 1 2 (econs (i 3) enil))))) (bin and (bin or (bin or (bin and (inlist true (v 2 2) (econs (v 2 2) enil)) (bin or (fn 1 1 2 (econs (v 2 2) (econs (fn 2 3 2 enil) enil))) (bin and (bin or (v 2 1) (fn 1 1 2 (econs (v 2 2) (econs (fn 2 3 2 enil) enil)))) (fn 2 1 2 (econs (i 3) enil))))) (fn 1 3 2 enil)) (bin and (fn 1 0 2 enil) (fn 0 0 2 (econs (fn 0 2 1 (econs (nul 1) enil)) (econs (v 2 1) enil))))) (bin (cmp gt) (v 2 2) (nul 1)))) (bin (cmp le) (v 2 2) (i 1))) (scan 3 (fd 2 1 2 true ∷ fd 2 2 1 true ∷ []) [])) ≡ passed 2 1 1 (filter (bin or (bin and (bin (cmp lt) (v 2 1) (bool true)) (bin or (fn 1 1 2 (econs (v 2 2) (econs (fn 2 3 2 enil) enil))) (bin and (bin or (v 2 1) (fn 1 1 2 (econs (v 2 2) (econs (fn 2 3 2 enil) enil)))) (fn 2 1 2 (econs (i 3) enil))))) (bin and (bin or (bin or (bin and (inlist true (v 2 2) (econs (v 2 2) enil)) (bin or (fn 1 1 2 (econs (v 2 2) (econs (fn 2 3 2 enil) enil))) (bin and (bin or (v 2 1) (fn 1 1 2 (econs (v 2 2) (econs (fn 2 3 2 enil) enil)))) (fn 2 1 2 (econs (i 3) enil))))) (fn 1 3 2 enil)) (bin and (fn 1 0 2 enil) (fn 0 0 2 (econs (fn 0 2 1 (econs (nul 1) enil)) (econs (v 2 1) enil))))) (bin (cmp gt) (v 2 2) (nul 1)))) (scan 3 (fd 2 1 2 true ∷ fd 2 2 1 true ∷ []) ((bin (cmp le) (v 2 2) (i 1)) ∷ [])))
 unfolding walked
 w97 = refl
 
@@ -527,7 +528,7 @@ c98 : pass 10000 (filter (bin and (bin (cmp gt) (i 0) (v 6 2)) (bool true)) (agg
 unfolding opened
 c98 = refl
 
-w98 : pass-by-children 10000 (filter (bin and (bin (cmp gt) (i 0) (v 6 2)) (bool true)) (aggregate [] (ag 6 2 max (nul 1) ∷ []) (filter (bin (cmp lt) (v 0 101) (i 3)) (window (wn 0 101 count (v 2 1) (nm 2 1 ∷ []) ∷ wn 5 2 max (v 2 1) [] ∷ []) (union (pcons (scan 4 (fd 2 1 1 true ∷ []) []) (pcons (project (en 4 2 (v 3 2) ∷ []) (scan 1 (fd 3 1 1 true ∷ fd 3 2 1 false ∷ []) [])) pnil))))))) ≡ passed 8 0 1 (filter (bin and (bin (cmp gt) (i 0) (v 6 2)) (bool true)) (aggregate [] (ag 6 2 max (nul 1) ∷ []) (filter (bin (cmp lt) (v 0 101) (i 3)) (window (wn 0 101 count (v 2 1) (nm 2 1 ∷ []) ∷ wn 5 2 max (v 2 1) [] ∷ []) (union (pcons (scan 4 (fd 2 1 1 true ∷ []) []) (pcons (project (en 4 2 (v 3 2) ∷ []) (scan 1 (fd 3 1 1 true ∷ fd 3 2 1 false ∷ []) [])) pnil)))))))
+w98 : pass-by-records 10000 (filter (bin and (bin (cmp gt) (i 0) (v 6 2)) (bool true)) (aggregate [] (ag 6 2 max (nul 1) ∷ []) (filter (bin (cmp lt) (v 0 101) (i 3)) (window (wn 0 101 count (v 2 1) (nm 2 1 ∷ []) ∷ wn 5 2 max (v 2 1) [] ∷ []) (union (pcons (scan 4 (fd 2 1 1 true ∷ []) []) (pcons (project (en 4 2 (v 3 2) ∷ []) (scan 1 (fd 3 1 1 true ∷ fd 3 2 1 false ∷ []) [])) pnil))))))) ≡ passed 8 0 1 (filter (bin and (bin (cmp gt) (i 0) (v 6 2)) (bool true)) (aggregate [] (ag 6 2 max (nul 1) ∷ []) (filter (bin (cmp lt) (v 0 101) (i 3)) (window (wn 0 101 count (v 2 1) (nm 2 1 ∷ []) ∷ wn 5 2 max (v 2 1) [] ∷ []) (union (pcons (scan 4 (fd 2 1 1 true ∷ []) []) (pcons (project (en 4 2 (v 3 2) ∷ []) (scan 1 (fd 3 1 1 true ∷ fd 3 2 1 false ∷ []) [])) pnil)))))))
 unfolding walked
 w98 = refl
 
@@ -555,7 +556,7 @@ c104 : pass 5 (join inner (join rightSemi (filter (bin and (bin and (bin and (te
 unfolding opened
 c104 = refl
 
-w104 : pass-by-children 5 (join inner (join rightSemi (filter (bin and (bin and (bin and (test isNotFalse (bool true)) (bin (cmp le) (i 3) (i 2))) (bin or (bin and (bin or (bin (cmp eq) (v 2 1) (i 1)) (fn 2 0 2 (econs (bool false) (econs (v 2 2) enil)))) (bool true)) (bin and (bool true) (bool false)))) (neg (bin (cmp lt) (i 2) (v 2 2)))) (scan 1 (fd 2 1 1 false ∷ fd 2 2 1 false ∷ []) [])) (distinct (scan 2 (fd 3 1 1 false ∷ fd 3 2 1 false ∷ fd 3 3 2 false ∷ []) [])) [] none) (sort none (ky false (fn 1 0 1 (econs (v 4 1) enil)) ∷ []) (distinct (scan 2 (fd 4 1 1 false ∷ fd 4 2 1 false ∷ fd 4 3 2 false ∷ []) []))) [] none) ≡ passed 5 0 0 (join inner (join rightSemi (filter (bin and (bin and (bin and (test isNotFalse (bool true)) (bin (cmp le) (i 3) (i 2))) (neg (bin (cmp lt) (i 2) (v 2 2)))) (bin or (bin and (bin or (bin (cmp eq) (v 2 1) (i 1)) (fn 2 0 2 (econs (bool false) (econs (v 2 2) enil)))) (bool true)) (bin and (bool true) (bool false)))) (scan 1 (fd 2 1 1 false ∷ fd 2 2 1 false ∷ []) [])) (distinct (scan 2 (fd 3 1 1 false ∷ fd 3 2 1 false ∷ fd 3 3 2 false ∷ []) [])) [] none) (sort none (ky false (fn 1 0 1 (econs (v 4 1) enil)) ∷ []) (distinct (scan 2 (fd 4 1 1 false ∷ fd 4 2 1 false ∷ fd 4 3 2 false ∷ []) []))) [] none)
+w104 : pass-by-records 5 (join inner (join rightSemi (filter (bin and (bin and (bin and (test isNotFalse (bool true)) (bin (cmp le) (i 3) (i 2))) (bin or (bin and (bin or (bin (cmp eq) (v 2 1) (i 1)) (fn 2 0 2 (econs (bool false) (econs (v 2 2) enil)))) (bool true)) (bin and (bool true) (bool false)))) (neg (bin (cmp lt) (i 2) (v 2 2)))) (scan 1 (fd 2 1 1 false ∷ fd 2 2 1 false ∷ []) [])) (distinct (scan 2 (fd 3 1 1 false ∷ fd 3 2 1 false ∷ fd 3 3 2 false ∷ []) [])) [] none) (sort none (ky false (fn 1 0 1 (econs (v 4 1) enil)) ∷ []) (distinct (scan 2 (fd 4 1 1 false ∷ fd 4 2 1 false ∷ fd 4 3 2 false ∷ []) []))) [] none) ≡ passed 5 0 0 (join inner (join rightSemi (filter (bin and (bin and (bin and (test isNotFalse (bool true)) (bin (cmp le) (i 3) (i 2))) (neg (bin (cmp lt) (i 2) (v 2 2)))) (bin or (bin and (bin or (bin (cmp eq) (v 2 1) (i 1)) (fn 2 0 2 (econs (bool false) (econs (v 2 2) enil)))) (bool true)) (bin and (bool true) (bool false)))) (scan 1 (fd 2 1 1 false ∷ fd 2 2 1 false ∷ []) [])) (distinct (scan 2 (fd 3 1 1 false ∷ fd 3 2 1 false ∷ fd 3 3 2 false ∷ []) [])) [] none) (sort none (ky false (fn 1 0 1 (econs (v 4 1) enil)) ∷ []) (distinct (scan 2 (fd 4 1 1 false ∷ fd 4 2 1 false ∷ fd 4 3 2 false ∷ []) []))) [] none)
 unfolding walked
 w104 = refl
 
@@ -563,7 +564,7 @@ c105 : pass 10000 (join rightAnti (aggregate (en 2 2 (v 0 101) ∷ []) [] (filte
 unfolding opened
 c105 = refl
 
-w105 : pass-by-children 10000 (join rightAnti (aggregate (en 2 2 (v 0 101) ∷ []) [] (filter (bin and (bin and (bin and (neg (nul 2)) (neg (nul 2))) (bin or (bin and (bin and (between true (v 0 101) (fn 0 0 1 enil) (v 0 101)) (bin or (bin and (bool true) (bin (cmp ge) (v 0 101) (v 0 101))) (between false (v 0 101) (v 0 101) (i 3)))) (bin (cmp eq) (v 0 101) (i 2))) (bin and (bin and (bool false) (bin or (between true (v 0 101) (fn 0 0 1 enil) (v 0 101)) (bin and (fn 0 0 2 (econs (bool false) (econs (v 0 101) enil))) (bin (cmp gt) (i 0) (v 0 101))))) (bin (cmp ge) (v 0 101) (i 1))))) (between false (v 0 101) (v 0 101) (i 3))) (scan 4 (fd 0 101 1 false ∷ []) []))) (filter (neg (bin or (bin or (nul 2) (fn 0 0 2 (econs (v 4 3) enil))) (between false (i 1) (i 1) (fn 2 0 1 (econs (bool false) enil))))) (join inner (scan 4 (fd 3 1 1 false ∷ []) []) (scan 2 (fd 4 1 1 false ∷ fd 4 2 1 false ∷ fd 4 3 2 false ∷ []) []) (pr (v 3 1) (v 4 2) ∷ []) none)) (pr (v 2 2) (v 4 1) ∷ []) (some (bin and (bin (cmp eq) (v 2 2) (i 3)) (bin (cmp lt) (v 3 1) (i 3))))) ≡ passed 8 3 1 (join rightAnti (aggregate (en 2 2 (v 0 101) ∷ []) [] (filter (bin and (bin and (bin and (neg (nul 2)) (between false (v 0 101) (v 0 101) (i 3))) (bin (cmp eq) (v 0 101) (i 3))) (bin or (bin and (bin and (between true (v 0 101) (fn 0 0 1 enil) (v 0 101)) (bin or (bin and (bool true) (bin (cmp ge) (v 0 101) (v 0 101))) (between false (v 0 101) (v 0 101) (i 3)))) (bin (cmp eq) (v 0 101) (i 2))) (bin and (bin and (bool false) (bin or (between true (v 0 101) (fn 0 0 1 enil) (v 0 101)) (bin and (fn 0 0 2 (econs (bool false) (econs (v 0 101) enil))) (bin (cmp gt) (i 0) (v 0 101))))) (bin (cmp ge) (v 0 101) (i 1))))) (scan 4 (fd 0 101 1 false ∷ []) []))) (join inner (scan 4 (fd 3 1 1 false ∷ []) []) (filter (neg (bin or (bin or (nul 2) (fn 0 0 2 (econs (v 4 3) enil))) (between false (i 1) (i 1) (fn 2 0 1 (econs (bool false) enil))))) (scan 2 (fd 4 1 1 false ∷ fd 4 2 1 false ∷ fd 4 3 2 false ∷ []) [])) (pr (v 3 1) (v 4 2) ∷ []) none) (pr (v 2 2) (v 4 1) ∷ []) (some (bin (cmp lt) (v 3 1) (i 3))))
+w105 : pass-by-records 10000 (join rightAnti (aggregate (en 2 2 (v 0 101) ∷ []) [] (filter (bin and (bin and (bin and (neg (nul 2)) (neg (nul 2))) (bin or (bin and (bin and (between true (v 0 101) (fn 0 0 1 enil) (v 0 101)) (bin or (bin and (bool true) (bin (cmp ge) (v 0 101) (v 0 101))) (between false (v 0 101) (v 0 101) (i 3)))) (bin (cmp eq) (v 0 101) (i 2))) (bin and (bin and (bool false) (bin or (between true (v 0 101) (fn 0 0 1 enil) (v 0 101)) (bin and (fn 0 0 2 (econs (bool false) (econs (v 0 101) enil))) (bin (cmp gt) (i 0) (v 0 101))))) (bin (cmp ge) (v 0 101) (i 1))))) (between false (v 0 101) (v 0 101) (i 3))) (scan 4 (fd 0 101 1 false ∷ []) []))) (filter (neg (bin or (bin or (nul 2) (fn 0 0 2 (econs (v 4 3) enil))) (between false (i 1) (i 1) (fn 2 0 1 (econs (bool false) enil))))) (join inner (scan 4 (fd 3 1 1 false ∷ []) []) (scan 2 (fd 4 1 1 false ∷ fd 4 2 1 false ∷ fd 4 3 2 false ∷ []) []) (pr (v 3 1) (v 4 2) ∷ []) none)) (pr (v 2 2) (v 4 1) ∷ []) (some (bin and (bin (cmp eq) (v 2 2) (i 3)) (bin (cmp lt) (v 3 1) (i 3))))) ≡ passed 8 3 1 (join rightAnti (aggregate (en 2 2 (v 0 101) ∷ []) [] (filter (bin and (bin and (bin and (neg (nul 2)) (between false (v 0 101) (v 0 101) (i 3))) (bin (cmp eq) (v 0 101) (i 3))) (bin or (bin and (bin and (between true (v 0 101) (fn 0 0 1 enil) (v 0 101)) (bin or (bin and (bool true) (bin (cmp ge) (v 0 101) (v 0 101))) (between false (v 0 101) (v 0 101) (i 3)))) (bin (cmp eq) (v 0 101) (i 2))) (bin and (bin and (bool false) (bin or (between true (v 0 101) (fn 0 0 1 enil) (v 0 101)) (bin and (fn 0 0 2 (econs (bool false) (econs (v 0 101) enil))) (bin (cmp gt) (i 0) (v 0 101))))) (bin (cmp ge) (v 0 101) (i 1))))) (scan 4 (fd 0 101 1 false ∷ []) []))) (join inner (scan 4 (fd 3 1 1 false ∷ []) []) (filter (neg (bin or (bin or (nul 2) (fn 0 0 2 (econs (v 4 3) enil))) (between false (i 1) (i 1) (fn 2 0 1 (econs (bool false) enil))))) (scan 2 (fd 4 1 1 false ∷ fd 4 2 1 false ∷ fd 4 3 2 false ∷ []) [])) (pr (v 3 1) (v 4 2) ∷ []) none) (pr (v 2 2) (v 4 1) ∷ []) (some (bin (cmp lt) (v 3 1) (i 3))))
 unfolding walked
 w105 = refl
 
@@ -591,7 +592,7 @@ c111 : pass 10000 (filter (bin and (between true (v 2 2) (v 2 1) (v 3 1)) (bin a
 unfolding opened
 c111 = refl
 
-w111 : pass-by-children 10000 (filter (bin and (between true (v 2 2) (v 2 1) (v 3 1)) (bin and (bin or (bin and (bin or (bin (cmp le) (v 2 1) (i 2)) (bin (cmp eq) (i 3) (v 2 2))) (inlist false (v 2 1) (econs (v 2 1) enil))) (bin and (bin and (bin (cmp ge) (bin (cmp eq) (v 3 1) (i 2)) (bin (cmp eq) (v 3 1) (i 2))) (between false (i 0) (v 3 1) (v 2 1))) (bool false))) (test isNotNull (v 3 1)))) (filter (bin and (bin and (bin and (fn 0 0 2 (econs (v 2 3) enil)) (fn 0 0 2 (econs (bin (cmp eq) (v 3 1) (i 2)) enil))) (bin (cmp lt) (v 2 1) (i 0))) (bin or (bin and (bin (cmp eq) (i 3) (v 2 2)) (bin (cmp lt) (v 3 1) (v 2 2))) (bin (cmp ge) (v 2 1) (i 1)))) (join inner (scan 2 (fd 2 1 1 true ∷ fd 2 2 1 true ∷ fd 2 3 2 true ∷ []) []) (scan 4 (fd 3 1 1 true ∷ []) []) (pr (v 2 1) (v 3 1) ∷ []) none))) ≡ passed 3 3 1 (join inner (scan 2 (fd 2 1 1 true ∷ fd 2 2 1 true ∷ fd 2 3 2 true ∷ []) ((test isNotNull (v 2 1)) ∷ (bin or (bin (cmp eq) (i 3) (v 2 2)) (bin (cmp ge) (v 2 1) (i 1))) ∷ (bin or (bin and (bin or (bin (cmp le) (v 2 1) (i 2)) (bin (cmp eq) (i 3) (v 2 2))) (inlist false (v 2 1) (econs (v 2 1) enil))) (bool false)) ∷ (bin (cmp lt) (v 2 1) (i 0)) ∷ (fn 0 0 2 (econs (v 2 3) enil)) ∷ (fn 0 0 2 (econs (bin (cmp eq) (v 2 1) (i 2)) enil)) ∷ [])) (scan 4 (fd 3 1 1 true ∷ []) ((test isNotNull (v 3 1)) ∷ (bin (cmp lt) (v 3 1) (i 0)) ∷ (fn 0 0 2 (econs (bin (cmp eq) (v 3 1) (i 2)) enil)) ∷ [])) (pr (v 2 1) (v 3 1) ∷ []) (some (bin and (bin and (bin or (bin and (bin (cmp eq) (i 3) (v 2 2)) (bin (cmp lt) (v 3 1) (v 2 2))) (bin (cmp ge) (v 2 1) (i 1))) (between true (v 2 2) (v 2 1) (v 3 1))) (bin or (bin and (bin or (bin (cmp le) (v 2 1) (i 2)) (bin (cmp eq) (i 3) (v 2 2))) (inlist false (v 2 1) (econs (v 2 1) enil))) (bin and (bin and (bin (cmp ge) (bin (cmp eq) (v 3 1) (i 2)) (bin (cmp eq) (v 3 1) (i 2))) (between false (i 0) (v 3 1) (v 2 1))) (bool false))))))
+w111 : pass-by-records 10000 (filter (bin and (between true (v 2 2) (v 2 1) (v 3 1)) (bin and (bin or (bin and (bin or (bin (cmp le) (v 2 1) (i 2)) (bin (cmp eq) (i 3) (v 2 2))) (inlist false (v 2 1) (econs (v 2 1) enil))) (bin and (bin and (bin (cmp ge) (bin (cmp eq) (v 3 1) (i 2)) (bin (cmp eq) (v 3 1) (i 2))) (between false (i 0) (v 3 1) (v 2 1))) (bool false))) (test isNotNull (v 3 1)))) (filter (bin and (bin and (bin and (fn 0 0 2 (econs (v 2 3) enil)) (fn 0 0 2 (econs (bin (cmp eq) (v 3 1) (i 2)) enil))) (bin (cmp lt) (v 2 1) (i 0))) (bin or (bin and (bin (cmp eq) (i 3) (v 2 2)) (bin (cmp lt) (v 3 1) (v 2 2))) (bin (cmp ge) (v 2 1) (i 1)))) (join inner (scan 2 (fd 2 1 1 true ∷ fd 2 2 1 true ∷ fd 2 3 2 true ∷ []) []) (scan 4 (fd 3 1 1 true ∷ []) []) (pr (v 2 1) (v 3 1) ∷ []) none))) ≡ passed 3 3 1 (join inner (scan 2 (fd 2 1 1 true ∷ fd 2 2 1 true ∷ fd 2 3 2 true ∷ []) ((test isNotNull (v 2 1)) ∷ (bin or (bin (cmp eq) (i 3) (v 2 2)) (bin (cmp ge) (v 2 1) (i 1))) ∷ (bin or (bin and (bin or (bin (cmp le) (v 2 1) (i 2)) (bin (cmp eq) (i 3) (v 2 2))) (inlist false (v 2 1) (econs (v 2 1) enil))) (bool false)) ∷ (bin (cmp lt) (v 2 1) (i 0)) ∷ (fn 0 0 2 (econs (v 2 3) enil)) ∷ (fn 0 0 2 (econs (bin (cmp eq) (v 2 1) (i 2)) enil)) ∷ [])) (scan 4 (fd 3 1 1 true ∷ []) ((test isNotNull (v 3 1)) ∷ (bin (cmp lt) (v 3 1) (i 0)) ∷ (fn 0 0 2 (econs (bin (cmp eq) (v 3 1) (i 2)) enil)) ∷ [])) (pr (v 2 1) (v 3 1) ∷ []) (some (bin and (bin and (bin or (bin and (bin (cmp eq) (i 3) (v 2 2)) (bin (cmp lt) (v 3 1) (v 2 2))) (bin (cmp ge) (v 2 1) (i 1))) (between true (v 2 2) (v 2 1) (v 3 1))) (bin or (bin and (bin or (bin (cmp le) (v 2 1) (i 2)) (bin (cmp eq) (i 3) (v 2 2))) (inlist false (v 2 1) (econs (v 2 1) enil))) (bin and (bin and (bin (cmp ge) (bin (cmp eq) (v 3 1) (i 2)) (bin (cmp eq) (v 3 1) (i 2))) (between false (i 0) (v 3 1) (v 2 1))) (bool false))))))
 unfolding walked
 w111 = refl
 
@@ -599,7 +600,7 @@ c112 : pass 5 (filter (bin and (between false (fn 0 3 1 (econs (bool true) (econ
 unfolding opened
 c112 = refl
 
-w112 : pass-by-children 5 (filter (bin and (between false (fn 0 3 1 (econs (bool true) (econs (v 0 102) enil))) (v 0 103) (i 1)) (bin (cmp ne) (v 0 101) (i 0))) (window (wn 0 102 min (i 2) (nm 0 101 ∷ []) ∷ wn 0 103 max (v 0 101) (nm 4 3 ∷ []) ∷ []) (window (wn 0 101 max (i 0) [] ∷ wn 4 3 max (i 4294967296) [] ∷ []) (limit 2 0 (filter (bin and (bool true) (nul 2)) (alias 2 (scan 5 [] []))))))) ≡ passed 5 1 0 (filter (bin and (between false (fn 0 3 1 (econs (bool true) (econs (v 0 102) enil))) (v 0 103) (i 1)) (bin (cmp ne) (v 0 101) (i 0))) (window (wn 0 102 min (i 2) (nm 0 101 ∷ []) ∷ wn 0 103 max (v 0 101) (nm 4 3 ∷ []) ∷ []) (window (wn 0 101 max (i 0) [] ∷ wn 4 3 max (i 4294967296) [] ∷ []) (limit 2 0 (alias 2 (filter (bin and (bool true) (nul 2)) (scan 5 [] [])))))))
+w112 : pass-by-records 5 (filter (bin and (between false (fn 0 3 1 (econs (bool true) (econs (v 0 102) enil))) (v 0 103) (i 1)) (bin (cmp ne) (v 0 101) (i 0))) (window (wn 0 102 min (i 2) (nm 0 101 ∷ []) ∷ wn 0 103 max (v 0 101) (nm 4 3 ∷ []) ∷ []) (window (wn 0 101 max (i 0) [] ∷ wn 4 3 max (i 4294967296) [] ∷ []) (limit 2 0 (filter (bin and (bool true) (nul 2)) (alias 2 (scan 5 [] []))))))) ≡ passed 5 1 0 (filter (bin and (between false (fn 0 3 1 (econs (bool true) (econs (v 0 102) enil))) (v 0 103) (i 1)) (bin (cmp ne) (v 0 101) (i 0))) (window (wn 0 102 min (i 2) (nm 0 101 ∷ []) ∷ wn 0 103 max (v 0 101) (nm 4 3 ∷ []) ∷ []) (window (wn 0 101 max (i 0) [] ∷ wn 4 3 max (i 4294967296) [] ∷ []) (limit 2 0 (alias 2 (filter (bin and (bool true) (nul 2)) (scan 5 [] [])))))))
 unfolding walked
 w112 = refl
 
@@ -607,7 +608,7 @@ c113 : pass 10000 (filter (bin and (bin and (bin and (neg (fn 2 0 2 enil)) (bin 
 unfolding opened
 c113 = refl
 
-w113 : pass-by-children 10000 (filter (bin and (bin and (bin and (neg (fn 2 0 2 enil)) (bin (cmp ge) (i 4294967296) (v 7 1))) (test isNotTrue (bool true))) (bool true)) (join rightAnti (aggregate (en 0 101 (i 0) ∷ []) (ag 0 102 count (v 4 2) ∷ []) (aggregate (en 4 2 (i 0) ∷ []) [] (join inner (filter (bin and (bin and (bin (cmp gt) (v 2 1) (i 3)) (bin or (bin or (bin (cmp lt) (i 2) (v 2 1)) (fn 0 3 2 enil)) (bin or (bin and (bin (cmp lt) (i 2) (v 2 1)) (between false (i 0) (i 1) (nul 1))) (bin (cmp ge) (num (negsuc 0)) (v 2 1))))) (bin or (fn 2 2 2 (econs (nul 2) (econs (bool true) enil))) (bin and (bin and (bool false) (between false (v 2 1) (i 0) (i 0))) (bin or (bin (cmp eq) (v 2 1) (i 2)) (bin (cmp ne) (v 2 1) (i 0)))))) (scan 4 (fd 2 1 1 true ∷ []) [])) (filter (bin (cmp eq) (fn 1 3 2 (econs (v 3 1) enil)) (bool false)) (scan 1 (fd 3 1 1 false ∷ fd 3 2 1 false ∷ []) [])) (pr (v 2 1) (v 3 2) ∷ []) none))) (filter (bin and (neg (bin or (bool false) (bool true))) (bin (cmp eq) (v 7 1) (i 3))) (filter (between true (v 6 2) (v 6 2) (i 2)) (join inner (aggregate (en 6 2 (v 5 2) ∷ []) (ag 0 103 max (v 5 1) ∷ ag 0 104 min (v 5 2) ∷ []) (scan 2 (fd 5 1 1 false ∷ fd 5 2 1 false ∷ fd 5 3 2 true ∷ []) [])) (union (pcons (scan 1 (fd 7 1 1 true ∷ fd 7 2 1 true ∷ []) []) (pcons (project (en 0 105 (fn 0 2 1 (econs (fn 1 0 2 (econs (num (negsuc 0)) (econs (i 1) enil))) (econs (fn 0 0 1 (econs (v 8 2) (econs (v 8 1) enil))) enil))) ∷ en 9 2 (fn 2 0 1 (econs (bool true) (econs (v 8 1) enil))) ∷ []) (scan 3 (fd 8 1 2 false ∷ fd 8 2 1 false ∷ []) ((bin (cmp eq) (v 8 2) (v 8 2)) ∷ []))) (pcons (project (en 0 106 (v 10 1) ∷ en 0 107 (v 10 1) ∷ []) (scan 4 (fd 10 1 1 true ∷ []) [])) pnil)))) (pr (v 0 103) (v 7 1) ∷ pr (v 6 2) (v 7 1) ∷ []) none))) [] (some (bin and (fn 0 0 2 (econs (bin (cmp ge) (v 0 102) (i 3)) (econs (v 7 2) enil))) (bin (cmp le) (i 2) (v 0 103)))))) ≡ passed 20 8 1 (join rightAnti (aggregate (en 0 101 (i 0) ∷ []) (ag 0 102 count (v 4 2) ∷ []) (aggregate (en 4 2 (i 0) ∷ []) [] (join inner (filter (bin or (bin or (bin (cmp lt) (i 2) (v 2 1)) (fn 0 3 2 enil)) (bin or (bin and (bin (cmp lt) (i 2) (v 2 1)) (between false (i 0) (i 1) (nul 1))) (bin (cmp ge) (num (negsuc 0)) (v 2 1)))) (scan 4 (fd 2 1 1 true ∷ []) ((bin (cmp gt) (v 2 1) (i 3)) ∷ (bin or (fn 2 2 2 (econs (nul 2) (econs (bool true) enil))) (bin and (bin and (bool false) (between false (v 2 1) (i 0) (i 0))) (bin or (bin (cmp eq) (v 2 1) (i 2)) (bin (cmp ne) (v 2 1) (i 0))))) ∷ []))) (filter (bin (cmp eq) (fn 1 3 2 (econs (v 3 1) enil)) (bool false)) (scan 1 (fd 3 1 1 false ∷ fd 3 2 1 false ∷ []) [])) (pr (v 2 1) (v 3 2) ∷ []) none))) (join inner (filter (bin and (bin (cmp eq) (v 0 103) (i 3)) (bin (cmp ge) (i 4294967296) (v 0 103))) (aggregate (en 6 2 (v 5 2) ∷ []) (ag 0 103 max (v 5 1) ∷ ag 0 104 min (v 5 2) ∷ []) (filter (bin and (bin and (bin and (bin and (between true (v 5 2) (v 5 2) (i 2)) (neg (bin or (bool false) (bool true)))) (test isNotTrue (bool true))) (bool true)) (neg (fn 2 0 2 enil))) (scan 2 (fd 5 1 1 false ∷ fd 5 2 1 false ∷ fd 5 3 2 true ∷ []) [])))) (union (pcons (scan 1 (fd 7 1 1 true ∷ fd 7 2 1 true ∷ []) ((bin (cmp eq) (v 7 1) (i 3)) ∷ (bin (cmp ge) (i 4294967296) (v 7 1)) ∷ (between true (v 7 1) (v 7 1) (i 2)) ∷ [])) (pcons (filter (bin and (bin and (bin (cmp eq) (v 0 105) (i 3)) (bin (cmp ge) (i 4294967296) (v 0 105))) (between true (v 0 105) (v 0 105) (i 2))) (project (en 0 105 (fn 0 2 1 (econs (fn 1 0 2 (econs (num (negsuc 0)) (econs (i 1) enil))) (econs (fn 0 0 1 (econs (v 8 2) (econs (v 8 1) enil))) enil))) ∷ en 9 2 (fn 2 0 1 (econs (bool true) (econs (v 8 1) enil))) ∷ []) (scan 3 (fd 8 1 2 false ∷ fd 8 2 1 false ∷ []) ((bin (cmp eq) (v 8 2) (v 8 2)) ∷ [])))) (pcons (project (en 0 106 (v 10 1) ∷ en 0 107 (v 10 1) ∷ []) (scan 4 (fd 10 1 1 true ∷ []) ((bin (cmp eq) (v 10 1) (i 3)) ∷ (bin (cmp ge) (i 4294967296) (v 10 1)) ∷ (between true (v 10 1) (v 10 1) (i 2)) ∷ []))) pnil)))) (pr (v 0 103) (v 7 1) ∷ pr (v 6 2) (v 7 1) ∷ []) none) [] (some (bin and (fn 0 0 2 (econs (bin (cmp ge) (v 0 102) (i 3)) (econs (v 7 2) enil))) (bin (cmp le) (i 2) (v 0 103)))))
+w113 : pass-by-records 10000 (filter (bin and (bin and (bin and (neg (fn 2 0 2 enil)) (bin (cmp ge) (i 4294967296) (v 7 1))) (test isNotTrue (bool true))) (bool true)) (join rightAnti (aggregate (en 0 101 (i 0) ∷ []) (ag 0 102 count (v 4 2) ∷ []) (aggregate (en 4 2 (i 0) ∷ []) [] (join inner (filter (bin and (bin and (bin (cmp gt) (v 2 1) (i 3)) (bin or (bin or (bin (cmp lt) (i 2) (v 2 1)) (fn 0 3 2 enil)) (bin or (bin and (bin (cmp lt) (i 2) (v 2 1)) (between false (i 0) (i 1) (nul 1))) (bin (cmp ge) (num (negsuc 0)) (v 2 1))))) (bin or (fn 2 2 2 (econs (nul 2) (econs (bool true) enil))) (bin and (bin and (bool false) (between false (v 2 1) (i 0) (i 0))) (bin or (bin (cmp eq) (v 2 1) (i 2)) (bin (cmp ne) (v 2 1) (i 0)))))) (scan 4 (fd 2 1 1 true ∷ []) [])) (filter (bin (cmp eq) (fn 1 3 2 (econs (v 3 1) enil)) (bool false)) (scan 1 (fd 3 1 1 false ∷ fd 3 2 1 false ∷ []) [])) (pr (v 2 1) (v 3 2) ∷ []) none))) (filter (bin and (neg (bin or (bool false) (bool true))) (bin (cmp eq) (v 7 1) (i 3))) (filter (between true (v 6 2) (v 6 2) (i 2)) (join inner (aggregate (en 6 2 (v 5 2) ∷ []) (ag 0 103 max (v 5 1) ∷ ag 0 104 min (v 5 2) ∷ []) (scan 2 (fd 5 1 1 false ∷ fd 5 2 1 false ∷ fd 5 3 2 true ∷ []) [])) (union (pcons (scan 1 (fd 7 1 1 true ∷ fd 7 2 1 true ∷ []) []) (pcons (project (en 0 105 (fn 0 2 1 (econs (fn 1 0 2 (econs (num (negsuc 0)) (econs (i 1) enil))) (econs (fn 0 0 1 (econs (v 8 2) (econs (v 8 1) enil))) enil))) ∷ en 9 2 (fn 2 0 1 (econs (bool true) (econs (v 8 1) enil))) ∷ []) (scan 3 (fd 8 1 2 false ∷ fd 8 2 1 false ∷ []) ((bin (cmp eq) (v 8 2) (v 8 2)) ∷ []))) (pcons (project (en 0 106 (v 10 1) ∷ en 0 107 (v 10 1) ∷ []) (scan 4 (fd 10 1 1 true ∷ []) [])) pnil)))) (pr (v 0 103) (v 7 1) ∷ pr (v 6 2) (v 7 1) ∷ []) none))) [] (some (bin and (fn 0 0 2 (econs (bin (cmp ge) (v 0 102) (i 3)) (econs (v 7 2) enil))) (bin (cmp le) (i 2) (v 0 103)))))) ≡ passed 20 8 1 (join rightAnti (aggregate (en 0 101 (i 0) ∷ []) (ag 0 102 count (v 4 2) ∷ []) (aggregate (en 4 2 (i 0) ∷ []) [] (join inner (filter (bin or (bin or (bin (cmp lt) (i 2) (v 2 1)) (fn 0 3 2 enil)) (bin or (bin and (bin (cmp lt) (i 2) (v 2 1)) (between false (i 0) (i 1) (nul 1))) (bin (cmp ge) (num (negsuc 0)) (v 2 1)))) (scan 4 (fd 2 1 1 true ∷ []) ((bin (cmp gt) (v 2 1) (i 3)) ∷ (bin or (fn 2 2 2 (econs (nul 2) (econs (bool true) enil))) (bin and (bin and (bool false) (between false (v 2 1) (i 0) (i 0))) (bin or (bin (cmp eq) (v 2 1) (i 2)) (bin (cmp ne) (v 2 1) (i 0))))) ∷ []))) (filter (bin (cmp eq) (fn 1 3 2 (econs (v 3 1) enil)) (bool false)) (scan 1 (fd 3 1 1 false ∷ fd 3 2 1 false ∷ []) [])) (pr (v 2 1) (v 3 2) ∷ []) none))) (join inner (filter (bin and (bin (cmp eq) (v 0 103) (i 3)) (bin (cmp ge) (i 4294967296) (v 0 103))) (aggregate (en 6 2 (v 5 2) ∷ []) (ag 0 103 max (v 5 1) ∷ ag 0 104 min (v 5 2) ∷ []) (filter (bin and (bin and (bin and (bin and (between true (v 5 2) (v 5 2) (i 2)) (neg (bin or (bool false) (bool true)))) (test isNotTrue (bool true))) (bool true)) (neg (fn 2 0 2 enil))) (scan 2 (fd 5 1 1 false ∷ fd 5 2 1 false ∷ fd 5 3 2 true ∷ []) [])))) (union (pcons (scan 1 (fd 7 1 1 true ∷ fd 7 2 1 true ∷ []) ((bin (cmp eq) (v 7 1) (i 3)) ∷ (bin (cmp ge) (i 4294967296) (v 7 1)) ∷ (between true (v 7 1) (v 7 1) (i 2)) ∷ [])) (pcons (filter (bin and (bin and (bin (cmp eq) (v 0 105) (i 3)) (bin (cmp ge) (i 4294967296) (v 0 105))) (between true (v 0 105) (v 0 105) (i 2))) (project (en 0 105 (fn 0 2 1 (econs (fn 1 0 2 (econs (num (negsuc 0)) (econs (i 1) enil))) (econs (fn 0 0 1 (econs (v 8 2) (econs (v 8 1) enil))) enil))) ∷ en 9 2 (fn 2 0 1 (econs (bool true) (econs (v 8 1) enil))) ∷ []) (scan 3 (fd 8 1 2 false ∷ fd 8 2 1 false ∷ []) ((bin (cmp eq) (v 8 2) (v 8 2)) ∷ [])))) (pcons (project (en 0 106 (v 10 1) ∷ en 0 107 (v 10 1) ∷ []) (scan 4 (fd 10 1 1 true ∷ []) ((bin (cmp eq) (v 10 1) (i 3)) ∷ (bin (cmp ge) (i 4294967296) (v 10 1)) ∷ (between true (v 10 1) (v 10 1) (i 2)) ∷ []))) pnil)))) (pr (v 0 103) (v 7 1) ∷ pr (v 6 2) (v 7 1) ∷ []) none) [] (some (bin and (fn 0 0 2 (econs (bin (cmp ge) (v 0 102) (i 3)) (econs (v 7 2) enil))) (bin (cmp le) (i 2) (v 0 103)))))
 unfolding walked
 w113 = refl
 

@@ -5,9 +5,10 @@ use mathlib.Core.List.{[], _∷_}
 use mathlib.Core.Option.{none, some}
 use lib.IntN.{negsuc}
 use Rattle.plan.specs.Syntax.{nm, eq, ne, lt, le, gt, ge, and, or, cmp, isNull, isNotNull, isTrue, isFalse, isUnknown, isNotTrue, isNotFalse, isNotUnknown, num, bool, nul, bin, neg, test, between, inlist, fn, enil, econs, count, min, max, inner, left, right, full, leftSemi, rightSemi, leftAnti, rightAnti, scan, filter, project, join, alias, union, distinct, sort, repartition, limit, aggregate, window, pnil, pcons}
-use Rattle.rewrite.specs.RewriteAt.{granted, refused, passed, rewriteAt, pass}
+use Rattle.rewrite.specs.RewriteAt.{granted, refused, rewriteAt}
+use Rattle.rewrite.specs.Pass.{passed, pass}
 use Rattle.rewrite.proofs.Opened.{opened}
-use Rattle.rewrite.proofs.PassTree.{pass-by-children}
+use Rattle.rewrite.proofs.PassByRecords.{pass-by-records}
 use Rattle.cases.specs.Run.{v, i, fd, en, pr, ky, ag, wn}
 use Rattle.cases.specs.Walked.{walked}
 
@@ -27,7 +28,7 @@ c3 : pass 10000 (filter (bin and (bin or (bin and (bin and (bin (cmp le) (bool t
 unfolding opened
 c3 = refl
 
-w3 : pass-by-children 10000 (filter (bin and (bin or (bin and (bin and (bin (cmp le) (bool true) (bool false)) (bin (cmp eq) (nul 1) (v 3 2))) (bin (cmp lt) (fn 0 0 1 enil) (fn 0 0 1 enil))) (bin and (bin (cmp lt) (fn 0 0 1 enil) (fn 0 0 1 enil)) (inlist false (v 3 2) (econs (i 3) enil)))) (bin (cmp gt) (v 3 2) (nul 1))) (aggregate (en 3 2 (fn 2 0 1 (econs (i 1) enil)) ∷ []) [] (scan 5 [] []))) ≡ passed 3 1 1 (aggregate (en 3 2 (fn 2 0 1 (econs (i 1) enil)) ∷ []) [] (filter (bin and (bin (cmp gt) (fn 2 0 1 (econs (i 1) enil)) (nul 1)) (bin or (bin and (bin and (bin (cmp le) (bool true) (bool false)) (bin (cmp eq) (nul 1) (fn 2 0 1 (econs (i 1) enil)))) (bin (cmp lt) (fn 0 0 1 enil) (fn 0 0 1 enil))) (bin and (bin (cmp lt) (fn 0 0 1 enil) (fn 0 0 1 enil)) (inlist false (fn 2 0 1 (econs (i 1) enil)) (econs (i 3) enil))))) (scan 5 [] [])))
+w3 : pass-by-records 10000 (filter (bin and (bin or (bin and (bin and (bin (cmp le) (bool true) (bool false)) (bin (cmp eq) (nul 1) (v 3 2))) (bin (cmp lt) (fn 0 0 1 enil) (fn 0 0 1 enil))) (bin and (bin (cmp lt) (fn 0 0 1 enil) (fn 0 0 1 enil)) (inlist false (v 3 2) (econs (i 3) enil)))) (bin (cmp gt) (v 3 2) (nul 1))) (aggregate (en 3 2 (fn 2 0 1 (econs (i 1) enil)) ∷ []) [] (scan 5 [] []))) ≡ passed 3 1 1 (aggregate (en 3 2 (fn 2 0 1 (econs (i 1) enil)) ∷ []) [] (filter (bin and (bin (cmp gt) (fn 2 0 1 (econs (i 1) enil)) (nul 1)) (bin or (bin and (bin and (bin (cmp le) (bool true) (bool false)) (bin (cmp eq) (nul 1) (fn 2 0 1 (econs (i 1) enil)))) (bin (cmp lt) (fn 0 0 1 enil) (fn 0 0 1 enil))) (bin and (bin (cmp lt) (fn 0 0 1 enil) (fn 0 0 1 enil)) (inlist false (fn 2 0 1 (econs (i 1) enil)) (econs (i 3) enil))))) (scan 5 [] [])))
 unfolding walked
 w3 = refl
 
@@ -35,7 +36,7 @@ c4 : pass 10000 (filter (bin and (bool false) (bin (cmp le) (v 2 1) (i 0))) (fil
 unfolding opened
 c4 = refl
 
-w4 : pass-by-children 10000 (filter (bin and (bool false) (bin (cmp le) (v 2 1) (i 0))) (filter (inlist false (fn 0 0 1 (econs (v 2 1) enil)) (econs (v 2 1) (econs (i 1) enil))) (scan 4 (fd 2 1 1 false ∷ []) []))) ≡ passed 2 0 1 (filter (bin and (bin and (bool false) (bin (cmp le) (v 2 1) (i 0))) (inlist false (fn 0 0 1 (econs (v 2 1) enil)) (econs (v 2 1) (econs (i 1) enil)))) (scan 4 (fd 2 1 1 false ∷ []) []))
+w4 : pass-by-records 10000 (filter (bin and (bool false) (bin (cmp le) (v 2 1) (i 0))) (filter (inlist false (fn 0 0 1 (econs (v 2 1) enil)) (econs (v 2 1) (econs (i 1) enil))) (scan 4 (fd 2 1 1 false ∷ []) []))) ≡ passed 2 0 1 (filter (bin and (bin and (bool false) (bin (cmp le) (v 2 1) (i 0))) (inlist false (fn 0 0 1 (econs (v 2 1) enil)) (econs (v 2 1) (econs (i 1) enil)))) (scan 4 (fd 2 1 1 false ∷ []) []))
 unfolding walked
 w4 = refl
 
@@ -43,7 +44,7 @@ c5 : pass 4 (filter (bin and (v 3 3) (neg (fn 2 2 2 enil))) (join leftAnti (filt
 unfolding opened
 c5 = refl
 
-w5 : pass-by-children 4 (filter (bin and (v 3 3) (neg (fn 2 2 2 enil))) (join leftAnti (filter (bin and (bool true) (bin (cmp lt) (i 2) (v 3 2))) (join inner (scan 5 [] []) (scan 2 (fd 3 1 1 false ∷ fd 3 2 1 true ∷ fd 3 3 2 false ∷ []) []) [] (some (bin and (bin (cmp eq) (v 3 1) (i 3)) (bin (cmp ge) (v 3 2) (v 3 1)))))) (sort none [] (filter (fn 0 2 2 enil) (scan 1 (fd 4 1 1 true ∷ fd 4 2 1 false ∷ []) []))) (pr (v 3 2) (v 4 1) ∷ pr (v 3 2) (fn 0 0 1 (econs (v 4 1) (econs (bool true) enil))) ∷ []) none)) ≡ passed 4 2 0 (join leftAnti (join inner (filter (bin and (bool true) (neg (fn 2 2 2 enil))) (scan 5 [] [])) (filter (bin and (bin and (bin and (v 3 3) (bin (cmp lt) (i 2) (v 3 2))) (bin (cmp eq) (v 3 1) (i 3))) (bin (cmp ge) (v 3 2) (v 3 1))) (scan 2 (fd 3 1 1 false ∷ fd 3 2 1 true ∷ fd 3 3 2 false ∷ []) [])) [] none) (sort none [] (filter (fn 0 2 2 enil) (scan 1 (fd 4 1 1 true ∷ fd 4 2 1 false ∷ []) []))) (pr (v 3 2) (v 4 1) ∷ pr (v 3 2) (fn 0 0 1 (econs (v 4 1) (econs (bool true) enil))) ∷ []) none)
+w5 : pass-by-records 4 (filter (bin and (v 3 3) (neg (fn 2 2 2 enil))) (join leftAnti (filter (bin and (bool true) (bin (cmp lt) (i 2) (v 3 2))) (join inner (scan 5 [] []) (scan 2 (fd 3 1 1 false ∷ fd 3 2 1 true ∷ fd 3 3 2 false ∷ []) []) [] (some (bin and (bin (cmp eq) (v 3 1) (i 3)) (bin (cmp ge) (v 3 2) (v 3 1)))))) (sort none [] (filter (fn 0 2 2 enil) (scan 1 (fd 4 1 1 true ∷ fd 4 2 1 false ∷ []) []))) (pr (v 3 2) (v 4 1) ∷ pr (v 3 2) (fn 0 0 1 (econs (v 4 1) (econs (bool true) enil))) ∷ []) none)) ≡ passed 4 2 0 (join leftAnti (join inner (filter (bin and (bool true) (neg (fn 2 2 2 enil))) (scan 5 [] [])) (filter (bin and (bin and (bin and (v 3 3) (bin (cmp lt) (i 2) (v 3 2))) (bin (cmp eq) (v 3 1) (i 3))) (bin (cmp ge) (v 3 2) (v 3 1))) (scan 2 (fd 3 1 1 false ∷ fd 3 2 1 true ∷ fd 3 3 2 false ∷ []) [])) [] none) (sort none [] (filter (fn 0 2 2 enil) (scan 1 (fd 4 1 1 true ∷ fd 4 2 1 false ∷ []) []))) (pr (v 3 2) (v 4 1) ∷ pr (v 3 2) (fn 0 0 1 (econs (v 4 1) (econs (bool true) enil))) ∷ []) none)
 unfolding walked
 w5 = refl
 
@@ -59,7 +60,7 @@ c8 : pass 3 (alias 2 (filter (bin and (bin (cmp eq) (v 3 2) (v 3 2)) (bin (cmp l
 unfolding opened
 c8 = refl
 
-w8 : pass-by-children 3 (alias 2 (filter (bin and (bin (cmp eq) (v 3 2) (v 3 2)) (bin (cmp le) (v 3 2) (i 2))) (scan 2 (fd 3 1 1 true ∷ fd 3 2 1 true ∷ fd 3 3 2 false ∷ []) []))) ≡ passed 2 1 1 (alias 2 (scan 2 (fd 3 1 1 true ∷ fd 3 2 1 true ∷ fd 3 3 2 false ∷ []) ((bin (cmp eq) (v 3 2) (v 3 2)) ∷ (bin (cmp le) (v 3 2) (i 2)) ∷ [])))
+w8 : pass-by-records 3 (alias 2 (filter (bin and (bin (cmp eq) (v 3 2) (v 3 2)) (bin (cmp le) (v 3 2) (i 2))) (scan 2 (fd 3 1 1 true ∷ fd 3 2 1 true ∷ fd 3 3 2 false ∷ []) []))) ≡ passed 2 1 1 (alias 2 (scan 2 (fd 3 1 1 true ∷ fd 3 2 1 true ∷ fd 3 3 2 false ∷ []) ((bin (cmp eq) (v 3 2) (v 3 2)) ∷ (bin (cmp le) (v 3 2) (i 2)) ∷ [])))
 unfolding walked
 w8 = refl
 
@@ -67,7 +68,7 @@ c9 : pass 10000 (filter (bin (cmp eq) (v 3 2) (i 3)) (join rightSemi (filter (bi
 unfolding opened
 c9 = refl
 
-w9 : pass-by-children 10000 (filter (bin (cmp eq) (v 3 2) (i 3)) (join rightSemi (filter (bin and (bin (cmp le) (v 2 2) (i 1)) (bin or (test isNotTrue (bool false)) (bin or (bin and (bool false) (bin (cmp ge) (v 2 1) (i 0))) (fn 0 0 2 (econs (v 2 2) (econs (bool true) enil)))))) (join rightAnti (scan 1 (fd 0 101 1 true ∷ fd 0 102 1 true ∷ []) []) (scan 1 (fd 2 1 1 true ∷ fd 2 2 1 true ∷ []) []) [] (some (bin (cmp le) (i 2) (v 2 1))))) (union (pcons (join left (scan 3 (fd 3 1 2 true ∷ fd 3 2 1 false ∷ []) []) (scan 1 (fd 4 1 1 true ∷ fd 4 2 1 false ∷ []) []) (pr (v 3 2) (v 4 1) ∷ pr (v 3 2) (v 4 1) ∷ []) none) (pcons (project (en 0 104 (test isNull (v 0 103)) ∷ en 0 105 (fn 2 0 1 (econs (bool false) (econs (nul 1) enil))) ∷ en 0 106 (v 0 103) ∷ en 0 107 (nul 1) ∷ []) (window (wn 0 103 count (i 0) [] ∷ wn 6 1 max (v 5 2) [] ∷ []) (scan 1 (fd 5 1 1 false ∷ fd 5 2 1 false ∷ []) []))) (pcons (project (en 0 108 (bool false) ∷ en 0 109 (nul 1) ∷ en 0 110 (i 0) ∷ en 0 111 (fn 1 0 1 (econs (bool false) enil)) ∷ []) (limit 0 0 (scan 5 [] ((neg (inlist true (i 1) (econs (nul 1) enil))) ∷ (fn 2 0 2 (econs (bool true) (econs (bool false) enil))) ∷ [])))) pnil)))) (pr (v 2 2) (v 3 2) ∷ []) (some (bin (cmp lt) (v 2 1) (v 4 2))))) ≡ passed 17 8 1 (join rightSemi (join rightAnti (scan 1 (fd 0 101 1 true ∷ fd 0 102 1 true ∷ []) []) (scan 1 (fd 2 1 1 true ∷ fd 2 2 1 true ∷ []) ((bin (cmp le) (v 2 2) (i 1)) ∷ (bin or (test isNotTrue (bool false)) (bin or (bin and (bool false) (bin (cmp ge) (v 2 1) (i 0))) (fn 0 0 2 (econs (v 2 2) (econs (bool true) enil))))) ∷ [])) [] (some (bin (cmp le) (i 2) (v 2 1)))) (union (pcons (join left (filter (bin (cmp eq) (v 3 2) (i 3)) (scan 3 (fd 3 1 2 true ∷ fd 3 2 1 false ∷ []) [])) (scan 1 (fd 4 1 1 true ∷ fd 4 2 1 false ∷ []) []) (pr (v 3 2) (v 4 1) ∷ pr (v 3 2) (v 4 1) ∷ []) none) (pcons (project (en 0 104 (test isNull (v 0 103)) ∷ en 0 105 (fn 2 0 1 (econs (bool false) (econs (nul 1) enil))) ∷ en 0 106 (v 0 103) ∷ en 0 107 (nul 1) ∷ []) (window (wn 0 103 count (i 0) [] ∷ wn 6 1 max (v 5 2) [] ∷ []) (filter (bin (cmp eq) (fn 2 0 1 (econs (bool false) (econs (nul 1) enil))) (i 3)) (scan 1 (fd 5 1 1 false ∷ fd 5 2 1 false ∷ []) [])))) (pcons (project (en 0 108 (bool false) ∷ en 0 109 (nul 1) ∷ en 0 110 (i 0) ∷ en 0 111 (fn 1 0 1 (econs (bool false) enil)) ∷ []) (filter (bin (cmp eq) (nul 1) (i 3)) (limit 0 0 (scan 5 [] ((neg (inlist true (i 1) (econs (nul 1) enil))) ∷ (fn 2 0 2 (econs (bool true) (econs (bool false) enil))) ∷ []))))) pnil)))) (pr (v 2 2) (v 3 2) ∷ []) (some (bin (cmp lt) (v 2 1) (v 4 2))))
+w9 : pass-by-records 10000 (filter (bin (cmp eq) (v 3 2) (i 3)) (join rightSemi (filter (bin and (bin (cmp le) (v 2 2) (i 1)) (bin or (test isNotTrue (bool false)) (bin or (bin and (bool false) (bin (cmp ge) (v 2 1) (i 0))) (fn 0 0 2 (econs (v 2 2) (econs (bool true) enil)))))) (join rightAnti (scan 1 (fd 0 101 1 true ∷ fd 0 102 1 true ∷ []) []) (scan 1 (fd 2 1 1 true ∷ fd 2 2 1 true ∷ []) []) [] (some (bin (cmp le) (i 2) (v 2 1))))) (union (pcons (join left (scan 3 (fd 3 1 2 true ∷ fd 3 2 1 false ∷ []) []) (scan 1 (fd 4 1 1 true ∷ fd 4 2 1 false ∷ []) []) (pr (v 3 2) (v 4 1) ∷ pr (v 3 2) (v 4 1) ∷ []) none) (pcons (project (en 0 104 (test isNull (v 0 103)) ∷ en 0 105 (fn 2 0 1 (econs (bool false) (econs (nul 1) enil))) ∷ en 0 106 (v 0 103) ∷ en 0 107 (nul 1) ∷ []) (window (wn 0 103 count (i 0) [] ∷ wn 6 1 max (v 5 2) [] ∷ []) (scan 1 (fd 5 1 1 false ∷ fd 5 2 1 false ∷ []) []))) (pcons (project (en 0 108 (bool false) ∷ en 0 109 (nul 1) ∷ en 0 110 (i 0) ∷ en 0 111 (fn 1 0 1 (econs (bool false) enil)) ∷ []) (limit 0 0 (scan 5 [] ((neg (inlist true (i 1) (econs (nul 1) enil))) ∷ (fn 2 0 2 (econs (bool true) (econs (bool false) enil))) ∷ [])))) pnil)))) (pr (v 2 2) (v 3 2) ∷ []) (some (bin (cmp lt) (v 2 1) (v 4 2))))) ≡ passed 17 8 1 (join rightSemi (join rightAnti (scan 1 (fd 0 101 1 true ∷ fd 0 102 1 true ∷ []) []) (scan 1 (fd 2 1 1 true ∷ fd 2 2 1 true ∷ []) ((bin (cmp le) (v 2 2) (i 1)) ∷ (bin or (test isNotTrue (bool false)) (bin or (bin and (bool false) (bin (cmp ge) (v 2 1) (i 0))) (fn 0 0 2 (econs (v 2 2) (econs (bool true) enil))))) ∷ [])) [] (some (bin (cmp le) (i 2) (v 2 1)))) (union (pcons (join left (filter (bin (cmp eq) (v 3 2) (i 3)) (scan 3 (fd 3 1 2 true ∷ fd 3 2 1 false ∷ []) [])) (scan 1 (fd 4 1 1 true ∷ fd 4 2 1 false ∷ []) []) (pr (v 3 2) (v 4 1) ∷ pr (v 3 2) (v 4 1) ∷ []) none) (pcons (project (en 0 104 (test isNull (v 0 103)) ∷ en 0 105 (fn 2 0 1 (econs (bool false) (econs (nul 1) enil))) ∷ en 0 106 (v 0 103) ∷ en 0 107 (nul 1) ∷ []) (window (wn 0 103 count (i 0) [] ∷ wn 6 1 max (v 5 2) [] ∷ []) (filter (bin (cmp eq) (fn 2 0 1 (econs (bool false) (econs (nul 1) enil))) (i 3)) (scan 1 (fd 5 1 1 false ∷ fd 5 2 1 false ∷ []) [])))) (pcons (project (en 0 108 (bool false) ∷ en 0 109 (nul 1) ∷ en 0 110 (i 0) ∷ en 0 111 (fn 1 0 1 (econs (bool false) enil)) ∷ []) (filter (bin (cmp eq) (nul 1) (i 3)) (limit 0 0 (scan 5 [] ((neg (inlist true (i 1) (econs (nul 1) enil))) ∷ (fn 2 0 2 (econs (bool true) (econs (bool false) enil))) ∷ []))))) pnil)))) (pr (v 2 2) (v 3 2) ∷ []) (some (bin (cmp lt) (v 2 1) (v 4 2))))
 unfolding walked
 w9 = refl
 
@@ -79,7 +80,7 @@ c11 : pass 3 (filter (bin and (bool true) (inlist true (v 5 1) (econs (v 2 2) en
 unfolding opened
 c11 = refl
 
-w11 : pass-by-children 3 (filter (bin and (bool true) (inlist true (v 5 1) (econs (v 2 2) enil))) (window (wn 4 2 max (v 2 1) (nm 2 2 ∷ nm 2 1 ∷ []) ∷ wn 5 1 count (v 2 1) (nm 2 1 ∷ []) ∷ []) (alias 2 (scan 2 (fd 3 1 1 false ∷ fd 3 2 1 false ∷ fd 3 3 2 false ∷ []) [])))) ≡ passed 3 2 0 (filter (inlist true (v 5 1) (econs (v 2 2) enil)) (window (wn 4 2 max (v 2 1) (nm 2 2 ∷ nm 2 1 ∷ []) ∷ wn 5 1 count (v 2 1) (nm 2 1 ∷ []) ∷ []) (alias 2 (filter (bool true) (scan 2 (fd 3 1 1 false ∷ fd 3 2 1 false ∷ fd 3 3 2 false ∷ []) [])))))
+w11 : pass-by-records 3 (filter (bin and (bool true) (inlist true (v 5 1) (econs (v 2 2) enil))) (window (wn 4 2 max (v 2 1) (nm 2 2 ∷ nm 2 1 ∷ []) ∷ wn 5 1 count (v 2 1) (nm 2 1 ∷ []) ∷ []) (alias 2 (scan 2 (fd 3 1 1 false ∷ fd 3 2 1 false ∷ fd 3 3 2 false ∷ []) [])))) ≡ passed 3 2 0 (filter (inlist true (v 5 1) (econs (v 2 2) enil)) (window (wn 4 2 max (v 2 1) (nm 2 2 ∷ nm 2 1 ∷ []) ∷ wn 5 1 count (v 2 1) (nm 2 1 ∷ []) ∷ []) (alias 2 (filter (bool true) (scan 2 (fd 3 1 1 false ∷ fd 3 2 1 false ∷ fd 3 3 2 false ∷ []) [])))))
 unfolding walked
 w11 = refl
 
@@ -87,7 +88,7 @@ c12 : pass 10000 (project (en 0 101 (v 2 1) ∷ en 0 102 (inlist true (v 2 1) (e
 unfolding opened
 c12 = refl
 
-w12 : pass-by-children 10000 (project (en 0 101 (v 2 1) ∷ en 0 102 (inlist true (v 2 1) (econs (v 2 1) enil)) ∷ []) (scan 4 (fd 2 1 1 false ∷ []) [])) ≡ passed 2 0 1 (project (en 0 101 (v 2 1) ∷ en 0 102 (inlist true (v 2 1) (econs (v 2 1) enil)) ∷ []) (scan 4 (fd 2 1 1 false ∷ []) []))
+w12 : pass-by-records 10000 (project (en 0 101 (v 2 1) ∷ en 0 102 (inlist true (v 2 1) (econs (v 2 1) enil)) ∷ []) (scan 4 (fd 2 1 1 false ∷ []) [])) ≡ passed 2 0 1 (project (en 0 101 (v 2 1) ∷ en 0 102 (inlist true (v 2 1) (econs (v 2 1) enil)) ∷ []) (scan 4 (fd 2 1 1 false ∷ []) []))
 unfolding walked
 w12 = refl
 
@@ -99,7 +100,7 @@ c14 : pass 10000 (project (en 0 103 (bool true) ∷ en 0 101 (v 0 101) ∷ []) (
 unfolding opened
 c14 = refl
 
-w14 : pass-by-children 10000 (project (en 0 103 (bool true) ∷ en 0 101 (v 0 101) ∷ []) (aggregate [] (ag 0 101 count (v 2 1) ∷ ag 0 102 max (v 2 2) ∷ []) (window (wn 3 2 min (i 2) (nm 2 2 ∷ []) ∷ []) (scan 2 (fd 2 1 1 true ∷ fd 2 2 1 true ∷ fd 2 3 2 true ∷ []) [])))) ≡ passed 4 0 1 (project (en 0 103 (bool true) ∷ en 0 101 (v 0 101) ∷ []) (aggregate [] (ag 0 101 count (v 2 1) ∷ ag 0 102 max (v 2 2) ∷ []) (window (wn 3 2 min (i 2) (nm 2 2 ∷ []) ∷ []) (scan 2 (fd 2 1 1 true ∷ fd 2 2 1 true ∷ fd 2 3 2 true ∷ []) []))))
+w14 : pass-by-records 10000 (project (en 0 103 (bool true) ∷ en 0 101 (v 0 101) ∷ []) (aggregate [] (ag 0 101 count (v 2 1) ∷ ag 0 102 max (v 2 2) ∷ []) (window (wn 3 2 min (i 2) (nm 2 2 ∷ []) ∷ []) (scan 2 (fd 2 1 1 true ∷ fd 2 2 1 true ∷ fd 2 3 2 true ∷ []) [])))) ≡ passed 4 0 1 (project (en 0 103 (bool true) ∷ en 0 101 (v 0 101) ∷ []) (aggregate [] (ag 0 101 count (v 2 1) ∷ ag 0 102 max (v 2 2) ∷ []) (window (wn 3 2 min (i 2) (nm 2 2 ∷ []) ∷ []) (scan 2 (fd 2 1 1 true ∷ fd 2 2 1 true ∷ fd 2 3 2 true ∷ []) []))))
 unfolding walked
 w14 = refl
 
@@ -111,7 +112,7 @@ c16 : pass 10000 (filter (bin and (bin or (bin (cmp lt) (i 2) (i 3)) (bin and (b
 unfolding opened
 c16 = refl
 
-w16 : pass-by-children 10000 (filter (bin and (bin or (bin (cmp lt) (i 2) (i 3)) (bin and (bin and (inlist false (fn 0 0 1 enil) (econs (v 2 2) (econs (v 2 2) enil))) (fn 0 0 2 (econs (i 0) (econs (fn 2 0 2 (econs (bool false) enil)) enil)))) (fn 2 0 2 (econs (v 2 3) enil)))) (v 2 3)) (join left (filter (bin and (bin (cmp le) (i 1) (v 2 1)) (bin or (fn 1 0 2 enil) (bin and (fn 2 0 2 (econs (v 2 3) enil)) (bin (cmp eq) (v 2 2) (i 1))))) (scan 2 (fd 2 1 1 false ∷ fd 2 2 1 false ∷ fd 2 3 2 false ∷ []) ((bin (cmp ge) (i 3) (i 3)) ∷ (bin (cmp le) (i 1) (v 2 1)) ∷ []))) (filter (fn 0 0 2 (econs (i 1) (econs (i 1) enil))) (scan 5 [] [])) [] (some (bin and (bin (cmp le) (fn 0 0 1 (econs (v 2 1) enil)) (v 2 1)) (bin (cmp gt) (fn 1 0 2 enil) (fn 1 0 2 enil)))))) ≡ passed 5 1 1 (join left (filter (bin and (bin and (bin and (v 2 3) (bin (cmp le) (i 1) (v 2 1))) (bin or (fn 1 0 2 enil) (bin and (fn 2 0 2 (econs (v 2 3) enil)) (bin (cmp eq) (v 2 2) (i 1))))) (bin or (bin (cmp lt) (i 2) (i 3)) (bin and (bin and (inlist false (fn 0 0 1 enil) (econs (v 2 2) (econs (v 2 2) enil))) (fn 0 0 2 (econs (i 0) (econs (fn 2 0 2 (econs (bool false) enil)) enil)))) (fn 2 0 2 (econs (v 2 3) enil))))) (scan 2 (fd 2 1 1 false ∷ fd 2 2 1 false ∷ fd 2 3 2 false ∷ []) ((bin (cmp ge) (i 3) (i 3)) ∷ (bin (cmp le) (i 1) (v 2 1)) ∷ []))) (filter (bin and (fn 0 0 2 (econs (i 1) (econs (i 1) enil))) (bin (cmp gt) (fn 1 0 2 enil) (fn 1 0 2 enil))) (scan 5 [] [])) [] (some (bin (cmp le) (fn 0 0 1 (econs (v 2 1) enil)) (v 2 1))))
+w16 : pass-by-records 10000 (filter (bin and (bin or (bin (cmp lt) (i 2) (i 3)) (bin and (bin and (inlist false (fn 0 0 1 enil) (econs (v 2 2) (econs (v 2 2) enil))) (fn 0 0 2 (econs (i 0) (econs (fn 2 0 2 (econs (bool false) enil)) enil)))) (fn 2 0 2 (econs (v 2 3) enil)))) (v 2 3)) (join left (filter (bin and (bin (cmp le) (i 1) (v 2 1)) (bin or (fn 1 0 2 enil) (bin and (fn 2 0 2 (econs (v 2 3) enil)) (bin (cmp eq) (v 2 2) (i 1))))) (scan 2 (fd 2 1 1 false ∷ fd 2 2 1 false ∷ fd 2 3 2 false ∷ []) ((bin (cmp ge) (i 3) (i 3)) ∷ (bin (cmp le) (i 1) (v 2 1)) ∷ []))) (filter (fn 0 0 2 (econs (i 1) (econs (i 1) enil))) (scan 5 [] [])) [] (some (bin and (bin (cmp le) (fn 0 0 1 (econs (v 2 1) enil)) (v 2 1)) (bin (cmp gt) (fn 1 0 2 enil) (fn 1 0 2 enil)))))) ≡ passed 5 1 1 (join left (filter (bin and (bin and (bin and (v 2 3) (bin (cmp le) (i 1) (v 2 1))) (bin or (fn 1 0 2 enil) (bin and (fn 2 0 2 (econs (v 2 3) enil)) (bin (cmp eq) (v 2 2) (i 1))))) (bin or (bin (cmp lt) (i 2) (i 3)) (bin and (bin and (inlist false (fn 0 0 1 enil) (econs (v 2 2) (econs (v 2 2) enil))) (fn 0 0 2 (econs (i 0) (econs (fn 2 0 2 (econs (bool false) enil)) enil)))) (fn 2 0 2 (econs (v 2 3) enil))))) (scan 2 (fd 2 1 1 false ∷ fd 2 2 1 false ∷ fd 2 3 2 false ∷ []) ((bin (cmp ge) (i 3) (i 3)) ∷ (bin (cmp le) (i 1) (v 2 1)) ∷ []))) (filter (bin and (fn 0 0 2 (econs (i 1) (econs (i 1) enil))) (bin (cmp gt) (fn 1 0 2 enil) (fn 1 0 2 enil))) (scan 5 [] [])) [] (some (bin (cmp le) (fn 0 0 1 (econs (v 2 1) enil)) (v 2 1))))
 unfolding walked
 w16 = refl
 
@@ -139,7 +140,7 @@ c22 : pass 10000 (filter (inlist false (v 2 2) (econs (i 1) (econs (fn 1 0 1 eni
 unfolding opened
 c22 = refl
 
-w22 : pass-by-children 10000 (filter (inlist false (v 2 2) (econs (i 1) (econs (fn 1 0 1 enil) enil))) (distinct (filter (bin and (bin (cmp ne) (v 2 1) (i 3)) (bin (cmp ne) (v 2 1) (fn 0 0 1 enil))) (scan 1 (fd 2 1 1 false ∷ fd 2 2 1 true ∷ []) [])))) ≡ passed 3 2 1 (distinct (filter (bin and (bin (cmp ne) (v 2 1) (i 3)) (bin (cmp ne) (v 2 1) (fn 0 0 1 enil))) (scan 1 (fd 2 1 1 false ∷ fd 2 2 1 true ∷ []) ((inlist false (v 2 2) (econs (i 1) (econs (fn 1 0 1 enil) enil))) ∷ []))))
+w22 : pass-by-records 10000 (filter (inlist false (v 2 2) (econs (i 1) (econs (fn 1 0 1 enil) enil))) (distinct (filter (bin and (bin (cmp ne) (v 2 1) (i 3)) (bin (cmp ne) (v 2 1) (fn 0 0 1 enil))) (scan 1 (fd 2 1 1 false ∷ fd 2 2 1 true ∷ []) [])))) ≡ passed 3 2 1 (distinct (filter (bin and (bin (cmp ne) (v 2 1) (i 3)) (bin (cmp ne) (v 2 1) (fn 0 0 1 enil))) (scan 1 (fd 2 1 1 false ∷ fd 2 2 1 true ∷ []) ((inlist false (v 2 2) (econs (i 1) (econs (fn 1 0 1 enil) enil))) ∷ []))))
 unfolding walked
 w22 = refl
 
@@ -151,7 +152,7 @@ c24 : pass 10000 (filter (bin or (bin and (bin and (bin (cmp ge) (bool false) (b
 unfolding opened
 c24 = refl
 
-w24 : pass-by-children 10000 (filter (bin or (bin and (bin and (bin (cmp ge) (bool false) (bool false)) (test isNotNull (v 2 1))) (fn 2 0 2 (econs (i 3) enil))) (inlist false (v 2 1) (econs (i 2) enil))) (join leftSemi (scan 4 (fd 2 1 1 true ∷ []) []) (scan 3 (fd 3 1 2 false ∷ fd 3 2 1 false ∷ []) []) (pr (v 2 1) (v 3 2) ∷ []) (some (bin (cmp le) (v 2 1) (i 1))))) ≡ passed 3 2 1 (join leftSemi (scan 4 (fd 2 1 1 true ∷ []) ((bin (cmp le) (v 2 1) (i 1)) ∷ (bin or (bin and (bin and (bin (cmp ge) (bool false) (bool false)) (test isNotNull (v 2 1))) (fn 2 0 2 (econs (i 3) enil))) (inlist false (v 2 1) (econs (i 2) enil))) ∷ [])) (scan 3 (fd 3 1 2 false ∷ fd 3 2 1 false ∷ []) []) (pr (v 2 1) (v 3 2) ∷ []) none)
+w24 : pass-by-records 10000 (filter (bin or (bin and (bin and (bin (cmp ge) (bool false) (bool false)) (test isNotNull (v 2 1))) (fn 2 0 2 (econs (i 3) enil))) (inlist false (v 2 1) (econs (i 2) enil))) (join leftSemi (scan 4 (fd 2 1 1 true ∷ []) []) (scan 3 (fd 3 1 2 false ∷ fd 3 2 1 false ∷ []) []) (pr (v 2 1) (v 3 2) ∷ []) (some (bin (cmp le) (v 2 1) (i 1))))) ≡ passed 3 2 1 (join leftSemi (scan 4 (fd 2 1 1 true ∷ []) ((bin (cmp le) (v 2 1) (i 1)) ∷ (bin or (bin and (bin and (bin (cmp ge) (bool false) (bool false)) (test isNotNull (v 2 1))) (fn 2 0 2 (econs (i 3) enil))) (inlist false (v 2 1) (econs (i 2) enil))) ∷ [])) (scan 3 (fd 3 1 2 false ∷ fd 3 2 1 false ∷ []) []) (pr (v 2 1) (v 3 2) ∷ []) none)
 unfolding walked
 w24 = refl
 
@@ -159,7 +160,7 @@ c25 : pass 5 (join inner (sort none [] (filter (bin or (between false (v 2 2) (v
 unfolding opened
 c25 = refl
 
-w25 : pass-by-children 5 (join inner (sort none [] (filter (bin or (between false (v 2 2) (v 2 2) (v 2 2)) (bin (cmp lt) (v 2 1) (i 1))) (scan 2 (fd 2 1 1 true ∷ fd 2 2 1 true ∷ fd 2 3 2 true ∷ []) []))) (filter (bin and (fn 1 0 2 (econs (v 3 1) enil)) (bin (cmp ne) (v 3 2) (v 3 2))) (union (pcons (scan 2 (fd 3 1 1 true ∷ fd 3 2 1 true ∷ fd 3 3 2 true ∷ []) []) (pcons (project (en 0 101 (v 4 2) ∷ en 0 102 (i 0) ∷ en 5 3 (fn 0 2 2 (econs (nul 2) (econs (i 0) enil))) ∷ []) (scan 3 (fd 4 1 2 false ∷ fd 4 2 1 false ∷ []) [])) pnil)))) (pr (v 2 1) (v 3 2) ∷ []) (some (bool true))) ≡ passed 5 4 0 (join inner (sort none [] (filter (bool true) (scan 2 (fd 2 1 1 true ∷ fd 2 2 1 true ∷ fd 2 3 2 true ∷ []) ((bin or (between false (v 2 2) (v 2 2) (v 2 2)) (bin (cmp lt) (v 2 1) (i 1))) ∷ [])))) (union (pcons (filter (bin and (bin (cmp ne) (v 3 2) (v 3 2)) (fn 1 0 2 (econs (v 3 1) enil))) (scan 2 (fd 3 1 1 true ∷ fd 3 2 1 true ∷ fd 3 3 2 true ∷ []) [])) (pcons (filter (bin and (bin (cmp ne) (v 0 102) (v 0 102)) (fn 1 0 2 (econs (v 0 101) enil))) (project (en 0 101 (v 4 2) ∷ en 0 102 (i 0) ∷ en 5 3 (fn 0 2 2 (econs (nul 2) (econs (i 0) enil))) ∷ []) (scan 3 (fd 4 1 2 false ∷ fd 4 2 1 false ∷ []) []))) pnil))) (pr (v 2 1) (v 3 2) ∷ []) none)
+w25 : pass-by-records 5 (join inner (sort none [] (filter (bin or (between false (v 2 2) (v 2 2) (v 2 2)) (bin (cmp lt) (v 2 1) (i 1))) (scan 2 (fd 2 1 1 true ∷ fd 2 2 1 true ∷ fd 2 3 2 true ∷ []) []))) (filter (bin and (fn 1 0 2 (econs (v 3 1) enil)) (bin (cmp ne) (v 3 2) (v 3 2))) (union (pcons (scan 2 (fd 3 1 1 true ∷ fd 3 2 1 true ∷ fd 3 3 2 true ∷ []) []) (pcons (project (en 0 101 (v 4 2) ∷ en 0 102 (i 0) ∷ en 5 3 (fn 0 2 2 (econs (nul 2) (econs (i 0) enil))) ∷ []) (scan 3 (fd 4 1 2 false ∷ fd 4 2 1 false ∷ []) [])) pnil)))) (pr (v 2 1) (v 3 2) ∷ []) (some (bool true))) ≡ passed 5 4 0 (join inner (sort none [] (filter (bool true) (scan 2 (fd 2 1 1 true ∷ fd 2 2 1 true ∷ fd 2 3 2 true ∷ []) ((bin or (between false (v 2 2) (v 2 2) (v 2 2)) (bin (cmp lt) (v 2 1) (i 1))) ∷ [])))) (union (pcons (filter (bin and (bin (cmp ne) (v 3 2) (v 3 2)) (fn 1 0 2 (econs (v 3 1) enil))) (scan 2 (fd 3 1 1 true ∷ fd 3 2 1 true ∷ fd 3 3 2 true ∷ []) [])) (pcons (filter (bin and (bin (cmp ne) (v 0 102) (v 0 102)) (fn 1 0 2 (econs (v 0 101) enil))) (project (en 0 101 (v 4 2) ∷ en 0 102 (i 0) ∷ en 5 3 (fn 0 2 2 (econs (nul 2) (econs (i 0) enil))) ∷ []) (scan 3 (fd 4 1 2 false ∷ fd 4 2 1 false ∷ []) []))) pnil))) (pr (v 2 1) (v 3 2) ∷ []) none)
 unfolding walked
 w25 = refl
 
@@ -171,7 +172,7 @@ c27 : pass 10000 (join inner (join left (scan 2 (fd 2 1 1 false ∷ fd 2 2 1 fal
 unfolding opened
 c27 = refl
 
-w27 : pass-by-children 10000 (join inner (join left (scan 2 (fd 2 1 1 false ∷ fd 2 2 1 false ∷ fd 2 3 2 false ∷ []) []) (scan 4 (fd 3 1 1 true ∷ []) []) [] none) (filter (bin (cmp lt) (i 0) (i 0)) (scan 5 [] [])) [] none) ≡ passed 6 0 1 (join inner (join left (scan 2 (fd 2 1 1 false ∷ fd 2 2 1 false ∷ fd 2 3 2 false ∷ []) []) (scan 4 (fd 3 1 1 true ∷ []) []) [] none) (filter (bin (cmp lt) (i 0) (i 0)) (scan 5 [] [])) [] none)
+w27 : pass-by-records 10000 (join inner (join left (scan 2 (fd 2 1 1 false ∷ fd 2 2 1 false ∷ fd 2 3 2 false ∷ []) []) (scan 4 (fd 3 1 1 true ∷ []) []) [] none) (filter (bin (cmp lt) (i 0) (i 0)) (scan 5 [] [])) [] none) ≡ passed 6 0 1 (join inner (join left (scan 2 (fd 2 1 1 false ∷ fd 2 2 1 false ∷ fd 2 3 2 false ∷ []) []) (scan 4 (fd 3 1 1 true ∷ []) []) [] none) (filter (bin (cmp lt) (i 0) (i 0)) (scan 5 [] [])) [] none)
 unfolding walked
 w27 = refl
 
@@ -179,7 +180,7 @@ c28 : pass 10000 (filter (bin and (bool true) (fn 1 0 2 enil)) (aggregate [] (ag
 unfolding opened
 c28 = refl
 
-w28 : pass-by-children 10000 (filter (bin and (bool true) (fn 1 0 2 enil)) (aggregate [] (ag 0 101 min (v 2 2) ∷ ag 3 2 max (v 2 2) ∷ []) (scan 3 (fd 2 1 2 false ∷ fd 2 2 1 false ∷ []) []))) ≡ passed 3 0 1 (filter (bin and (bool true) (fn 1 0 2 enil)) (aggregate [] (ag 0 101 min (v 2 2) ∷ ag 3 2 max (v 2 2) ∷ []) (scan 3 (fd 2 1 2 false ∷ fd 2 2 1 false ∷ []) [])))
+w28 : pass-by-records 10000 (filter (bin and (bool true) (fn 1 0 2 enil)) (aggregate [] (ag 0 101 min (v 2 2) ∷ ag 3 2 max (v 2 2) ∷ []) (scan 3 (fd 2 1 2 false ∷ fd 2 2 1 false ∷ []) []))) ≡ passed 3 0 1 (filter (bin and (bool true) (fn 1 0 2 enil)) (aggregate [] (ag 0 101 min (v 2 2) ∷ ag 3 2 max (v 2 2) ∷ []) (scan 3 (fd 2 1 2 false ∷ fd 2 2 1 false ∷ []) [])))
 unfolding walked
 w28 = refl
 
@@ -187,7 +188,7 @@ c29 : pass 5 (filter (bin or (bin or (bin and (bin (cmp ge) (v 2 2) (i 1)) (bin 
 unfolding opened
 c29 = refl
 
-w29 : pass-by-children 5 (filter (bin or (bin or (bin and (bin (cmp ge) (v 2 2) (i 1)) (bin (cmp gt) (v 2 2) (i 1))) (bin (cmp eq) (v 2 2) (i 3))) (bin (cmp ne) (v 2 2) (i 1))) (union (pcons (filter (bin or (bin and (bin (cmp gt) (i 1) (v 2 2)) (fn 1 0 2 (econs (v 2 2) (econs (v 2 1) enil)))) (between true (i 1) (v 2 2) (v 2 2))) (scan 3 (fd 2 1 2 true ∷ fd 2 2 1 true ∷ []) ((bin (cmp lt) (i 2) (v 2 2)) ∷ (test isUnknown (fn 2 0 2 enil)) ∷ []))) (pcons (project (en 0 101 (v 4 1) ∷ en 0 102 (v 3 2) ∷ []) (join inner (scan 1 (fd 3 1 1 true ∷ fd 3 2 1 true ∷ []) []) (scan 3 (fd 4 1 2 false ∷ fd 4 2 1 false ∷ []) []) (pr (fn 1 0 1 (econs (i 2) (econs (bool true) enil))) (v 4 2) ∷ pr (v 3 2) (v 4 2) ∷ []) (some (bin and (bin (cmp le) (i 0) (v 3 2)) (neg (fn 2 0 2 (econs (v 4 1) (econs (v 3 2) enil)))))))) pnil)))) ≡ passed 5 5 0 (union (pcons (scan 3 (fd 2 1 2 true ∷ fd 2 2 1 true ∷ []) ((bin (cmp lt) (i 2) (v 2 2)) ∷ (test isUnknown (fn 2 0 2 enil)) ∷ (bin or (bin or (bin and (bin (cmp ge) (v 2 2) (i 1)) (bin (cmp gt) (v 2 2) (i 1))) (bin (cmp eq) (v 2 2) (i 3))) (bin (cmp ne) (v 2 2) (i 1))) ∷ (bin or (bin and (bin (cmp gt) (i 1) (v 2 2)) (fn 1 0 2 (econs (v 2 2) (econs (v 2 1) enil)))) (between true (i 1) (v 2 2) (v 2 2))) ∷ [])) (pcons (project (en 0 101 (v 4 1) ∷ en 0 102 (v 3 2) ∷ []) (join inner (scan 1 (fd 3 1 1 true ∷ fd 3 2 1 true ∷ []) ((bin or (bin or (bin and (bin (cmp ge) (v 3 2) (i 1)) (bin (cmp gt) (v 3 2) (i 1))) (bin (cmp eq) (v 3 2) (i 3))) (bin (cmp ne) (v 3 2) (i 1))) ∷ (bin (cmp le) (i 0) (v 3 2)) ∷ [])) (filter (bin and (bin and (bin or (bin or (bin and (bin (cmp ge) (v 4 2) (i 1)) (bin (cmp gt) (v 4 2) (i 1))) (bin (cmp eq) (v 4 2) (i 3))) (bin (cmp ne) (v 4 2) (i 1))) (bin (cmp le) (i 0) (v 4 2))) (neg (fn 2 0 2 (econs (v 4 1) (econs (v 4 2) enil))))) (scan 3 (fd 4 1 2 false ∷ fd 4 2 1 false ∷ []) [])) (pr (fn 1 0 1 (econs (i 2) (econs (bool true) enil))) (v 4 2) ∷ pr (v 3 2) (v 4 2) ∷ []) (some (neg (fn 2 0 2 (econs (v 4 1) (econs (v 3 2) enil))))))) pnil)))
+w29 : pass-by-records 5 (filter (bin or (bin or (bin and (bin (cmp ge) (v 2 2) (i 1)) (bin (cmp gt) (v 2 2) (i 1))) (bin (cmp eq) (v 2 2) (i 3))) (bin (cmp ne) (v 2 2) (i 1))) (union (pcons (filter (bin or (bin and (bin (cmp gt) (i 1) (v 2 2)) (fn 1 0 2 (econs (v 2 2) (econs (v 2 1) enil)))) (between true (i 1) (v 2 2) (v 2 2))) (scan 3 (fd 2 1 2 true ∷ fd 2 2 1 true ∷ []) ((bin (cmp lt) (i 2) (v 2 2)) ∷ (test isUnknown (fn 2 0 2 enil)) ∷ []))) (pcons (project (en 0 101 (v 4 1) ∷ en 0 102 (v 3 2) ∷ []) (join inner (scan 1 (fd 3 1 1 true ∷ fd 3 2 1 true ∷ []) []) (scan 3 (fd 4 1 2 false ∷ fd 4 2 1 false ∷ []) []) (pr (fn 1 0 1 (econs (i 2) (econs (bool true) enil))) (v 4 2) ∷ pr (v 3 2) (v 4 2) ∷ []) (some (bin and (bin (cmp le) (i 0) (v 3 2)) (neg (fn 2 0 2 (econs (v 4 1) (econs (v 3 2) enil)))))))) pnil)))) ≡ passed 5 5 0 (union (pcons (scan 3 (fd 2 1 2 true ∷ fd 2 2 1 true ∷ []) ((bin (cmp lt) (i 2) (v 2 2)) ∷ (test isUnknown (fn 2 0 2 enil)) ∷ (bin or (bin or (bin and (bin (cmp ge) (v 2 2) (i 1)) (bin (cmp gt) (v 2 2) (i 1))) (bin (cmp eq) (v 2 2) (i 3))) (bin (cmp ne) (v 2 2) (i 1))) ∷ (bin or (bin and (bin (cmp gt) (i 1) (v 2 2)) (fn 1 0 2 (econs (v 2 2) (econs (v 2 1) enil)))) (between true (i 1) (v 2 2) (v 2 2))) ∷ [])) (pcons (project (en 0 101 (v 4 1) ∷ en 0 102 (v 3 2) ∷ []) (join inner (scan 1 (fd 3 1 1 true ∷ fd 3 2 1 true ∷ []) ((bin or (bin or (bin and (bin (cmp ge) (v 3 2) (i 1)) (bin (cmp gt) (v 3 2) (i 1))) (bin (cmp eq) (v 3 2) (i 3))) (bin (cmp ne) (v 3 2) (i 1))) ∷ (bin (cmp le) (i 0) (v 3 2)) ∷ [])) (filter (bin and (bin and (bin or (bin or (bin and (bin (cmp ge) (v 4 2) (i 1)) (bin (cmp gt) (v 4 2) (i 1))) (bin (cmp eq) (v 4 2) (i 3))) (bin (cmp ne) (v 4 2) (i 1))) (bin (cmp le) (i 0) (v 4 2))) (neg (fn 2 0 2 (econs (v 4 1) (econs (v 4 2) enil))))) (scan 3 (fd 4 1 2 false ∷ fd 4 2 1 false ∷ []) [])) (pr (fn 1 0 1 (econs (i 2) (econs (bool true) enil))) (v 4 2) ∷ pr (v 3 2) (v 4 2) ∷ []) (some (neg (fn 2 0 2 (econs (v 4 1) (econs (v 3 2) enil))))))) pnil)))
 unfolding walked
 w29 = refl
 
@@ -203,7 +204,7 @@ c32 : pass 10000 (filter (bin and (bin (cmp lt) (i 1) (v 2 1)) (bin (cmp le) (v 
 unfolding opened
 c32 = refl
 
-w32 : pass-by-children 10000 (filter (bin and (bin (cmp lt) (i 1) (v 2 1)) (bin (cmp le) (v 2 2) (i 3))) (join inner (scan 4 (fd 0 101 1 true ∷ []) []) (scan 1 (fd 2 1 1 true ∷ fd 2 2 1 false ∷ []) []) (pr (v 0 101) (v 2 2) ∷ []) (some (bool true)))) ≡ passed 5 3 1 (join inner (filter (bool true) (scan 4 (fd 0 101 1 true ∷ []) ((bin (cmp le) (v 0 101) (i 3)) ∷ []))) (filter (bin (cmp le) (v 2 2) (i 3)) (scan 1 (fd 2 1 1 true ∷ fd 2 2 1 false ∷ []) ((bin (cmp lt) (i 1) (v 2 1)) ∷ []))) (pr (v 0 101) (v 2 2) ∷ []) none)
+w32 : pass-by-records 10000 (filter (bin and (bin (cmp lt) (i 1) (v 2 1)) (bin (cmp le) (v 2 2) (i 3))) (join inner (scan 4 (fd 0 101 1 true ∷ []) []) (scan 1 (fd 2 1 1 true ∷ fd 2 2 1 false ∷ []) []) (pr (v 0 101) (v 2 2) ∷ []) (some (bool true)))) ≡ passed 5 3 1 (join inner (filter (bool true) (scan 4 (fd 0 101 1 true ∷ []) ((bin (cmp le) (v 0 101) (i 3)) ∷ []))) (filter (bin (cmp le) (v 2 2) (i 3)) (scan 1 (fd 2 1 1 true ∷ fd 2 2 1 false ∷ []) ((bin (cmp lt) (i 1) (v 2 1)) ∷ []))) (pr (v 0 101) (v 2 2) ∷ []) none)
 unfolding walked
 w32 = refl
 
@@ -211,7 +212,7 @@ c33 : pass 10000 (filter (bool true) (project (en 0 101 (i 1) ∷ en 2 1 (v 2 2)
 unfolding opened
 c33 = refl
 
-w33 : pass-by-children 10000 (filter (bool true) (project (en 0 101 (i 1) ∷ en 2 1 (v 2 2) ∷ en 0 102 (v 2 1) ∷ []) (scan 3 (fd 2 1 2 false ∷ fd 2 2 1 false ∷ []) []))) ≡ passed 3 1 1 (project (en 0 101 (i 1) ∷ en 2 1 (v 2 2) ∷ en 0 102 (v 2 1) ∷ []) (filter (bool true) (scan 3 (fd 2 1 2 false ∷ fd 2 2 1 false ∷ []) [])))
+w33 : pass-by-records 10000 (filter (bool true) (project (en 0 101 (i 1) ∷ en 2 1 (v 2 2) ∷ en 0 102 (v 2 1) ∷ []) (scan 3 (fd 2 1 2 false ∷ fd 2 2 1 false ∷ []) []))) ≡ passed 3 1 1 (project (en 0 101 (i 1) ∷ en 2 1 (v 2 2) ∷ en 0 102 (v 2 1) ∷ []) (filter (bool true) (scan 3 (fd 2 1 2 false ∷ fd 2 2 1 false ∷ []) [])))
 unfolding walked
 w33 = refl
 
@@ -219,7 +220,7 @@ c34 : pass 10000 (filter (bin (cmp lt) (i 1) (v 0 101)) (project (en 0 101 (i 1)
 unfolding opened
 c34 = refl
 
-w34 : pass-by-children 10000 (filter (bin (cmp lt) (i 1) (v 0 101)) (project (en 0 101 (i 1) ∷ []) (filter (inlist false (i 0) (econs (i 0) (econs (i 1) enil))) (scan 5 [] [])))) ≡ passed 3 1 1 (project (en 0 101 (i 1) ∷ []) (filter (bin and (inlist false (i 0) (econs (i 0) (econs (i 1) enil))) (bin (cmp lt) (i 1) (i 1))) (scan 5 [] [])))
+w34 : pass-by-records 10000 (filter (bin (cmp lt) (i 1) (v 0 101)) (project (en 0 101 (i 1) ∷ []) (filter (inlist false (i 0) (econs (i 0) (econs (i 1) enil))) (scan 5 [] [])))) ≡ passed 3 1 1 (project (en 0 101 (i 1) ∷ []) (filter (bin and (inlist false (i 0) (econs (i 0) (econs (i 1) enil))) (bin (cmp lt) (i 1) (i 1))) (scan 5 [] [])))
 unfolding walked
 w34 = refl
 
@@ -239,7 +240,7 @@ c38 : pass 10000 (scan 3 (fd 2 1 2 true ∷ fd 2 2 1 true ∷ []) []) ≡ passed
 unfolding opened
 c38 = refl
 
-w38 : pass-by-children 10000 (scan 3 (fd 2 1 2 true ∷ fd 2 2 1 true ∷ []) []) ≡ passed 1 0 1 (scan 3 (fd 2 1 2 true ∷ fd 2 2 1 true ∷ []) [])
+w38 : pass-by-records 10000 (scan 3 (fd 2 1 2 true ∷ fd 2 2 1 true ∷ []) []) ≡ passed 1 0 1 (scan 3 (fd 2 1 2 true ∷ fd 2 2 1 true ∷ []) [])
 unfolding walked
 w38 = refl
 
@@ -251,7 +252,7 @@ c40 : pass 10000 (filter (bin and (bin (cmp lt) (i 2) (v 3 1)) (between false (v
 unfolding opened
 c40 = refl
 
-w40 : pass-by-children 10000 (filter (bin and (bin (cmp lt) (i 2) (v 3 1)) (between false (v 3 1) (fn 2 0 1 enil) (v 3 1))) (join rightAnti (scan 1 (fd 2 1 1 true ∷ fd 2 2 1 true ∷ []) ((bin (cmp le) (v 2 1) (nul 1)) ∷ (fn 1 0 2 (econs (v 2 2) (econs (i 1) enil))) ∷ [])) (scan 4 (fd 3 1 1 false ∷ []) ((between false (v 3 1) (fn 2 0 1 enil) (v 3 1)) ∷ [])) (pr (v 2 2) (v 3 1) ∷ pr (v 2 1) (v 3 1) ∷ []) none)) ≡ passed 4 1 1 (join rightAnti (scan 1 (fd 2 1 1 true ∷ fd 2 2 1 true ∷ []) ((bin (cmp le) (v 2 1) (nul 1)) ∷ (fn 1 0 2 (econs (v 2 2) (econs (i 1) enil))) ∷ [])) (filter (bin and (bin (cmp lt) (i 2) (v 3 1)) (between false (v 3 1) (fn 2 0 1 enil) (v 3 1))) (scan 4 (fd 3 1 1 false ∷ []) ((between false (v 3 1) (fn 2 0 1 enil) (v 3 1)) ∷ []))) (pr (v 2 2) (v 3 1) ∷ pr (v 2 1) (v 3 1) ∷ []) none)
+w40 : pass-by-records 10000 (filter (bin and (bin (cmp lt) (i 2) (v 3 1)) (between false (v 3 1) (fn 2 0 1 enil) (v 3 1))) (join rightAnti (scan 1 (fd 2 1 1 true ∷ fd 2 2 1 true ∷ []) ((bin (cmp le) (v 2 1) (nul 1)) ∷ (fn 1 0 2 (econs (v 2 2) (econs (i 1) enil))) ∷ [])) (scan 4 (fd 3 1 1 false ∷ []) ((between false (v 3 1) (fn 2 0 1 enil) (v 3 1)) ∷ [])) (pr (v 2 2) (v 3 1) ∷ pr (v 2 1) (v 3 1) ∷ []) none)) ≡ passed 4 1 1 (join rightAnti (scan 1 (fd 2 1 1 true ∷ fd 2 2 1 true ∷ []) ((bin (cmp le) (v 2 1) (nul 1)) ∷ (fn 1 0 2 (econs (v 2 2) (econs (i 1) enil))) ∷ [])) (filter (bin and (bin (cmp lt) (i 2) (v 3 1)) (between false (v 3 1) (fn 2 0 1 enil) (v 3 1))) (scan 4 (fd 3 1 1 false ∷ []) ((between false (v 3 1) (fn 2 0 1 enil) (v 3 1)) ∷ []))) (pr (v 2 2) (v 3 1) ∷ pr (v 2 1) (v 3 1) ∷ []) none)
 unfolding walked
 w40 = refl
 
@@ -259,7 +260,7 @@ c41 : pass 10000 (filter (bin (cmp lt) (v 4 3) (v 6 2)) (join rightSemi (filter 
 unfolding opened
 c41 = refl
 
-w41 : pass-by-children 10000 (filter (bin (cmp lt) (v 4 3) (v 6 2)) (join rightSemi (filter (bin and (bool true) (fn 2 0 2 (econs (v 2 1) (econs (i 2) enil)))) (filter (bin and (bool true) (bin (cmp eq) (v 2 1) (i 2))) (scan 1 (fd 2 1 1 true ∷ fd 2 2 1 false ∷ []) []))) (join full (project (en 4 3 (v 3 1) ∷ en 5 1 (v 3 2) ∷ en 6 2 (v 3 1) ∷ []) (scan 1 (fd 3 1 1 false ∷ fd 3 2 1 false ∷ []) [])) (union (pcons (scan 5 [] []) (pcons (scan 5 [] []) pnil))) [] none) (pr (v 2 1) (v 4 3) ∷ pr (v 2 2) (v 6 2) ∷ []) (some (bin and (bool true) (fn 1 0 2 (econs (v 2 1) (econs (bool true) enil))))))) ≡ passed 10 2 1 (join rightSemi (filter (bool true) (scan 1 (fd 2 1 1 true ∷ fd 2 2 1 false ∷ []) ((bin (cmp eq) (v 2 1) (i 2)) ∷ (fn 2 0 2 (econs (v 2 1) (econs (i 2) enil))) ∷ (fn 1 0 2 (econs (v 2 1) (econs (bool true) enil))) ∷ []))) (filter (bin (cmp lt) (v 4 3) (v 6 2)) (join full (project (en 4 3 (v 3 1) ∷ en 5 1 (v 3 2) ∷ en 6 2 (v 3 1) ∷ []) (scan 1 (fd 3 1 1 false ∷ fd 3 2 1 false ∷ []) [])) (union (pcons (scan 5 [] []) (pcons (scan 5 [] []) pnil))) [] none)) (pr (v 2 1) (v 4 3) ∷ pr (v 2 2) (v 6 2) ∷ []) none)
+w41 : pass-by-records 10000 (filter (bin (cmp lt) (v 4 3) (v 6 2)) (join rightSemi (filter (bin and (bool true) (fn 2 0 2 (econs (v 2 1) (econs (i 2) enil)))) (filter (bin and (bool true) (bin (cmp eq) (v 2 1) (i 2))) (scan 1 (fd 2 1 1 true ∷ fd 2 2 1 false ∷ []) []))) (join full (project (en 4 3 (v 3 1) ∷ en 5 1 (v 3 2) ∷ en 6 2 (v 3 1) ∷ []) (scan 1 (fd 3 1 1 false ∷ fd 3 2 1 false ∷ []) [])) (union (pcons (scan 5 [] []) (pcons (scan 5 [] []) pnil))) [] none) (pr (v 2 1) (v 4 3) ∷ pr (v 2 2) (v 6 2) ∷ []) (some (bin and (bool true) (fn 1 0 2 (econs (v 2 1) (econs (bool true) enil))))))) ≡ passed 10 2 1 (join rightSemi (filter (bool true) (scan 1 (fd 2 1 1 true ∷ fd 2 2 1 false ∷ []) ((bin (cmp eq) (v 2 1) (i 2)) ∷ (fn 2 0 2 (econs (v 2 1) (econs (i 2) enil))) ∷ (fn 1 0 2 (econs (v 2 1) (econs (bool true) enil))) ∷ []))) (filter (bin (cmp lt) (v 4 3) (v 6 2)) (join full (project (en 4 3 (v 3 1) ∷ en 5 1 (v 3 2) ∷ en 6 2 (v 3 1) ∷ []) (scan 1 (fd 3 1 1 false ∷ fd 3 2 1 false ∷ []) [])) (union (pcons (scan 5 [] []) (pcons (scan 5 [] []) pnil))) [] none)) (pr (v 2 1) (v 4 3) ∷ pr (v 2 2) (v 6 2) ∷ []) none)
 unfolding walked
 w41 = refl
 
@@ -267,7 +268,7 @@ c42 : pass 10000 (filter (bin and (bool false) (bool true)) (alias 2 (project (e
 unfolding opened
 c42 = refl
 
-w42 : pass-by-children 10000 (filter (bin and (bool false) (bool true)) (alias 2 (project (en 4 2 (i 2) ∷ []) (scan 1 (fd 3 1 1 true ∷ fd 3 2 1 false ∷ []) [])))) ≡ passed 4 2 1 (alias 2 (project (en 4 2 (i 2) ∷ []) (filter (bin and (bool false) (bool true)) (scan 1 (fd 3 1 1 true ∷ fd 3 2 1 false ∷ []) []))))
+w42 : pass-by-records 10000 (filter (bin and (bool false) (bool true)) (alias 2 (project (en 4 2 (i 2) ∷ []) (scan 1 (fd 3 1 1 true ∷ fd 3 2 1 false ∷ []) [])))) ≡ passed 4 2 1 (alias 2 (project (en 4 2 (i 2) ∷ []) (filter (bin and (bool false) (bool true)) (scan 1 (fd 3 1 1 true ∷ fd 3 2 1 false ∷ []) []))))
 unfolding walked
 w42 = refl
 
@@ -275,7 +276,7 @@ c43 : pass 10000 (join leftAnti (filter (bin and (bin (cmp lt) (i 1) (i 3)) (neg
 unfolding opened
 c43 = refl
 
-w43 : pass-by-children 10000 (join leftAnti (filter (bin and (bin (cmp lt) (i 1) (i 3)) (neg (bin (cmp lt) (i 1) (i 3)))) (scan 5 [] [])) (join right (scan 5 [] []) (scan 5 [] []) [] none) [] (some (neg (fn 1 2 2 (econs (i 0) enil))))) ≡ passed 7 2 1 (join leftAnti (filter (bin and (bin (cmp lt) (i 1) (i 3)) (neg (bin (cmp lt) (i 1) (i 3)))) (scan 5 [] [])) (join right (scan 5 [] []) (filter (neg (fn 1 2 2 (econs (i 0) enil))) (scan 5 [] [])) [] none) [] none)
+w43 : pass-by-records 10000 (join leftAnti (filter (bin and (bin (cmp lt) (i 1) (i 3)) (neg (bin (cmp lt) (i 1) (i 3)))) (scan 5 [] [])) (join right (scan 5 [] []) (scan 5 [] []) [] none) [] (some (neg (fn 1 2 2 (econs (i 0) enil))))) ≡ passed 7 2 1 (join leftAnti (filter (bin and (bin (cmp lt) (i 1) (i 3)) (neg (bin (cmp lt) (i 1) (i 3)))) (scan 5 [] [])) (join right (scan 5 [] []) (filter (neg (fn 1 2 2 (econs (i 0) enil))) (scan 5 [] [])) [] none) [] none)
 unfolding walked
 w43 = refl
 
@@ -287,7 +288,7 @@ c45 : pass 2 (filter (bin and (bin (cmp le) (v 2 1) (i 3)) (bin (cmp lt) (v 2 1)
 unfolding opened
 c45 = refl
 
-w45 : pass-by-children 2 (filter (bin and (bin (cmp le) (v 2 1) (i 3)) (bin (cmp lt) (v 2 1) (v 2 1))) (scan 2 (fd 2 1 1 false ∷ fd 2 2 1 false ∷ fd 2 3 2 false ∷ []) ((v 2 3) ∷ (bool true) ∷ []))) ≡ passed 2 0 1 (filter (bin and (bin (cmp le) (v 2 1) (i 3)) (bin (cmp lt) (v 2 1) (v 2 1))) (scan 2 (fd 2 1 1 false ∷ fd 2 2 1 false ∷ fd 2 3 2 false ∷ []) ((v 2 3) ∷ (bool true) ∷ [])))
+w45 : pass-by-records 2 (filter (bin and (bin (cmp le) (v 2 1) (i 3)) (bin (cmp lt) (v 2 1) (v 2 1))) (scan 2 (fd 2 1 1 false ∷ fd 2 2 1 false ∷ fd 2 3 2 false ∷ []) ((v 2 3) ∷ (bool true) ∷ []))) ≡ passed 2 0 1 (filter (bin and (bin (cmp le) (v 2 1) (i 3)) (bin (cmp lt) (v 2 1) (v 2 1))) (scan 2 (fd 2 1 1 false ∷ fd 2 2 1 false ∷ fd 2 3 2 false ∷ []) ((v 2 3) ∷ (bool true) ∷ [])))
 unfolding walked
 w45 = refl
 
@@ -299,7 +300,7 @@ c47 : pass 10000 (filter (bin and (bin (cmp lt) (nul 1) (v 2 2)) (bin or (bin or
 unfolding opened
 c47 = refl
 
-w47 : pass-by-children 10000 (filter (bin and (bin (cmp lt) (nul 1) (v 2 2)) (bin or (bin or (bin and (bin (cmp lt) (i 0) (v 2 1)) (bin (cmp le) (v 2 1) (i 3))) (fn 1 0 2 enil)) (bin and (bin or (fn 1 2 2 (econs (bool true) (econs (bool true) enil))) (bool true)) (test isTrue (fn 1 0 2 enil))))) (limit 3 0 (scan 1 (fd 2 1 1 false ∷ fd 2 2 1 true ∷ []) ((bin (cmp ge) (v 2 2) (i 0)) ∷ (bin (cmp eq) (v 2 1) (i 2)) ∷ [])))) ≡ passed 3 0 1 (filter (bin and (bin (cmp lt) (nul 1) (v 2 2)) (bin or (bin or (bin and (bin (cmp lt) (i 0) (v 2 1)) (bin (cmp le) (v 2 1) (i 3))) (fn 1 0 2 enil)) (bin and (bin or (fn 1 2 2 (econs (bool true) (econs (bool true) enil))) (bool true)) (test isTrue (fn 1 0 2 enil))))) (limit 3 0 (scan 1 (fd 2 1 1 false ∷ fd 2 2 1 true ∷ []) ((bin (cmp ge) (v 2 2) (i 0)) ∷ (bin (cmp eq) (v 2 1) (i 2)) ∷ []))))
+w47 : pass-by-records 10000 (filter (bin and (bin (cmp lt) (nul 1) (v 2 2)) (bin or (bin or (bin and (bin (cmp lt) (i 0) (v 2 1)) (bin (cmp le) (v 2 1) (i 3))) (fn 1 0 2 enil)) (bin and (bin or (fn 1 2 2 (econs (bool true) (econs (bool true) enil))) (bool true)) (test isTrue (fn 1 0 2 enil))))) (limit 3 0 (scan 1 (fd 2 1 1 false ∷ fd 2 2 1 true ∷ []) ((bin (cmp ge) (v 2 2) (i 0)) ∷ (bin (cmp eq) (v 2 1) (i 2)) ∷ [])))) ≡ passed 3 0 1 (filter (bin and (bin (cmp lt) (nul 1) (v 2 2)) (bin or (bin or (bin and (bin (cmp lt) (i 0) (v 2 1)) (bin (cmp le) (v 2 1) (i 3))) (fn 1 0 2 enil)) (bin and (bin or (fn 1 2 2 (econs (bool true) (econs (bool true) enil))) (bool true)) (test isTrue (fn 1 0 2 enil))))) (limit 3 0 (scan 1 (fd 2 1 1 false ∷ fd 2 2 1 true ∷ []) ((bin (cmp ge) (v 2 2) (i 0)) ∷ (bin (cmp eq) (v 2 1) (i 2)) ∷ []))))
 unfolding walked
 w47 = refl
 
@@ -307,7 +308,7 @@ c48 : pass 10000 (filter (fn 1 0 2 (econs (v 3 3) enil)) (aggregate (en 0 102 (f
 unfolding opened
 c48 = refl
 
-w48 : pass-by-children 10000 (filter (fn 1 0 2 (econs (v 3 3) enil)) (aggregate (en 0 102 (fn 0 0 1 (econs (bool true) (econs (bool false) enil))) ∷ en 3 3 (bool false) ∷ []) (ag 0 103 max (v 0 101) ∷ ag 4 1 min (v 0 101) ∷ []) (project (en 0 101 (v 2 2) ∷ []) (filter (bin or (between false (i 2) (v 2 2) (v 2 2)) (fn 1 0 2 (econs (v 2 2) enil))) (scan 3 (fd 2 1 2 false ∷ fd 2 2 1 false ∷ []) []))))) ≡ passed 4 2 1 (aggregate (en 0 102 (fn 0 0 1 (econs (bool true) (econs (bool false) enil))) ∷ en 3 3 (bool false) ∷ []) (ag 0 103 max (v 0 101) ∷ ag 4 1 min (v 0 101) ∷ []) (project (en 0 101 (v 2 2) ∷ []) (filter (bin and (bin or (between false (i 2) (v 2 2) (v 2 2)) (fn 1 0 2 (econs (v 2 2) enil))) (fn 1 0 2 (econs (bool false) enil))) (scan 3 (fd 2 1 2 false ∷ fd 2 2 1 false ∷ []) []))))
+w48 : pass-by-records 10000 (filter (fn 1 0 2 (econs (v 3 3) enil)) (aggregate (en 0 102 (fn 0 0 1 (econs (bool true) (econs (bool false) enil))) ∷ en 3 3 (bool false) ∷ []) (ag 0 103 max (v 0 101) ∷ ag 4 1 min (v 0 101) ∷ []) (project (en 0 101 (v 2 2) ∷ []) (filter (bin or (between false (i 2) (v 2 2) (v 2 2)) (fn 1 0 2 (econs (v 2 2) enil))) (scan 3 (fd 2 1 2 false ∷ fd 2 2 1 false ∷ []) []))))) ≡ passed 4 2 1 (aggregate (en 0 102 (fn 0 0 1 (econs (bool true) (econs (bool false) enil))) ∷ en 3 3 (bool false) ∷ []) (ag 0 103 max (v 0 101) ∷ ag 4 1 min (v 0 101) ∷ []) (project (en 0 101 (v 2 2) ∷ []) (filter (bin and (bin or (between false (i 2) (v 2 2) (v 2 2)) (fn 1 0 2 (econs (v 2 2) enil))) (fn 1 0 2 (econs (bool false) enil))) (scan 3 (fd 2 1 2 false ∷ fd 2 2 1 false ∷ []) []))))
 unfolding walked
 w48 = refl
 
@@ -315,7 +316,7 @@ c49 : pass 10000 (filter (bin and (bool false) (bin (cmp eq) (v 3 1) (i 0))) (jo
 unfolding opened
 c49 = refl
 
-w49 : pass-by-children 10000 (filter (bin and (bool false) (bin (cmp eq) (v 3 1) (i 0))) (join rightSemi (filter (bin and (bin (cmp le) (i 2) (v 2 2)) (bool false)) (scan 1 (fd 2 1 1 true ∷ fd 2 2 1 true ∷ []) [])) (window (wn 0 101 min (i 0) (nm 3 1 ∷ nm 3 2 ∷ []) ∷ wn 0 102 count (i 0) (nm 3 2 ∷ nm 3 2 ∷ []) ∷ []) (scan 1 (fd 3 1 1 true ∷ fd 3 2 1 true ∷ []) [])) (pr (v 2 2) (v 0 101) ∷ pr (v 2 1) (v 3 1) ∷ []) (some (bin and (neg (fn 2 2 2 (econs (bool false) enil))) (bin or (bin (cmp ge) (i 0) (v 0 102)) (bin or (bin or (fn 2 0 2 (econs (v 3 1) enil)) (neg (fn 2 2 2 (econs (bool false) enil)))) (fn 0 0 2 (econs (v 3 1) enil)))))))) ≡ passed 7 3 1 (join rightSemi (filter (bin and (bool false) (neg (fn 2 2 2 (econs (bool false) enil)))) (scan 1 (fd 2 1 1 true ∷ fd 2 2 1 true ∷ []) ((bin (cmp le) (i 2) (v 2 2)) ∷ []))) (filter (bin and (bin (cmp eq) (v 3 1) (i 0)) (bin or (bin (cmp ge) (i 0) (v 0 102)) (bin or (bin or (fn 2 0 2 (econs (v 3 1) enil)) (neg (fn 2 2 2 (econs (bool false) enil)))) (fn 0 0 2 (econs (v 3 1) enil))))) (window (wn 0 101 min (i 0) (nm 3 1 ∷ nm 3 2 ∷ []) ∷ wn 0 102 count (i 0) (nm 3 2 ∷ nm 3 2 ∷ []) ∷ []) (filter (bool false) (scan 1 (fd 3 1 1 true ∷ fd 3 2 1 true ∷ []) [])))) (pr (v 2 2) (v 0 101) ∷ pr (v 2 1) (v 3 1) ∷ []) none)
+w49 : pass-by-records 10000 (filter (bin and (bool false) (bin (cmp eq) (v 3 1) (i 0))) (join rightSemi (filter (bin and (bin (cmp le) (i 2) (v 2 2)) (bool false)) (scan 1 (fd 2 1 1 true ∷ fd 2 2 1 true ∷ []) [])) (window (wn 0 101 min (i 0) (nm 3 1 ∷ nm 3 2 ∷ []) ∷ wn 0 102 count (i 0) (nm 3 2 ∷ nm 3 2 ∷ []) ∷ []) (scan 1 (fd 3 1 1 true ∷ fd 3 2 1 true ∷ []) [])) (pr (v 2 2) (v 0 101) ∷ pr (v 2 1) (v 3 1) ∷ []) (some (bin and (neg (fn 2 2 2 (econs (bool false) enil))) (bin or (bin (cmp ge) (i 0) (v 0 102)) (bin or (bin or (fn 2 0 2 (econs (v 3 1) enil)) (neg (fn 2 2 2 (econs (bool false) enil)))) (fn 0 0 2 (econs (v 3 1) enil)))))))) ≡ passed 7 3 1 (join rightSemi (filter (bin and (bool false) (neg (fn 2 2 2 (econs (bool false) enil)))) (scan 1 (fd 2 1 1 true ∷ fd 2 2 1 true ∷ []) ((bin (cmp le) (i 2) (v 2 2)) ∷ []))) (filter (bin and (bin (cmp eq) (v 3 1) (i 0)) (bin or (bin (cmp ge) (i 0) (v 0 102)) (bin or (bin or (fn 2 0 2 (econs (v 3 1) enil)) (neg (fn 2 2 2 (econs (bool false) enil)))) (fn 0 0 2 (econs (v 3 1) enil))))) (window (wn 0 101 min (i 0) (nm 3 1 ∷ nm 3 2 ∷ []) ∷ wn 0 102 count (i 0) (nm 3 2 ∷ nm 3 2 ∷ []) ∷ []) (filter (bool false) (scan 1 (fd 3 1 1 true ∷ fd 3 2 1 true ∷ []) [])))) (pr (v 2 2) (v 0 101) ∷ pr (v 2 1) (v 3 1) ∷ []) none)
 unfolding walked
 w49 = refl
 
@@ -323,7 +324,7 @@ c50 : pass 10000 (filter (inlist false (v 2 1) (econs (i 1) enil)) (alias 2 (lim
 unfolding opened
 c50 = refl
 
-w50 : pass-by-children 10000 (filter (inlist false (v 2 1) (econs (i 1) enil)) (alias 2 (limit 3 1 (scan 2 (fd 3 1 1 false ∷ fd 3 2 1 false ∷ fd 3 3 2 true ∷ []) [])))) ≡ passed 4 1 1 (alias 2 (filter (inlist false (v 3 1) (econs (i 1) enil)) (limit 3 1 (scan 2 (fd 3 1 1 false ∷ fd 3 2 1 false ∷ fd 3 3 2 true ∷ []) []))))
+w50 : pass-by-records 10000 (filter (inlist false (v 2 1) (econs (i 1) enil)) (alias 2 (limit 3 1 (scan 2 (fd 3 1 1 false ∷ fd 3 2 1 false ∷ fd 3 3 2 true ∷ []) [])))) ≡ passed 4 1 1 (alias 2 (filter (inlist false (v 3 1) (econs (i 1) enil)) (limit 3 1 (scan 2 (fd 3 1 1 false ∷ fd 3 2 1 false ∷ fd 3 3 2 true ∷ []) []))))
 unfolding walked
 w50 = refl
 
@@ -339,7 +340,7 @@ c53 : pass 10000 (filter (bin (cmp ge) (i 0) (v 4 2)) (project (en 0 101 (inlist
 unfolding opened
 c53 = refl
 
-w53 : pass-by-children 10000 (filter (bin (cmp ge) (i 0) (v 4 2)) (project (en 0 101 (inlist false (v 3 1) (econs (i 0) enil)) ∷ en 4 2 (nul 1) ∷ []) (distinct (join left (scan 3 (fd 2 1 2 false ∷ fd 2 2 1 false ∷ []) ((fn 0 0 2 (econs (v 2 2) (econs (v 2 2) enil))) ∷ [])) (scan 4 (fd 3 1 1 false ∷ []) ((bin (cmp lt) (nul 1) (v 3 1)) ∷ (bin (cmp lt) (nul 1) (v 3 1)) ∷ [])) [] (some (bin (cmp eq) (i 1) (v 2 2))))))) ≡ passed 6 3 1 (project (en 0 101 (inlist false (v 3 1) (econs (i 0) enil)) ∷ en 4 2 (nul 1) ∷ []) (distinct (join left (filter (bin (cmp ge) (i 0) (nul 1)) (scan 3 (fd 2 1 2 false ∷ fd 2 2 1 false ∷ []) ((fn 0 0 2 (econs (v 2 2) (econs (v 2 2) enil))) ∷ []))) (scan 4 (fd 3 1 1 false ∷ []) ((bin (cmp lt) (nul 1) (v 3 1)) ∷ (bin (cmp lt) (nul 1) (v 3 1)) ∷ [])) [] (some (bin (cmp eq) (i 1) (v 2 2))))))
+w53 : pass-by-records 10000 (filter (bin (cmp ge) (i 0) (v 4 2)) (project (en 0 101 (inlist false (v 3 1) (econs (i 0) enil)) ∷ en 4 2 (nul 1) ∷ []) (distinct (join left (scan 3 (fd 2 1 2 false ∷ fd 2 2 1 false ∷ []) ((fn 0 0 2 (econs (v 2 2) (econs (v 2 2) enil))) ∷ [])) (scan 4 (fd 3 1 1 false ∷ []) ((bin (cmp lt) (nul 1) (v 3 1)) ∷ (bin (cmp lt) (nul 1) (v 3 1)) ∷ [])) [] (some (bin (cmp eq) (i 1) (v 2 2))))))) ≡ passed 6 3 1 (project (en 0 101 (inlist false (v 3 1) (econs (i 0) enil)) ∷ en 4 2 (nul 1) ∷ []) (distinct (join left (filter (bin (cmp ge) (i 0) (nul 1)) (scan 3 (fd 2 1 2 false ∷ fd 2 2 1 false ∷ []) ((fn 0 0 2 (econs (v 2 2) (econs (v 2 2) enil))) ∷ []))) (scan 4 (fd 3 1 1 false ∷ []) ((bin (cmp lt) (nul 1) (v 3 1)) ∷ (bin (cmp lt) (nul 1) (v 3 1)) ∷ [])) [] (some (bin (cmp eq) (i 1) (v 2 2))))))
 unfolding walked
 w53 = refl
 
@@ -347,7 +348,7 @@ c54 : pass 10000 (filter (bin and (between true (v 2 1) (i 2) (v 2 1)) (bin (cmp
 unfolding opened
 c54 = refl
 
-w54 : pass-by-children 10000 (filter (bin and (between true (v 2 1) (i 2) (v 2 1)) (bin (cmp ne) (i 2) (v 2 2))) (join left (scan 3 (fd 0 101 2 false ∷ fd 0 102 1 true ∷ []) []) (scan 2 (fd 2 1 1 true ∷ fd 2 2 1 true ∷ fd 2 3 2 true ∷ []) []) [] (some (bin and (between true (v 2 1) (i 2) (v 2 1)) (between true (v 2 1) (i 2) (v 2 1)))))) ≡ passed 4 2 1 (filter (bin and (between true (v 2 1) (i 2) (v 2 1)) (bin (cmp ne) (i 2) (v 2 2))) (join left (scan 3 (fd 0 101 2 false ∷ fd 0 102 1 true ∷ []) []) (scan 2 (fd 2 1 1 true ∷ fd 2 2 1 true ∷ fd 2 3 2 true ∷ []) ((between true (v 2 1) (i 2) (v 2 1)) ∷ [])) [] none))
+w54 : pass-by-records 10000 (filter (bin and (between true (v 2 1) (i 2) (v 2 1)) (bin (cmp ne) (i 2) (v 2 2))) (join left (scan 3 (fd 0 101 2 false ∷ fd 0 102 1 true ∷ []) []) (scan 2 (fd 2 1 1 true ∷ fd 2 2 1 true ∷ fd 2 3 2 true ∷ []) []) [] (some (bin and (between true (v 2 1) (i 2) (v 2 1)) (between true (v 2 1) (i 2) (v 2 1)))))) ≡ passed 4 2 1 (filter (bin and (between true (v 2 1) (i 2) (v 2 1)) (bin (cmp ne) (i 2) (v 2 2))) (join left (scan 3 (fd 0 101 2 false ∷ fd 0 102 1 true ∷ []) []) (scan 2 (fd 2 1 1 true ∷ fd 2 2 1 true ∷ fd 2 3 2 true ∷ []) ((between true (v 2 1) (i 2) (v 2 1)) ∷ [])) [] none))
 unfolding walked
 w54 = refl
 
@@ -355,7 +356,7 @@ c55 : pass 10000 (filter (bin (cmp le) (i 2) (i 0)) (scan 5 [] [])) ≡ passed 2
 unfolding opened
 c55 = refl
 
-w55 : pass-by-children 10000 (filter (bin (cmp le) (i 2) (i 0)) (scan 5 [] [])) ≡ passed 2 0 1 (filter (bin (cmp le) (i 2) (i 0)) (scan 5 [] []))
+w55 : pass-by-records 10000 (filter (bin (cmp le) (i 2) (i 0)) (scan 5 [] [])) ≡ passed 2 0 1 (filter (bin (cmp le) (i 2) (i 0)) (scan 5 [] []))
 unfolding walked
 w55 = refl
 
@@ -367,7 +368,7 @@ c57 : pass 10000 (filter (neg (bin (cmp le) (i 0) (v 0 102))) (sort none [] (sca
 unfolding opened
 c57 = refl
 
-w57 : pass-by-children 10000 (filter (neg (bin (cmp le) (i 0) (v 0 102))) (sort none [] (scan 3 (fd 0 101 2 true ∷ fd 0 102 1 true ∷ []) []))) ≡ passed 2 2 1 (sort none [] (scan 3 (fd 0 101 2 true ∷ fd 0 102 1 true ∷ []) ((neg (bin (cmp le) (i 0) (v 0 102))) ∷ [])))
+w57 : pass-by-records 10000 (filter (neg (bin (cmp le) (i 0) (v 0 102))) (sort none [] (scan 3 (fd 0 101 2 true ∷ fd 0 102 1 true ∷ []) []))) ≡ passed 2 2 1 (sort none [] (scan 3 (fd 0 101 2 true ∷ fd 0 102 1 true ∷ []) ((neg (bin (cmp le) (i 0) (v 0 102))) ∷ [])))
 unfolding walked
 w57 = refl
 
@@ -387,7 +388,7 @@ c61 : pass 10000 (filter (bin and (nul 2) (bin (cmp ge) (i 1) (v 2 2))) (project
 unfolding opened
 c61 = refl
 
-w61 : pass-by-children 10000 (filter (bin and (nul 2) (bin (cmp ge) (i 1) (v 2 2))) (project (en 3 2 (bool true) ∷ en 2 2 (i 3) ∷ []) (filter (inlist false (v 2 2) (econs (v 2 2) enil)) (scan 1 (fd 2 1 1 true ∷ fd 2 2 1 true ∷ []) [])))) ≡ passed 3 2 1 (project (en 3 2 (bool true) ∷ en 2 2 (i 3) ∷ []) (filter (bin and (nul 2) (bin (cmp ge) (i 1) (i 3))) (scan 1 (fd 2 1 1 true ∷ fd 2 2 1 true ∷ []) ((inlist false (v 2 2) (econs (v 2 2) enil)) ∷ []))))
+w61 : pass-by-records 10000 (filter (bin and (nul 2) (bin (cmp ge) (i 1) (v 2 2))) (project (en 3 2 (bool true) ∷ en 2 2 (i 3) ∷ []) (filter (inlist false (v 2 2) (econs (v 2 2) enil)) (scan 1 (fd 2 1 1 true ∷ fd 2 2 1 true ∷ []) [])))) ≡ passed 3 2 1 (project (en 3 2 (bool true) ∷ en 2 2 (i 3) ∷ []) (filter (bin and (nul 2) (bin (cmp ge) (i 1) (i 3))) (scan 1 (fd 2 1 1 true ∷ fd 2 2 1 true ∷ []) ((inlist false (v 2 2) (econs (v 2 2) enil)) ∷ []))))
 unfolding walked
 w61 = refl
 
@@ -411,7 +412,7 @@ c66 : pass 10000 (window (wn 3 3 min (fn 1 0 1 (econs (bool true) (econs (v 2 1)
 unfolding opened
 c66 = refl
 
-w66 : pass-by-children 10000 (window (wn 3 3 min (fn 1 0 1 (econs (bool true) (econs (v 2 1) enil))) (nm 2 1 ∷ []) ∷ wn 4 3 max (i 1) [] ∷ []) (scan 1 (fd 2 1 1 false ∷ fd 2 2 1 false ∷ []) [])) ≡ passed 2 0 1 (window (wn 3 3 min (fn 1 0 1 (econs (bool true) (econs (v 2 1) enil))) (nm 2 1 ∷ []) ∷ wn 4 3 max (i 1) [] ∷ []) (scan 1 (fd 2 1 1 false ∷ fd 2 2 1 false ∷ []) []))
+w66 : pass-by-records 10000 (window (wn 3 3 min (fn 1 0 1 (econs (bool true) (econs (v 2 1) enil))) (nm 2 1 ∷ []) ∷ wn 4 3 max (i 1) [] ∷ []) (scan 1 (fd 2 1 1 false ∷ fd 2 2 1 false ∷ []) [])) ≡ passed 2 0 1 (window (wn 3 3 min (fn 1 0 1 (econs (bool true) (econs (v 2 1) enil))) (nm 2 1 ∷ []) ∷ wn 4 3 max (i 1) [] ∷ []) (scan 1 (fd 2 1 1 false ∷ fd 2 2 1 false ∷ []) []))
 unfolding walked
 w66 = refl
 
@@ -419,7 +420,7 @@ c67 : pass 4 (window (wn 0 101 max (v 2 1) [] ∷ []) (scan 4 (fd 2 1 1 true ∷
 unfolding opened
 c67 = refl
 
-w67 : pass-by-children 4 (window (wn 0 101 max (v 2 1) [] ∷ []) (scan 4 (fd 2 1 1 true ∷ []) [])) ≡ passed 2 0 1 (window (wn 0 101 max (v 2 1) [] ∷ []) (scan 4 (fd 2 1 1 true ∷ []) []))
+w67 : pass-by-records 4 (window (wn 0 101 max (v 2 1) [] ∷ []) (scan 4 (fd 2 1 1 true ∷ []) [])) ≡ passed 2 0 1 (window (wn 0 101 max (v 2 1) [] ∷ []) (scan 4 (fd 2 1 1 true ∷ []) []))
 unfolding walked
 w67 = refl
 
@@ -435,7 +436,7 @@ c70 : pass 10000 (filter (bin (cmp ge) (i 3) (v 2 2)) (limit 0 0 (filter (bin an
 unfolding opened
 c70 = refl
 
-w70 : pass-by-children 10000 (filter (bin (cmp ge) (i 3) (v 2 2)) (limit 0 0 (filter (bin and (neg (fn 0 0 2 (econs (v 2 2) (econs (nul 1) enil)))) (bin (cmp ne) (bool true) (v 2 1))) (scan 3 (fd 2 1 2 false ∷ fd 2 2 1 false ∷ []) ((bin or (bin and (v 2 1) (v 2 1)) (bool false)) ∷ []))))) ≡ passed 4 0 1 (filter (bin (cmp ge) (i 3) (v 2 2)) (limit 0 0 (filter (bin and (bin (cmp ne) (bool true) (v 2 1)) (neg (fn 0 0 2 (econs (v 2 2) (econs (nul 1) enil))))) (scan 3 (fd 2 1 2 false ∷ fd 2 2 1 false ∷ []) ((bin or (bin and (v 2 1) (v 2 1)) (bool false)) ∷ [])))))
+w70 : pass-by-records 10000 (filter (bin (cmp ge) (i 3) (v 2 2)) (limit 0 0 (filter (bin and (neg (fn 0 0 2 (econs (v 2 2) (econs (nul 1) enil)))) (bin (cmp ne) (bool true) (v 2 1))) (scan 3 (fd 2 1 2 false ∷ fd 2 2 1 false ∷ []) ((bin or (bin and (v 2 1) (v 2 1)) (bool false)) ∷ []))))) ≡ passed 4 0 1 (filter (bin (cmp ge) (i 3) (v 2 2)) (limit 0 0 (filter (bin and (bin (cmp ne) (bool true) (v 2 1)) (neg (fn 0 0 2 (econs (v 2 2) (econs (nul 1) enil))))) (scan 3 (fd 2 1 2 false ∷ fd 2 2 1 false ∷ []) ((bin or (bin and (v 2 1) (v 2 1)) (bool false)) ∷ [])))))
 unfolding walked
 w70 = refl
 
@@ -471,7 +472,7 @@ c78 : pass 10000 (filter (bin or (bin and (bin or (fn 0 0 2 (econs (v 2 3) (econ
 unfolding opened
 c78 = refl
 
-w78 : pass-by-children 10000 (filter (bin or (bin and (bin or (fn 0 0 2 (econs (v 2 3) (econs (v 2 3) enil))) (v 2 3)) (bin (cmp gt) (v 2 3) (bool true))) (v 2 3)) (join leftAnti (alias 2 (scan 2 (fd 3 1 1 false ∷ fd 3 2 1 true ∷ fd 3 3 2 true ∷ []) [])) (filter (bool true) (scan 5 [] [])) [] (some (bin and (bin (cmp lt) (i 1) (i 2)) (bin (cmp gt) (i 2) (v 2 2)))))) ≡ passed 5 3 1 (join leftAnti (alias 2 (scan 2 (fd 3 1 1 false ∷ fd 3 2 1 true ∷ fd 3 3 2 true ∷ []) ((bin or (bin and (bin or (fn 0 0 2 (econs (v 3 3) (econs (v 3 3) enil))) (v 3 3)) (bin (cmp gt) (v 3 3) (bool true))) (v 3 3)) ∷ []))) (filter (bin and (bool true) (bin (cmp lt) (i 1) (i 2))) (scan 5 [] [])) [] (some (bin (cmp gt) (i 2) (v 2 2))))
+w78 : pass-by-records 10000 (filter (bin or (bin and (bin or (fn 0 0 2 (econs (v 2 3) (econs (v 2 3) enil))) (v 2 3)) (bin (cmp gt) (v 2 3) (bool true))) (v 2 3)) (join leftAnti (alias 2 (scan 2 (fd 3 1 1 false ∷ fd 3 2 1 true ∷ fd 3 3 2 true ∷ []) [])) (filter (bool true) (scan 5 [] [])) [] (some (bin and (bin (cmp lt) (i 1) (i 2)) (bin (cmp gt) (i 2) (v 2 2)))))) ≡ passed 5 3 1 (join leftAnti (alias 2 (scan 2 (fd 3 1 1 false ∷ fd 3 2 1 true ∷ fd 3 3 2 true ∷ []) ((bin or (bin and (bin or (fn 0 0 2 (econs (v 3 3) (econs (v 3 3) enil))) (v 3 3)) (bin (cmp gt) (v 3 3) (bool true))) (v 3 3)) ∷ []))) (filter (bin and (bool true) (bin (cmp lt) (i 1) (i 2))) (scan 5 [] [])) [] (some (bin (cmp gt) (i 2) (v 2 2))))
 unfolding walked
 w78 = refl
 
@@ -479,7 +480,7 @@ c79 : pass 3 (filter (bin (cmp eq) (v 2 1) (i 2)) (limit 2 1 (project (en 0 101 
 unfolding opened
 c79 = refl
 
-w79 : pass-by-children 3 (filter (bin (cmp eq) (v 2 1) (i 2)) (limit 2 1 (project (en 0 101 (i 2) ∷ en 2 1 (v 2 1) ∷ []) (filter (bin (cmp eq) (v 2 1) (i 2)) (scan 4 (fd 2 1 1 true ∷ []) []))))) ≡ passed 3 0 0 (filter (bin (cmp eq) (v 2 1) (i 2)) (limit 2 1 (project (en 0 101 (i 2) ∷ en 2 1 (v 2 1) ∷ []) (filter (bin (cmp eq) (v 2 1) (i 2)) (scan 4 (fd 2 1 1 true ∷ []) [])))))
+w79 : pass-by-records 3 (filter (bin (cmp eq) (v 2 1) (i 2)) (limit 2 1 (project (en 0 101 (i 2) ∷ en 2 1 (v 2 1) ∷ []) (filter (bin (cmp eq) (v 2 1) (i 2)) (scan 4 (fd 2 1 1 true ∷ []) []))))) ≡ passed 3 0 0 (filter (bin (cmp eq) (v 2 1) (i 2)) (limit 2 1 (project (en 0 101 (i 2) ∷ en 2 1 (v 2 1) ∷ []) (filter (bin (cmp eq) (v 2 1) (i 2)) (scan 4 (fd 2 1 1 true ∷ []) [])))))
 unfolding walked
 w79 = refl
 
@@ -499,7 +500,7 @@ c83 : pass 4 (filter (bin (cmp eq) (v 0 103) (i 1)) (project (en 0 103 (i 2) ∷
 unfolding opened
 c83 = refl
 
-w83 : pass-by-children 4 (filter (bin (cmp eq) (v 0 103) (i 1)) (project (en 0 103 (i 2) ∷ []) (window (wn 0 103 max (v 0 102) (nm 0 101 ∷ []) ∷ wn 2 3 max (v 0 102) (nm 0 102 ∷ []) ∷ []) (scan 3 (fd 0 101 2 true ∷ fd 0 102 1 true ∷ []) [])))) ≡ passed 4 2 1 (project (en 0 103 (i 2) ∷ []) (window (wn 0 103 max (v 0 102) (nm 0 101 ∷ []) ∷ wn 2 3 max (v 0 102) (nm 0 102 ∷ []) ∷ []) (filter (bin (cmp eq) (i 2) (i 1)) (scan 3 (fd 0 101 2 true ∷ fd 0 102 1 true ∷ []) []))))
+w83 : pass-by-records 4 (filter (bin (cmp eq) (v 0 103) (i 1)) (project (en 0 103 (i 2) ∷ []) (window (wn 0 103 max (v 0 102) (nm 0 101 ∷ []) ∷ wn 2 3 max (v 0 102) (nm 0 102 ∷ []) ∷ []) (scan 3 (fd 0 101 2 true ∷ fd 0 102 1 true ∷ []) [])))) ≡ passed 4 2 1 (project (en 0 103 (i 2) ∷ []) (window (wn 0 103 max (v 0 102) (nm 0 101 ∷ []) ∷ wn 2 3 max (v 0 102) (nm 0 102 ∷ []) ∷ []) (filter (bin (cmp eq) (i 2) (i 1)) (scan 3 (fd 0 101 2 true ∷ fd 0 102 1 true ∷ []) []))))
 unfolding walked
 w83 = refl
 
@@ -519,7 +520,7 @@ c87 : pass 10000 (filter (bin and (between false (nul 1) (i 1) (i 2)) (bin (cmp 
 unfolding opened
 c87 = refl
 
-w87 : pass-by-children 10000 (filter (bin and (between false (nul 1) (i 1) (i 2)) (bin (cmp lt) (i 0) (v 2 1))) (union (pcons (scan 2 (fd 2 1 1 true ∷ fd 2 2 1 true ∷ fd 2 3 2 true ∷ []) []) (pcons (project (en 3 1 (v 0 101) ∷ en 4 2 (v 0 102) ∷ en 5 1 (bool false) ∷ []) (scan 1 (fd 0 101 1 false ∷ fd 0 102 1 true ∷ []) [])) (pcons (scan 2 (fd 6 1 1 false ∷ fd 6 2 1 true ∷ fd 6 3 2 false ∷ []) []) pnil))))) ≡ passed 8 3 1 (union (pcons (filter (between false (nul 1) (i 1) (i 2)) (scan 2 (fd 2 1 1 true ∷ fd 2 2 1 true ∷ fd 2 3 2 true ∷ []) ((bin (cmp lt) (i 0) (v 2 1)) ∷ []))) (pcons (project (en 3 1 (v 0 101) ∷ en 4 2 (v 0 102) ∷ en 5 1 (bool false) ∷ []) (filter (bin and (between false (nul 1) (i 1) (i 2)) (bin (cmp lt) (i 0) (v 0 101))) (scan 1 (fd 0 101 1 false ∷ fd 0 102 1 true ∷ []) []))) (pcons (filter (bin and (between false (nul 1) (i 1) (i 2)) (bin (cmp lt) (i 0) (v 6 1))) (scan 2 (fd 6 1 1 false ∷ fd 6 2 1 true ∷ fd 6 3 2 false ∷ []) [])) pnil))))
+w87 : pass-by-records 10000 (filter (bin and (between false (nul 1) (i 1) (i 2)) (bin (cmp lt) (i 0) (v 2 1))) (union (pcons (scan 2 (fd 2 1 1 true ∷ fd 2 2 1 true ∷ fd 2 3 2 true ∷ []) []) (pcons (project (en 3 1 (v 0 101) ∷ en 4 2 (v 0 102) ∷ en 5 1 (bool false) ∷ []) (scan 1 (fd 0 101 1 false ∷ fd 0 102 1 true ∷ []) [])) (pcons (scan 2 (fd 6 1 1 false ∷ fd 6 2 1 true ∷ fd 6 3 2 false ∷ []) []) pnil))))) ≡ passed 8 3 1 (union (pcons (filter (between false (nul 1) (i 1) (i 2)) (scan 2 (fd 2 1 1 true ∷ fd 2 2 1 true ∷ fd 2 3 2 true ∷ []) ((bin (cmp lt) (i 0) (v 2 1)) ∷ []))) (pcons (project (en 3 1 (v 0 101) ∷ en 4 2 (v 0 102) ∷ en 5 1 (bool false) ∷ []) (filter (bin and (between false (nul 1) (i 1) (i 2)) (bin (cmp lt) (i 0) (v 0 101))) (scan 1 (fd 0 101 1 false ∷ fd 0 102 1 true ∷ []) []))) (pcons (filter (bin and (between false (nul 1) (i 1) (i 2)) (bin (cmp lt) (i 0) (v 6 1))) (scan 2 (fd 6 1 1 false ∷ fd 6 2 1 true ∷ fd 6 3 2 false ∷ []) [])) pnil))))
 unfolding walked
 w87 = refl
 
@@ -531,7 +532,7 @@ c89 : pass 10000 (filter (bin and (nul 2) (bin (cmp ge) (v 0 103) (i 2))) (windo
 unfolding opened
 c89 = refl
 
-w89 : pass-by-children 10000 (filter (bin and (nul 2) (bin (cmp ge) (v 0 103) (i 2))) (window (wn 0 103 max (v 2 1) (nm 0 101 ∷ []) ∷ wn 4 3 min (i 3) [] ∷ []) (filter (between false (i 0) (v 3 3) (nul 1)) (aggregate (en 2 1 (v 2 1) ∷ en 0 101 (bool false) ∷ []) (ag 3 3 max (v 2 1) ∷ ag 0 102 min (i 2) ∷ []) (scan 4 (fd 2 1 1 true ∷ []) []))))) ≡ passed 6 2 1 (filter (bin (cmp ge) (v 0 103) (i 2)) (window (wn 0 103 max (v 2 1) (nm 0 101 ∷ []) ∷ wn 4 3 min (i 3) [] ∷ []) (filter (between false (i 0) (v 3 3) (nul 1)) (aggregate (en 2 1 (v 2 1) ∷ en 0 101 (bool false) ∷ []) (ag 3 3 max (v 2 1) ∷ ag 0 102 min (i 2) ∷ []) (filter (nul 2) (scan 4 (fd 2 1 1 true ∷ []) []))))))
+w89 : pass-by-records 10000 (filter (bin and (nul 2) (bin (cmp ge) (v 0 103) (i 2))) (window (wn 0 103 max (v 2 1) (nm 0 101 ∷ []) ∷ wn 4 3 min (i 3) [] ∷ []) (filter (between false (i 0) (v 3 3) (nul 1)) (aggregate (en 2 1 (v 2 1) ∷ en 0 101 (bool false) ∷ []) (ag 3 3 max (v 2 1) ∷ ag 0 102 min (i 2) ∷ []) (scan 4 (fd 2 1 1 true ∷ []) []))))) ≡ passed 6 2 1 (filter (bin (cmp ge) (v 0 103) (i 2)) (window (wn 0 103 max (v 2 1) (nm 0 101 ∷ []) ∷ wn 4 3 min (i 3) [] ∷ []) (filter (between false (i 0) (v 3 3) (nul 1)) (aggregate (en 2 1 (v 2 1) ∷ en 0 101 (bool false) ∷ []) (ag 3 3 max (v 2 1) ∷ ag 0 102 min (i 2) ∷ []) (filter (nul 2) (scan 4 (fd 2 1 1 true ∷ []) []))))))
 unfolding walked
 w89 = refl
 
@@ -559,7 +560,7 @@ c95 : pass 10000 (filter (bin and (bin (cmp lt) (v 2 1) (i 0)) (v 2 3)) (alias 2
 unfolding opened
 c95 = refl
 
-w95 : pass-by-children 10000 (filter (bin and (bin (cmp lt) (v 2 1) (i 0)) (v 2 3)) (alias 2 (scan 2 (fd 3 1 1 false ∷ fd 3 2 1 false ∷ fd 3 3 2 false ∷ []) []))) ≡ passed 3 1 1 (alias 2 (filter (bin and (bin (cmp lt) (v 3 1) (i 0)) (v 3 3)) (scan 2 (fd 3 1 1 false ∷ fd 3 2 1 false ∷ fd 3 3 2 false ∷ []) [])))
+w95 : pass-by-records 10000 (filter (bin and (bin (cmp lt) (v 2 1) (i 0)) (v 2 3)) (alias 2 (scan 2 (fd 3 1 1 false ∷ fd 3 2 1 false ∷ fd 3 3 2 false ∷ []) []))) ≡ passed 3 1 1 (alias 2 (filter (bin and (bin (cmp lt) (v 3 1) (i 0)) (v 3 3)) (scan 2 (fd 3 1 1 false ∷ fd 3 2 1 false ∷ fd 3 3 2 false ∷ []) [])))
 unfolding walked
 w95 = refl
 
@@ -583,7 +584,7 @@ c100 : pass 3 (filter (inlist true (v 0 101) (econs (i 0) (econs (v 0 101) enil)
 unfolding opened
 c100 = refl
 
-w100 : pass-by-children 3 (filter (inlist true (v 0 101) (econs (i 0) (econs (v 0 101) enil))) (project (en 0 101 (v 2 1) ∷ en 0 102 (bin (cmp gt) (i 2) (v 2 1)) ∷ en 2 1 (fn 2 0 2 (econs (nul 2) enil)) ∷ []) (filter (bin and (bin (cmp gt) (i 0) (v 2 1)) (bin (cmp le) (v 2 1) (v 2 1))) (scan 4 (fd 2 1 1 false ∷ []) [])))) ≡ passed 3 1 1 (project (en 0 101 (v 2 1) ∷ en 0 102 (bin (cmp gt) (i 2) (v 2 1)) ∷ en 2 1 (fn 2 0 2 (econs (nul 2) enil)) ∷ []) (filter (bin and (bin and (bin (cmp gt) (i 0) (v 2 1)) (bin (cmp le) (v 2 1) (v 2 1))) (inlist true (v 2 1) (econs (i 0) (econs (v 2 1) enil)))) (scan 4 (fd 2 1 1 false ∷ []) [])))
+w100 : pass-by-records 3 (filter (inlist true (v 0 101) (econs (i 0) (econs (v 0 101) enil))) (project (en 0 101 (v 2 1) ∷ en 0 102 (bin (cmp gt) (i 2) (v 2 1)) ∷ en 2 1 (fn 2 0 2 (econs (nul 2) enil)) ∷ []) (filter (bin and (bin (cmp gt) (i 0) (v 2 1)) (bin (cmp le) (v 2 1) (v 2 1))) (scan 4 (fd 2 1 1 false ∷ []) [])))) ≡ passed 3 1 1 (project (en 0 101 (v 2 1) ∷ en 0 102 (bin (cmp gt) (i 2) (v 2 1)) ∷ en 2 1 (fn 2 0 2 (econs (nul 2) enil)) ∷ []) (filter (bin and (bin and (bin (cmp gt) (i 0) (v 2 1)) (bin (cmp le) (v 2 1) (v 2 1))) (inlist true (v 2 1) (econs (i 0) (econs (v 2 1) enil)))) (scan 4 (fd 2 1 1 false ∷ []) [])))
 unfolding walked
 w100 = refl
 
@@ -599,7 +600,7 @@ c103 : pass 5 (filter (bin (cmp gt) (v 3 2) (i 0)) (project (en 0 101 (bool fals
 unfolding opened
 c103 = refl
 
-w103 : pass-by-children 5 (filter (bin (cmp gt) (v 3 2) (i 0)) (project (en 0 101 (bool false) ∷ en 3 2 (i 9223372036854775807) ∷ []) (scan 4 (fd 2 1 1 false ∷ []) []))) ≡ passed 3 1 1 (project (en 0 101 (bool false) ∷ en 3 2 (i 9223372036854775807) ∷ []) (filter (bin (cmp gt) (i 9223372036854775807) (i 0)) (scan 4 (fd 2 1 1 false ∷ []) [])))
+w103 : pass-by-records 5 (filter (bin (cmp gt) (v 3 2) (i 0)) (project (en 0 101 (bool false) ∷ en 3 2 (i 9223372036854775807) ∷ []) (scan 4 (fd 2 1 1 false ∷ []) []))) ≡ passed 3 1 1 (project (en 0 101 (bool false) ∷ en 3 2 (i 9223372036854775807) ∷ []) (filter (bin (cmp gt) (i 9223372036854775807) (i 0)) (scan 4 (fd 2 1 1 false ∷ []) [])))
 unfolding walked
 w103 = refl
 
@@ -611,7 +612,7 @@ c105 : pass 10000 (filter (bin and (bin or (bin (cmp eq) (v 2 2) (i 0)) (fn 1 2 
 unfolding opened
 c105 = refl
 
-w105 : pass-by-children 10000 (filter (bin and (bin or (bin (cmp eq) (v 2 2) (i 0)) (fn 1 2 2 (econs (v 2 1) enil))) (bin (cmp eq) (v 2 1) (i 3))) (limit 3 1 (union (pcons (scan 1 (fd 2 1 1 false ∷ fd 2 2 1 true ∷ []) []) (pcons (project (en 4 3 (v 3 1) ∷ en 5 3 (v 3 2) ∷ []) (scan 2 (fd 3 1 1 true ∷ fd 3 2 1 true ∷ fd 3 3 2 false ∷ []) [])) (pcons (project (en 7 3 (nul 1) ∷ en 0 101 (v 6 2) ∷ []) (scan 3 (fd 6 1 2 true ∷ fd 6 2 1 true ∷ []) [])) pnil)))))) ≡ passed 8 0 1 (filter (bin and (bin (cmp eq) (v 2 1) (i 3)) (bin or (bin (cmp eq) (v 2 2) (i 0)) (fn 1 2 2 (econs (v 2 1) enil)))) (limit 3 1 (union (pcons (scan 1 (fd 2 1 1 false ∷ fd 2 2 1 true ∷ []) []) (pcons (project (en 4 3 (v 3 1) ∷ en 5 3 (v 3 2) ∷ []) (scan 2 (fd 3 1 1 true ∷ fd 3 2 1 true ∷ fd 3 3 2 false ∷ []) [])) (pcons (project (en 7 3 (nul 1) ∷ en 0 101 (v 6 2) ∷ []) (scan 3 (fd 6 1 2 true ∷ fd 6 2 1 true ∷ []) [])) pnil))))))
+w105 : pass-by-records 10000 (filter (bin and (bin or (bin (cmp eq) (v 2 2) (i 0)) (fn 1 2 2 (econs (v 2 1) enil))) (bin (cmp eq) (v 2 1) (i 3))) (limit 3 1 (union (pcons (scan 1 (fd 2 1 1 false ∷ fd 2 2 1 true ∷ []) []) (pcons (project (en 4 3 (v 3 1) ∷ en 5 3 (v 3 2) ∷ []) (scan 2 (fd 3 1 1 true ∷ fd 3 2 1 true ∷ fd 3 3 2 false ∷ []) [])) (pcons (project (en 7 3 (nul 1) ∷ en 0 101 (v 6 2) ∷ []) (scan 3 (fd 6 1 2 true ∷ fd 6 2 1 true ∷ []) [])) pnil)))))) ≡ passed 8 0 1 (filter (bin and (bin (cmp eq) (v 2 1) (i 3)) (bin or (bin (cmp eq) (v 2 2) (i 0)) (fn 1 2 2 (econs (v 2 1) enil)))) (limit 3 1 (union (pcons (scan 1 (fd 2 1 1 false ∷ fd 2 2 1 true ∷ []) []) (pcons (project (en 4 3 (v 3 1) ∷ en 5 3 (v 3 2) ∷ []) (scan 2 (fd 3 1 1 true ∷ fd 3 2 1 true ∷ fd 3 3 2 false ∷ []) [])) (pcons (project (en 7 3 (nul 1) ∷ en 0 101 (v 6 2) ∷ []) (scan 3 (fd 6 1 2 true ∷ fd 6 2 1 true ∷ []) [])) pnil))))))
 unfolding walked
 w105 = refl
 
@@ -635,7 +636,7 @@ c110 : pass 0 (filter (bin and (between true (fn 2 0 1 (econs (v 3 2) (econs (v 
 unfolding opened
 c110 = refl
 
-w110 : pass-by-children 0 (filter (bin and (between true (fn 2 0 1 (econs (v 3 2) (econs (v 0 102) enil))) (v 0 102) (i 1)) (bool false)) (aggregate (en 0 102 (i 3) ∷ en 3 2 (bool false) ∷ []) [] (join inner (scan 1 (fd 2 1 1 true ∷ fd 2 2 1 true ∷ []) []) (scan 2 (fd 0 101 1 true ∷ fd 0 102 1 true ∷ fd 0 103 2 true ∷ []) []) [] none))) ≡ passed 0 0 0 (filter (bin and (between true (fn 2 0 1 (econs (v 3 2) (econs (v 0 102) enil))) (v 0 102) (i 1)) (bool false)) (aggregate (en 0 102 (i 3) ∷ en 3 2 (bool false) ∷ []) [] (join inner (scan 1 (fd 2 1 1 true ∷ fd 2 2 1 true ∷ []) []) (scan 2 (fd 0 101 1 true ∷ fd 0 102 1 true ∷ fd 0 103 2 true ∷ []) []) [] none)))
+w110 : pass-by-records 0 (filter (bin and (between true (fn 2 0 1 (econs (v 3 2) (econs (v 0 102) enil))) (v 0 102) (i 1)) (bool false)) (aggregate (en 0 102 (i 3) ∷ en 3 2 (bool false) ∷ []) [] (join inner (scan 1 (fd 2 1 1 true ∷ fd 2 2 1 true ∷ []) []) (scan 2 (fd 0 101 1 true ∷ fd 0 102 1 true ∷ fd 0 103 2 true ∷ []) []) [] none))) ≡ passed 0 0 0 (filter (bin and (between true (fn 2 0 1 (econs (v 3 2) (econs (v 0 102) enil))) (v 0 102) (i 1)) (bool false)) (aggregate (en 0 102 (i 3) ∷ en 3 2 (bool false) ∷ []) [] (join inner (scan 1 (fd 2 1 1 true ∷ fd 2 2 1 true ∷ []) []) (scan 2 (fd 0 101 1 true ∷ fd 0 102 1 true ∷ fd 0 103 2 true ∷ []) []) [] none)))
 unfolding walked
 w110 = refl
 
@@ -651,7 +652,7 @@ c113 : pass 10000 (filter (bin or (test isTrue (fn 1 0 2 (econs (v 0 102) (econs
 unfolding opened
 c113 = refl
 
-w113 : pass-by-children 10000 (filter (bin or (test isTrue (fn 1 0 2 (econs (v 0 102) (econs (bool false) enil)))) (bin and (fn 0 0 2 (econs (bool false) (econs (nul 2) enil))) (bin (cmp ne) (v 0 101) (fn 0 0 1 (econs (i 1) enil))))) (repartition (scan 1 (fd 0 101 1 false ∷ fd 0 102 1 false ∷ []) []))) ≡ passed 3 1 1 (repartition (filter (bin or (test isTrue (fn 1 0 2 (econs (v 0 102) (econs (bool false) enil)))) (bin and (fn 0 0 2 (econs (bool false) (econs (nul 2) enil))) (bin (cmp ne) (v 0 101) (fn 0 0 1 (econs (i 1) enil))))) (scan 1 (fd 0 101 1 false ∷ fd 0 102 1 false ∷ []) [])))
+w113 : pass-by-records 10000 (filter (bin or (test isTrue (fn 1 0 2 (econs (v 0 102) (econs (bool false) enil)))) (bin and (fn 0 0 2 (econs (bool false) (econs (nul 2) enil))) (bin (cmp ne) (v 0 101) (fn 0 0 1 (econs (i 1) enil))))) (repartition (scan 1 (fd 0 101 1 false ∷ fd 0 102 1 false ∷ []) []))) ≡ passed 3 1 1 (repartition (filter (bin or (test isTrue (fn 1 0 2 (econs (v 0 102) (econs (bool false) enil)))) (bin and (fn 0 0 2 (econs (bool false) (econs (nul 2) enil))) (bin (cmp ne) (v 0 101) (fn 0 0 1 (econs (i 1) enil))))) (scan 1 (fd 0 101 1 false ∷ fd 0 102 1 false ∷ []) [])))
 unfolding walked
 w113 = refl
 
@@ -659,7 +660,7 @@ c114 : pass 2 (filter (bin and (neg (fn 0 2 2 (econs (v 3 2) (econs (bool false)
 unfolding opened
 c114 = refl
 
-w114 : pass-by-children 2 (filter (bin and (neg (fn 0 2 2 (econs (v 3 2) (econs (bool false) enil)))) (fn 0 0 2 (econs (v 2 1) (econs (fn 0 0 1 enil) enil)))) (project (en 3 2 (i 0) ∷ en 0 101 (v 2 2) ∷ en 2 1 (i 3) ∷ []) (filter (bin and (inlist true (v 2 1) (econs (v 2 1) (econs (v 2 2) enil))) (bin (cmp le) (v 2 2) (i 3))) (scan 1 (fd 2 1 1 true ∷ fd 2 2 1 true ∷ []) [])))) ≡ passed 2 2 0 (project (en 3 2 (i 0) ∷ en 0 101 (v 2 2) ∷ en 2 1 (i 3) ∷ []) (filter (bin and (neg (fn 0 2 2 (econs (i 0) (econs (bool false) enil)))) (fn 0 0 2 (econs (i 3) (econs (fn 0 0 1 enil) enil)))) (scan 1 (fd 2 1 1 true ∷ fd 2 2 1 true ∷ []) ((inlist true (v 2 1) (econs (v 2 1) (econs (v 2 2) enil))) ∷ (bin (cmp le) (v 2 2) (i 3)) ∷ []))))
+w114 : pass-by-records 2 (filter (bin and (neg (fn 0 2 2 (econs (v 3 2) (econs (bool false) enil)))) (fn 0 0 2 (econs (v 2 1) (econs (fn 0 0 1 enil) enil)))) (project (en 3 2 (i 0) ∷ en 0 101 (v 2 2) ∷ en 2 1 (i 3) ∷ []) (filter (bin and (inlist true (v 2 1) (econs (v 2 1) (econs (v 2 2) enil))) (bin (cmp le) (v 2 2) (i 3))) (scan 1 (fd 2 1 1 true ∷ fd 2 2 1 true ∷ []) [])))) ≡ passed 2 2 0 (project (en 3 2 (i 0) ∷ en 0 101 (v 2 2) ∷ en 2 1 (i 3) ∷ []) (filter (bin and (neg (fn 0 2 2 (econs (i 0) (econs (bool false) enil)))) (fn 0 0 2 (econs (i 3) (econs (fn 0 0 1 enil) enil)))) (scan 1 (fd 2 1 1 true ∷ fd 2 2 1 true ∷ []) ((inlist true (v 2 1) (econs (v 2 1) (econs (v 2 2) enil))) ∷ (bin (cmp le) (v 2 2) (i 3)) ∷ []))))
 unfolding walked
 w114 = refl
 
@@ -671,7 +672,7 @@ c116 : pass 10000 (filter (bin and (bool true) (bool true)) (repartition (projec
 unfolding opened
 c116 = refl
 
-w116 : pass-by-children 10000 (filter (bin and (bool true) (bool true)) (repartition (project (en 0 101 (i 3) ∷ en 3 2 (i 3) ∷ []) (join rightAnti (scan 2 (fd 2 1 1 true ∷ fd 2 2 1 true ∷ fd 2 3 2 false ∷ []) []) (scan 5 [] []) [] (some (bin or (bin (cmp lt) (bool true) (v 2 3)) (fn 1 0 2 (econs (i 0) enil)))))))) ≡ passed 7 3 1 (repartition (project (en 0 101 (i 3) ∷ en 3 2 (i 3) ∷ []) (join rightAnti (filter (bin or (bin (cmp lt) (bool true) (v 2 3)) (fn 1 0 2 (econs (i 0) enil))) (scan 2 (fd 2 1 1 true ∷ fd 2 2 1 true ∷ fd 2 3 2 false ∷ []) [])) (filter (bin and (bool true) (bool true)) (scan 5 [] [])) [] none)))
+w116 : pass-by-records 10000 (filter (bin and (bool true) (bool true)) (repartition (project (en 0 101 (i 3) ∷ en 3 2 (i 3) ∷ []) (join rightAnti (scan 2 (fd 2 1 1 true ∷ fd 2 2 1 true ∷ fd 2 3 2 false ∷ []) []) (scan 5 [] []) [] (some (bin or (bin (cmp lt) (bool true) (v 2 3)) (fn 1 0 2 (econs (i 0) enil)))))))) ≡ passed 7 3 1 (repartition (project (en 0 101 (i 3) ∷ en 3 2 (i 3) ∷ []) (join rightAnti (filter (bin or (bin (cmp lt) (bool true) (v 2 3)) (fn 1 0 2 (econs (i 0) enil))) (scan 2 (fd 2 1 1 true ∷ fd 2 2 1 true ∷ fd 2 3 2 false ∷ []) [])) (filter (bin and (bool true) (bool true)) (scan 5 [] [])) [] none)))
 unfolding walked
 w116 = refl
 
@@ -679,7 +680,7 @@ c117 : pass 0 (filter (bin or (bool true) (bin or (bool true) (bin (cmp gt) (v 2
 unfolding opened
 c117 = refl
 
-w117 : pass-by-children 0 (filter (bin or (bool true) (bin or (bool true) (bin (cmp gt) (v 2 1) (i 3)))) (alias 2 (scan 1 (fd 3 1 1 true ∷ fd 3 2 1 true ∷ []) []))) ≡ passed 0 0 0 (filter (bin or (bool true) (bin or (bool true) (bin (cmp gt) (v 2 1) (i 3)))) (alias 2 (scan 1 (fd 3 1 1 true ∷ fd 3 2 1 true ∷ []) [])))
+w117 : pass-by-records 0 (filter (bin or (bool true) (bin or (bool true) (bin (cmp gt) (v 2 1) (i 3)))) (alias 2 (scan 1 (fd 3 1 1 true ∷ fd 3 2 1 true ∷ []) []))) ≡ passed 0 0 0 (filter (bin or (bool true) (bin or (bool true) (bin (cmp gt) (v 2 1) (i 3)))) (alias 2 (scan 1 (fd 3 1 1 true ∷ fd 3 2 1 true ∷ []) [])))
 unfolding walked
 w117 = refl
 
@@ -695,7 +696,7 @@ c120 : pass 5 (filter (bin and (inlist false (i 0) (econs (i 0) (econs (v 0 102)
 unfolding opened
 c120 = refl
 
-w120 : pass-by-children 5 (filter (bin and (inlist false (i 0) (econs (i 0) (econs (v 0 102) enil))) (between false (v 5 2) (i 0) (v 5 2))) (window (wn 5 2 max (i 2) (nm 4 1 ∷ []) ∷ wn 6 3 min (i 1) (nm 3 1 ∷ nm 0 101 ∷ []) ∷ []) (aggregate (en 0 101 (bin (cmp lt) (v 2 1) (i 3)) ∷ en 3 1 (v 2 1) ∷ []) (ag 0 102 max (i 2) ∷ ag 4 1 max (v 2 1) ∷ []) (scan 4 (fd 2 1 1 false ∷ []) [])))) ≡ passed 4 0 1 (filter (bin and (inlist false (i 0) (econs (i 0) (econs (v 0 102) enil))) (between false (v 5 2) (i 0) (v 5 2))) (window (wn 5 2 max (i 2) (nm 4 1 ∷ []) ∷ wn 6 3 min (i 1) (nm 3 1 ∷ nm 0 101 ∷ []) ∷ []) (aggregate (en 0 101 (bin (cmp lt) (v 2 1) (i 3)) ∷ en 3 1 (v 2 1) ∷ []) (ag 0 102 max (i 2) ∷ ag 4 1 max (v 2 1) ∷ []) (scan 4 (fd 2 1 1 false ∷ []) []))))
+w120 : pass-by-records 5 (filter (bin and (inlist false (i 0) (econs (i 0) (econs (v 0 102) enil))) (between false (v 5 2) (i 0) (v 5 2))) (window (wn 5 2 max (i 2) (nm 4 1 ∷ []) ∷ wn 6 3 min (i 1) (nm 3 1 ∷ nm 0 101 ∷ []) ∷ []) (aggregate (en 0 101 (bin (cmp lt) (v 2 1) (i 3)) ∷ en 3 1 (v 2 1) ∷ []) (ag 0 102 max (i 2) ∷ ag 4 1 max (v 2 1) ∷ []) (scan 4 (fd 2 1 1 false ∷ []) [])))) ≡ passed 4 0 1 (filter (bin and (inlist false (i 0) (econs (i 0) (econs (v 0 102) enil))) (between false (v 5 2) (i 0) (v 5 2))) (window (wn 5 2 max (i 2) (nm 4 1 ∷ []) ∷ wn 6 3 min (i 1) (nm 3 1 ∷ nm 0 101 ∷ []) ∷ []) (aggregate (en 0 101 (bin (cmp lt) (v 2 1) (i 3)) ∷ en 3 1 (v 2 1) ∷ []) (ag 0 102 max (i 2) ∷ ag 4 1 max (v 2 1) ∷ []) (scan 4 (fd 2 1 1 false ∷ []) []))))
 unfolding walked
 w120 = refl
 
@@ -703,7 +704,7 @@ c121 : pass 10000 (filter (bin and (between false (v 2 1) (v 2 2) (v 7 2)) (fn 2
 unfolding opened
 c121 = refl
 
-w121 : pass-by-children 10000 (filter (bin and (between false (v 2 1) (v 2 2) (v 7 2)) (fn 2 0 2 (econs (bool false) enil))) (join inner (union (pcons (filter (bin (cmp gt) (nul 1) (v 2 1)) (scan 1 (fd 2 1 1 true ∷ fd 2 2 1 false ∷ []) [])) (pcons (project (en 0 101 (i 0) ∷ en 0 102 (i 2) ∷ []) (join rightSemi (scan 2 (fd 3 1 1 true ∷ fd 3 2 1 true ∷ fd 3 3 2 false ∷ []) []) (scan 4 (fd 4 1 1 false ∷ []) ((bool false) ∷ (bin or (bin (cmp ne) (v 4 1) (i 3)) (bool true)) ∷ [])) [] none)) (pcons (project (en 0 103 (v 5 2) ∷ en 6 3 (nul 1) ∷ []) (sort none [] (scan 3 (fd 5 1 2 true ∷ fd 5 2 1 true ∷ []) []))) pnil)))) (join inner (join inner (scan 1 (fd 7 1 1 false ∷ fd 7 2 1 false ∷ []) ((bin (cmp ne) (i 0) (v 7 1)) ∷ [])) (scan 1 (fd 8 1 1 true ∷ fd 8 2 1 true ∷ []) []) (pr (i 3) (v 8 2) ∷ pr (v 7 1) (v 8 2) ∷ []) none) (project (en 10 2 (fn 2 0 2 enil) ∷ []) (scan 4 (fd 9 1 1 true ∷ []) [])) [] (some (bin (cmp ge) (v 7 1) (i 3)))) (pr (v 2 1) (v 7 2) ∷ []) (some (bin (cmp eq) (v 2 2) (nul 1))))) ≡ passed 20 10 1 (join inner (union (pcons (filter (bin and (bin (cmp eq) (v 2 2) (nul 1)) (fn 2 0 2 (econs (bool false) enil))) (scan 1 (fd 2 1 1 true ∷ fd 2 2 1 false ∷ []) ((bin (cmp gt) (nul 1) (v 2 1)) ∷ []))) (pcons (project (en 0 101 (i 0) ∷ en 0 102 (i 2) ∷ []) (join rightSemi (scan 2 (fd 3 1 1 true ∷ fd 3 2 1 true ∷ fd 3 3 2 false ∷ []) []) (filter (bin and (bin (cmp eq) (i 2) (nul 1)) (fn 2 0 2 (econs (bool false) enil))) (scan 4 (fd 4 1 1 false ∷ []) ((bool false) ∷ (bin or (bin (cmp ne) (v 4 1) (i 3)) (bool true)) ∷ []))) [] none)) (pcons (project (en 0 103 (v 5 2) ∷ en 6 3 (nul 1) ∷ []) (sort none [] (filter (bin and (bin (cmp eq) (nul 1) (nul 1)) (fn 2 0 2 (econs (bool false) enil))) (scan 3 (fd 5 1 2 true ∷ fd 5 2 1 true ∷ []) [])))) pnil)))) (join inner (join inner (filter (bin (cmp ge) (v 7 1) (i 3)) (scan 1 (fd 7 1 1 false ∷ fd 7 2 1 false ∷ []) ((bin (cmp ne) (i 0) (v 7 1)) ∷ []))) (scan 1 (fd 8 1 1 true ∷ fd 8 2 1 true ∷ []) ((bin (cmp ge) (v 8 2) (i 3)) ∷ [])) (pr (i 3) (v 8 2) ∷ pr (v 7 1) (v 8 2) ∷ []) none) (project (en 10 2 (fn 2 0 2 enil) ∷ []) (scan 4 (fd 9 1 1 true ∷ []) [])) [] none) (pr (v 2 1) (v 7 2) ∷ []) (some (between false (v 2 1) (v 2 2) (v 7 2))))
+w121 : pass-by-records 10000 (filter (bin and (between false (v 2 1) (v 2 2) (v 7 2)) (fn 2 0 2 (econs (bool false) enil))) (join inner (union (pcons (filter (bin (cmp gt) (nul 1) (v 2 1)) (scan 1 (fd 2 1 1 true ∷ fd 2 2 1 false ∷ []) [])) (pcons (project (en 0 101 (i 0) ∷ en 0 102 (i 2) ∷ []) (join rightSemi (scan 2 (fd 3 1 1 true ∷ fd 3 2 1 true ∷ fd 3 3 2 false ∷ []) []) (scan 4 (fd 4 1 1 false ∷ []) ((bool false) ∷ (bin or (bin (cmp ne) (v 4 1) (i 3)) (bool true)) ∷ [])) [] none)) (pcons (project (en 0 103 (v 5 2) ∷ en 6 3 (nul 1) ∷ []) (sort none [] (scan 3 (fd 5 1 2 true ∷ fd 5 2 1 true ∷ []) []))) pnil)))) (join inner (join inner (scan 1 (fd 7 1 1 false ∷ fd 7 2 1 false ∷ []) ((bin (cmp ne) (i 0) (v 7 1)) ∷ [])) (scan 1 (fd 8 1 1 true ∷ fd 8 2 1 true ∷ []) []) (pr (i 3) (v 8 2) ∷ pr (v 7 1) (v 8 2) ∷ []) none) (project (en 10 2 (fn 2 0 2 enil) ∷ []) (scan 4 (fd 9 1 1 true ∷ []) [])) [] (some (bin (cmp ge) (v 7 1) (i 3)))) (pr (v 2 1) (v 7 2) ∷ []) (some (bin (cmp eq) (v 2 2) (nul 1))))) ≡ passed 20 10 1 (join inner (union (pcons (filter (bin and (bin (cmp eq) (v 2 2) (nul 1)) (fn 2 0 2 (econs (bool false) enil))) (scan 1 (fd 2 1 1 true ∷ fd 2 2 1 false ∷ []) ((bin (cmp gt) (nul 1) (v 2 1)) ∷ []))) (pcons (project (en 0 101 (i 0) ∷ en 0 102 (i 2) ∷ []) (join rightSemi (scan 2 (fd 3 1 1 true ∷ fd 3 2 1 true ∷ fd 3 3 2 false ∷ []) []) (filter (bin and (bin (cmp eq) (i 2) (nul 1)) (fn 2 0 2 (econs (bool false) enil))) (scan 4 (fd 4 1 1 false ∷ []) ((bool false) ∷ (bin or (bin (cmp ne) (v 4 1) (i 3)) (bool true)) ∷ []))) [] none)) (pcons (project (en 0 103 (v 5 2) ∷ en 6 3 (nul 1) ∷ []) (sort none [] (filter (bin and (bin (cmp eq) (nul 1) (nul 1)) (fn 2 0 2 (econs (bool false) enil))) (scan 3 (fd 5 1 2 true ∷ fd 5 2 1 true ∷ []) [])))) pnil)))) (join inner (join inner (filter (bin (cmp ge) (v 7 1) (i 3)) (scan 1 (fd 7 1 1 false ∷ fd 7 2 1 false ∷ []) ((bin (cmp ne) (i 0) (v 7 1)) ∷ []))) (scan 1 (fd 8 1 1 true ∷ fd 8 2 1 true ∷ []) ((bin (cmp ge) (v 8 2) (i 3)) ∷ [])) (pr (i 3) (v 8 2) ∷ pr (v 7 1) (v 8 2) ∷ []) none) (project (en 10 2 (fn 2 0 2 enil) ∷ []) (scan 4 (fd 9 1 1 true ∷ []) [])) [] none) (pr (v 2 1) (v 7 2) ∷ []) (some (between false (v 2 1) (v 2 2) (v 7 2))))
 unfolding walked
 w121 = refl
 
@@ -719,7 +720,7 @@ c124 : pass 10000 (filter (bin and (fn 2 0 2 enil) (bin (cmp ge) (nul 1) (v 4 1)
 unfolding opened
 c124 = refl
 
-w124 : pass-by-children 10000 (filter (bin and (fn 2 0 2 enil) (bin (cmp ge) (nul 1) (v 4 1))) (join right (alias 2 (scan 3 (fd 3 1 2 false ∷ fd 3 2 1 true ∷ []) [])) (limit 3 1 (scan 1 (fd 4 1 1 true ∷ fd 4 2 1 true ∷ []) ((bin or (bin and (bin and (bin (cmp ge) (v 4 2) (i 0)) (bool true)) (bin (cmp eq) (bool true) (bool false))) (bin and (bin and (bin (cmp ge) (v 4 2) (i 0)) (test isTrue (bool true))) (fn 2 0 2 enil))) ∷ (bin (cmp le) (v 4 1) (i 1)) ∷ []))) (pr (v 2 2) (v 4 1) ∷ pr (v 2 2) (v 4 1) ∷ []) (some (bin and (bin (cmp ge) (v 4 1) (i 4294967296)) (neg (bool true)))))) ≡ passed 7 2 1 (join right (alias 2 (filter (neg (bool true)) (scan 3 (fd 3 1 2 false ∷ fd 3 2 1 true ∷ []) []))) (filter (bin and (bin (cmp ge) (nul 1) (v 4 1)) (fn 2 0 2 enil)) (limit 3 1 (scan 1 (fd 4 1 1 true ∷ fd 4 2 1 true ∷ []) ((bin or (bin and (bin and (bin (cmp ge) (v 4 2) (i 0)) (bool true)) (bin (cmp eq) (bool true) (bool false))) (bin and (bin and (bin (cmp ge) (v 4 2) (i 0)) (test isTrue (bool true))) (fn 2 0 2 enil))) ∷ (bin (cmp le) (v 4 1) (i 1)) ∷ [])))) (pr (v 2 2) (v 4 1) ∷ pr (v 2 2) (v 4 1) ∷ []) (some (bin (cmp ge) (v 4 1) (i 4294967296))))
+w124 : pass-by-records 10000 (filter (bin and (fn 2 0 2 enil) (bin (cmp ge) (nul 1) (v 4 1))) (join right (alias 2 (scan 3 (fd 3 1 2 false ∷ fd 3 2 1 true ∷ []) [])) (limit 3 1 (scan 1 (fd 4 1 1 true ∷ fd 4 2 1 true ∷ []) ((bin or (bin and (bin and (bin (cmp ge) (v 4 2) (i 0)) (bool true)) (bin (cmp eq) (bool true) (bool false))) (bin and (bin and (bin (cmp ge) (v 4 2) (i 0)) (test isTrue (bool true))) (fn 2 0 2 enil))) ∷ (bin (cmp le) (v 4 1) (i 1)) ∷ []))) (pr (v 2 2) (v 4 1) ∷ pr (v 2 2) (v 4 1) ∷ []) (some (bin and (bin (cmp ge) (v 4 1) (i 4294967296)) (neg (bool true)))))) ≡ passed 7 2 1 (join right (alias 2 (filter (neg (bool true)) (scan 3 (fd 3 1 2 false ∷ fd 3 2 1 true ∷ []) []))) (filter (bin and (bin (cmp ge) (nul 1) (v 4 1)) (fn 2 0 2 enil)) (limit 3 1 (scan 1 (fd 4 1 1 true ∷ fd 4 2 1 true ∷ []) ((bin or (bin and (bin and (bin (cmp ge) (v 4 2) (i 0)) (bool true)) (bin (cmp eq) (bool true) (bool false))) (bin and (bin and (bin (cmp ge) (v 4 2) (i 0)) (test isTrue (bool true))) (fn 2 0 2 enil))) ∷ (bin (cmp le) (v 4 1) (i 1)) ∷ [])))) (pr (v 2 2) (v 4 1) ∷ pr (v 2 2) (v 4 1) ∷ []) (some (bin (cmp ge) (v 4 1) (i 4294967296))))
 unfolding walked
 w124 = refl
 
@@ -731,7 +732,7 @@ c126 : pass 10000 (filter (bin or (bin and (bin (cmp lt) (v 2 1) (i 922337203685
 unfolding opened
 c126 = refl
 
-w126 : pass-by-children 10000 (filter (bin or (bin and (bin (cmp lt) (v 2 1) (i 9223372036854775807)) (test isNotTrue (v 2 3))) (test isFalse (bool true))) (repartition (join full (scan 1 (fd 0 101 1 true ∷ fd 0 102 1 true ∷ []) []) (scan 2 (fd 2 1 1 false ∷ fd 2 2 1 false ∷ fd 2 3 2 true ∷ []) []) [] (some (test isNull (v 2 2)))))) ≡ passed 5 1 1 (repartition (filter (bin or (bin and (bin (cmp lt) (v 2 1) (i 9223372036854775807)) (test isNotTrue (v 2 3))) (test isFalse (bool true))) (join full (scan 1 (fd 0 101 1 true ∷ fd 0 102 1 true ∷ []) []) (scan 2 (fd 2 1 1 false ∷ fd 2 2 1 false ∷ fd 2 3 2 true ∷ []) []) [] (some (test isNull (v 2 2))))))
+w126 : pass-by-records 10000 (filter (bin or (bin and (bin (cmp lt) (v 2 1) (i 9223372036854775807)) (test isNotTrue (v 2 3))) (test isFalse (bool true))) (repartition (join full (scan 1 (fd 0 101 1 true ∷ fd 0 102 1 true ∷ []) []) (scan 2 (fd 2 1 1 false ∷ fd 2 2 1 false ∷ fd 2 3 2 true ∷ []) []) [] (some (test isNull (v 2 2)))))) ≡ passed 5 1 1 (repartition (filter (bin or (bin and (bin (cmp lt) (v 2 1) (i 9223372036854775807)) (test isNotTrue (v 2 3))) (test isFalse (bool true))) (join full (scan 1 (fd 0 101 1 true ∷ fd 0 102 1 true ∷ []) []) (scan 2 (fd 2 1 1 false ∷ fd 2 2 1 false ∷ fd 2 3 2 true ∷ []) []) [] (some (test isNull (v 2 2))))))
 unfolding walked
 w126 = refl
 
@@ -743,7 +744,7 @@ c128 : pass 10000 (filter (bin (cmp gt) (v 3 1) (i 2)) (sort none (ky false (v 3
 unfolding opened
 c128 = refl
 
-w128 : pass-by-children 10000 (filter (bin (cmp gt) (v 3 1) (i 2)) (sort none (ky false (v 3 1) ∷ []) (project (en 3 1 (i 0) ∷ en 4 2 (i 3) ∷ en 5 1 (bool false) ∷ []) (scan 5 [] [])))) ≡ passed 4 2 1 (sort none (ky false (v 3 1) ∷ []) (project (en 3 1 (i 0) ∷ en 4 2 (i 3) ∷ en 5 1 (bool false) ∷ []) (filter (bin (cmp gt) (i 0) (i 2)) (scan 5 [] []))))
+w128 : pass-by-records 10000 (filter (bin (cmp gt) (v 3 1) (i 2)) (sort none (ky false (v 3 1) ∷ []) (project (en 3 1 (i 0) ∷ en 4 2 (i 3) ∷ en 5 1 (bool false) ∷ []) (scan 5 [] [])))) ≡ passed 4 2 1 (sort none (ky false (v 3 1) ∷ []) (project (en 3 1 (i 0) ∷ en 4 2 (i 3) ∷ en 5 1 (bool false) ∷ []) (filter (bin (cmp gt) (i 0) (i 2)) (scan 5 [] []))))
 unfolding walked
 w128 = refl
 
@@ -763,7 +764,7 @@ c132 : pass 10000 (filter (bin and (bin or (bin and (inlist true (fn 0 0 1 (econ
 unfolding opened
 c132 = refl
 
-w132 : pass-by-children 10000 (filter (bin and (bin or (bin and (inlist true (fn 0 0 1 (econs (fn 2 2 2 enil) enil)) (econs (i 2) (econs (i 2) enil))) (bool true)) (bin and (bin and (bin (cmp gt) (bool false) (bool false)) (bool false)) (bin (cmp ne) (i 2) (i 1)))) (fn 1 0 2 (econs (nul 1) enil))) (scan 5 [] ((bin or (bin or (bin and (bool true) (bool true)) (bool true)) (bin (cmp gt) (i 1) (i 1))) ∷ (bool true) ∷ []))) ≡ passed 2 0 1 (filter (bin and (bin or (bin and (inlist true (fn 0 0 1 (econs (fn 2 2 2 enil) enil)) (econs (i 2) (econs (i 2) enil))) (bool true)) (bin and (bin and (bin (cmp gt) (bool false) (bool false)) (bool false)) (bin (cmp ne) (i 2) (i 1)))) (fn 1 0 2 (econs (nul 1) enil))) (scan 5 [] ((bin or (bin or (bin and (bool true) (bool true)) (bool true)) (bin (cmp gt) (i 1) (i 1))) ∷ (bool true) ∷ [])))
+w132 : pass-by-records 10000 (filter (bin and (bin or (bin and (inlist true (fn 0 0 1 (econs (fn 2 2 2 enil) enil)) (econs (i 2) (econs (i 2) enil))) (bool true)) (bin and (bin and (bin (cmp gt) (bool false) (bool false)) (bool false)) (bin (cmp ne) (i 2) (i 1)))) (fn 1 0 2 (econs (nul 1) enil))) (scan 5 [] ((bin or (bin or (bin and (bool true) (bool true)) (bool true)) (bin (cmp gt) (i 1) (i 1))) ∷ (bool true) ∷ []))) ≡ passed 2 0 1 (filter (bin and (bin or (bin and (inlist true (fn 0 0 1 (econs (fn 2 2 2 enil) enil)) (econs (i 2) (econs (i 2) enil))) (bool true)) (bin and (bin and (bin (cmp gt) (bool false) (bool false)) (bool false)) (bin (cmp ne) (i 2) (i 1)))) (fn 1 0 2 (econs (nul 1) enil))) (scan 5 [] ((bin or (bin or (bin and (bool true) (bool true)) (bool true)) (bin (cmp gt) (i 1) (i 1))) ∷ (bool true) ∷ [])))
 unfolding walked
 w132 = refl
 
@@ -771,7 +772,7 @@ c133 : pass 10000 (filter (bin and (bin or (bin or (bin and (bin (cmp lt) (i 2) 
 unfolding opened
 c133 = refl
 
-w133 : pass-by-children 10000 (filter (bin and (bin or (bin or (bin and (bin (cmp lt) (i 2) (v 2 2)) (bool true)) (bin (cmp le) (v 2 2) (v 2 2))) (bin and (bin (cmp ge) (v 2 1) (bool true)) (bin (cmp lt) (i 1) (v 2 2)))) (bin (cmp le) (i 1) (v 2 2))) (distinct (alias 2 (filter (bin and (bin (cmp ge) (i 2) (v 3 2)) (bin (cmp le) (v 3 2) (i 2))) (scan 3 (fd 3 1 2 false ∷ fd 3 2 1 true ∷ []) ((fn 2 0 2 enil) ∷ (bin or (bin (cmp ge) (v 3 1) (nul 2)) (fn 0 0 2 (econs (v 3 1) (econs (v 3 2) enil)))) ∷ [])))))) ≡ passed 4 3 1 (distinct (alias 2 (filter (bin or (bin or (bin and (bin (cmp lt) (i 2) (v 3 2)) (bool true)) (bin (cmp le) (v 3 2) (v 3 2))) (bin and (bin (cmp ge) (v 3 1) (bool true)) (bin (cmp lt) (i 1) (v 3 2)))) (scan 3 (fd 3 1 2 false ∷ fd 3 2 1 true ∷ []) ((fn 2 0 2 enil) ∷ (bin or (bin (cmp ge) (v 3 1) (nul 2)) (fn 0 0 2 (econs (v 3 1) (econs (v 3 2) enil)))) ∷ (bin (cmp le) (i 1) (v 3 2)) ∷ (bin (cmp ge) (i 2) (v 3 2)) ∷ [])))))
+w133 : pass-by-records 10000 (filter (bin and (bin or (bin or (bin and (bin (cmp lt) (i 2) (v 2 2)) (bool true)) (bin (cmp le) (v 2 2) (v 2 2))) (bin and (bin (cmp ge) (v 2 1) (bool true)) (bin (cmp lt) (i 1) (v 2 2)))) (bin (cmp le) (i 1) (v 2 2))) (distinct (alias 2 (filter (bin and (bin (cmp ge) (i 2) (v 3 2)) (bin (cmp le) (v 3 2) (i 2))) (scan 3 (fd 3 1 2 false ∷ fd 3 2 1 true ∷ []) ((fn 2 0 2 enil) ∷ (bin or (bin (cmp ge) (v 3 1) (nul 2)) (fn 0 0 2 (econs (v 3 1) (econs (v 3 2) enil)))) ∷ [])))))) ≡ passed 4 3 1 (distinct (alias 2 (filter (bin or (bin or (bin and (bin (cmp lt) (i 2) (v 3 2)) (bool true)) (bin (cmp le) (v 3 2) (v 3 2))) (bin and (bin (cmp ge) (v 3 1) (bool true)) (bin (cmp lt) (i 1) (v 3 2)))) (scan 3 (fd 3 1 2 false ∷ fd 3 2 1 true ∷ []) ((fn 2 0 2 enil) ∷ (bin or (bin (cmp ge) (v 3 1) (nul 2)) (fn 0 0 2 (econs (v 3 1) (econs (v 3 2) enil)))) ∷ (bin (cmp le) (i 1) (v 3 2)) ∷ (bin (cmp ge) (i 2) (v 3 2)) ∷ [])))))
 unfolding walked
 w133 = refl
 
@@ -791,7 +792,7 @@ c137 : pass 5 (filter (bool false) (scan 2 (fd 2 1 1 false ∷ fd 2 2 1 true ∷
 unfolding opened
 c137 = refl
 
-w137 : pass-by-children 5 (filter (bool false) (scan 2 (fd 2 1 1 false ∷ fd 2 2 1 true ∷ fd 2 3 2 false ∷ []) [])) ≡ passed 2 0 1 (filter (bool false) (scan 2 (fd 2 1 1 false ∷ fd 2 2 1 true ∷ fd 2 3 2 false ∷ []) []))
+w137 : pass-by-records 5 (filter (bool false) (scan 2 (fd 2 1 1 false ∷ fd 2 2 1 true ∷ fd 2 3 2 false ∷ []) [])) ≡ passed 2 0 1 (filter (bool false) (scan 2 (fd 2 1 1 false ∷ fd 2 2 1 true ∷ fd 2 3 2 false ∷ []) []))
 unfolding walked
 w137 = refl
 
@@ -811,7 +812,7 @@ c141 : pass 10000 (filter (bin and (bin (cmp lt) (v 3 3) (bool false)) (bin (cmp
 unfolding opened
 c141 = refl
 
-w141 : pass-by-children 10000 (filter (bin and (bin (cmp lt) (v 3 3) (bool false)) (bin (cmp ge) (i 3) (v 4 1))) (project (en 3 3 (bool true) ∷ en 4 1 (v 2 2) ∷ []) (filter (bin and (fn 0 2 2 (econs (bool false) (econs (bool true) enil))) (bin or (bin and (fn 1 0 2 enil) (bool false)) (bin or (bin or (bin (cmp eq) (i 0) (v 2 1)) (bin (cmp lt) (v 2 2) (fn 1 2 1 enil))) (between false (fn 1 0 1 (econs (bool false) enil)) (v 2 1) (fn 2 2 1 (econs (v 2 2) enil)))))) (scan 1 (fd 2 1 1 false ∷ fd 2 2 1 false ∷ []) [])))) ≡ passed 3 1 1 (project (en 3 3 (bool true) ∷ en 4 1 (v 2 2) ∷ []) (filter (bin and (bin and (bin and (bin (cmp lt) (bool true) (bool false)) (bin (cmp ge) (i 3) (v 2 2))) (fn 0 2 2 (econs (bool false) (econs (bool true) enil)))) (bin or (bin and (fn 1 0 2 enil) (bool false)) (bin or (bin or (bin (cmp eq) (i 0) (v 2 1)) (bin (cmp lt) (v 2 2) (fn 1 2 1 enil))) (between false (fn 1 0 1 (econs (bool false) enil)) (v 2 1) (fn 2 2 1 (econs (v 2 2) enil)))))) (scan 1 (fd 2 1 1 false ∷ fd 2 2 1 false ∷ []) [])))
+w141 : pass-by-records 10000 (filter (bin and (bin (cmp lt) (v 3 3) (bool false)) (bin (cmp ge) (i 3) (v 4 1))) (project (en 3 3 (bool true) ∷ en 4 1 (v 2 2) ∷ []) (filter (bin and (fn 0 2 2 (econs (bool false) (econs (bool true) enil))) (bin or (bin and (fn 1 0 2 enil) (bool false)) (bin or (bin or (bin (cmp eq) (i 0) (v 2 1)) (bin (cmp lt) (v 2 2) (fn 1 2 1 enil))) (between false (fn 1 0 1 (econs (bool false) enil)) (v 2 1) (fn 2 2 1 (econs (v 2 2) enil)))))) (scan 1 (fd 2 1 1 false ∷ fd 2 2 1 false ∷ []) [])))) ≡ passed 3 1 1 (project (en 3 3 (bool true) ∷ en 4 1 (v 2 2) ∷ []) (filter (bin and (bin and (bin and (bin (cmp lt) (bool true) (bool false)) (bin (cmp ge) (i 3) (v 2 2))) (fn 0 2 2 (econs (bool false) (econs (bool true) enil)))) (bin or (bin and (fn 1 0 2 enil) (bool false)) (bin or (bin or (bin (cmp eq) (i 0) (v 2 1)) (bin (cmp lt) (v 2 2) (fn 1 2 1 enil))) (between false (fn 1 0 1 (econs (bool false) enil)) (v 2 1) (fn 2 2 1 (econs (v 2 2) enil)))))) (scan 1 (fd 2 1 1 false ∷ fd 2 2 1 false ∷ []) [])))
 unfolding walked
 w141 = refl
 
@@ -827,7 +828,7 @@ c144 : pass 2 (filter (bin and (inlist true (v 2 2) (econs (i 0) (econs (v 2 2) 
 unfolding opened
 c144 = refl
 
-w144 : pass-by-children 2 (filter (bin and (inlist true (v 2 2) (econs (i 0) (econs (v 2 2) enil))) (bin (cmp eq) (v 2 2) (i 3))) (filter (between false (i 3) (v 2 2) (i 2)) (scan 3 (fd 2 1 2 true ∷ fd 2 2 1 true ∷ []) []))) ≡ passed 1 1 1 (scan 3 (fd 2 1 2 true ∷ fd 2 2 1 true ∷ []) ((between false (i 3) (v 2 2) (i 2)) ∷ (inlist true (v 2 2) (econs (i 0) (econs (v 2 2) enil))) ∷ (bin (cmp eq) (v 2 2) (i 3)) ∷ []))
+w144 : pass-by-records 2 (filter (bin and (inlist true (v 2 2) (econs (i 0) (econs (v 2 2) enil))) (bin (cmp eq) (v 2 2) (i 3))) (filter (between false (i 3) (v 2 2) (i 2)) (scan 3 (fd 2 1 2 true ∷ fd 2 2 1 true ∷ []) []))) ≡ passed 1 1 1 (scan 3 (fd 2 1 2 true ∷ fd 2 2 1 true ∷ []) ((between false (i 3) (v 2 2) (i 2)) ∷ (inlist true (v 2 2) (econs (i 0) (econs (v 2 2) enil))) ∷ (bin (cmp eq) (v 2 2) (i 3)) ∷ []))
 unfolding walked
 w144 = refl
 
@@ -839,7 +840,7 @@ c146 : pass 10000 (filter (bin and (bin (cmp ge) (v 0 101) (i 3)) (bool true)) (
 unfolding opened
 c146 = refl
 
-w146 : pass-by-children 10000 (filter (bin and (bin (cmp ge) (v 0 101) (i 3)) (bool true)) (distinct (sort none [] (aggregate [] (ag 0 101 min (nul 1) ∷ []) (scan 2 (fd 2 1 1 true ∷ fd 2 2 1 false ∷ fd 2 3 2 false ∷ []) []))))) ≡ passed 5 2 1 (distinct (sort none [] (filter (bin and (bin (cmp ge) (v 0 101) (i 3)) (bool true)) (aggregate [] (ag 0 101 min (nul 1) ∷ []) (scan 2 (fd 2 1 1 true ∷ fd 2 2 1 false ∷ fd 2 3 2 false ∷ []) [])))))
+w146 : pass-by-records 10000 (filter (bin and (bin (cmp ge) (v 0 101) (i 3)) (bool true)) (distinct (sort none [] (aggregate [] (ag 0 101 min (nul 1) ∷ []) (scan 2 (fd 2 1 1 true ∷ fd 2 2 1 false ∷ fd 2 3 2 false ∷ []) []))))) ≡ passed 5 2 1 (distinct (sort none [] (filter (bin and (bin (cmp ge) (v 0 101) (i 3)) (bool true)) (aggregate [] (ag 0 101 min (nul 1) ∷ []) (scan 2 (fd 2 1 1 true ∷ fd 2 2 1 false ∷ fd 2 3 2 false ∷ []) [])))))
 unfolding walked
 w146 = refl
 
@@ -851,7 +852,7 @@ c148 : pass 2 (filter (bin (cmp lt) (nul 1) (v 2 1)) (join inner (filter (bin an
 unfolding opened
 c148 = refl
 
-w148 : pass-by-children 2 (filter (bin (cmp lt) (nul 1) (v 2 1)) (join inner (filter (bin and (v 2 3) (bin (cmp le) (v 2 1) (v 2 1))) (scan 2 (fd 2 1 1 false ∷ fd 2 2 1 false ∷ fd 2 3 2 false ∷ []) [])) (aggregate (en 3 1 (v 3 2) ∷ en 3 2 (v 3 2) ∷ []) [] (scan 3 (fd 3 1 2 false ∷ fd 3 2 1 true ∷ []) [])) [] (some (bin (cmp ge) (v 2 2) (v 3 2))))) ≡ passed 2 1 0 (join inner (filter (bin and (bin and (v 2 3) (bin (cmp le) (v 2 1) (v 2 1))) (bin (cmp lt) (nul 1) (v 2 1))) (scan 2 (fd 2 1 1 false ∷ fd 2 2 1 false ∷ fd 2 3 2 false ∷ []) [])) (aggregate (en 3 1 (v 3 2) ∷ en 3 2 (v 3 2) ∷ []) [] (scan 3 (fd 3 1 2 false ∷ fd 3 2 1 true ∷ []) [])) [] (some (bin (cmp ge) (v 2 2) (v 3 2))))
+w148 : pass-by-records 2 (filter (bin (cmp lt) (nul 1) (v 2 1)) (join inner (filter (bin and (v 2 3) (bin (cmp le) (v 2 1) (v 2 1))) (scan 2 (fd 2 1 1 false ∷ fd 2 2 1 false ∷ fd 2 3 2 false ∷ []) [])) (aggregate (en 3 1 (v 3 2) ∷ en 3 2 (v 3 2) ∷ []) [] (scan 3 (fd 3 1 2 false ∷ fd 3 2 1 true ∷ []) [])) [] (some (bin (cmp ge) (v 2 2) (v 3 2))))) ≡ passed 2 1 0 (join inner (filter (bin and (bin and (v 2 3) (bin (cmp le) (v 2 1) (v 2 1))) (bin (cmp lt) (nul 1) (v 2 1))) (scan 2 (fd 2 1 1 false ∷ fd 2 2 1 false ∷ fd 2 3 2 false ∷ []) [])) (aggregate (en 3 1 (v 3 2) ∷ en 3 2 (v 3 2) ∷ []) [] (scan 3 (fd 3 1 2 false ∷ fd 3 2 1 true ∷ []) [])) [] (some (bin (cmp ge) (v 2 2) (v 3 2))))
 unfolding walked
 w148 = refl
 

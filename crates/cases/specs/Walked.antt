@@ -1,10 +1,10 @@
--- The pass by children with everything opened.
+-- The pass by records with everything opened.
 use Prim.Native.Nat.{ℕ}
 use Rattle.plan.specs.Syntax.{Plan}
-use Rattle.rewrite.specs.RewriteAt.{PassAnswer}
+use Rattle.rewrite.specs.Pass.{PassAnswer}
 use Rattle.rewrite.proofs.Opened.{opened}
-use Rattle.rewrite.proofs.PassTree.{count-inputs, inputs, first-input, each-input, visit, pass-by-children}
+use Rattle.rewrite.proofs.PassByRecords.{plan-records, plan-records-all, first-from, plan-from, visits, pass-by-records}
 
 unfoldable pub walked : ℕ → Plan → PassAnswer
-unfolding opened count-inputs inputs first-input each-input visit pass-by-children
-walked b p = pass-by-children b p
+unfolding opened plan-records plan-records-all first-from plan-from visits pass-by-records
+walked b p = pass-by-records b p

@@ -3,10 +3,12 @@ use mathlib.Core.Bool.{Bool, true, false}
 use Prim.Native.Nat.{ℕ, _+_}
 use Rattle.image.specs.Tree.{Label, Forest, none, node, Tree, size}
 
+-- a record, or none
 pub data Found : Type 0 where
   nothing : Found
   found : ℕ → Found
 
+-- the first, and where it is none the second
 unfoldable pub orElse : Found → Found → Found
 orElse (found r) g = found r
 orElse nothing g = g

@@ -1,6 +1,6 @@
--- Demand 3 on trees: a list of calls of rewrite, granted or refused, keeps the rows of the root, whatever the functions mean and whatever
--- tables fit the plan; and each call leaves a plan that is again accepted. The same for a pass.
-use Prim.Native.Nat.{ℕ, zero, suc, _+_, _*_}
+-- Demand 3 on plans: a list of calls of rewrite, granted or refused, keeps the rows of the root, whatever the functions mean and whatever
+-- tables fit the plan; and each call leaves a plan that is again accepted.
+use Prim.Native.Nat.{ℕ, _*_}
 use mathlib.Core.Path.{_≡_, refl, sym, ap, _∙_, subst}
 use mathlib.Core.Bool.{Bool, true, false}
 use mathlib.Core.List.{List, [], _∷_, _++_}
@@ -19,13 +19,12 @@ use Rattle.rewrite.specs.PushDownFilter.{rewrite}
 use Rattle.image.specs.Limits.{recordBytes}
 use Rattle.rewrite.specs.Limits.{sizeP, fits}
 use Rattle.rewrite.specs.RewriteAt.{Focus, FocusAll, here, inside, inside-all, first-of, later-of, focus, focus-all, Answer}
-use Rattle.rewrite.specs.RewriteAt.{granted, refused, result-fits, rewrite-in, rewriteAt, with-room, rewrite-call, next-visit}
-use Rattle.rewrite.specs.RewriteAt.{PassAnswer, passed, pass-refused, bit, visits, pass, pass-with-room, pass-call}
-use Rattle.rewrite.proofs.Ok.{ok, ok-all, rule}
+use Rattle.rewrite.specs.RewriteAt.{granted, refused, result-fits, rewrite-in, rewriteAt, with-room, rewrite-call}
+use Rattle.acceptance.proofs.NamesRule.{ok, ok-all, rule, ok-names}
 use Rattle.plan.specs.Types.{types, types-first, scans, scans-all}
-use Rattle.rewrite.proofs.Typed.{typed, typed-all, types-ok}
+use Rattle.acceptance.proofs.TypesRule.{typed, typed-all, types-ok, names-typed-ok}
 use Rattle.rewrite.proofs.TypesKept.{filter-typed, project-typed, join-typed, sort-typed, aggregate-typed, window-typed}
-use Rattle.rewrite.proofs.Accepted.{ok-names, names-typed-ok, accepted}
+use Rattle.rewrite.proofs.Accepted.{accepted}
 use Rattle.rewrite.proofs.Rewrite.{Keeps, keeps-self, filter-ok, project-ok, join-ok, aggregate-ok, window-ok, rewrite-keeps}
 
 -- the tables that fit a plan fit what may stand in its place, which has the same scans
@@ -402,54 +401,3 @@ calls-leave (c ∷ cs) p o f =
 pub calls-keep-rows : (cs : List Call) (p : Plan) → accepted p ≡ true → Kept (after-calls cs p) p
 unfolding accepted
 calls-keep-rows cs p h = kept (calls-leave cs p (accepted-ok p h) (and-l _ _ h)) (and-r _ _ (and-r _ _ h))
-
--- ---- the pass
-
-data PassLeaves (p : Plan) : PassAnswer → Type 0 where
-  did-pass : {v c f : ℕ} {q : Plan} → Leaves q p → PassLeaves p (passed v c f q)
-  no-pass : {k r : ℕ} → PassLeaves p (pass-refused k r)
-
-leaves-trans : {p q : Plan} {a : PassAnswer} → Keeps q p → PassLeaves q a → PassLeaves p a
-leaves-trans h (did-pass l) = did-pass (record { keeps = keeps-trans (l .keeps) h; fitting = l .fitting })
-leaves-trans h no-pass = no-pass
-
-visit-leaves : (b n v c : ℕ) {p : Plan} {a : Answer} → Answered p a
-    → ((o : Option ℕ) (q : Plan) (v c : ℕ) → ok q ≡ true → fits q ≡ true → PassLeaves q (visits b o q v c))
-    → PassLeaves p (elim a as (λ x. PassAnswer) [
-      | granted f q ↦ visits b (next-visit n q) q (v + 1) (c + bit f)
-      | refused k r ↦ pass-refused k r
-    ])
-visit-leaves b n v c (was-granted {q = q} l) rec = leaves-trans (l .keeps) (rec _ q _ _ (l .keeps .well) (l .fitting))
-visit-leaves b n v c was-refused rec = no-pass
-
-visits-leave : (b : ℕ) (o : Option ℕ) (p : Plan) (v c : ℕ) → ok p ≡ true → fits p ≡ true → PassLeaves p (visits b o p v c)
-unfolding visits
-visits-leave zero none p v c o f = did-pass (leaves-self o f)
-visits-leave zero (some n) p v c o f = did-pass (leaves-self o f)
-visits-leave (suc b) none p v c o f = did-pass (leaves-self o f)
-visits-leave (suc b) (some n) p v c o f = visit-leaves b n v c (rewriteAt-answered n p o) (λ m q v c i j. visits-leave b m q v c i j)
-
-room-leaves : (room : ℕ) {p : Plan} {a : PassAnswer} → PassLeaves p a → PassLeaves p (pass-with-room room a)
-unfolding pass-with-room choose
-room-leaves room no-pass = no-pass
-room-leaves room {p} (did-pass {v = v} {c = c} {f = f} {q = q} l) = go (leb (recordBytes * sizeP q) room)
-  where
-    go : (b : Bool) → PassLeaves p (choose b (passed v c f q) (pass-refused 12 0))
-    go true = did-pass l
-    go false = no-pass
-
-abbrev pub left-by-pass : Plan → PassAnswer → Plan
-left-by-pass p (passed v c f q) = q
-left-by-pass p (pass-refused k r) = p
-
-pass-left : {p : Plan} {a : PassAnswer} → ok p ≡ true → fits p ≡ true → PassLeaves p a → Leaves (left-by-pass p a) p
-pass-left o f (did-pass l) = l
-pass-left o f no-pass = leaves-self o f
-
--- what a pass leaves has the rows of what it got, and is accepted
-pub pass-keeps-rows : (budget room : ℕ) (p : Plan) → accepted p ≡ true → Kept (left-by-pass p (pass-call budget room p)) p
-unfolding pass-call pass accepted
-pass-keeps-rows budget room p h =
-    let o : ok p ≡ true = accepted-ok p h in
-    let f : fits p ≡ true = and-l _ _ h in
-    kept (pass-left o f (room-leaves room (visits-leave budget (some 0) p 0 0 o f))) (and-r _ _ (and-r _ _ h))

@@ -16,7 +16,7 @@ use Rattle.plan.specs.Syntax.{Value, null, int, truth, eq, Name, Expr, col, num
 use Rattle.meaning.specs.Meaning.{World, Env, isT, compare, eval}
 use Rattle.meaning.proofs.Logic.{isT-tri}
 use Rattle.plan.specs.Schema.{same}
-use Rattle.meaning.proofs.Names.{same-eq}
+use Rattle.plan.proofs.Names.{same-eq}
 use Rattle.plan.specs.Columns.{on-cols}
 use Rattle.rewrite.specs.Utils.{replace-cols}
 use Rattle.rewrite.specs.SimplifyPredicates.{as-column}

@@ -10,7 +10,7 @@ use Rattle.plan.specs.Syntax.{Value, null, int, truth, Name, Expr, Entry, AggEn
 use Rattle.meaning.specs.Meaning.{World, Env, Row, isT, sameV, sameRow, first-occurrences, look, eval, sat, sats, entries, agg-entries}
 use Rattle.meaning.specs.Meaning.{win-entry, windowed, aggregated, rows}
 use Rattle.plan.specs.Schema.{same, schema, has}
-use Rattle.meaning.proofs.Names.{nodup, same-eq}
+use Rattle.plan.proofs.Names.{nodup, same-eq}
 use Rattle.rewrite.specs.Utils.{replace-cols}
 use Rattle.rewrite.specs.PushDownFilter.{pick, names}
 use Rattle.rewrite.proofs.Exprs.{eval-cong}

@@ -9,7 +9,8 @@ use Rattle.plan.proofs.Lists.{and-left-comm, and-sort, All, All-map, all-cong}
 use Rattle.plan.specs.Syntax.{null, eq, Name, Expr, Pair, Kind, inner, left, right, leftSemi, rightSemi, leftAnti, rightAnti, Plan, join}
 use Rattle.meaning.specs.Meaning.{World, Env, Row, isT, compare, look, eval, sats, sat?, keys-match, matching, nulls, rows}
 use Rattle.plan.specs.Schema.{schema, has}
-use Rattle.meaning.proofs.Names.{nodup, apart, look-left, look-right}
+use Rattle.plan.proofs.Names.{nodup, apart}
+use Rattle.meaning.proofs.Names.{look-left, look-right}
 use Rattle.plan.specs.Columns.{on-cols}
 use Rattle.rewrite.specs.Utils.{with-filters, conjunction}
 use Rattle.rewrite.proofs.Exprs.{eval-cong, conj-all, filtered-rows, filtered-schema}

@@ -4,6 +4,7 @@ pub mod Encode
 pub mod Exprs
 pub mod Extras
 pub mod Groups
+pub mod Holes
 pub mod Image
 pub mod Join
 pub mod JoinLists
@@ -11,7 +12,10 @@ pub mod Marks
 pub mod Merge
 pub mod Ok
 pub mod Opened
-pub mod PassTree
+pub mod PassAgrees
+pub mod PassByRecords
+pub mod PassKeeps
+pub mod PlanFrom
 pub mod Places
 pub mod Project
 pub mod PushJoin
@@ -23,5 +27,6 @@ pub mod SimplifyFilter
 pub mod Sort
 pub mod Table
 pub mod TypeLaws
-pub mod Typed
 pub mod TypesKept
+pub mod OnBytes
+pub mod RowTest

@@ -12,7 +12,8 @@ use lib.Dec.{eqb, leb, leb·zero, leb·suc-zero, leb·suc-suc, eqb·suc-zero}
 use Rattle.plan.specs.Lists.{_&_, choose}
 use Rattle.plan.specs.Syntax.{Name, Expr, col, num, bool, nul, bin, neg, test, between, inlist, fn, Exprs, enil, econs, Field, Entry, Pair, Key, AggEntry, WinEntry, Plan, scan, filter, project, join, alias, union, distinct, sort, repartition, limit, aggregate, window, Plans, pnil, pcons}
 use Rattle.rewrite.specs.Limits.{sizeE, sizeEs, total, size?, sizeEntry, sizePair, sizeKey, sizeAgg, sizeWin, sizeP}
-use Rattle.rewrite.specs.RewriteAt.{Focus, FocusAll, here, inside, inside-all, first-of, later-of, focus, focus-all, plan-records, plan-records-all}
+use Rattle.rewrite.specs.RewriteAt.{Focus, FocusAll, here, inside, inside-all, first-of, later-of, focus, focus-all}
+use Rattle.rewrite.proofs.PassByRecords.{plan-records, plan-records-all}
 use Rattle.rewrite.proofs.Image.{Rec, Run, end, node, size, emit}
 use Rattle.rewrite.proofs.Encode.{encodeE, encodeEs, each, encode?, encode-field, encode-entry, encode-pair, encode-key, encode-agg, encode-part, encode-win, sort-words, encodeP, encodePs, image, image-length}
 

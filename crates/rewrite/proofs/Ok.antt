@@ -1,141 +1,26 @@
--- The name rules of an accepted plan, and the widths of a Union's inputs, which rows need too: every reference names a field of the schema that it
--- stands over, no two fields of a schema clash, at most 64. What follows: schemas repeat no name, and each row has a value for each field.
+-- What follows from the name rules of an accepted plan: each row has a value for each field.
 use Prim.Native.Nat.{ℕ, suc, zero, _+_}
 use mathlib.Core.Path.{_≡_, refl, sym, ap, ap₂, _∙_}
-use mathlib.Core.Bool.{Bool, true, false, not, _||_}
+use mathlib.Core.Bool.{Bool, true}
 use mathlib.Core.List.{List, [], _∷_, _++_, map}
 use mathlib.Core.Option.{Option, none, some}
 use lib.ListN.{length, take, drop, length-map, length-append, length-replicate}
-use lib.Dec.{eqb, leb}
-use borrow.Author.Tests.{eqb-true, eq-eqb}
-use Rattle.plan.specs.Lists.{_&_, keep, all, any}
-use Rattle.plan.proofs.Lists.{and-l, and-r, and-intro, All, anil, acons, All-map, All-mapped, All-append, All-keep, All-flat, all-of}
-use Rattle.plan.specs.Syntax.{null, Name, Expr, Field, Entry, Pair, Key, AggEntry, WinEntry, Kind, inner, left, right, full, leftSemi, rightSemi, leftAnti, rightAnti, Plan, scan, filter, project, join, alias, union, distinct, sort, repartition, limit, aggregate, window, Plans, pnil, pcons, nm}
+use borrow.Author.Tests.{eqb-true}
+use Rattle.plan.specs.Lists.{keep}
+use Rattle.plan.proofs.Lists.{and-l, and-r, All, anil, acons, All-map, All-mapped, All-append, All-keep, All-flat, all-of}
+use Rattle.plan.specs.Syntax.{null, Name, Field, Entry, Kind, inner, left, right, full, leftSemi, rightSemi, leftAnti, rightAnti, Plan}
+use Rattle.plan.specs.Syntax.{scan, filter, project, join, alias, union, distinct, sort, repartition, limit, aggregate, window, Plans}
+use Rattle.plan.specs.Syntax.{pnil, pcons}
 use Rattle.meaning.specs.Meaning.{World, Row, entries, joined, outer, nulls, sorted, fetched, sorts-before, group-keys, rows, rows-all}
 use Rattle.meaning.specs.Tables.{ScansFit, TablesFit}
 use Rattle.meaning.proofs.Tables.{fit-left, fit-right, scan-wide}
 use Rattle.plan.specs.Types.{scans, scans-all}
-use Rattle.plan.specs.Schema.{same, schema, schema-first, requalify, sides, has}
-use Rattle.meaning.proofs.Names.{nodup}
-use Rattle.image.specs.Limits.{maxFields}
-use Rattle.plan.specs.Columns.{on-cols}
+use Rattle.plan.specs.Schema.{schema, sides}
+use Rattle.acceptance.proofs.NamesRule.{rule, ok, ok-all}
 use Rattle.rewrite.proofs.Join.{Wide}
 use Rattle.rewrite.proofs.JoinLists.{All-or-else}
 use Rattle.rewrite.proofs.Groups.{All-first-occurrences}
 use Rattle.rewrite.proofs.Sort.{All-insert}
-
--- the columns of an expression are names of the schema
-abbrev pub reads : List Name → Expr → Bool
-reads s e = on-cols (has s) e
-
-abbrev pub reads? : List Name → Option Expr → Bool
-reads? s none = true
-reads? s (some e) = reads s e
-
--- two fields of one name clash if they share the qualifier or one of them has none
-abbrev pub clash : Name → Name → Bool
-clash (nm q n) (nm r m) = eqb n m & (eqb q r || (eqb q 0 || eqb r 0))
-
-abbrev pub distinct-names : List Name → Bool
-distinct-names [] = true
-distinct-names (x ∷ s) = not (any (clash x) s) & distinct-names s
-
--- the schema rules: no two fields clash, at most 64
-unfoldable pub names-ok : List Name → Bool
-names-ok s = distinct-names s & leb (length s) maxFields
-
--- the name rules, with a test of the widths of a Union's inputs
-unfoldable mutual
-  pub rule : (ℕ → ℕ → Bool) → Plan → Bool
-  rule w (scan t fs es) = names-ok (map (λ (f : Field). f .name) fs) & all (reads (map (λ (f : Field). f .name) fs)) es
-  rule w (filter e p) = reads (schema p) e & rule w p
-  rule w (project es p) = names-ok (map (λ (e : Entry). e .name) es) & (all (λ (e : Entry). reads (schema p) (e .expr)) es & rule w p)
-  rule w (join k l r on f) =
-      names-ok (schema l ++ schema r)
-      & (all (λ (k : Pair). reads (schema l) (k .lhs) & reads (schema r) (k .rhs)) on & (reads? (schema l ++ schema r) f & (rule w l & rule w r)))
-  rule w (alias q p) = names-ok (map (requalify q) (schema p)) & rule w p
-  rule w (union ps) = rule-all w (length (schema-first ps)) ps
-  rule w (distinct p) = rule w p
-  rule w (sort f ks p) = all (λ (k : Key). reads (schema p) (k .expr)) ks & rule w p
-  rule w (repartition p) = rule w p
-  rule w (limit n k p) = rule w p
-  rule w (aggregate gs ags p) =
-      names-ok (map (λ (e : Entry). e .name) gs ++ map (λ (a : AggEntry). a .name) ags)
-      & (all (λ (e : Entry). reads (schema p) (e .expr)) gs & (all (λ (a : AggEntry). reads (schema p) (a .expr)) ags & rule w p))
-  rule w (window ws p) =
-      names-ok (schema p ++ map (λ (w : WinEntry). w .name) ws)
-      & (all (λ (w : WinEntry). reads (schema p) (w .expr) & all (has (schema p)) (w .parts)) ws & rule w p)
-
-  pub rule-all : (ℕ → ℕ → Bool) → ℕ → Plans → Bool
-  rule-all w n pnil = true
-  rule-all w n (pcons p ps) = w (length (schema p)) n & (rule w p & rule-all w n ps)
-
--- test 6 alone
-abbrev pub names-rule : Plan → Bool
-names-rule p = rule (λ a b. true) p
-
--- what rows need: the inputs of a Union are of one width, too (that is a part of test 7)
-abbrev pub ok : Plan → Bool
-ok p = rule eqb p
-
-abbrev pub ok-all : ℕ → Plans → Bool
-ok-all n ps = rule-all eqb n ps
-
--- ---- no schema repeats a name
-
-clash-same : (x y : Name) → same y x ≡ true → clash x y ≡ true
-unfolding _&_
-clash-same (nm q n) (nm r m) h = rw (eqb-true r q (and-l _ _ h), eqb-true m n (and-r (eqb r q) _ h), eq-eqb n n refl, eq-eqb q q refl)
-
-no-clash : (x : Name) (s : List Name) → not (any (clash x) s) ≡ true → not (has s x) ≡ true
-unfolding any
-no-clash x [] h = refl
-no-clash x (y ∷ s) h = go (same y x) refl (clash x y) refl h (no-clash x s)
-  where
-    go : (b : Bool) → same y x ≡ b → (c : Bool) → clash x y ≡ c → not (c || any (clash x) s) ≡ true → (not (any (clash x) s) ≡ true → not (has s x) ≡ true) → not (b || has s x) ≡ true
-    go true e true f h k = h
-    go true e false f h k = cc (clash-same x y e)
-    go false e true f h k = cc
-    go false e false f h k = k h
-
-distinct-nodup : (s : List Name) → distinct-names s ≡ true → nodup s ≡ true
-distinct-nodup [] h = refl
-distinct-nodup (x ∷ s) h = and-intro (no-clash x s (and-l _ _ h)) (distinct-nodup s (and-r _ _ h))
-
-pub names-nodup : (s : List Name) → names-ok s ≡ true → nodup s ≡ true
-unfolding names-ok
-names-nodup s h = distinct-nodup s (and-l _ _ h)
-
-sides-nodup : (k : Kind) (s t : List Name) → nodup (s ++ t) ≡ true → nodup s ≡ true → nodup t ≡ true → nodup (sides k s t) ≡ true
-sides-nodup inner s t h hs ht = h
-sides-nodup left s t h hs ht = h
-sides-nodup right s t h hs ht = h
-sides-nodup full s t h hs ht = h
-sides-nodup leftSemi s t h hs ht = hs
-sides-nodup rightSemi s t h hs ht = ht
-sides-nodup leftAnti s t h hs ht = hs
-sides-nodup rightAnti s t h hs ht = ht
-
-mutual
-  unfolding rule schema
-
-  pub ok-nodup : (p : Plan) → ok p ≡ true → nodup (schema p) ≡ true
-  ok-nodup (scan t fs es) h = names-nodup _ (and-l _ _ h)
-  ok-nodup (filter e p) h = ok-nodup p (and-r _ _ h)
-  ok-nodup (project es p) h = names-nodup _ (and-l _ _ h)
-  ok-nodup (join k l r on f) h = let h′ = and-r _ _ (and-r _ _ (and-r _ _ h)) in sides-nodup k _ _ (names-nodup _ (and-l _ _ h)) (ok-nodup l (and-l _ _ h′)) (ok-nodup r (and-r _ _ h′))
-  ok-nodup (alias q p) h = names-nodup _ (and-l _ _ h)
-  ok-nodup (union ps) h = ok-nodup-first ps _ h
-  ok-nodup (distinct p) h = ok-nodup p h
-  ok-nodup (sort f ks p) h = ok-nodup p (and-r _ _ h)
-  ok-nodup (repartition p) h = ok-nodup p h
-  ok-nodup (limit n k p) h = ok-nodup p h
-  ok-nodup (aggregate gs ags p) h = names-nodup _ (and-l _ _ h)
-  ok-nodup (window ws p) h = names-nodup _ (and-l _ _ h)
-
-  ok-nodup-first : (ps : Plans) (n : ℕ) → ok-all n ps ≡ true → nodup (schema-first ps) ≡ true
-  ok-nodup-first pnil n h = refl
-  ok-nodup-first (pcons p ps) n h = ok-nodup p (and-l _ _ (and-r _ _ h))
 
 -- ---- each row has a value for each field
 

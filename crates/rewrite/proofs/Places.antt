@@ -15,11 +15,11 @@ use Rattle.plan.specs.Lists.{any, keep}
 use Rattle.plan.specs.Syntax.{null, Name, Expr, col, Plan, filter, alias, union, Plans, pnil, pcons}
 use Rattle.meaning.specs.Meaning.{World, Row, isT, look, eval, sat, rows, rows-all}
 use Rattle.plan.specs.Schema.{same, lookD, schema, schema-first, requalify, has}
-use Rattle.meaning.proofs.Names.{nodup, same-refl, same-eq, not-true}
+use Rattle.plan.proofs.Names.{nodup, same-refl, same-eq, not-true}
 use Rattle.plan.specs.Columns.{on-cols}
 use Rattle.rewrite.specs.PushDownFilter.{ren, renamed, filter-each}
 use Rattle.rewrite.proofs.Exprs.{eval-cong, eval-sub}
-use Rattle.rewrite.proofs.Ok.{ok, ok-all, ok-nodup, rule}
+use Rattle.acceptance.proofs.NamesRule.{ok, ok-all, ok-nodup, rule}
 
 -- the new name of a name of the first schema is one of the second
 pub ren-has : (s t : List Name) (x : Name) → length s ≡ length t → has s x ≡ true → has t (ren s t x) ≡ true

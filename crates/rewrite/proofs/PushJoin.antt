@@ -9,7 +9,7 @@ use Rattle.plan.proofs.Lists.{and-left-comm, and-l, and-r, and-intro, All, All-
 use Rattle.plan.specs.Syntax.{Name, Expr, Pair, Kind, inner, left, right, full, leftSemi, rightSemi, leftAnti, rightAnti, Plan, join}
 use Rattle.meaning.specs.Meaning.{World, Env, Row, isT, eval, look, sat?, matching, joined, keys-match, rows}
 use Rattle.plan.specs.Schema.{schema, sides, has}
-use Rattle.meaning.proofs.Names.{nodup}
+use Rattle.plan.proofs.Names.{nodup}
 use Rattle.plan.specs.Columns.{on-cols}
 use Rattle.rewrite.specs.Utils.{split-conjunction, with-filters, conjunction, split-conjunction?}
 use Rattle.rewrite.specs.PushDownFilter.{extract-or-clauses-for-join, infer-join-predicates, left-preserved, right-preserved}
@@ -21,7 +21,7 @@ use Rattle.rewrite.proofs.Extras.{clauses-over, clauses-hold, inferred-
 use Rattle.rewrite.proofs.Join.{sat?-conj, Over, Wide, holds-all, keys-in, inner-rows, left-rows, right-rows, leftSemi-rows}
 use Rattle.rewrite.proofs.Join.{rightSemi-rows, leftAnti-rows, rightAnti-rows}
 use Rattle.rewrite.proofs.Groups.{passes}
-use Rattle.rewrite.proofs.Ok.{reads}
+use Rattle.acceptance.proofs.NamesRule.{reads}
 
 -- ---- what moves to a side reads that side
 

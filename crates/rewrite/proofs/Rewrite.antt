@@ -14,7 +14,7 @@ use Rattle.meaning.specs.Meaning.{World, Row, look, sat, sats, sat?, rows}
 use Rattle.meaning.specs.Tables.{ScansFit, TablesFit}
 use Rattle.meaning.proofs.Tables.{fit-left, fit-right}
 use Rattle.plan.specs.Schema.{same, schema, schema-first, requalify, sides, has}
-use Rattle.meaning.proofs.Names.{same-eq}
+use Rattle.plan.proofs.Names.{same-eq}
 use Rattle.rewrite.specs.Utils.{is-empty, is-volatile, replace-cols, split-conjunction, split-conjunction?, conjoin, conjunction, with-filters, unique}
 use Rattle.rewrite.specs.PushDownFilter.{Transformed, pick, names, stay, move, pushable, in-groups, in-partitions}
 use Rattle.rewrite.specs.PushDownFilter.{supports-pushdown, volatile-filters, non-volatile-filters, supported-filters}
@@ -30,9 +30,10 @@ use Rattle.rewrite.proofs.Sort.{sort-rows}
 use Rattle.rewrite.proofs.Groups.{passes, distinct-rows, windowed-kept, with-aggs-kept}
 use Rattle.rewrite.proofs.Join.{Over}
 use Rattle.rewrite.proofs.PushJoin.{push-join-rows, split?-rows, over-left, over-right}
-use Rattle.rewrite.proofs.Ok.{reads, reads?, names-nodup, ok, ok-all, rows-wide, rule}
+use Rattle.acceptance.proofs.NamesRule.{reads, reads?, names-nodup, ok, ok-all, rule}
+use Rattle.rewrite.proofs.Ok.{rows-wide}
 use Rattle.rewrite.proofs.SimplifyFilter.{simplify-filter-true, simplify-filter-reads, conjunction-reads}
-use Rattle.rewrite.proofs.Typed.{boolean, boolean?, typed}
+use Rattle.acceptance.proofs.TypesRule.{boolean, boolean?, typed}
 use Rattle.plan.specs.Types.{scans, types, field-types}
 use Rattle.rewrite.proofs.TypeLaws.{Bools, bools-split, conjunction-boolean, simplify-filter-boolean}
 use Rattle.rewrite.proofs.TypesKept.{types-filtered, scans-filtered, scan-arm-typed, project-arm-typed, alias-arm-typed}
@@ -125,7 +126,7 @@ rejoin W s f e rs = keep-keep _ _ rs ∙ keep-cong _ _ (all-of (two-parts W s f 
 part-over : (s : List Name) (f : Expr → Bool) (e : Expr) → reads s e ≡ true → Over s (keep f (split-conjunction e))
 part-over s f e h = All-keep f (split-cols (has s) e h)
 
--- ---- TableScan: it takes what is neither volatile nor reads a column that is not marked
+-- ---- TableScan: it takes what has a column, reads marked columns only, and is not volatile
 --
 --     Filter e                      Filter (what it does not take, volatile ones last)
 --       TableScan t, es    becomes    TableScan t, es and what it takes, each once

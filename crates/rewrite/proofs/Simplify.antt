@@ -11,13 +11,15 @@ use borrow.Author.Tests.{ltb-true, ltb-false, le-leb, lt-leb, eqb-true, eq-eqb}
 use lib.IntN.{ℤ, pos, negsuc}
 use lib.Signed.{ltZ, leZ}
 use Rattle.plan.specs.Lists.{_&_, choose, all, flat}
+use Rattle.plan.proofs.Literals.{literal-cases}
+use Rattle.plan.specs.Values.{ValueRecord, literalIs, literalIn, literal?}
 use Rattle.plan.proofs.Lists.{and-l, and-r, and-intro, and-assoc, and-comm, and-left-comm, and-true, All, anil, acons, All-append, All-mapped, All-flat, all-of, all-append, all-map, all-cong, All-map}
 use Rattle.plan.specs.Syntax.{Value, null, int, truth, Name, Cmp, eq, ne, lt, le, gt, ge, Expr, col, num, bool, nul, bin, and, or, cmp, neg, test, between, inlist, fn}
 use Rattle.meaning.specs.Meaning.{World, Env, isT, isN, kindOf, code, comparable, holds, compare, sameV, eval}
 use Rattle.plan.specs.Schema.{same}
-use Rattle.meaning.proofs.Names.{same-eq}
+use Rattle.plan.proofs.Names.{same-eq}
 use Rattle.plan.specs.Columns.{on-cols}
-use Rattle.rewrite.specs.SimplifyPredicates.{Lit, lnum, lbool, lnul, lit-expr, lit-val, Rel, same-as, above, below, rel-cmp, bound-of, Side, val, stronger, is-better, find-most-restrictive-predicate, first-kind, of-kind, most-restrictive, Group, eq-expr, up-expr, down-expr, final, eq-part, gtZ, simplify-column-predicates, Item, item-expr, rel-of, as-literal, as-column, make, or-item, view, name-under, place, put-in, fresh, enter, Sorted, add, sort-out, simplify-predicates}
+use Rattle.rewrite.specs.SimplifyPredicates.{lit-val, Rel, same-as, above, below, rel-cmp, bound-of, Side, val, stronger, is-better, find-most-restrictive-predicate, first-kind, of-kind, most-restrictive, Group, eq-expr, up-expr, down-expr, final, eq-part, gtZ, simplify-column-predicates, Item, item-expr, rel-of, as-literal, as-column, make, or-item, view, name-under, place, put-in, fresh, enter, Sorted, add, sort-out, simplify-predicates}
 use Rattle.rewrite.proofs.Extras.{eq-true}
 use Rattle.rewrite.proofs.Sort.{ltZ-asym, ltZ-trans}
 use Rattle.rewrite.proofs.Groups.{sameV-eq}
@@ -70,17 +72,15 @@ isT-compare o a b = go (comparable a b)
     go false = refl
 
 module _ (W : World) (ρ : Env) where
-  lit-eval : (l : Lit) → eval W ρ (lit-expr l) ≡ lit-val l
+  lit-eval : (l : ValueRecord) → eval W ρ (literalIs l) ≡ lit-val l
   unfolding eval
-  lit-eval (lnum z) = refl
-  lit-eval (lbool b) = refl
-  lit-eval (lnul t) = refl
+  lit-eval l = literal-cases (λ e v. eval W ρ e ≡ v) (λ z. refl) (λ b. refl) (λ t. refl) l
 
   eq-comm : (a b : Value) → isT (compare eq a b) ≡ isT (compare eq b a)
   eq-comm a b = isT-compare eq a b ∙ ap₂ _&_ (comparable-comm a b) (and-comm _ _) ∙ sym (isT-compare eq b a)
 
   -- a bound is TRUE where the column's value meets it
-  bound-true : (flipped : Bool) (r : Rel) (x : Name) (l : Lit) → isT (eval W ρ (bound-of flipped r x l)) ≡ meets r (ρ x) (lit-val l)
+  bound-true : (flipped : Bool) (r : Rel) (x : Name) (l : ValueRecord) → isT (eval W ρ (bound-of flipped r x l)) ≡ meets r (ρ x) (lit-val l)
   unfolding bound-of eval
   bound-true false same-as x l = rw (lit-eval l)
   bound-true false (above true) x l = rw (lit-eval l) (isT-compare gt (ρ x) (lit-val l))
@@ -336,9 +336,9 @@ IsRel : Bool → Cmp → Option Rel → Type 0
 IsRel f o none = Unit {0}
 IsRel f o (some r) = rel-cmp f r ≡ o
 
-IsLit : Expr → Option Lit → Type 0
+IsLit : Expr → Option ValueRecord → Type 0
 IsLit e none = Unit {0}
-IsLit e (some l) = lit-expr l ≡ e
+IsLit e (some l) = literalIs l ≡ e
 
 IsName : Expr → Option Name → Type 0
 IsName e none = Unit {0}
@@ -358,7 +358,7 @@ rel-of-ok true gt = refl
 rel-of-ok true ge = refl
 
 as-lit-ok : (e : Expr) → IsLit e (as-literal e)
-unfolding IsLit as-literal
+unfolding IsLit as-literal literalIn literal?
 as-lit-ok (num z) = refl
 as-lit-ok (bool b) = refl
 as-lit-ok (nul t) = refl
@@ -383,14 +383,14 @@ as-name-ok (between n a l u) = tt
 as-name-ok (inlist n a xs) = tt
 as-name-ok (fn p q r xs) = tt
 
-make-left : (o : Cmp) (a b : Expr) (r : Option Rel) (x : Option Name) (l : Option Lit) → IsRel false o r → IsName a x → IsLit b l → Seen (bin (cmp o) a b) (make false r x l)
+make-left : (o : Cmp) (a b : Expr) (r : Option Rel) (x : Option Name) (l : Option ValueRecord) → IsRel false o r → IsName a x → IsLit b l → Seen (bin (cmp o) a b) (make false r x l)
 unfolding IsRel IsName IsLit Seen make bound-of
 make-left o a b none x l h i j = tt
 make-left o a b (some r) none l h i j = tt
 make-left o a b (some r) (some x) none h i j = tt
 make-left o a b (some r) (some x) (some l) h i j = rw (h, i, j)
 
-make-right : (o : Cmp) (a b : Expr) (r : Option Rel) (x : Option Name) (l : Option Lit) → IsRel true o r → IsName b x → IsLit a l → Seen (bin (cmp o) a b) (make true r x l)
+make-right : (o : Cmp) (a b : Expr) (r : Option Rel) (x : Option Name) (l : Option ValueRecord) → IsRel true o r → IsName b x → IsLit a l → Seen (bin (cmp o) a b) (make true r x l)
 unfolding IsRel IsName IsLit Seen make bound-of
 make-right o a b none x l h i j = tt
 make-right o a b (some r) none l h i j = tt
@@ -420,7 +420,7 @@ seen (fn p q r xs) = tt
 -- ---- the groups, columns ascending
 
 module _ (W : World) (ρ : Env) where
-  place-true : (r : Rel) (l : Lit) (f : Bool) (g : Group) → group-true W ρ (place r l f g) ≡ τ W ρ (bound-of f r (g .key) l) & group-true W ρ g
+  place-true : (r : Rel) (l : ValueRecord) (f : Bool) (g : Group) → group-true W ρ (place r l f g) ≡ τ W ρ (bound-of f r (g .key) l) & group-true W ρ g
   unfolding all
   place-true same-as l f g = and-assoc _ _ _
   place-true (above s) l f g = ap (_&_ _) (and-assoc _ _ _) ∙ and-left-comm _ _ _
@@ -461,9 +461,9 @@ module _ (W : World) (ρ : Env) where
 -- ---- what holds of all the conjuncts holds of the simplified ones: any statement P that says of a comparison of a column with a literal
 -- something of that column and that literal alone, Q, and that holds of FALSE
 
-module _ (P : Expr → Type 0) (Q : Name → Lit → Type 0) (false-P : P (bool false))
-    (to-P : (f : Bool) (r : Rel) (x : Name) (l : Lit) → Q x l → P (bound-of f r x l))
-    (to-Q : (f : Bool) (r : Rel) (x : Name) (l : Lit) → P (bound-of f r x l) → Q x l) where
+module _ (P : Expr → Type 0) (Q : Name → ValueRecord → Type 0) (false-P : P (bool false))
+    (to-P : (f : Bool) (r : Rel) (x : Name) (l : ValueRecord) → Q x l → P (bound-of f r x l))
+    (to-Q : (f : Bool) (r : Rel) (x : Name) (l : ValueRecord) → P (bound-of f r x l) → Q x l) where
   abbrev In : Name → List Side → Type 0
   In x ds = All (λ (d : Side). Q x (d .lit)) ds
 
@@ -511,7 +511,7 @@ module _ (P : Expr → Type 0) (Q : Name → Lit → Type 0) (false-P : P (bool 
       (All-mapped (up-expr (g .key)) (All-map (λ (d : Side) k. to-P (d .flipped) (above (d .strict)) (g .key) (d .lit) k) (most-in ltZ (g .key) (h .ups-in))))
       (All-mapped (down-expr (g .key)) (All-map (λ (d : Side) k. to-P (d .flipped) (below (d .strict)) (g .key) (d .lit) k) (most-in gtZ (g .key) (h .downs-in)))))
 
-  place-in : (r : Rel) (l : Lit) (f : Bool) (g : Group) → Q (g .key) l → InGroup g → InGroup (place r l f g)
+  place-in : (r : Rel) (l : ValueRecord) (f : Bool) (g : Group) → Q (g .key) l → InGroup g → InGroup (place r l f g)
   place-in same-as l f g k h = record { eqs-in = acons k (h .eqs-in); ups-in = h .ups-in; downs-in = h .downs-in }
   place-in (above s) l f g k h = record { eqs-in = h .eqs-in; ups-in = acons k (h .ups-in); downs-in = h .downs-in }
   place-in (below s) l f g k h = record { eqs-in = h .eqs-in; ups-in = h .ups-in; downs-in = acons k (h .downs-in) }
@@ -549,14 +549,14 @@ module _ (P : Expr → Type 0) (Q : Name → Lit → Type 0) (false-P : P (bool 
 -- ---- the columns stay those of the conjuncts
 
 module _ (c : Name → Bool) where
-  bound-cols : (f : Bool) (r : Rel) (x : Name) (l : Lit) → on-cols c (bound-of f r x l) ≡ c x
+  lit-cols : (l : ValueRecord) → on-cols c (literalIs l) ≡ true
+  unfolding on-cols
+  lit-cols l = literal-cases (λ e v. on-cols c e ≡ true) (λ z. refl) (λ b. refl) (λ t. refl) l
+
+  bound-cols : (f : Bool) (r : Rel) (x : Name) (l : ValueRecord) → on-cols c (bound-of f r x l) ≡ c x
   unfolding bound-of on-cols
-  bound-cols false r x (lnum z) = and-true _
-  bound-cols false r x (lbool b) = and-true _
-  bound-cols false r x (lnul t) = and-true _
-  bound-cols true r x (lnum z) = and-comm _ _ ∙ and-true _
-  bound-cols true r x (lbool b) = and-comm _ _ ∙ and-true _
-  bound-cols true r x (lnul t) = and-comm _ _ ∙ and-true _
+  bound-cols false r x l = rw (lit-cols l) (and-true _)
+  bound-cols true r x l = rw (lit-cols l) (and-comm _ _ ∙ and-true _)
 
   pub simplified-over : {es : List Expr} → All (λ e. on-cols c e ≡ true) es → All (λ e. on-cols c e ≡ true) (simplify-predicates es)
   unfolding on-cols

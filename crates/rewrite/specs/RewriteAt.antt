@@ -1,9 +1,8 @@
--- The calls on a whole plan: a rewrite at a record number, with the refusals 8, 11 and 12, and the pass.
-use Prim.Native.Nat.{ℕ, zero, suc, _+_, _*_, _-_}
-use mathlib.Core.Bool.{Bool, true, false, cond}
-use mathlib.Core.List.{List, [], _∷_, _++_}
+-- The call `rewrite` on a whole plan: the rewrite at a record number, with the refusals 8, 11 and 12.
+use Prim.Native.Nat.{ℕ, suc, _+_, _*_, _-_}
+use mathlib.Core.Bool.{Bool}
 use mathlib.Core.Option.{Option, none, some}
-use lib.Dec.{eqb, ltb, leb}
+use lib.Dec.{eqb, leb}
 use Rattle.plan.specs.Lists.{_&_, choose, all}
 use Rattle.plan.specs.Syntax.{Plan, scan, filter, project, join, alias, union, distinct, sort, repartition, limit, aggregate, window, Plans, pnil, pcons}
 use Rattle.rewrite.specs.PushDownFilter.{rewrite, merges}
@@ -89,60 +88,3 @@ with-room room (granted f q) = choose (leb (recordBytes * sizeP q) room) (grante
 -- a call: a record number and the length of the output in bytes
 unfoldable pub rewrite-call : ℕ → ℕ → Plan → Answer
 rewrite-call n room p = with-room room (rewriteAt n p)
-
--- ---- the pass
-
--- the records at which plans stand, where the plan itself stands at `i`
-unfoldable mutual
-  pub plan-records : ℕ → Plan → List ℕ
-  plan-records i (scan t fs es) = i ∷ []
-  plan-records i (filter e p) = i ∷ plan-records (i + suc (sizeE e)) p
-  plan-records i (project es p) = i ∷ plan-records (i + suc (total sizeEntry es)) p
-  plan-records i (join k l r on g) = i ∷ (plan-records (i + 1) l ++ plan-records (i + suc (sizeP l)) r)
-  plan-records i (alias q p) = i ∷ plan-records (i + 1) p
-  plan-records i (union ps) = i ∷ plan-records-all (i + 1) ps
-  plan-records i (distinct p) = i ∷ plan-records (i + 1) p
-  plan-records i (sort f ks p) = i ∷ plan-records (i + suc (total sizeKey ks)) p
-  plan-records i (repartition p) = i ∷ plan-records (i + 1) p
-  plan-records i (limit a b p) = i ∷ plan-records (i + 1) p
-  plan-records i (aggregate gs ags p) = i ∷ plan-records (i + suc (total sizeEntry gs + total sizeAgg ags)) p
-  plan-records i (window ws p) = i ∷ plan-records (i + suc (total sizeWin ws)) p
-
-  pub plan-records-all : ℕ → Plans → List ℕ
-  plan-records-all i pnil = []
-  plan-records-all i (pcons p ps) = plan-records i p ++ plan-records-all (i + sizeP p) ps
-
-unfoldable pub first-after : ℕ → List ℕ → Option ℕ
-first-after n [] = none
-first-after n (m ∷ ms) = cond (ltb n m) (some m) (first-after n ms)
-
--- The plans among the children of what stands there, in order, and so on down: that is the order of the records. A rewrite at a record
--- leaves the records before it as they are, so the next visit is at the next record that holds a plan, in the plan as it stands then.
-unfoldable pub next-visit : ℕ → Plan → Option ℕ
-next-visit n p = first-after n (plan-records 0 p)
-
--- visits, flags raised, finished, and the plan; or a refusal
-pub data PassAnswer : Type 0 where
-  passed : ℕ → ℕ → ℕ → Plan → PassAnswer
-  pass-refused : ℕ → ℕ → PassAnswer
-
-abbrev pub bit : Bool → ℕ
-bit true = 1
-bit false = 0
-
--- what is left of the budget, the next visit, the plan as it stands, visits and flags so far
-unfoldable pub visits : ℕ → Option ℕ → Plan → ℕ → ℕ → PassAnswer
-visits zero none p v c = passed v c 1 p
-visits zero (some n) p v c = passed v c 0 p
-visits (suc b) none p v c = passed v c 1 p
-visits (suc b) (some n) p v c = elim (rewriteAt n p) [ granted f q ↦ visits b (next-visit n q) q (v + 1) (c + bit f) | refused k r ↦ pass-refused k r ]
-
-unfoldable pub pass : ℕ → Plan → PassAnswer
-pass budget p = visits budget (some 0) p 0 0
-
-unfoldable pub pass-with-room : ℕ → PassAnswer → PassAnswer
-pass-with-room room (pass-refused k r) = pass-refused k r
-pass-with-room room (passed v c f q) = choose (leb (recordBytes * sizeP q) room) (passed v c f q) (pass-refused 12 0)
-
-unfoldable pub pass-call : ℕ → ℕ → Plan → PassAnswer
-pass-call budget room p = pass-with-room room (pass budget p)
