@@ -1,6 +1,7 @@
 pub mod Integers
 pub mod Lists
 pub mod Names
+pub mod Measure
 pub mod Rebuilt
 pub mod Types
 pub mod Written

@@ -17,7 +17,8 @@ use Rattle.meaning.proofs.Tables.{fit-left, fit-right}
 use Rattle.plan.specs.Schema.{schema, schema-first}
 use Rattle.rewrite.specs.PushDownFilter.{rewrite}
 use Rattle.image.specs.Limits.{recordBytes}
-use Rattle.rewrite.specs.Limits.{sizeP, fits}
+use Rattle.plan.specs.Measure.{sizeP}
+use Rattle.rewrite.specs.Limits.{fits}
 use Rattle.rewrite.specs.RewriteAt.{Focus, FocusAll, here, inside, inside-all, first-of, later-of, focus, focus-all, Answer}
 use Rattle.rewrite.specs.RewriteAt.{granted, refused, result-fits, rewrite-in, rewriteAt, with-room, rewrite-call}
 use Rattle.acceptance.proofs.NamesRule.{ok, ok-all, rule, ok-names}

@@ -7,7 +7,9 @@ use Rattle.plan.specs.Lists.{_&_, choose, all}
 use Rattle.plan.specs.Syntax.{Plan, scan, filter, project, join, alias, union, distinct, sort, repartition, limit, aggregate, window, Plans, pnil, pcons}
 use Rattle.rewrite.specs.PushDownFilter.{rewrite, merges}
 use Rattle.image.specs.Limits.{recordBytes}
-use Rattle.rewrite.specs.Limits.{sizeE, total, sizeEntry, sizeKey, sizeAgg, sizeWin, sizeP, fits}
+use Rattle.plan.specs.Trees.{entryKids, keyKids, aggKids, winKids}
+use Rattle.plan.specs.Measure.{sizeE, sizeP, sizes}
+use Rattle.rewrite.specs.Limits.{fits}
 
 -- ---- the plan that stands at a record
 
@@ -44,7 +46,7 @@ unfoldable mutual
   pub focus : ℕ → Plan → Option Focus
   focus n (scan t fs es) = choose (eqb n 0) (here (scan t fs es)) none
   focus n (filter e p) = let k = suc (sizeE e) in choose (eqb n 0) (here (filter e p)) (choose (leb k n) (inside (filter e) (focus (n - k) p)) none)
-  focus n (project es p) = let k = suc (total sizeEntry es) in choose (eqb n 0) (here (project es p)) (choose (leb k n) (inside (project es) (focus (n - k) p)) none)
+  focus n (project es p) = let k = suc (sizes entryKids es) in choose (eqb n 0) (here (project es p)) (choose (leb k n) (inside (project es) (focus (n - k) p)) none)
   focus n (join k l r on g) =
       let m = suc (sizeP l) in
       choose (eqb n 0) (here (join k l r on g))
@@ -52,11 +54,11 @@ unfoldable mutual
   focus n (alias q p) = choose (eqb n 0) (here (alias q p)) (inside (alias q) (focus (n - 1) p))
   focus n (union ps) = choose (eqb n 0) (here (union ps)) (inside-all union (focus-all (n - 1) ps))
   focus n (distinct p) = choose (eqb n 0) (here (distinct p)) (inside distinct (focus (n - 1) p))
-  focus n (sort f ks p) = let k = suc (total sizeKey ks) in choose (eqb n 0) (here (sort f ks p)) (choose (leb k n) (inside (sort f ks) (focus (n - k) p)) none)
+  focus n (sort f ks p) = let k = suc (sizes keyKids ks) in choose (eqb n 0) (here (sort f ks p)) (choose (leb k n) (inside (sort f ks) (focus (n - k) p)) none)
   focus n (repartition p) = choose (eqb n 0) (here (repartition p)) (inside repartition (focus (n - 1) p))
   focus n (limit i j p) = choose (eqb n 0) (here (limit i j p)) (inside (limit i j) (focus (n - 1) p))
-  focus n (aggregate gs ags p) = let k = suc (total sizeEntry gs + total sizeAgg ags) in choose (eqb n 0) (here (aggregate gs ags p)) (choose (leb k n) (inside (aggregate gs ags) (focus (n - k) p)) none)
-  focus n (window ws p) = let k = suc (total sizeWin ws) in choose (eqb n 0) (here (window ws p)) (choose (leb k n) (inside (window ws) (focus (n - k) p)) none)
+  focus n (aggregate gs ags p) = let k = suc (sizes entryKids gs + sizes aggKids ags) in choose (eqb n 0) (here (aggregate gs ags p)) (choose (leb k n) (inside (aggregate gs ags) (focus (n - k) p)) none)
+  focus n (window ws p) = let k = suc (sizes winKids ws) in choose (eqb n 0) (here (window ws p)) (choose (leb k n) (inside (window ws) (focus (n - k) p)) none)
 
   pub focus-all : ℕ → Plans → Option FocusAll
   focus-all n pnil = none
