@@ -13,7 +13,13 @@ use lib.IntN.{ℤ, pos}
 use lib.Signed.{ltZ, leZ}
 use Rattle.plan.specs.Schema.{lookD, schema}
 use Rattle.plan.specs.Lists.{_&_, keep, all, any, flat}
-use Rattle.plan.specs.Syntax.{Value, null, int, truth, Name, Cmp, eq, ne, lt, le, gt, ge, Op, and, or, cmp, Test, isNull, isNotNull, isTrue, isFalse, isUnknown, isNotTrue, isNotFalse, isNotUnknown, Expr, col, num, bool, nul, bin, neg, test, between, inlist, fn, Exprs, enil, econs, Field, Entry, Pair, Key, Agg, count, min, max, AggEntry, WinEntry, Kind, inner, left, right, full, leftSemi, rightSemi, leftAnti, rightAnti, Plan, scan, filter, project, join, alias, union, distinct, sort, repartition, limit, aggregate, window, Plans, pnil, pcons}
+use Rattle.plan.specs.Syntax.{Value, null, int, truth, Name, Cmp, eq, ne, lt, le, gt, ge, Op, and, or, cmp}
+use Rattle.plan.specs.Syntax.{Test, isNull, isNotNull, isTrue, isFalse, isUnknown, isNotTrue, isNotFalse, isNotUnknown}
+use Rattle.plan.specs.Syntax.{Expr, col, num, bool, nul, bin, neg, test, between, inlist, fn, Exprs, enil, econs}
+use Rattle.plan.specs.Syntax.{Field, Entry, Pair, Key, Agg, count, min, max, AggEntry, WinEntry}
+use Rattle.plan.specs.Syntax.{Kind, inner, left, right, full, leftSemi, rightSemi, leftAnti, rightAnti}
+use Rattle.plan.specs.Syntax.{Plan, scan, filter, project, join, alias, union, distinct, sort, repartition, limit, aggregate, window}
+use Rattle.plan.specs.Syntax.{Plans, pnil, pcons}
 
 -- ---- rows, tables, functions
 
@@ -195,11 +201,11 @@ joined leftAnti m nl nr ls rs = keep (λ l. not (any (m l) rs)) ls
 joined rightAnti m nl nr ls rs = keep (λ r. not (any (λ l. m l r) ls)) rs
 
 module _ (W : World) where
-  -- "Rows match in a join if Eq of every key pair
+  -- "Rows match in a join if Eq of every key pair .. TRUE"
   abbrev pub keys-match : List Name → List Name → List Pair → Row → Row → Bool
   keys-match s t on l r = all (λ (k : Pair). isT (compare eq (eval W (look s l) (k .lhs)) (eval W (look t r) (k .rhs)))) on
 
-  -- and the filter are TRUE"
+  -- "Rows match in a join if Eq of every key pair and the filter are TRUE", the filter over the fields of both sides
   abbrev pub matching : List Name → List Name → List Pair → Option Expr → Row → Row → Bool
   matching s t on f l r = keys-match s t on l r & sat? W (s ++ t) f (l ++ r)
 

@@ -29,7 +29,9 @@ go-over false s es = All-map (λ e h. cc) (passes (λ e. false) es)
 module _ (k : Kind) (s t : List Name) (on : List Pair) (P G : List Expr) where
   -- what moved to no side, of the lists for which a side is open: there OR clauses are looked for
   abbrev unmoved : Bool → Bool → List Expr
-  unmoved p q = if-list p (keep-predicates k s t on P G ++ join-conditions k s t on P G) ++ if-list q (on-filter-join-conditions k s t on P G)
+  unmoved p q =
+      if-list p (keep-predicates k s t on P G ++ join-conditions k s t on P G)
+      ++ if-list q (on-filter-join-conditions k s t on P G)
 
   pub over-left : Over s (left-push k s t on P G)
   over-left =
@@ -92,7 +94,7 @@ one-above p pl pr p₂ il gl ol hp hr hi hgl hol = sym hp ∙ iff _ _
 other-within : (g gl gr f pr ir or : Bool) → gl & (gr & f) ≡ g → gl ≡ true → pr ≡ true → ir ≡ true → (f ≡ true → or ≡ true)
     → g ≡ (pr & (ir & (gr & or))) & f
 other-within g gl gr f pr ir or hg hgl hr hi hor = sym hg ∙ iff _ _
-    (λ h. and-intro (and-intro hr (and-intro hi (and-intro (and-l _ _ (and-r _ _ h)) (hor (and-r _ _ (and-r _ _ h)))))) (and-r _ _ (and-r _ _ h)))
+    (λ h. let i = and-r _ _ h in and-intro (and-intro hr (and-intro hi (and-intro (and-l _ _ i) (hor (and-r _ _ i))))) (and-r _ _ i))
     (λ h. and-intro hgl (and-intro (and-l _ _ (and-r _ _ (and-r _ _ (and-l _ _ h)))) (and-r _ _ h)))
 
 -- conjuncts `p` are `pl`, `pr`, `p₂`; those of the filter, `g`, are `gl`, `gr`, `f`; `il`, `ir`, `ol`, `or` are implied
@@ -148,8 +150,8 @@ module _ (p pl pr p₂ g gl gr f il ir ol or : Bool) (hp : pl & (pr & p₂) ≡ 
           (and-intro (and-l _ _ hF)
           (sym hg ∙ and-intro (and-l _ _ (and-r _ _ (and-r _ _ hL))) (and-intro (and-l _ _ (and-r _ _ (and-r _ _ hR))) (and-r _ _ hF))))
 
--- ---- the conditions of the laws of joins, kind by kind. What a side gains is: conjuncts from above, inferred ones, conjuncts of the filter,
--- OR clauses. For all kinds but Inner nothing is inferred.
+-- ---- the conditions of the laws of joins, kind by kind. What a side gains: conjuncts from above, inferred ones, conjuncts of the
+-- filter, OR clauses. For all kinds but Inner nothing is inferred.
 
 module _ (W : World) (s t : List Name) (on : List Pair) (P G : List Expr) where
   inner-cond : (ρ : Env) → (keys-in W ρ on & holds-all W ρ G) & holds-all W ρ P
@@ -184,7 +186,8 @@ module _ (W : World) (s t : List Name) (on : List Pair) (P G : List Expr) where
     none-new′ u v = refl
 
     -- OR clauses of what is kept above; of that and of what stays in the filter
-    kept-clauses : (u : List Name) (es : List Expr) → all τ es ≡ true → all τ (extract-or-clauses-for-join (has u) ((es ++ []) ++ [])) ≡ true
+    kept-clauses : (u : List Name) (es : List Expr) → all τ es ≡ true
+        → all τ (extract-or-clauses-for-join (has u) ((es ++ []) ++ [])) ≡ true
     kept-clauses u es h = clauses-hold (has u) W ρ _ (both τ _ [] (both τ _ [] h (nil-all τ)) (nil-all τ))
 
     both-clauses : (u : List Name) (es fs : List Expr) → all τ es & all τ fs ≡ true
@@ -199,7 +202,8 @@ module _ (W : World) (s t : List Name) (on : List Pair) (P G : List Expr) where
     left-within : holds-all W ρ G ≡ holds-all W ρ (right-push left s t on P G) & holds-all W ρ (on-filter-join-conditions left s t on P G)
     left-within =
         simp all-append
-        (other-within _ _ _ _ _ _ _ (thirds τ false true s t G) (none-all τ s G) (none-all τ t _) (none-new′ t s) (clauses-hold (has t) W ρ _))
+        (other-within _ _ _ _ _ _ _ (thirds τ false true s t G) (none-all τ s G) (none-all τ t _) (none-new′ t s)
+        (clauses-hold (has t) W ρ _))
 
     right-above : holds-all W ρ P ≡ holds-all W ρ (right-push right s t on P G) & holds-all W ρ (keep-predicates right s t on P G)
     right-above =
@@ -209,23 +213,26 @@ module _ (W : World) (s t : List Name) (on : List Pair) (P G : List Expr) where
     right-within : holds-all W ρ G ≡ holds-all W ρ (left-push right s t on P G) & holds-all W ρ (on-filter-join-conditions right s t on P G)
     right-within =
         simp all-append
-        (other-within _ _ _ _ _ _ _ (thirds′ τ true false s t G) (none-all τ t _) (none-all τ s P) (none-new s) (clauses-hold (has s) W ρ _))
+        (other-within _ _ _ _ _ _ _ (thirds′ τ true false s t G) (none-all τ t _) (none-all τ s P) (none-new s)
+        (clauses-hold (has s) W ρ _))
 
     leftSemi-cond : holds-all W ρ P & (keys-in W ρ on & holds-all W ρ G)
         ≡ (holds-all W ρ (left-push leftSemi s t on P G) & holds-all W ρ (keep-predicates leftSemi s t on P G))
-        & (holds-all W ρ (right-push leftSemi s t on P G) & (keys-in W ρ on & holds-all W ρ (on-filter-join-conditions leftSemi s t on P G)))
+        & (holds-all W ρ (right-push leftSemi s t on P G)
+        & (keys-in W ρ on & holds-all W ρ (on-filter-join-conditions leftSemi s t on P G)))
     leftSemi-cond =
         simp all-append
-        (semi _ _ _ _ _ _ _ _ _ _ _ _ (thirds τ true false s t P) (thirds τ true true s t G) _ (none-all τ t _) (none-new s) (none-new′ t s)
-        (both-clauses s _ _) (clauses-hold (has t) W ρ _))
+        (semi _ _ _ _ _ _ _ _ _ _ _ _ (thirds τ true false s t P) (thirds τ true true s t G) _
+        (none-all τ t _) (none-new s) (none-new′ t s) (both-clauses s _ _) (clauses-hold (has t) W ρ _))
 
     rightSemi-cond : holds-all W ρ P & (keys-in W ρ on & holds-all W ρ G)
         ≡ (holds-all W ρ (right-push rightSemi s t on P G) & holds-all W ρ (keep-predicates rightSemi s t on P G))
-        & (holds-all W ρ (left-push rightSemi s t on P G) & (keys-in W ρ on & holds-all W ρ (on-filter-join-conditions rightSemi s t on P G)))
+        & (holds-all W ρ (left-push rightSemi s t on P G)
+        & (keys-in W ρ on & holds-all W ρ (on-filter-join-conditions rightSemi s t on P G)))
     rightSemi-cond =
         simp all-append
-        (semi _ _ _ _ _ _ _ _ _ _ _ _ (thirds′ τ false true s t P) (thirds′ τ true true s t G) _ (none-all τ s P) (none-new′ t s) (none-new s)
-        (both-clauses t _ _) (clauses-hold (has s) W ρ _))
+        (semi _ _ _ _ _ _ _ _ _ _ _ _ (thirds′ τ false true s t P) (thirds′ τ true true s t G) _
+        (none-all τ s P) (none-new′ t s) (none-new s) (both-clauses t _ _) (clauses-hold (has s) W ρ _))
 
 -- ---- the rows. Full: nothing moves
 

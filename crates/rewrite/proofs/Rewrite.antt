@@ -116,7 +116,7 @@ rejoin W s f e rs = keep-keep _ _ rs ∙ keep-cong _ _ (all-of (two-parts W s f 
 part-over : (s : List Name) (f : Expr → Bool) (e : Expr) → reads s e ≡ true → Over s (keep f (split-conjunction e))
 part-over s f e h = All-keep f (split-cols (has s) e h)
 
--- ---- TableScan: it takes what is neither volatile nor reads a column that is not marked
+-- ---- TableScan: it takes what has a column, reads marked columns only, and is not volatile
 --
 --     Filter e                      Filter (what it does not take, volatile ones last)
 --       TableScan t, es    becomes    TableScan t, es and what it takes, each once
