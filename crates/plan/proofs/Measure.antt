@@ -10,7 +10,8 @@ use Rattle.image.specs.Tree.{Label, Forest, node, none, size}
 use Rattle.plan.specs.Syntax.{Name, Op, Test, Expr, col, num, bool, nul, bin, neg, test, between, inlist, fn, Exprs, enil, econs}
 use Rattle.plan.specs.Syntax.{Field, Entry, Pair, Key, AggEntry, WinEntry, Kind, Plans, pnil, pcons}
 use Rattle.plan.specs.Syntax.{Plan, scan, filter, project, join, alias, union, distinct, sort, repartition, limit, aggregate, window}
-use Rattle.plan.specs.Trees.{labelE, kidsE, forestE, each, nothingBelow, fieldLabel, entryLabel, entryKids, pairLabel, pairKids, keyLabel, keyKids}
+use Rattle.plan.specs.Trees.{labelE, kidsE, forestE, each, nothingBelow, fieldLabel, entryLabel, entryKids, pairLabel, pairKids, keyLabel}
+use Rattle.plan.specs.Trees.{keyKids}
 use Rattle.plan.specs.Trees.{aggLabel, aggKids, winLabel, winKids, filterKids, labelP, kidsP, forestP}
 use Rattle.plan.specs.Measure.{depth, sizeE, sizeP, sizes, depthP}
 
