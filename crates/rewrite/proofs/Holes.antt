@@ -92,34 +92,65 @@ right-behind m p o = let e : 1 + m - 1 ≡ m = omega arith in rw (ne-eqb (1 + m)
 pub in-filter : (e : Expr) → Holed (suc (sizeE e)) 1 (filter e)
 unfolding focus
 in-filter e =
-    record { found = λ m t h. after-parts (sizeE e) m (filter e t) (filter e) (λ i. focus i t); room = λ t. omega (arith, size-filter e t); deep = λ t. deep-filter e t }
+    record {
+      found = λ m t h. after-parts (sizeE e) m (filter e t) (filter e) (λ i. focus i t);
+      room = λ t. omega (arith, size-filter e t);
+      deep = λ t. deep-filter e t;
+    }
 
 pub in-project : (es : List Entry) → Holed (suc (sizes entryKids es)) 1 (project es)
 unfolding focus
 in-project es =
-    record { found = λ m t h. after-parts (sizes entryKids es) m (project es t) (project es) (λ i. focus i t); room = λ t. omega (arith, size-project es t); deep = λ t. deep-project es t }
+    record {
+      found = λ m t h. after-parts (sizes entryKids es) m (project es t) (project es) (λ i. focus i t);
+      room = λ t. omega (arith, size-project es t);
+      deep = λ t. deep-project es t;
+    }
 
 pub in-alias : (q : ℕ) → Holed 1 1 (alias q)
 unfolding focus
-in-alias q = record { found = λ m t h. right-behind m (alias q t) (λ i. inside (alias q) (focus i t)); room = λ t. omega (arith, size-alias q t); deep = λ t. deep-alias q t }
+in-alias q =
+    record {
+      found = λ m t h. right-behind m (alias q t) (λ i. inside (alias q) (focus i t));
+      room = λ t. omega (arith, size-alias q t);
+      deep = λ t. deep-alias q t;
+    }
 
 pub in-distinct : Holed 1 1 distinct
 unfolding focus
-in-distinct = record { found = λ m t h. right-behind m (distinct t) (λ i. inside distinct (focus i t)); room = λ t. omega (arith, size-distinct t); deep = λ t. deep-distinct t }
+in-distinct =
+    record {
+      found = λ m t h. right-behind m (distinct t) (λ i. inside distinct (focus i t));
+      room = λ t. omega (arith, size-distinct t);
+      deep = λ t. deep-distinct t;
+    }
 
 pub in-sort : (f : Option ℕ) (ks : List Key) → Holed (suc (sizes keyKids ks)) 1 (sort f ks)
 unfolding focus
 in-sort f ks =
-    record { found = λ m t h. after-parts (sizes keyKids ks) m (sort f ks t) (sort f ks) (λ i. focus i t); room = λ t. omega (arith, size-sort f ks t); deep = λ t. deep-sort f ks t }
+    record {
+      found = λ m t h. after-parts (sizes keyKids ks) m (sort f ks t) (sort f ks) (λ i. focus i t);
+      room = λ t. omega (arith, size-sort f ks t);
+      deep = λ t. deep-sort f ks t;
+    }
 
 pub in-repartition : Holed 1 1 repartition
 unfolding focus
 in-repartition =
-    record { found = λ m t h. right-behind m (repartition t) (λ i. inside repartition (focus i t)); room = λ t. omega (arith, size-repartition t); deep = λ t. deep-repartition t }
+    record {
+      found = λ m t h. right-behind m (repartition t) (λ i. inside repartition (focus i t));
+      room = λ t. omega (arith, size-repartition t);
+      deep = λ t. deep-repartition t;
+    }
 
 pub in-limit : (n k : ℕ) → Holed 1 1 (limit n k)
 unfolding focus
-in-limit n k = record { found = λ m t h. right-behind m (limit n k t) (λ i. inside (limit n k) (focus i t)); room = λ t. omega (arith, size-limit n k t); deep = λ t. deep-limit n k t }
+in-limit n k =
+    record {
+      found = λ m t h. right-behind m (limit n k t) (λ i. inside (limit n k) (focus i t));
+      room = λ t. omega (arith, size-limit n k t);
+      deep = λ t. deep-limit n k t;
+    }
 
 pub in-aggregate : (gs : List Entry) (ags : List AggEntry) → Holed (suc (sizes entryKids gs + sizes aggKids ags)) 1 (aggregate gs ags)
 unfolding focus
@@ -133,7 +164,11 @@ in-aggregate gs ags =
 pub in-window : (ws : List WinEntry) → Holed (suc (sizes winKids ws)) 1 (window ws)
 unfolding focus
 in-window ws =
-    record { found = λ m t h. after-parts (sizes winKids ws) m (window ws t) (window ws) (λ i. focus i t); room = λ t. omega (arith, size-window ws t); deep = λ t. deep-window ws t }
+    record {
+      found = λ m t h. after-parts (sizes winKids ws) m (window ws t) (window ws) (λ i. focus i t);
+      room = λ t. omega (arith, size-window ws t);
+      deep = λ t. deep-window ws t;
+    }
 
 -- ---- the inputs of a Join
 
@@ -222,7 +257,8 @@ module _ {n a : ℕ} (C : Plans → Plan) (h : HoledAll n a C) where
         deep = λ t. omega (arith, h .deep (pcons t ps), deep-first t ps);
       }
 
-  later-found : (p : Plan) (m : ℕ) (ts : Plans) → m < sizePs ts → focus (n + sizeP p + m) (C (pcons p ts)) ≡ inside-all (λ ps. C (pcons p ps)) (focus-all m ts)
+  later-found : (p : Plan) (m : ℕ) (ts : Plans) → m < sizePs ts
+      → focus (n + sizeP p + m) (C (pcons p ts)) ≡ inside-all (λ ps. C (pcons p ps)) (focus-all m ts)
   later-found p m ts s =
       let j : n + sizeP p + m ≡ n + (sizeP p + m) = omega arith in
       ap (λ x. focus x (C (pcons p ts))) j

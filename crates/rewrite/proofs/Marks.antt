@@ -241,8 +241,13 @@ moved e bs = ap (λ n. places n bs) e
 places-append : (i : ℕ) (xs ys : List Bool) → places i (xs ++ ys) ≡ places i xs ++ places (i + length xs) ys
 unfolding places
 places-append i [] ys = let e : i ≡ i + 0 = omega arith in moved e ys
-places-append i (true ∷ xs) ys = let e : suc i + length xs ≡ i + suc (length xs) = omega arith in ap (i ∷_) (places-append (suc i) xs ys ∙ ap (places (suc i) xs ++_) (moved e ys))
-places-append i (false ∷ xs) ys = let e : suc i + length xs ≡ i + suc (length xs) = omega arith in places-append (suc i) xs ys ∙ ap (places (suc i) xs ++_) (moved e ys)
+places-append i (true ∷ xs) ys =
+    let e : suc i + length xs ≡ i + suc (length xs) = omega arith in
+    ap (i ∷_) (places-append (suc i) xs ys ∙ ap (places (suc i) xs ++_) (moved e ys))
+places-append i (false ∷ xs) ys =
+    let e : suc i + length xs ≡ i + suc (length xs) = omega arith in
+    places-append (suc i) xs ys
+    ∙ ap (places (suc i) xs ++_) (moved e ys)
 
 places-falses : (i n : ℕ) (ys : List Bool) → places i (falses n ++ ys) ≡ places (i + n) ys
 unfolding places falses
@@ -261,10 +266,14 @@ behind i m bs rs h = let e : i + suc m ≡ suc i + m = omega arith in h ∙ move
 next : (i : ℕ) (bs : List Bool) (rs : List ℕ) → rs ≡ places (i + 1) bs → rs ≡ places (suc i) bs
 next i bs rs h = let e : i + 1 ≡ suc i = omega arith in h ∙ moved e bs
 
-two : (i m : ℕ) (xs ys : List Bool) (n : ℕ) → length xs ≡ m → (rs ss : List ℕ) → rs ≡ places (i + 1) xs → ss ≡ places (i + suc m) ys → rs ++ ss ≡ places (suc i) (xs ++ (ys ++ falses n))
+two : (i m : ℕ) (xs ys : List Bool) (n : ℕ) → length xs ≡ m → (rs ss : List ℕ) → rs ≡ places (i + 1) xs → ss ≡ places (i + suc m) ys
+    → rs ++ ss ≡ places (suc i) (xs ++ (ys ++ falses n))
 two i m xs ys n w rs ss h k =
     let e : i + suc m ≡ suc i + length xs = omega arith in
-    ap₂ _++_ (next i xs rs h) (k ∙ moved e ys ∙ sym (append-nil _) ∙ ap (places (suc i + length xs) ys ++_) (sym (places-none (suc i + length xs + length ys) n)) ∙ sym (places-append (suc i + length xs) ys (falses n)))
+    ap₂ _++_ (next i xs rs h)
+    (k ∙ moved e ys ∙ sym (append-nil _)
+    ∙ ap (places (suc i + length xs) ys ++_) (sym (places-none (suc i + length xs + length ys) n))
+    ∙ sym (places-append (suc i + length xs) ys (falses n)))
     ∙ sym (places-append (suc i) xs (ys ++ falses n))
 
 mutual
@@ -272,21 +281,41 @@ mutual
 
   pub records-marks : (p : Plan) (i : ℕ) → plan-records i p ≡ places i (plan-marks p)
   records-marks (scan t fs es) i = ap (i ∷_) (sym (places-none (suc i) _)) ∙ ap (places i) (sym (marks-scan t fs es))
-  records-marks (filter e p) i = ap (i ∷_) (behind i (sizeE e) (plan-marks p) (plan-records _ p) (records-marks p _)) ∙ ap (places i) (sym (marks-filter e p))
-  records-marks (project es p) i = ap (i ∷_) (behind i (sizes entryKids es) (plan-marks p) (plan-records _ p) (records-marks p _)) ∙ ap (places i) (sym (marks-project es p))
-  records-marks (join k l r on f) i = ap (i ∷_) (two i (sizeP l) (plan-marks l) (plan-marks r) (sizes pairKids on + size (filterKids f)) (marks-length l) (plan-records _ l) (plan-records _ r) (records-marks l _) (records-marks r _)) ∙ ap (places i) (sym (marks-join k l r on f))
+  records-marks (filter e p) i =
+      ap (i ∷_) (behind i (sizeE e) (plan-marks p) (plan-records _ p) (records-marks p _))
+      ∙ ap (places i) (sym (marks-filter e p))
+  records-marks (project es p) i =
+      ap (i ∷_) (behind i (sizes entryKids es) (plan-marks p) (plan-records _ p) (records-marks p _))
+      ∙ ap (places i) (sym (marks-project es p))
+  records-marks (join k l r on f) i =
+      ap (i ∷_)
+      (two i (sizeP l) (plan-marks l) (plan-marks r) (sizes pairKids on + size (filterKids f)) (marks-length l)
+      (plan-records _ l) (plan-records _ r) (records-marks l _) (records-marks r _))
+      ∙ ap (places i) (sym (marks-join k l r on f))
   records-marks (alias q p) i = ap (i ∷_) (next i (plan-marks p) (plan-records _ p) (records-marks p _)) ∙ ap (places i) (sym (marks-alias q p))
-  records-marks (union ps) i = ap (i ∷_) (next i (marks (forestP ps)) (plan-records-all _ ps) (records-marks-all ps _)) ∙ ap (places i) (sym (marks-union ps))
+  records-marks (union ps) i =
+      ap (i ∷_) (next i (marks (forestP ps)) (plan-records-all _ ps) (records-marks-all ps _))
+      ∙ ap (places i) (sym (marks-union ps))
   records-marks (distinct p) i = ap (i ∷_) (next i (plan-marks p) (plan-records _ p) (records-marks p _)) ∙ ap (places i) (sym (marks-distinct p))
-  records-marks (sort f ks p) i = ap (i ∷_) (behind i (sizes keyKids ks) (plan-marks p) (plan-records _ p) (records-marks p _)) ∙ ap (places i) (sym (marks-sort f ks p))
-  records-marks (repartition p) i = ap (i ∷_) (next i (plan-marks p) (plan-records _ p) (records-marks p _)) ∙ ap (places i) (sym (marks-repartition p))
+  records-marks (sort f ks p) i =
+      ap (i ∷_) (behind i (sizes keyKids ks) (plan-marks p) (plan-records _ p) (records-marks p _))
+      ∙ ap (places i) (sym (marks-sort f ks p))
+  records-marks (repartition p) i =
+      ap (i ∷_) (next i (plan-marks p) (plan-records _ p) (records-marks p _))
+      ∙ ap (places i) (sym (marks-repartition p))
   records-marks (limit n k p) i = ap (i ∷_) (next i (plan-marks p) (plan-records _ p) (records-marks p _)) ∙ ap (places i) (sym (marks-limit n k p))
-  records-marks (aggregate gs ags p) i = ap (i ∷_) (behind i (sizes entryKids gs + sizes aggKids ags) (plan-marks p) (plan-records _ p) (records-marks p _)) ∙ ap (places i) (sym (marks-aggregate gs ags p))
-  records-marks (window ws p) i = ap (i ∷_) (behind i (sizes winKids ws) (plan-marks p) (plan-records _ p) (records-marks p _)) ∙ ap (places i) (sym (marks-window ws p))
+  records-marks (aggregate gs ags p) i =
+      ap (i ∷_) (behind i (sizes entryKids gs + sizes aggKids ags) (plan-marks p) (plan-records _ p) (records-marks p _))
+      ∙ ap (places i) (sym (marks-aggregate gs ags p))
+  records-marks (window ws p) i =
+      ap (i ∷_) (behind i (sizes winKids ws) (plan-marks p) (plan-records _ p) (records-marks p _))
+      ∙ ap (places i) (sym (marks-window ws p))
 
   records-marks-all : (ps : Plans) (i : ℕ) → plan-records-all i ps ≡ places i (marks (forestP ps))
   records-marks-all pnil i = refl
-  records-marks-all (pcons p ps) i = ap₂ _++_ (records-marks p i) (records-marks-all ps _ ∙ moved (ap (i +_) (sym (marks-length p))) (marks (forestP ps))) ∙ sym (places-append i (plan-marks p) (marks (forestP ps)))
+  records-marks-all (pcons p ps) i =
+      ap₂ _++_ (records-marks p i) (records-marks-all ps _ ∙ moved (ap (i +_) (sym (marks-length p))) (marks (forestP ps)))
+      ∙ sym (places-append i (plan-marks p) (marks (forestP ps)))
 
 -- ---- the records at which a rewrite finds a plan
 
@@ -317,15 +346,21 @@ unfolding choose
 at-next xs zero = refl
 at-next xs (suc n) = rw (eqb·suc-zero n, suc-sub-suc n 0, sub-zero n)
 
-at-behind : (m : ℕ) (xs : List Bool) (n : ℕ) → getD (true ∷ (falses m ++ xs)) n false ≡ choose (eqb n 0) true (choose (leb (suc m) n) (getD xs (n - suc m) false) false)
+at-behind : (m : ℕ) (xs : List Bool) (n : ℕ)
+    → getD (true ∷ (falses m ++ xs)) n false ≡ choose (eqb n 0) true (choose (leb (suc m) n) (getD xs (n - suc m) false) false)
 unfolding choose
 at-behind m xs zero = refl
 at-behind m xs (suc n) = rw (eqb·suc-zero n, leb·suc-suc m n, suc-sub-suc n m) (getD-append (falses m) xs n ∙ rw (falses-length m, getD-falses m n))
 
-at-two : (xs ys : List Bool) (m k : ℕ) → length xs ≡ k → (n : ℕ) → getD (true ∷ (xs ++ (ys ++ falses m))) n false ≡ choose (eqb n 0) true (choose (leb (suc k) n) (getD ys (n - suc k) false) (getD xs (n - 1) false))
+at-two : (xs ys : List Bool) (m k : ℕ) → length xs ≡ k → (n : ℕ)
+    → getD (true ∷ (xs ++ (ys ++ falses m))) n false
+    ≡ choose (eqb n 0) true (choose (leb (suc k) n) (getD ys (n - suc k) false) (getD xs (n - 1) false))
 unfolding choose
 at-two xs ys m k w zero = refl
-at-two xs ys m k w (suc n) = rw (eqb·suc-zero n, leb·suc-suc k n, suc-sub-suc n k, suc-sub-suc n 0, sub-zero n) (getD-append xs (ys ++ falses m) n ∙ ap₂ (λ j b. choose (leb j n) b (getD xs n false)) w (getD-end ys m (n - length xs) ∙ ap (λ j. getD ys (n - j) false) w))
+at-two xs ys m k w (suc n) =
+    rw (eqb·suc-zero n, leb·suc-suc k n, suc-sub-suc n k, suc-sub-suc n 0, sub-zero n)
+    (getD-append xs (ys ++ falses m) n
+    ∙ ap₂ (λ j b. choose (leb j n) b (getD xs n false)) w (getD-end ys m (n - length xs) ∙ ap (λ j. getD ys (n - j) false) w))
 
 some-inside : (f : Plan → Plan) (o : Option Focus) → is-some (inside f o) ≡ is-some o
 some-inside f O.none = refl
@@ -349,10 +384,15 @@ some-choose true x y = refl
 some-choose false x y = refl
 
 -- one input behind `m` records, or right behind the plan's own
-inside-behind : (m n : ℕ) (xs : List Bool) (p : Plan) (f : Plan → Plan) (o : Option Focus) → is-some o ≡ getD xs (n - suc m) false → is-some (choose (eqb n 0) (here p) (choose (leb (suc m) n) (inside f o) O.none)) ≡ getD (true ∷ (falses m ++ xs)) n false
-inside-behind m n xs p f o h = some-choose (eqb n 0) (here p) _ ∙ ap (choose (eqb n 0) true) (some-choose (leb (suc m) n) (inside f o) O.none ∙ ap (λ b. choose (leb (suc m) n) b false) (some-inside f o ∙ h)) ∙ sym (at-behind m xs n)
+inside-behind : (m n : ℕ) (xs : List Bool) (p : Plan) (f : Plan → Plan) (o : Option Focus) → is-some o ≡ getD xs (n - suc m) false
+    → is-some (choose (eqb n 0) (here p) (choose (leb (suc m) n) (inside f o) O.none)) ≡ getD (true ∷ (falses m ++ xs)) n false
+inside-behind m n xs p f o h =
+    some-choose (eqb n 0) (here p) _
+    ∙ ap (choose (eqb n 0) true) (some-choose (leb (suc m) n) (inside f o) O.none ∙ ap (λ b. choose (leb (suc m) n) b false) (some-inside f o ∙ h))
+    ∙ sym (at-behind m xs n)
 
-inside-next : (n : ℕ) (xs : List Bool) (p : Plan) (f : Plan → Plan) (o : Option Focus) → is-some o ≡ getD xs (n - 1) false → is-some (choose (eqb n 0) (here p) (inside f o)) ≡ getD (true ∷ xs) n false
+inside-next : (n : ℕ) (xs : List Bool) (p : Plan) (f : Plan → Plan) (o : Option Focus) → is-some o ≡ getD xs (n - 1) false
+    → is-some (choose (eqb n 0) (here p) (inside f o)) ≡ getD (true ∷ xs) n false
 inside-next n xs p f o h = some-choose (eqb n 0) (here p) _ ∙ ap (choose (eqb n 0) true) (some-inside f o ∙ h) ∙ sym (at-next xs n)
 
 mutual
@@ -360,25 +400,63 @@ mutual
 
   -- test 8: a plan is found at a record exactly if the record's kind is a plan's
   pub focus-marks : (p : Plan) (n : ℕ) → is-some (focus n p) ≡ getD (plan-marks p) n false
-  focus-marks (scan t fs es) n = some-choose (eqb n 0) (here (scan t fs es)) O.none ∙ ap (choose (eqb n 0) true) (sym (getD-falses (sizes nothingBelow fs + sizes kidsE es) (n - 1))) ∙ sym (at-next (falses (sizes nothingBelow fs + sizes kidsE es)) n) ∙ ap (λ bs. getD bs n false) (sym (marks-scan t fs es))
-  focus-marks (filter e p) n = inside-behind (sizeE e) n (plan-marks p) (filter e p) (filter e) (focus (n - suc (sizeE e)) p) (focus-marks p (n - suc (sizeE e))) ∙ ap (λ bs. getD bs n false) (sym (marks-filter e p))
-  focus-marks (project es p) n = inside-behind (sizes entryKids es) n (plan-marks p) (project es p) (project es) (focus (n - suc (sizes entryKids es)) p) (focus-marks p (n - suc (sizes entryKids es))) ∙ ap (λ bs. getD bs n false) (sym (marks-project es p))
+  focus-marks (scan t fs es) n =
+      some-choose (eqb n 0) (here (scan t fs es)) O.none
+      ∙ ap (choose (eqb n 0) true) (sym (getD-falses (sizes nothingBelow fs + sizes kidsE es) (n - 1)))
+      ∙ sym (at-next (falses (sizes nothingBelow fs + sizes kidsE es)) n)
+      ∙ ap (λ bs. getD bs n false) (sym (marks-scan t fs es))
+  focus-marks (filter e p) n =
+      inside-behind (sizeE e) n (plan-marks p) (filter e p) (filter e) (focus (n - suc (sizeE e)) p) (focus-marks p (n - suc (sizeE e)))
+      ∙ ap (λ bs. getD bs n false) (sym (marks-filter e p))
+  focus-marks (project es p) n =
+      inside-behind (sizes entryKids es) n (plan-marks p) (project es p) (project es)
+      (focus (n - suc (sizes entryKids es)) p) (focus-marks p (n - suc (sizes entryKids es)))
+      ∙ ap (λ bs. getD bs n false) (sym (marks-project es p))
   focus-marks (join k l r on f) n =
       some-choose (eqb n 0) (here (join k l r on f)) _
-      ∙ ap (choose (eqb n 0) true) (some-choose (leb (suc (sizeP l)) n) _ _ ∙ ap₂ (choose (leb (suc (sizeP l)) n)) (some-inside _ (focus (n - suc (sizeP l)) r) ∙ focus-marks r _) (some-inside _ (focus (n - 1) l) ∙ focus-marks l _))
+      ∙ ap (choose (eqb n 0) true)
+      (some-choose (leb (suc (sizeP l)) n) _ _
+      ∙ ap₂ (choose (leb (suc (sizeP l)) n))
+      (some-inside _ (focus (n - suc (sizeP l)) r) ∙ focus-marks r _)
+      (some-inside _ (focus (n - 1) l) ∙ focus-marks l _))
       ∙ sym (at-two (plan-marks l) (plan-marks r) (sizes pairKids on + size (filterKids f)) (sizeP l) (marks-length l) n)
       ∙ ap (λ bs. getD bs n false) (sym (marks-join k l r on f))
-  focus-marks (alias q p) n = inside-next n (plan-marks p) (alias q p) (alias q) (focus (n - 1) p) (focus-marks p (n - 1)) ∙ ap (λ bs. getD bs n false) (sym (marks-alias q p))
-  focus-marks (union ps) n = some-choose (eqb n 0) (here (union ps)) _ ∙ ap (choose (eqb n 0) true) (some-inside-all union (focus-all (n - 1) ps) ∙ focus-marks-all ps _) ∙ sym (at-next (marks (forestP ps)) n) ∙ ap (λ bs. getD bs n false) (sym (marks-union ps))
-  focus-marks (distinct p) n = inside-next n (plan-marks p) (distinct p) distinct (focus (n - 1) p) (focus-marks p (n - 1)) ∙ ap (λ bs. getD bs n false) (sym (marks-distinct p))
-  focus-marks (sort f ks p) n = inside-behind (sizes keyKids ks) n (plan-marks p) (sort f ks p) (sort f ks) (focus (n - suc (sizes keyKids ks)) p) (focus-marks p (n - suc (sizes keyKids ks))) ∙ ap (λ bs. getD bs n false) (sym (marks-sort f ks p))
-  focus-marks (repartition p) n = inside-next n (plan-marks p) (repartition p) repartition (focus (n - 1) p) (focus-marks p (n - 1)) ∙ ap (λ bs. getD bs n false) (sym (marks-repartition p))
-  focus-marks (limit i j p) n = inside-next n (plan-marks p) (limit i j p) (limit i j) (focus (n - 1) p) (focus-marks p (n - 1)) ∙ ap (λ bs. getD bs n false) (sym (marks-limit i j p))
-  focus-marks (aggregate gs ags p) n = inside-behind (sizes entryKids gs + sizes aggKids ags) n (plan-marks p) (aggregate gs ags p) (aggregate gs ags) (focus (n - suc (sizes entryKids gs + sizes aggKids ags)) p) (focus-marks p (n - suc (sizes entryKids gs + sizes aggKids ags))) ∙ ap (λ bs. getD bs n false) (sym (marks-aggregate gs ags p))
-  focus-marks (window ws p) n = inside-behind (sizes winKids ws) n (plan-marks p) (window ws p) (window ws) (focus (n - suc (sizes winKids ws)) p) (focus-marks p (n - suc (sizes winKids ws))) ∙ ap (λ bs. getD bs n false) (sym (marks-window ws p))
+  focus-marks (alias q p) n =
+      inside-next n (plan-marks p) (alias q p) (alias q) (focus (n - 1) p) (focus-marks p (n - 1))
+      ∙ ap (λ bs. getD bs n false) (sym (marks-alias q p))
+  focus-marks (union ps) n =
+      some-choose (eqb n 0) (here (union ps)) _
+      ∙ ap (choose (eqb n 0) true) (some-inside-all union (focus-all (n - 1) ps) ∙ focus-marks-all ps _)
+      ∙ sym (at-next (marks (forestP ps)) n)
+      ∙ ap (λ bs. getD bs n false) (sym (marks-union ps))
+  focus-marks (distinct p) n =
+      inside-next n (plan-marks p) (distinct p) distinct (focus (n - 1) p) (focus-marks p (n - 1))
+      ∙ ap (λ bs. getD bs n false) (sym (marks-distinct p))
+  focus-marks (sort f ks p) n =
+      inside-behind (sizes keyKids ks) n (plan-marks p) (sort f ks p) (sort f ks)
+      (focus (n - suc (sizes keyKids ks)) p) (focus-marks p (n - suc (sizes keyKids ks)))
+      ∙ ap (λ bs. getD bs n false) (sym (marks-sort f ks p))
+  focus-marks (repartition p) n =
+      inside-next n (plan-marks p) (repartition p) repartition (focus (n - 1) p) (focus-marks p (n - 1))
+      ∙ ap (λ bs. getD bs n false) (sym (marks-repartition p))
+  focus-marks (limit i j p) n =
+      inside-next n (plan-marks p) (limit i j p) (limit i j) (focus (n - 1) p) (focus-marks p (n - 1))
+      ∙ ap (λ bs. getD bs n false) (sym (marks-limit i j p))
+  focus-marks (aggregate gs ags p) n =
+      inside-behind (sizes entryKids gs + sizes aggKids ags) n (plan-marks p) (aggregate gs ags p) (aggregate gs ags)
+      (focus (n - suc (sizes entryKids gs + sizes aggKids ags)) p) (focus-marks p (n - suc (sizes entryKids gs + sizes aggKids ags)))
+      ∙ ap (λ bs. getD bs n false) (sym (marks-aggregate gs ags p))
+  focus-marks (window ws p) n =
+      inside-behind (sizes winKids ws) n (plan-marks p) (window ws p) (window ws)
+      (focus (n - suc (sizes winKids ws)) p) (focus-marks p (n - suc (sizes winKids ws)))
+      ∙ ap (λ bs. getD bs n false) (sym (marks-window ws p))
 
   focus-marks-all : (ps : Plans) (n : ℕ) → is-some (focus-all n ps) ≡ getD (marks (forestP ps)) n false
   focus-marks-all pnil n = refl
   focus-marks-all (pcons p ps) n =
-      some-choose (leb (sizeP p) n) _ _ ∙ ap₂ (choose (leb (sizeP p) n)) (some-later p (focus-all (n - sizeP p) ps) ∙ focus-marks-all ps _) (some-first ps (focus n p) ∙ focus-marks p n)
-      ∙ ap (λ m. choose (leb m n) (getD (marks (forestP ps)) (n - m) false) (getD (plan-marks p) n false)) (sym (marks-length p)) ∙ sym (getD-append (plan-marks p) (marks (forestP ps)) n)
+      some-choose (leb (sizeP p) n) _ _
+      ∙ ap₂ (choose (leb (sizeP p) n))
+      (some-later p (focus-all (n - sizeP p) ps) ∙ focus-marks-all ps _)
+      (some-first ps (focus n p) ∙ focus-marks p n)
+      ∙ ap (λ m. choose (leb m n) (getD (marks (forestP ps)) (n - m) false) (getD (plan-marks p) n false)) (sym (marks-length p))
+      ∙ sym (getD-append (plan-marks p) (marks (forestP ps)) n)

@@ -12,7 +12,7 @@ use Rattle.image.specs.Limits.{maxDepth}
 use Rattle.plan.specs.Lists.{choose}
 use Rattle.plan.proofs.Lists.{and-l, and-r}
 use Rattle.plan.specs.Syntax.{Expr, Pair, Kind, Plan, scan, filter, project, join, alias, union, distinct, sort, repartition, limit, aggregate, window, Plans, pnil, pcons}
-use Rattle.plan.specs.Trees.{bitOf, entryKids, keyKids, aggKids, winKids, forestP}
+use Rattle.plan.specs.Trees.{bitOf, entryKids, keyKids, aggKids, winKids, forestP, kidsP}
 use Rattle.rewrite.specs.PushDownFilter.{rewrite}
 use Rattle.plan.specs.Measure.{sizeE, sizes, sizeP, depthP}
 use Rattle.plan.proofs.Measure.{sizePs, size-filter, size-project, size-join, size-alias, size-union, size-distinct, size-sort, size-repartition, size-limit, size-aggregate, size-window, size-pnil, size-pcons, one-record, one-level}
@@ -114,9 +114,13 @@ module _ (d level : ℕ)
       let e : suc n ≡ n + 1 = omega arith in
       let e' : n + (1 + k) ≡ n + suc k = omega arith in
       let skip : plan-from (suc n) (C (F s)) ≡ plan-from (n + suc k) (C (F s)) =
-      ap (λ x. plan-from x (C (F s))) e ∙ gap C h (F s) k 1 (omega (arith, exact s)) (λ m i l. empty s m (omega arith) (omega arith)) ∙ ap (λ x. plan-from x (C (F s))) e' in
+      ap (λ x. plan-from x (C (F s))) e
+      ∙ gap C h (F s) k 1 (omega (arith, exact s)) (λ m i l. empty s m (omega arith) (omega arith))
+      ∙ ap (λ x. plan-from x (C (F s))) e' in
       rewritten sizeP n C (ap (λ o. visits b o (C (F s)) v c) skip)
-      (last-input (n + suc k) F g refl (λ s. let e : n + suc k + sizeP s ≡ n + sizeP (F s) = omega (arith, exact s) in ap (λ x. plan-from x (C (F s))) e) s f b v c)
+      (last-input (n + suc k) F g refl
+      (λ s. let e : n + suc k + sizeP s ≡ n + sizeP (F s) = omega (arith, exact s) in ap (λ x. plan-from x (C (F s))) e)
+      s f b v c)
 
   -- right behind it
   next-input : (F : Plan → Plan) → Holed 1 1 F → ((s : Plan) → sizeP (F s) ≡ suc (sizeP s)) → (s : Plan) → fits (C (F s)) ≡ true → (b v c : ℕ)
@@ -186,7 +190,8 @@ module _ (d level : ℕ)
       (rewritten sizeP i F (e ∙ ap (λ o. visits b o (F p) v c) (enter F u p)) (below i F u p f b v c)))
 
   union-inputs : (ps : Plans) → fits (C (union ps)) ≡ true → (b v c : ℕ)
-      → Reached sizeP n C (visits b (plan-from (suc n) (C (union ps))) (C (union ps)) v c) (each-input (visit d) (plans (forestP ps)) (n + 1) (C (union ps)) b v c)
+      → Reached sizeP n C (visits b (plan-from (suc n) (C (union ps))) (C (union ps)) v c)
+      (each-input (visit d) (plans (forestP ps)) (n + 1) (C (union ps)) b v c)
   union-inputs ps f b v c =
       let e : suc n ≡ n + 1 = omega arith in
       around sizePs sizeP (n + 1) n C union
@@ -204,15 +209,18 @@ module _ (d level : ℕ)
   unfolding focus each-input
   inputs-reached (scan t fs es) f b v c = rw (no-inputs t fs es) (no-input (scan t fs es) (λ m i. not-first m _ i) f b v c)
   inputs-reached (filter e p) f b v c =
-      standing (inputs-filter e p) b v c (one-input (sizeE e) (filter e) (in-filter e) (size-filter e) (λ s m i l. before-input _ m _ _ i l) p f b v c)
+      standing (inputs-filter e p) b v c
+      (one-input (sizeE e) (filter e) (in-filter e) (size-filter e) (λ s m i l. before-input _ m _ _ i l) p f b v c)
   inputs-reached (project es p) f b v c =
-      standing (inputs-project es p) b v c (one-input (sizes entryKids es) (project es) (in-project es) (size-project es) (λ s m i l. before-input _ m _ _ i l) p f b v c)
+      standing (inputs-project es p) b v c
+      (one-input (sizes entryKids es) (project es) (in-project es) (size-project es) (λ s m i l. before-input _ m _ _ i l) p f b v c)
   inputs-reached (join k l r on g) f b v c = standing (inputs-join k l r on g) b v c (two-inputs k l r on g f b v c)
   inputs-reached (alias q p) f b v c = standing (inputs-alias q p) b v c (next-input (alias q) (in-alias q) (size-alias q) p f b v c)
   inputs-reached (union ps) f b v c = standing (inputs-union ps) b v c (union-inputs ps f b v c)
   inputs-reached (distinct p) f b v c = standing (inputs-distinct p) b v c (next-input distinct in-distinct size-distinct p f b v c)
   inputs-reached (sort g ks p) f b v c =
-      standing (inputs-sort g ks p) b v c (one-input (sizes keyKids ks) (sort g ks) (in-sort g ks) (size-sort g ks) (λ s m i l. before-input _ m _ _ i l) p f b v c)
+      standing (inputs-sort g ks p) b v c
+      (one-input (sizes keyKids ks) (sort g ks) (in-sort g ks) (size-sort g ks) (λ s m i l. before-input _ m _ _ i l) p f b v c)
   inputs-reached (repartition p) f b v c = standing (inputs-repartition p) b v c (next-input repartition in-repartition size-repartition p f b v c)
   inputs-reached (limit x y p) f b v c = standing (inputs-limit x y p) b v c (next-input (limit x y) (in-limit x y) (size-limit x y) p f b v c)
   inputs-reached (aggregate gs ags p) f b v c =
@@ -220,7 +228,8 @@ module _ (d level : ℕ)
       (one-input (sizes entryKids gs + sizes aggKids ags) (aggregate gs ags) (in-aggregate gs ags) (λ s. omega (arith, size-aggregate gs ags s))
       (λ s m i l. before-input _ m _ _ i l) p f b v c)
   inputs-reached (window ws p) f b v c =
-      standing (inputs-window ws p) b v c (one-input (sizes winKids ws) (window ws) (in-window ws) (size-window ws) (λ s m i l. before-input _ m _ _ i l) p f b v c)
+      standing (inputs-window ws p) b v c
+      (one-input (sizes winKids ws) (window ws) (in-window ws) (size-window ws) (λ s m i l. before-input _ m _ _ i l) p f b v c)
 
 -- ---- a visit, and the pass
 

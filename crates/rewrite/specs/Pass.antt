@@ -26,10 +26,11 @@ unfoldable pub before-plans : Forest → ℕ
 before-plans none = 0
 before-plans (node l cs ns) = choose (isPlan l) 0 (suc (size cs) + before-plans ns)
 
--- how many of a plan's children are plans, and how far behind the plan's own record the first stands; the others follow it side by side
+-- how many of a plan's children are plans; they stand side by side
 unfoldable pub inputs : Plan → ℕ
 inputs p = plans (kidsP p)
 
+-- how far behind the plan's own record the first of them stands
 unfoldable pub first-input : Plan → ℕ
 first-input p = suc (before-plans (kidsP p))
 
@@ -38,6 +39,7 @@ abbrev pub of-focus : (Plan → ℕ) → Option Focus → ℕ
 of-focus f O.none = 0
 of-focus f (some c) = f (c .plan)
 
+-- the same by the record's number
 abbrev pub at-record : (Plan → ℕ) → ℕ → Plan → ℕ
 at-record f n p = of-focus f (focus n p)
 
@@ -50,6 +52,7 @@ pub data Walk : Type 0 where
   spent : Plan → ℕ → ℕ → Walk
   failed : ℕ → ℕ → Walk
 
+-- a walk, and what is done where it goes on
 abbrev pub and-then : Walk → (Plan → ℕ → ℕ → ℕ → Walk) → Walk
 and-then (walking p b v c) f = f p b v c
 and-then (spent p v c) f = spent p v c
@@ -78,11 +81,13 @@ pub data PassAnswer : Type 0 where
   passed : ℕ → ℕ → ℕ → Plan → PassAnswer
   pass-refused : ℕ → ℕ → PassAnswer
 
+-- "It reports visits, flags raised, and finished 1, or 0 if nodes remain."
 abbrev pub report : Walk → PassAnswer
 report (walking p b v c) = passed v c 1 p
 report (spent p v c) = passed v c 0 p
 report (failed k r) = pass-refused k r
 
+-- "visits the root ..": the record 0
 unfoldable pub pass : ℕ → Plan → PassAnswer
 pass budget p = report (visit maxDepth 0 p budget 0 0)
 
