@@ -12,7 +12,7 @@ use Rattle.image.specs.Limits.{maxDepth}
 use Rattle.plan.specs.Lists.{choose}
 use Rattle.plan.proofs.Lists.{and-l, and-r}
 use Rattle.plan.specs.Syntax.{Expr, Pair, Kind, Plan, scan, filter, project, join, alias, union, distinct, sort, repartition, limit, aggregate, window, Plans, pnil, pcons}
-use Rattle.plan.specs.Trees.{bitOf, entryKids, keyKids, aggKids, winKids, forestP, kidsP}
+use Rattle.plan.specs.Trees.{bitOf, entryKids, keyKids, aggKids, winKids, forestP}
 use Rattle.rewrite.specs.PushDownFilter.{rewrite}
 use Rattle.plan.specs.Measure.{sizeE, sizes, sizeP, depthP}
 use Rattle.plan.proofs.Measure.{sizePs, size-filter, size-project, size-join, size-alias, size-union, size-distinct, size-sort, size-repartition, size-limit, size-aggregate, size-window, size-pnil, size-pcons, one-record, one-level}
