@@ -2,3 +2,7 @@
 pub mod Everywhere
 pub mod ExprsKept
 pub mod PlansKept
+pub mod Rules
+pub mod Tells
+pub mod IntegersTest
+pub mod WordsTest
