@@ -6,3 +6,5 @@ pub mod Rules
 pub mod Tells
 pub mod IntegersTest
 pub mod WordsTest
+pub mod FormTest
+pub mod Kept

@@ -16,8 +16,8 @@ pub passed : {a b : Bool} → a ≡ true → a & b ≡ b
 passed {b = b} h = ap (_& b) h ∙ true-and b
 
 -- a record's test, those below it and those beside it
-pub below : (l x : Bool) {k t : Bool} → k ≡ t → l & (k & x) ≡ (l & t) & x
-below l x {t = t} h = ap (λ y. l & (y & x)) h ∙ sym (and-assoc l t x)
+pub below : (x : Bool) {l m k t : Bool} → l ≡ m → k ≡ t → l & (k & x) ≡ (m & t) & x
+below x {m = m} {t = t} g h = ap₂ (λ y z. y & (z & x)) g h ∙ sym (and-assoc m t x)
 
 -- a test, and what is beside it by what that is
 pub beside : {s x y : Bool} (c : Bool) → s ≡ c & x → x ≡ y → s ≡ c & y

@@ -36,15 +36,15 @@ module _ (T : Tests) (any-number : (z : ℤ) → T .number z ≡ true) (any-leng
 
     words-e : (e : Expr) (x : Bool) → T .label (labelE e) & (words (kidsE e) & x) ≡ good T e & x
     words-e (col y) x = ap (T .label (labelE (col y)) &_) (true-and x)
-    words-e (num z) x = below _ _ (sym (any-number z))
+    words-e (num z) x = below _ refl (sym (any-number z))
     words-e (bool b) x = ap (T .label (labelE (bool b)) &_) (true-and x)
     words-e (nul t) x = ap (T .label (labelE (nul t)) &_) (true-and x)
-    words-e (bin o a b) x = below _ _ (beside _ (words-e a _) (words-e b true ∙ and-true _))
-    words-e (neg a) x = below _ _ (words-e a true ∙ and-true _)
-    words-e (test t a) x = below _ _ (words-e a true ∙ and-true _)
-    words-e (between n a l h) x = below _ _ (beside _ (words-e a _) (beside _ (words-e l _) (words-e h true ∙ and-true _)))
-    words-e (inlist n a xs) x = below _ _ (beside _ (words-e a _) (words-es xs) ∙ sym (passed (any-length 1 (countE xs))))
-    words-e (fn p q r xs) x = below _ _ (words-es xs)
+    words-e (bin o a b) x = below _ refl (beside _ (words-e a _) (words-e b true ∙ and-true _))
+    words-e (neg a) x = below _ refl (words-e a true ∙ and-true _)
+    words-e (test t a) x = below _ refl (words-e a true ∙ and-true _)
+    words-e (between n a l h) x = below _ refl (beside _ (words-e a _) (beside _ (words-e l _) (words-e h true ∙ and-true _)))
+    words-e (inlist n a xs) x = below _ refl (beside _ (words-e a _) (words-es xs) ∙ sym (passed (any-length 1 (countE xs))))
+    words-e (fn p q r xs) x = below _ refl (words-es xs)
 
     words-es : (xs : Exprs) → words (forestE xs) ≡ good-all T xs
     words-es enil = refl
@@ -99,23 +99,23 @@ module _ (T : Tests) (any-number : (z : ℤ) → T .number z ≡ true) (any-leng
 
     words-p : (p : Plan) (x : Bool) → T .label (labelP p) & (words (kidsP p) & x) ≡ everywhere T p & x
     words-p (scan t fs es) x =
-        below _ _ (beside _ (run fieldLabel nothingBelow _ field-words fs _) (run labelE kidsE _ filter-words es none ∙ and-true _))
-    words-p (filter e p) x = below _ _ (beside _ (words-e e _) (words-p p true ∙ and-true _))
+        below _ refl (beside _ (run fieldLabel nothingBelow _ field-words fs _) (run labelE kidsE _ filter-words es none ∙ and-true _))
+    words-p (filter e p) x = below _ refl (beside _ (words-e e _) (words-p p true ∙ and-true _))
     words-p (project es p) x =
-        below _ _ (beside _ (run entryLabel entryKids _ entry-words es _) (words-p p true ∙ and-true _) ∙ sym (passed (any-length 1 (length es))))
+        below _ refl (beside _ (run entryLabel entryKids _ entry-words es _) (words-p p true ∙ and-true _) ∙ sym (passed (any-length 1 (length es))))
     words-p (join k l r on f) x =
-        below _ _ (beside _ (words-p l _) (beside _ (words-p r _) (beside _ (run pairLabel pairKids _ pair-words on _) (own-words f))))
-    words-p (alias q p) x = below _ _ (words-p p true ∙ and-true _)
-    words-p (union ps) x = below _ _ (words-ps ps ∙ sym (passed (any-length 2 (countP ps))))
-    words-p (distinct p) x = below _ _ (words-p p true ∙ and-true _)
-    words-p (sort f ks p) x = below _ _ (beside _ (run keyLabel keyKids _ key-words ks _) (words-p p true ∙ and-true _))
-    words-p (repartition p) x = below _ _ (words-p p true ∙ and-true _)
-    words-p (limit n k p) x = below _ _ (words-p p true ∙ and-true _)
+        below _ refl (beside _ (words-p l _) (beside _ (words-p r _) (beside _ (run pairLabel pairKids _ pair-words on _) (own-words f))))
+    words-p (alias q p) x = below _ refl (words-p p true ∙ and-true _)
+    words-p (union ps) x = below _ refl (words-ps ps ∙ sym (passed (any-length 2 (countP ps))))
+    words-p (distinct p) x = below _ refl (words-p p true ∙ and-true _)
+    words-p (sort f ks p) x = below _ refl (beside _ (run keyLabel keyKids _ key-words ks _) (words-p p true ∙ and-true _))
+    words-p (repartition p) x = below _ refl (words-p p true ∙ and-true _)
+    words-p (limit n k p) x = below _ refl (words-p p true ∙ and-true _)
     words-p (aggregate gs ags p) x =
-        below _ _ (beside _ (run entryLabel entryKids _ entry-words gs _) (beside _ (run aggLabel aggKids _ agg-words ags _) (words-p p true ∙ and-true _))
+        below _ refl (beside _ (run entryLabel entryKids _ entry-words gs _) (beside _ (run aggLabel aggKids _ agg-words ags _) (words-p p true ∙ and-true _))
         ∙ sym (passed (any-length 1 (length gs + length ags))))
     words-p (window ws p) x =
-        below _ _ (beside _ (run winLabel winKids _ win-words ws _) (words-p p true ∙ and-true _) ∙ sym (passed (any-length 1 (length ws))))
+        below _ refl (beside _ (run winLabel winKids _ win-words ws _) (words-p p true ∙ and-true _) ∙ sym (passed (any-length 1 (length ws))))
 
     words-ps : (ps : Plans) → words (forestP ps) ≡ everywhere-all T ps
     words-ps pnil = refl
