@@ -1,3 +1,12 @@
 -- The proof of demand 3.
 pub mod Images
 pub mod Depth
+pub mod Everywhere
+pub mod ExprsKept
+pub mod PlansKept
+pub mod Rules
+pub mod Tells
+pub mod IntegersTest
+pub mod WordsTest
+pub mod FormTest
+pub mod Kept

@@ -1,0 +1,22 @@
+-- The rewrite keeps words, integers and form: what the tests 2 and 5 find in the plan that is given, they find in the answer.
+use Prim.Native.Nat.{ℕ}
+use mathlib.Core.Path.{_≡_}
+use mathlib.Core.Bool.{Bool, true}
+use lib.Dec.{leb}
+use Rattle.plan.specs.Lists.{_&_}
+use Rattle.plan.proofs.Lists.{and-l, and-r, and-intro}
+use Rattle.plan.specs.Syntax.{Plan}
+use Rattle.rewrite.specs.RewriteAt.{granted, rewriteAt}
+use Rattle.preservation.proofs.Everywhere.{Closed, any-words}
+use Rattle.preservation.proofs.PlansKept.{rewriteAt-kept}
+use Rattle.preservation.proofs.IntegersTest.{Integers, fits?}
+use Rattle.preservation.proofs.WordsTest.{Words, words-ok, words-closed}
+use Rattle.preservation.proofs.FormTest.{Runs, formed}
+
+pub words-kept : (n : ℕ) (p : Plan) (b : Bool) (q : Plan) → words-ok p ≡ true → rewriteAt n p ≡ granted b q → words-ok q ≡ true
+unfolding words-ok
+words-kept n p b q h e = and-intro (rewriteAt-kept Words words-closed n p b q (and-l _ _ h) e) (rewriteAt-kept Integers (any-words _ _) n p b q (and-r _ _ h) e)
+
+pub form-kept : (n : ℕ) (p : Plan) (b : Bool) (q : Plan) → formed p ≡ true → rewriteAt n p ≡ granted b q → formed q ≡ true
+unfolding formed
+form-kept n p b q h e = rewriteAt-kept Runs (any-words _ _) n p b q h e
