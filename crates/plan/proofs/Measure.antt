@@ -1,13 +1,13 @@
 -- The measures, kind by kind.
 use Prim.Native.Nat.{ℕ, suc, _+_, _≤_}
 use native.Mathlib.Omega.{arith}
-use mathlib.Core.Path.{_≡_, refl, ap}
+use mathlib.Core.Path.{_≡_, refl}
 use mathlib.Core.Bool.{Bool}
 use mathlib.Core.List.{List, [], _∷_}
 use mathlib.Core.Option.{Option}
 use lib.IntN.{ℤ}
 use Rattle.image.specs.Tree.{Label, Forest, node, none, size}
-use Rattle.plan.specs.Syntax.{Name, Op, Test, Expr, col, num, bool, nul, bin, neg, test, between, inlist, fn, Exprs, enil, econs}
+use Rattle.plan.specs.Syntax.{Name, Op, Test, Expr, col, num, bool, nul, bin, neg, test, between, inlist, fn, Exprs, econs}
 use Rattle.plan.specs.Syntax.{Field, Entry, Pair, Key, AggEntry, WinEntry, Kind, Plans, pnil, pcons}
 use Rattle.plan.specs.Syntax.{Plan, scan, filter, project, join, alias, union, distinct, sort, repartition, limit, aggregate, window}
 use Rattle.plan.specs.Trees.{labelE, kidsE, forestE, each, nothingBelow, fieldLabel, entryLabel, entryKids, pairLabel, pairKids, keyLabel}

@@ -2,16 +2,16 @@
 use Prim.Native.Nat.{ℕ, suc, _+_}
 use native.Mathlib.Omega.{arith}
 use mathlib.Core.Path.{_≡_, refl, ap, _∙_}
-use mathlib.Core.Bool.{true, false}
+use mathlib.Core.Bool.{false}
 use mathlib.Core.List.{List, [], _∷_}
 use mathlib.Core.Option as O
 use mathlib.Core.Option.{Option, some}
-use Rattle.image.specs.Tree.{Label, Forest, none, node, size}
+use Rattle.image.specs.Tree.{Label, Forest, none, node}
 use Rattle.plan.specs.Lists.{choose}
 use Rattle.plan.specs.Kinds.{isPlan, whatOf, among}
 use Rattle.plan.specs.Syntax.{Expr, Field, Entry, Pair, Key, AggEntry, WinEntry, Kind, Plans, pnil, pcons}
 use Rattle.plan.specs.Syntax.{Plan, scan, filter, project, join, alias, union, distinct, sort, repartition, limit, aggregate, window}
-use Rattle.plan.specs.Trees.{bitOf, labelE, kidsE, each, nothingBelow, fieldLabel, entryLabel, entryKids, pairLabel, pairKids}
+use Rattle.plan.specs.Trees.{labelE, kidsE, each, nothingBelow, fieldLabel, entryLabel, entryKids, pairLabel, pairKids}
 use Rattle.plan.specs.Trees.{keyLabel, keyKids, aggLabel, aggKids, winLabel, winKids, filterKids, labelP, kidsP, forestP}
 use Rattle.plan.specs.Measure.{sizeE, sizes}
 use Rattle.rewrite.specs.Pass.{plans, before-plans, inputs, first-input}

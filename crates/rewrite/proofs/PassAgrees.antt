@@ -12,7 +12,7 @@ use Rattle.image.specs.Limits.{maxDepth}
 use Rattle.plan.specs.Lists.{choose}
 use Rattle.plan.proofs.Lists.{and-l, and-r}
 use Rattle.plan.specs.Syntax.{Expr, Pair, Kind}
-use Rattle.plan.specs.Trees.{bitOf, entryKids, keyKids, aggKids, winKids, kidsP, forestP}
+use Rattle.plan.specs.Trees.{bitOf, entryKids, keyKids, aggKids, winKids, forestP}
 use Rattle.plan.specs.Syntax.{Plan, scan, filter, project, join, alias, union, distinct, sort, repartition, limit, aggregate, window, Plans, pnil}
 use Rattle.plan.specs.Syntax.{pcons}
 use Rattle.rewrite.specs.PushDownFilter.{rewrite}
