@@ -10,3 +10,6 @@ pub mod IntegersTest
 pub mod WordsTest
 pub mod FormTest
 pub mod Kept
+pub mod VolatileTest
+pub mod Granted
+pub mod Demand3

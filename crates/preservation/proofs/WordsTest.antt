@@ -1,24 +1,24 @@
 -- The words of all records and the integers of a plan, as a test on plans.
-use Prim.Native.Nat.{ℕ, _+_, _<_}
+use Prim.Native.Nat.{ℕ, _+_}
 use mathlib.Core.Path.{_≡_, refl, sym, ap, _∙_}
 use mathlib.Core.Logic.{_↔_, Iff·rfl}
-use mathlib.Core.Bool.{Bool, true, false}
-use mathlib.Core.List.{List, [], _∷_}
+use mathlib.Core.Bool.{Bool, true}
+use mathlib.Core.List.{List}
 use mathlib.Core.Option as O
 use mathlib.Core.Option.{Option, some}
 use native.Mathlib.Omega.{arith}
 use lib.ListN.{length}
-use lib.IntN.{ℤ, pos, negsuc}
+use lib.IntN.{ℤ}
 use borrow.Author.Tests.{le-leb}
 use Rattle.image.specs.Tree.{Label, Forest, none, node}
 use Rattle.image.specs.Lowest.{alone}
 use Rattle.plan.specs.Lists.{_&_, all}
-use Rattle.plan.proofs.Lists.{and-l, and-r, and-intro, and-assoc, and-true, and-sort}
+use Rattle.plan.proofs.Lists.{and-l, and-r, and-intro, and-true}
 use Rattle.plan.specs.Schema.{requalify}
 use Rattle.plan.specs.Kinds.{among, whatOf}
 use Rattle.plan.specs.Words.{any, unused, name, inside, fits, wordsOk, Worded}
 use Rattle.plan.specs.Syntax.{Name, nm, eq, ne, lt, le, gt, ge, Op, and, or, cmp, Expr, col, num, bool, nul, bin, neg, test, between, inlist, fn, Exprs, enil, econs, Field, Entry, Pair, Key, AggEntry, WinEntry, Plan, scan, filter, project, join, alias, union, distinct, sort, repartition, limit, aggregate, window, Plans, pnil, pcons}
-use Rattle.plan.specs.Integers.{FitsZ, FitsE, FitsEs, Every, Fits?, FitsP, FitsPs}
+use Rattle.plan.specs.Integers.{FitsP}
 use Rattle.plan.specs.Trees.{qualifier, ident, columnLabel, labelE, kidsE, forestE, before, each, nothingBelow, fieldLabel, entryLabel, entryKids, pairLabel, pairKids, keyLabel, keyKids, aggLabel, aggKids, winLabel, winKids, filterKids, labelP, kidsP, forestP, planTree}
 use Rattle.preservation.proofs.Everywhere.{Tests, Closed, countE, countP, good, good-all, good?, good-field, good-entry, good-pair, good-key, good-agg, good-win, everywhere, everywhere-all}
 use Rattle.preservation.proofs.Tells.{Tells, tells-nothing, both, three}
@@ -121,6 +121,12 @@ module _ (T : Tests) (any-number : (z : ℤ) → T .number z ≡ true) (any-leng
     words-ps pnil = refl
     words-ps (pcons p ps) = beside _ (words-p p _) (words-ps ps)
 
+-- of the whole plan
+pub words-tree : (T : Tests) → ((z : ℤ) → T .number z ≡ true) → ((m n : ℕ) → T .least m n ≡ true) → (p : Plan)
+    → sound (λ l cs. T .label l) (alone (planTree p)) ≡ everywhere T p
+unfolding sound
+words-tree T z n p = words-p T z n p true ∙ and-true _
+
 -- ---- the test of words and integers
 
 abbrev pub Words : Tests
@@ -134,14 +140,10 @@ unfolding sound
 worded none = tells-nothing
 worded (node l cs ns) = three Iff·rfl (worded cs) (worded ns)
 
-words-tree : (p : Plan) → sound (λ l cs. wordsOk l) (alone (planTree p)) ≡ everywhere Words p
-unfolding sound
-words-tree p = words-p Words (λ z. refl) (λ m n. refl) p true ∙ and-true _
-
 -- the law of the test
 pub words-ok-law : (p : Plan) → (words-ok p ≡ true) ↔ (Worded (alone (planTree p)) × FitsP p)
 unfolding words-ok
-words-ok-law p = both (rw words-tree at (worded (alone (planTree p)))) (integers-p p)
+words-ok-law p = both (rw (words-tree Words (λ z. refl) (λ m n. refl) p) at (worded (alone (planTree p)))) (integers-p p)
 
 -- ---- what the rewrite adds has good words
 
