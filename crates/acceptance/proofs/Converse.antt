@@ -3,33 +3,36 @@
 use Prim.Native.Nat.{ℕ, zero, suc, _+_, _*_, _-_, _/_, _%_, _≤_, _<_}
 use native.Mathlib.Omega.{arith}
 use mathlib.Core.Path.{_≡_, refl, sym, ap, subst, _∙_}
+use mathlib.Core.Logic.{_↔_}
 use mathlib.Core.Bool.{Bool, true, false, cond, false≢true}
 use mathlib.Core.List.{List, [], _++_, append-nil}
 use lib.Dec.{eqb}
 use lib.ListN.{length, drop, length-append}
 use lib.Seq.{drop-drop}
 use borrow.Author.Tests.{le-leb, eq-eqb, ne-eqb}
-use Rattle.image.specs.Word.{word}
-use Rattle.image.specs.Tree.{Label, Forest, none, node, Tree, size, link, labelAt, Stands}
+use Rattle.image.specs.Word.{word, Bytes}
+use Rattle.image.specs.Tree.{Label, Forest, none, node, Tree, size, link, labelAt, Stands, Fits32, Small}
 use Rattle.image.specs.Flat.{sizeT, encAny, enc}
 use Rattle.image.proofs.Writing.{bytesOf-length}
 use Rattle.image.specs.Links.{good, parse}
 use Rattle.image.proofs.Reading.{p-none, p-node}
-use Rattle.image.proofs.RoundTrip.{Fits32, Small, stands-enc, enc-length}
+use Rattle.image.proofs.RoundTrip.{stands-enc, enc-length}
 use Rattle.image.specs.Limits.{maxRecords}
 use Rattle.plan.specs.Lists.{_&_}
 use Rattle.plan.specs.Kinds as K
 use Rattle.plan.specs.Kinds.{What, expr, plan, part, unknown, what}
 use Rattle.plan.specs.Words.{rowE, rowP, rowQ, any, unused, wordsOk, Worded}
 use Rattle.image.specs.Lowest.{nothing, orElse, unless, alone}
-use Rattle.acceptance.specs.Check.{bufferOk, badWords, Links, tree, linked, verdict, at, checkTree, check}
+use Rattle.acceptance.specs.Check.{bufferOk, badWords, Links, tree, linked, verdict, at, checkPlan, checkTree, check}
 use Rattle.plan.specs.Syntax.{Plan}
 use Rattle.acceptance.specs.Accepted.{WellFormed, Accepted}
 use Rattle.plan.specs.Trees.{planTree}
 use Rattle.plan.specs.Read.{planAt}
 use Rattle.plan.proofs.Written.{planAt-back}
 use Rattle.plan.proofs.Rebuilt.{Bounds, bounds, words-at, kind-e, kind-p, kind-w}
-use Rattle.acceptance.proofs.Accept.{cleaned, word-drop, or-assoc}
+use Rattle.acceptance.proofs.Accept.{accepted}
+use Rattle.image.proofs.Standing.{word-drop}
+use Rattle.image.proofs.Lowest.{or-assoc}
 
 -- ---- what stands is read
 
@@ -167,11 +170,22 @@ check-image t w count =
     let words : badWords (sizeT t) s 0 ≡ nothing = rw z at (words-complete (alone t) s 0 0 w k) in
     rw (buffer-ok s (sizeT t) len (omega arith) count, n, words, linked-complete t s k)
 
--- THE CONVERSE
+-- the tests of a well-formed plan's tree find nothing
+passes-all : (p : Plan) → WellFormed p → checkTree (planTree p) ≡ verdict 0 0
+unfolding checkTree checkPlan at
+passes-all p w = rw (w .depth, w .form, planAt-back p (w .integers), w .names, w .types)
+
+-- THE CONVERSE: the image of a well-formed plan is accepted
 pub accepts : (s : List ℕ) (p : Plan) → Accepted s p → check s ≡ verdict 0 0
-accepts s p h =
-    let t = h .well .tests in
-    rw (h .image) (check-image (planTree p) (t .words) (t .count) ∙ cleaned (planTree p) (t .clean))
+accepts s p h = rw (h .image) (check-image (planTree p) (h .well .words) (h .well .records) ∙ passes-all p (h .well))
+
+-- the links of a well-formed plan's image lead to its tree
+pub same-tree : (p : Plan) → WellFormed p → linked (enc 0 (planTree p)) (length (enc 0 (planTree p)) / 32) ≡ tree (planTree p)
+same-tree p w =
+    let t = planTree p in
+    let len = length-image t in
+    let n : length (enc 0 t) / 32 ≡ sizeT t = omega arith in
+    ap (linked (enc 0 t)) n ∙ linked-complete t (enc 0 t) (stands-alone t (w .words) (w .records))
 
 -- one plan only has the image
 pub unique : (s : List ℕ) (p q : Plan) → Accepted s p → Accepted s q → p ≡ q
@@ -183,12 +197,18 @@ unique s p q h k =
     let d : planTree p ≡ planTree q = tree-is c in
     sym (planAt-back p (h .well .integers)) ∙ (ap planAt d ∙ planAt-back q (k .well .integers))
   where
-    same-tree : (p : Plan) → WellFormed p → linked (enc 0 (planTree p)) (length (enc 0 (planTree p)) / 32) ≡ tree (planTree p)
-    same-tree p w =
-        let t = planTree p in
-        let len = length-image t in
-        let n : length (enc 0 t) / 32 ≡ sizeT t = omega arith in
-        ap (linked (enc 0 t)) n ∙ linked-complete t (enc 0 t) (stands-alone t (w .tests .words) (w .tests .count))
-
     tree-is : {t u : Tree} → _≡_ {A = Links} (tree t) (tree u) → t ≡ u
     tree-is e = cc
+
+-- s is the image of this well-formed plan and of no other
+pub record One (s : List ℕ) : Type 0 where
+  pub plan : Plan
+  pub accepted : Accepted s plan
+  pub only : (q : Plan) → Accepted s q → q ≡ plan
+
+-- THE THEOREM: bytes are accepted if and only if they are the image of exactly one well-formed plan
+pub exactly-one : (s : List ℕ) → Bytes s → (check s ≡ verdict 0 0) ↔ One s
+exactly-one s bytes = (
+  (λ h. let a = accepted s bytes h in record { plan = a .0; accepted = a .1; only = λ q k. unique s q (a .0) k (a .1) }),
+  (λ o. accepts s (o .plan) (o .accepted)),
+)

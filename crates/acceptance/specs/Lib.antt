@@ -1,3 +1,5 @@
 pub mod Accepted
 pub mod Check
-pub mod Fields
+pub mod Marks
+pub mod Names
+pub mod Types

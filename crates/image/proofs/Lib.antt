@@ -1,7 +1,10 @@
 pub mod Walking
+pub mod Stepping
+pub mod Lowest
 pub mod Writing
-pub mod Relinking
-pub mod RoundTrip
+pub mod Room
 pub mod Reading
 pub mod Standing
-pub mod Room
+pub mod Relinking
+pub mod RoundTrip
+pub mod Bytes

@@ -1,6 +1,9 @@
 -- Laws of writing into a work buffer of 2,048 records.
+--     cap-le, ..      the laws of `cap`, which counts records up to 2,049
 --     sets-next       two runs, one after the other, are one run, also past the end
 --     Left            the invariant of a loop that writes trees: what is left of them completes the output
+--     wrote-past      past the end a tree is written by doing nothing
+--     wrote-leaf, ..  a record over no, one or two trees
 -- Assumes nothing.
 use mathlib.Core.Path.{_≡_, refl, sym, ap, _∙_}
 use mathlib.Core.List.{List, [], _∷_, _++_, append-assoc}
@@ -12,32 +15,39 @@ use borrow.Author.Tests.{leb-true, leb-false}
 use mathlib.Core.Bool.{Bool, true, false}
 use lib.ListN.{length}
 use lib.Seq.{sets, set-out, length-sets}
+use Rattle.image.specs.Limits.{maxRecords, workBytes}
 use Rattle.image.specs.Tree.{Label, Forest, none, node, Tree, size}
 use Rattle.image.specs.Flat.{sizeT, bytesOf, flatAny, flat}
 use Rattle.image.proofs.Writing.{sets-append, sets-after, bytesOf-length, flat-length}
 use Rattle.image.specs.Room.{cap, Put, Wrote}
 
+-- no count is more than 2,049
 pub cap-le : (n : ℕ) → cap n ≤ 2049
 unfolding cap
 cap-le n = omega arith
 
+-- a count that is no more stays what it is
 pub cap-is : (n : ℕ) → n ≤ 2049 → cap n ≡ n
 unfolding cap
 cap-is n h = omega arith
 
+-- any other is 2,049
 pub cap-over : (n : ℕ) → 2048 < n → cap n ≡ 2049
 unfolding cap
 cap-over n h = omega arith
 
+-- counting goes on from a count as from the number that was counted
 pub cap-add : (a b : ℕ) → cap (cap a + b) ≡ cap (a + b)
 unfolding cap
 cap-add a b = omega arith
 
+-- stores past a list's end do nothing
 pub sets-past : (l : List ℕ) (i : ℕ) (vs : List ℕ) → length l ≤ i → sets l i vs ≡ l
 sets-past l i [] h = refl
 sets-past l i (v ∷ vs) h = rw (set-out l i v h) (sets-past l (suc i) vs (omega arith))
 
-pub sets-next : (out vs ws : List ℕ) (at n r : ℕ) → length out ≡ 65536 → length vs ≡ 32 * n → r ≡ cap (at + n)
+-- two runs, one after the other, are one run, also past the end
+pub sets-next : (out vs ws : List ℕ) (at n r : ℕ) → length out ≡ workBytes → length vs ≡ 32 * n → r ≡ cap (at + n)
     → sets (sets out (32 * at) vs) (32 * r) ws ≡ sets out (32 * at) (vs ++ ws)
 sets-next out vs ws at n r long count e = go (leb (at + n) 2048) refl
   where
@@ -56,7 +66,7 @@ sets-next out vs ws at n r long count e = go (leb (at + n) 2048) refl
 pub record Left (out₀ : List ℕ) (at₀ level : ℕ) (all : Forest) (out : List ℕ) (to : ℕ) (rest : Forest) : Type 0 where
   pub count : cap (to + size rest) ≡ cap (at₀ + size all)
   pub same : sets out (32 * to) (flatAny level rest) ≡ sets out₀ (32 * at₀) (flatAny level all)
-  pub long : length out ≡ 65536
+  pub long : length out ≡ workBytes
   pub small : to ≤ 2049
 
 -- a tree is written
@@ -67,36 +77,55 @@ pub left-next : {out₀ : List ℕ} {at₀ level : ℕ} {all : Forest} {out : Li
 left-next {level = level} {out = out} {to = to} t {after} {out′} {to′} h w =
     record {
       count = rw (w .next, cap-add) (ap cap (omega arith) ∙ h .count);
-      same = rw (w .bytes, sets-next out (flat level t) (flatAny level after) to (sizeT t) to′ (h .long) (flat-length level t) (w .next), append-assoc) (h .same);
+      same =
+          let e = sets-next out (flat level t) (flatAny level after) to (sizeT t) to′ (h .long) (flat-length level t) (w .next) in
+          rw (w .bytes, e, append-assoc) (h .same);
       long = rw (w .bytes, length-sets) (h .long);
       small = rw (w .next) (cap-le (to + sizeT t));
     }
 
 -- all trees below a record are written
 pub left-end : {out₀ out₁ : List ℕ} {at at₁ level : ℕ} {l : Label} {all : Forest} {out : List ℕ} {to : ℕ}
-    → length out₀ ≡ 65536
+    → length out₀ ≡ workBytes
     → Put out₀ out₁ at level at₁ l
     → Left out₁ at₁ (level + 1) all out to none
     → Wrote out₀ out at level to (record { label = l; below = all })
 left-end {out₀} {out₁} {at} {at₁} {level} {l} {all} {to = to} long p h =
     record {
       next = sym (ap cap (add-zero to) ∙ cap-is to (h .small)) ∙ (h .count ∙ rw (p .next, cap-add) (ap cap (omega arith)));
-      bytes = h .same ∙ rw (p .bytes) (sets-next out₀ (bytesOf l level 0) (flatAny (level + 1) all) at 1 at₁ long (bytesOf-length l level 0) (p .next));
+      bytes =
+          let r = bytesOf l level 0 in
+          h .same ∙ rw (p .bytes) (sets-next out₀ r (flatAny (level + 1) all) at 1 at₁ long (bytesOf-length l level 0) (p .next));
+    }
+
+-- past the buffer's end a tree is written by doing nothing
+pub wrote-past : (out : List ℕ) (at level : ℕ) (t : Tree) → length out ≡ workBytes → maxRecords ≤ at → Wrote out out at level 2049 t
+wrote-past out at level t long h =
+    record {
+      next = sym (cap-over (at + sizeT t) (omega arith));
+      bytes = sym (sets-past out (32 * at) (flat level t) (omega arith));
     }
 
 -- ---- a record, and then the trees below it
 
-pub put-start : {out₀ out₁ : List ℕ} {at at₁ level : ℕ} {l : Label} → length out₀ ≡ 65536 → Put out₀ out₁ at level at₁ l → (all : Forest) → Left out₁ at₁ (level + 1) all out₁ at₁ all
+-- the record is written, and all below it is left
+pub put-start : {out₀ out₁ : List ℕ} {at at₁ level : ℕ} {l : Label}
+    → length out₀ ≡ workBytes → Put out₀ out₁ at level at₁ l → (all : Forest) → Left out₁ at₁ (level + 1) all out₁ at₁ all
 put-start {at = at} long p all = record { count = refl; same = refl; long = rw (p .bytes, length-sets) long; small = rw (p .next) (cap-le (at + 1)) }
 
-module _ {out₀ out₁ : List ℕ} {at at₁ level : ℕ} {l : Label} (long : length out₀ ≡ 65536) (p : Put out₀ out₁ at level at₁ l) where
+-- a record is written, and then the trees below it are
+module _ {out₀ out₁ : List ℕ} {at at₁ level : ℕ} {l : Label} (long : length out₀ ≡ workBytes) (p : Put out₀ out₁ at level at₁ l) where
+  -- a record alone
   pub wrote-leaf : Wrote out₀ out₁ at level at₁ (record { label = l; below = none })
   wrote-leaf = left-end long p (put-start long p none)
 
+  -- a record over one tree
   pub wrote-one : {out₂ : List ℕ} {n₂ : ℕ} {t : Tree} → Wrote out₁ out₂ at₁ (level + 1) n₂ t
       → Wrote out₀ out₂ at level n₂ (record { label = l; below = node (t .label) (t .below) none })
   wrote-one {t = t} w = left-end long p (left-next t (put-start long p _) w)
 
-  pub wrote-two : {out₂ out₃ : List ℕ} {n₂ n₃ : ℕ} {t u : Tree} → Wrote out₁ out₂ at₁ (level + 1) n₂ t → Wrote out₂ out₃ n₂ (level + 1) n₃ u
+  -- a record over two trees
+  pub wrote-two : {out₂ out₃ : List ℕ} {n₂ n₃ : ℕ} {t u : Tree}
+      → Wrote out₁ out₂ at₁ (level + 1) n₂ t → Wrote out₂ out₃ n₂ (level + 1) n₃ u
       → Wrote out₀ out₃ at level n₃ (record { label = l; below = node (t .label) (t .below) (node (u .label) (u .below) none) })
   wrote-two {t = t} {u = u} w v = left-end long p (left-next u (left-next t (put-start long p _) w) v)

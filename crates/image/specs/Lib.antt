@@ -3,6 +3,6 @@ pub mod Word
 pub mod Tree
 pub mod Flat
 pub mod Links
-pub mod Lowest
 pub mod Flattened
 pub mod Room
+pub mod Lowest

@@ -6,18 +6,20 @@ use lib.Dec.{eqb, leb}
 use lib.ListN.{drop}
 use Rattle.image.specs.Word.{word}
 use Rattle.image.specs.Tree.{Label, Forest, none, node, labelAt}
-use Rattle.image.specs.declared.Walk.{Walk}
-use Rattle.image.specs.declared.Walk.the-variants.{Next, Bad}
+use Rattle.image.specs.declared.links.Walk.{Walk}
+use Rattle.image.specs.declared.links.Walk.the-variants.{Next, Bad}
 
 -- a forest and the next unread record, or the record with a bad link
 pub data Parsed : Type 0 where
   good : Forest → ℕ → Parsed
   bad : ℕ → Parsed
 
+-- what the code says of it: the forest itself is not kept
 abbrev pub outcome : Parsed → Walk
 outcome (good f j) = Next j
 outcome (bad r) = Bad r
 
+-- the first if the test holds, and else the second
 abbrev pub when : Bool → Parsed → Parsed → Parsed
 when true a b = a
 when false a b = b
@@ -27,6 +29,7 @@ abbrev pub joined : Label → Forest → Parsed → Parsed
 joined l cs (good ns j) = good (node l cs ns) j
 joined l cs (bad r) = bad r
 
+-- the children are read, and then the siblings from where they end
 abbrev pub andThen : Label → Parsed → (ℕ → Parsed) → Parsed
 andThen l (good cs j) rest = joined l cs (rest j)
 andThen l (bad r) rest = bad r
@@ -38,5 +41,7 @@ parse (suc k) s n i link owner =
     when (eqb link 0) (good none i)
     (when (eqb link i)
     (when (leb n i) (bad owner)
-    (andThen (labelAt (drop (32 * i) s)) (parse k s n (i + 1) (word s (32 * i + 24)) i) (λ j. parse k s n j (word s (32 * i + 28)) i)))
+    (andThen (labelAt (drop (32 * i) s))
+    (parse k s n (i + 1) (word s (32 * i + 24)) i)
+    (λ j. parse k s n j (word s (32 * i + 28)) i)))
     (bad owner))

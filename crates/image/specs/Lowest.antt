@@ -1,12 +1,15 @@
 -- The lowest record, by number, of a forest that breaks a rule.
 use mathlib.Core.Bool.{Bool, true, false}
+use mathlib.Core.List.{List, [], _∷_}
 use Prim.Native.Nat.{ℕ, _+_}
 use Rattle.image.specs.Tree.{Label, Forest, none, node, Tree, size}
 
+-- a record, or none
 pub data Found : Type 0 where
   nothing : Found
   found : ℕ → Found
 
+-- the first, and where it is none the second
 unfoldable pub orElse : Found → Found → Found
 orElse (found r) g = found r
 orElse nothing g = g
@@ -28,3 +31,8 @@ module _ {C : Type 0} (rule : C → Label → Forest → Bool) (hand : C → Lab
 -- the tree alone
 abbrev pub alone : Tree → Forest
 alone t = node (t .label) (t .below) none
+
+-- the place of the first mark that is false, of marks that are counted from b
+unfoldable pub firstFalse : ℕ → List Bool → Found
+firstFalse b [] = nothing
+firstFalse b (m ∷ ms) = orElse (unless m b) (firstFalse (b + 1) ms)

@@ -1,2 +1,4 @@
 pub mod Logic
 pub mod Names
+pub mod Sentences
+pub mod Tables

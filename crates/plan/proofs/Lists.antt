@@ -26,6 +26,10 @@ unfolding _&_
 and-true true = refl
 and-true false = refl
 
+pub true-and : (a : Bool) → true & a ≡ a
+unfolding _&_
+true-and a = refl
+
 pub and-false : (a : Bool) → a & false ≡ false
 unfolding _&_
 and-false true = refl
@@ -120,6 +124,16 @@ module _ {A : Type 0} where
   all-append f [] ys = refl
   all-append f (x ∷ xs) ys = rw (all-append f xs ys, and-assoc (f x))
 
+  pub all-true : (xs : List A) → all (λ x. true) xs ≡ true
+  unfolding all _&_
+  all-true [] = refl
+  all-true (x ∷ xs) = all-true xs
+
+  pub all-and : (f g : A → Bool) (xs : List A) → all (λ x. f x & g x) xs ≡ all f xs & all g xs
+  unfolding all
+  all-and f g [] = sym (and-true true)
+  all-and f g (x ∷ xs) = ap ((f x & g x) &_) (all-and f g xs) ∙ simp and-sort
+
   -- a test of all, list by list of a partition
   parts-put : (t f : A → Bool) (b : Bool) (x : A) (xs ys : List A) → all t (put b x xs) & all t (put (not b) x ys) ≡ t x & (all t xs & all t ys)
   unfolding _&_ put all
@@ -156,6 +170,11 @@ module _ {A B : Type 0} where
   unfolding all _&_
   all-map t f [] = refl
   all-map t f (x ∷ xs) = ap (t (f x) &_) (all-map t f xs)
+
+  pub all-flat : (t : B → Bool) (f : A → List B) (xs : List A) → all t (flat f xs) ≡ all (λ x. all t (f x)) xs
+  unfolding all flat
+  all-flat t f [] = refl
+  all-flat t f (x ∷ xs) = all-append t (f x) (flat f xs) ∙ ap (all t (f x) &_) (all-flat t f xs)
 
   pub keep-map : (p : B → Bool) (f : A → B) (xs : List A) → keep p (map f xs) ≡ map f (keep (λ x. p (f x)) xs)
   unfolding keep put

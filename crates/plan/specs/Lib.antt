@@ -10,3 +10,4 @@ pub mod Syntax
 pub mod Trees
 pub mod Types
 pub mod Words
+pub mod Values

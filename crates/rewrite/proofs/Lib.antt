@@ -26,5 +26,6 @@ pub mod SimplifyFilter
 pub mod Sort
 pub mod Table
 pub mod TypeLaws
-pub mod Typed
 pub mod TypesKept
+pub mod OnBytes
+pub mod RowTest

@@ -11,7 +11,7 @@ use Rattle.plan.specs.Syntax.{Name, nm, Expr, col, num, bool, nul, bin, neg, te
 use Rattle.plan.specs.Schema.{same, has}
 use Rattle.plan.specs.Columns.{on-cols, on-cols-all}
 use Rattle.rewrite.specs.Utils.{has-all-column-refs}
-use Rattle.rewrite.proofs.Ok.{clash, distinct-names, names-ok}
+use Rattle.acceptance.specs.Names.{clash, distinct-names, sound}
 
 -- the field `y` stands in the set for the reference `x`, by its full name or without qualifier
 abbrev pub stands-for : Name → Name → Bool
@@ -150,12 +150,12 @@ module _ (c a b : Name → Bool) (f : (x : Name) → c x ≡ true → a x ≡ b 
     on-cols-all-agree enil h = refl
     on-cols-all-agree (econs x xs) h = ap₂ _&_ (on-cols-agree x (and-l _ _ h)) (on-cols-all-agree xs (and-r _ _ h))
 
-module _ (s t : List Name) (ok : names-ok (s ++ t) ≡ true) (e : Expr) (over : has-all-column-refs (s ++ t) e ≡ true) where
+module _ (s t : List Name) (ok : sound (s ++ t) ≡ true) (e : Expr) (over : has-all-column-refs (s ++ t) e ≡ true) where
   -- is_left_only, is_right_only
   pub left-only : on-cols (schema-columns s) e ≡ has-all-column-refs s e
-  unfolding names-ok
+  unfolding sound
   left-only = on-cols-agree (has (s ++ t)) (schema-columns s) (has s) (left-columns s t (and-l _ _ ok)) e over
 
   pub right-only : on-cols (schema-columns t) e ≡ has-all-column-refs t e
-  unfolding names-ok
+  unfolding sound
   right-only = on-cols-agree (has (s ++ t)) (schema-columns t) (has t) (right-columns s t (and-l _ _ ok)) e over

@@ -11,13 +11,15 @@ use borrow.Author.Tests.{ltb-true, ltb-false, le-leb, lt-leb, eqb-true, eq-eqb}
 use lib.IntN.{ℤ, pos, negsuc}
 use lib.Signed.{ltZ, leZ}
 use Rattle.plan.specs.Lists.{_&_, choose, all, flat}
+use Rattle.plan.proofs.Literals.{literal-cases}
+use Rattle.plan.specs.Values.{ValueRecord, literalIs, literalIn, literal?}
 use Rattle.plan.proofs.Lists.{and-l, and-r, and-intro, and-assoc, and-comm, and-left-comm, and-true, All, anil, acons, All-append, All-mapped, All-flat, all-of, all-append, all-map, all-cong, All-map}
 use Rattle.plan.specs.Syntax.{Value, null, int, truth, Name, Cmp, eq, ne, lt, le, gt, ge, Expr, col, num, bool, nul, bin, and, or, cmp, neg, test, between, inlist, fn}
-use Rattle.meaning.specs.Meaning.{World, Env, isT, isN, kindOf, code, known, holds, compare, sameV, eval}
+use Rattle.meaning.specs.Meaning.{World, Env, isT, isN, kindOf, code, comparable, holds, compare, sameV, eval}
 use Rattle.plan.specs.Schema.{same}
-use Rattle.meaning.proofs.Names.{same-eq}
+use Rattle.plan.proofs.Names.{same-eq}
 use Rattle.plan.specs.Columns.{on-cols}
-use Rattle.rewrite.specs.SimplifyPredicates.{Lit, lnum, lbool, lnul, lit-expr, lit-val, Rel, same-as, above, below, rel-cmp, bound-of, Side, val, stronger, is-better, find-most-restrictive-predicate, first-kind, of-kind, most-restrictive, Group, eq-expr, up-expr, down-expr, final, eq-part, gtZ, simplify-column-predicates, Item, item-expr, rel-of, as-literal, as-column, make, or-item, view, name-under, place, put-in, fresh, enter, Sorted, add, sort-out, simplify-predicates}
+use Rattle.rewrite.specs.SimplifyPredicates.{lit-val, Rel, same-as, above, below, rel-cmp, bound-of, Side, val, stronger, is-better, find-most-restrictive-predicate, first-kind, of-kind, most-restrictive, Group, eq-expr, up-expr, down-expr, final, eq-part, gtZ, simplify-column-predicates, Item, item-expr, rel-of, as-literal, as-column, make, or-item, view, name-under, place, put-in, fresh, enter, Sorted, add, sort-out, simplify-predicates}
 use Rattle.rewrite.proofs.Extras.{eq-true}
 use Rattle.rewrite.proofs.Sort.{ltZ-asym, ltZ-trans}
 use Rattle.rewrite.proofs.Groups.{sameV-eq}
@@ -32,8 +34,8 @@ bey past false x a = not (past x a)
 -- what it says of the column's value
 abbrev meets : Rel → Value → Value → Bool
 meets same-as c v = isT (compare eq c v)
-meets (above s) c v = known c v & bey ltZ s (code c) (code v)
-meets (below s) c v = known c v & bey gtZ s (code c) (code v)
+meets (above s) c v = comparable c v & bey ltZ s (code c) (code v)
+meets (below s) c v = comparable c v & bey gtZ s (code c) (code v)
 
 leZ-not : (a b : ℤ) → leZ a b ≡ not (ltZ b a)
 leZ-not (pos a) (pos b) = go (ltb b a) refl
@@ -49,38 +51,36 @@ leZ-not (negsuc a) (negsuc b) = go (ltb a b) refl
     go true e = lt-leb b a (ltb-true a b e)
     go false e = le-leb b a (ltb-false a b e)
 
-known-comm : (a b : Value) → known a b ≡ known b a
+comparable-comm : (a b : Value) → comparable a b ≡ comparable b a
 unfolding _&_
-known-comm null null = refl
-known-comm null (int w) = refl
-known-comm null (truth b) = refl
-known-comm (int z) null = refl
-known-comm (int z) (int w) = refl
-known-comm (int z) (truth b) = refl
-known-comm (truth a) null = refl
-known-comm (truth a) (int w) = refl
-known-comm (truth a) (truth b) = refl
+comparable-comm null null = refl
+comparable-comm null (int w) = refl
+comparable-comm null (truth b) = refl
+comparable-comm (int z) null = refl
+comparable-comm (int z) (int w) = refl
+comparable-comm (int z) (truth b) = refl
+comparable-comm (truth a) null = refl
+comparable-comm (truth a) (int w) = refl
+comparable-comm (truth a) (truth b) = refl
 
-isT-compare : (o : Cmp) (a b : Value) → isT (compare o a b) ≡ known a b & holds o (code a) (code b)
+isT-compare : (o : Cmp) (a b : Value) → isT (compare o a b) ≡ comparable a b & holds o (code a) (code b)
 unfolding _&_
-isT-compare o a b = go (known a b)
+isT-compare o a b = go (comparable a b)
   where
     go : (k : Bool) → isT (cond k (truth (holds o (code a) (code b))) null) ≡ k & holds o (code a) (code b)
     go true = refl
     go false = refl
 
 module _ (W : World) (ρ : Env) where
-  lit-eval : (l : Lit) → eval W ρ (lit-expr l) ≡ lit-val l
+  lit-eval : (l : ValueRecord) → eval W ρ (literalIs l) ≡ lit-val l
   unfolding eval
-  lit-eval (lnum z) = refl
-  lit-eval (lbool b) = refl
-  lit-eval (lnul t) = refl
+  lit-eval l = literal-cases (λ e v. eval W ρ e ≡ v) (λ z. refl) (λ b. refl) (λ t. refl) l
 
   eq-comm : (a b : Value) → isT (compare eq a b) ≡ isT (compare eq b a)
-  eq-comm a b = isT-compare eq a b ∙ ap₂ _&_ (known-comm a b) (and-comm _ _) ∙ sym (isT-compare eq b a)
+  eq-comm a b = isT-compare eq a b ∙ ap₂ _&_ (comparable-comm a b) (and-comm _ _) ∙ sym (isT-compare eq b a)
 
   -- a bound is TRUE where the column's value meets it
-  bound-true : (flipped : Bool) (r : Rel) (x : Name) (l : Lit) → isT (eval W ρ (bound-of flipped r x l)) ≡ meets r (ρ x) (lit-val l)
+  bound-true : (flipped : Bool) (r : Rel) (x : Name) (l : ValueRecord) → isT (eval W ρ (bound-of flipped r x l)) ≡ meets r (ρ x) (lit-val l)
   unfolding bound-of eval
   bound-true false same-as x l = rw (lit-eval l)
   bound-true false (above true) x l = rw (lit-eval l) (isT-compare gt (ρ x) (lit-val l))
@@ -88,10 +88,10 @@ module _ (W : World) (ρ : Env) where
   bound-true false (below true) x l = rw (lit-eval l) (isT-compare lt (ρ x) (lit-val l))
   bound-true false (below false) x l = rw (lit-eval l) (isT-compare le (ρ x) (lit-val l) ∙ ap₂ _&_ refl (leZ-not (code (ρ x)) (code (lit-val l))))
   bound-true true same-as x l = rw (lit-eval l) (eq-comm (lit-val l) (ρ x))
-  bound-true true (above true) x l = rw (lit-eval l) (isT-compare lt (lit-val l) (ρ x) ∙ ap₂ _&_ (known-comm (lit-val l) (ρ x)) refl)
-  bound-true true (above false) x l = rw (lit-eval l) (isT-compare le (lit-val l) (ρ x) ∙ ap₂ _&_ (known-comm (lit-val l) (ρ x)) (leZ-not (code (lit-val l)) (code (ρ x))))
-  bound-true true (below true) x l = rw (lit-eval l) (isT-compare gt (lit-val l) (ρ x) ∙ ap₂ _&_ (known-comm (lit-val l) (ρ x)) refl)
-  bound-true true (below false) x l = rw (lit-eval l) (isT-compare ge (lit-val l) (ρ x) ∙ ap₂ _&_ (known-comm (lit-val l) (ρ x)) (leZ-not (code (ρ x)) (code (lit-val l))))
+  bound-true true (above true) x l = rw (lit-eval l) (isT-compare lt (lit-val l) (ρ x) ∙ ap₂ _&_ (comparable-comm (lit-val l) (ρ x)) refl)
+  bound-true true (above false) x l = rw (lit-eval l) (isT-compare le (lit-val l) (ρ x) ∙ ap₂ _&_ (comparable-comm (lit-val l) (ρ x)) (leZ-not (code (lit-val l)) (code (ρ x))))
+  bound-true true (below true) x l = rw (lit-eval l) (isT-compare gt (lit-val l) (ρ x) ∙ ap₂ _&_ (comparable-comm (lit-val l) (ρ x)) refl)
+  bound-true true (below false) x l = rw (lit-eval l) (isT-compare ge (lit-val l) (ρ x) ∙ ap₂ _&_ (comparable-comm (lit-val l) (ρ x)) (leZ-not (code (ρ x)) (code (lit-val l))))
 
 -- ---- of two bounds on one side, the stronger
 
@@ -159,39 +159,39 @@ module _ (past : ℤ → ℤ → Bool) (asym : (a b : ℤ) → past a b ≡ true
   abbrev alike : Value → Value → Bool
   alike v w = isN v || (isN w || eqb (kindOf v) (kindOf w))
 
-  known-null : (c v : Value) → isN v ≡ true → known c v ≡ false
+  comparable-null : (c v : Value) → isN v ≡ true → comparable c v ≡ false
   unfolding _&_
-  known-null null v h = refl
-  known-null (int z) null h = refl
-  known-null (int z) (int w) h = cc
-  known-null (int z) (truth b) h = cc
-  known-null (truth a) null h = refl
-  known-null (truth a) (int w) h = cc
-  known-null (truth a) (truth b) h = cc
+  comparable-null null v h = refl
+  comparable-null (int z) null h = refl
+  comparable-null (int z) (int w) h = cc
+  comparable-null (int z) (truth b) h = cc
+  comparable-null (truth a) null h = refl
+  comparable-null (truth a) (int w) h = cc
+  comparable-null (truth a) (truth b) h = cc
 
   -- a bound that is met is not NULL
-  met-known : (s : Bool) (c v : Value) → known c v & bey past s (code c) (code v) ≡ true → isN v ≡ false
+  met-known : (s : Bool) (c v : Value) → comparable c v & bey past s (code c) (code v) ≡ true → isN v ≡ false
   met-known s c v h = go (isN v) refl
     where
       go : (b : Bool) → isN v ≡ b → b ≡ false
-      go true e = sym (and-l _ _ h) ∙ known-null c v e
+      go true e = sym (and-l _ _ h) ∙ comparable-null c v e
       go false e = refl
 
   -- the bound that takes the other's place implies it, and the other way round
-  wins : (sw fw sv : Bool) (c v w : Value) → alike v w ≡ true → beats past sw fw w sv v ≡ true → known c w & bey past sw (code c) (code w) ≡ true → known c v & bey past sv (code c) (code v) ≡ true
+  wins : (sw fw sv : Bool) (c v w : Value) → alike v w ≡ true → beats past sw fw w sv v ≡ true → comparable c w & bey past sw (code c) (code w) ≡ true → comparable c v & bey past sv (code c) (code v) ≡ true
   unfolding _&_
   wins sw fw sv c v w a h k = go (isN v) (isN w) a h (met-known sw c w k)
     where
-      go : (m n : Bool) → m || (n || eqb (kindOf v) (kindOf w)) ≡ true → cond m (n & tie sw fw sv) (cond n true (past (code v) (code w) || (not (past (code w) (code v)) & tie sw fw sv))) ≡ true → n ≡ false → known c v & bey past sv (code c) (code v) ≡ true
+      go : (m n : Bool) → m || (n || eqb (kindOf v) (kindOf w)) ≡ true → cond m (n & tie sw fw sv) (cond n true (past (code v) (code w) || (not (past (code w) (code v)) & tie sw fw sv))) ≡ true → n ≡ false → comparable c v & bey past sv (code c) (code v) ≡ true
       go true true a h i = cc
       go true false a h i = cc
       go false true a h i = cc
-      go false false a h i = and-intro (ap (λ j. not (isN c) & eqb (kindOf c) j) (eqb-true _ _ a) ∙ and-l _ _ k) (farther sw fw sv (code c) (code v) (code w) h (and-r (known c w) _ k))
+      go false false a h i = and-intro (ap (λ j. not (isN c) & eqb (kindOf c) j) (eqb-true _ _ a) ∙ and-l _ _ k) (farther sw fw sv (code c) (code v) (code w) h (and-r (comparable c w) _ k))
 
-  loses : (sw fw sv : Bool) (c v w : Value) → alike v w ≡ true → beats past sw fw w sv v ≡ false → known c v & bey past sv (code c) (code v) ≡ true → known c w & bey past sw (code c) (code w) ≡ true
+  loses : (sw fw sv : Bool) (c v w : Value) → alike v w ≡ true → beats past sw fw w sv v ≡ false → comparable c v & bey past sv (code c) (code v) ≡ true → comparable c w & bey past sw (code c) (code w) ≡ true
   loses sw fw sv c v w a h k = go (isN v) (isN w) a h (met-known sv c v k)
     where
-      go : (m n : Bool) → m || (n || eqb (kindOf v) (kindOf w)) ≡ true → cond m (n & tie sw fw sv) (cond n true (past (code v) (code w) || (not (past (code w) (code v)) & tie sw fw sv))) ≡ false → m ≡ false → known c w & bey past sw (code c) (code w) ≡ true
+      go : (m n : Bool) → m || (n || eqb (kindOf v) (kindOf w)) ≡ true → cond m (n & tie sw fw sv) (cond n true (past (code v) (code w) || (not (past (code w) (code v)) & tie sw fw sv))) ≡ false → m ≡ false → comparable c w & bey past sw (code c) (code w) ≡ true
       go true n a h i = cc
       go false true a h i = cc
       go false false a h i = and-intro (ap (λ j. not (isN c) & eqb (kindOf c) j) (sym (eqb-true _ _ a)) ∙ and-l _ _ k) (nearer sw fw sv (code c) (code v) (code w) h (and-r _ _ k))
@@ -205,7 +205,7 @@ iff false false f g = refl
 
 -- the value c meets the bound
 meet : (ℤ → ℤ → Bool) → Value → Side → Bool
-meet past c d = known c (val d) & bey past (d .strict) (code c) (code (val d))
+meet past c d = comparable c (val d) & bey past (d .strict) (code c) (code (val d))
 
 of-kind-alike : (k : ℕ) (v w : Value) → isN v || eqb (kindOf v) k ≡ true → isN w || eqb (kindOf w) k ≡ true → isN v || (isN w || eqb (kindOf v) (kindOf w)) ≡ true
 of-kind-alike k v w h i = go (isN v) (isN w) h i
@@ -336,9 +336,9 @@ IsRel : Bool → Cmp → Option Rel → Type 0
 IsRel f o none = Unit {0}
 IsRel f o (some r) = rel-cmp f r ≡ o
 
-IsLit : Expr → Option Lit → Type 0
+IsLit : Expr → Option ValueRecord → Type 0
 IsLit e none = Unit {0}
-IsLit e (some l) = lit-expr l ≡ e
+IsLit e (some l) = literalIs l ≡ e
 
 IsName : Expr → Option Name → Type 0
 IsName e none = Unit {0}
@@ -358,7 +358,7 @@ rel-of-ok true gt = refl
 rel-of-ok true ge = refl
 
 as-lit-ok : (e : Expr) → IsLit e (as-literal e)
-unfolding IsLit as-literal
+unfolding IsLit as-literal literalIn literal?
 as-lit-ok (num z) = refl
 as-lit-ok (bool b) = refl
 as-lit-ok (nul t) = refl
@@ -383,14 +383,14 @@ as-name-ok (between n a l u) = tt
 as-name-ok (inlist n a xs) = tt
 as-name-ok (fn p q r xs) = tt
 
-make-left : (o : Cmp) (a b : Expr) (r : Option Rel) (x : Option Name) (l : Option Lit) → IsRel false o r → IsName a x → IsLit b l → Seen (bin (cmp o) a b) (make false r x l)
+make-left : (o : Cmp) (a b : Expr) (r : Option Rel) (x : Option Name) (l : Option ValueRecord) → IsRel false o r → IsName a x → IsLit b l → Seen (bin (cmp o) a b) (make false r x l)
 unfolding IsRel IsName IsLit Seen make bound-of
 make-left o a b none x l h i j = tt
 make-left o a b (some r) none l h i j = tt
 make-left o a b (some r) (some x) none h i j = tt
 make-left o a b (some r) (some x) (some l) h i j = rw (h, i, j)
 
-make-right : (o : Cmp) (a b : Expr) (r : Option Rel) (x : Option Name) (l : Option Lit) → IsRel true o r → IsName b x → IsLit a l → Seen (bin (cmp o) a b) (make true r x l)
+make-right : (o : Cmp) (a b : Expr) (r : Option Rel) (x : Option Name) (l : Option ValueRecord) → IsRel true o r → IsName b x → IsLit a l → Seen (bin (cmp o) a b) (make true r x l)
 unfolding IsRel IsName IsLit Seen make bound-of
 make-right o a b none x l h i j = tt
 make-right o a b (some r) none l h i j = tt
@@ -420,7 +420,7 @@ seen (fn p q r xs) = tt
 -- ---- the groups, columns ascending
 
 module _ (W : World) (ρ : Env) where
-  place-true : (r : Rel) (l : Lit) (f : Bool) (g : Group) → group-true W ρ (place r l f g) ≡ τ W ρ (bound-of f r (g .key) l) & group-true W ρ g
+  place-true : (r : Rel) (l : ValueRecord) (f : Bool) (g : Group) → group-true W ρ (place r l f g) ≡ τ W ρ (bound-of f r (g .key) l) & group-true W ρ g
   unfolding all
   place-true same-as l f g = and-assoc _ _ _
   place-true (above s) l f g = ap (_&_ _) (and-assoc _ _ _) ∙ and-left-comm _ _ _
@@ -461,9 +461,9 @@ module _ (W : World) (ρ : Env) where
 -- ---- what holds of all the conjuncts holds of the simplified ones: any statement P that says of a comparison of a column with a literal
 -- something of that column and that literal alone, Q, and that holds of FALSE
 
-module _ (P : Expr → Type 0) (Q : Name → Lit → Type 0) (false-P : P (bool false))
-    (to-P : (f : Bool) (r : Rel) (x : Name) (l : Lit) → Q x l → P (bound-of f r x l))
-    (to-Q : (f : Bool) (r : Rel) (x : Name) (l : Lit) → P (bound-of f r x l) → Q x l) where
+module _ (P : Expr → Type 0) (Q : Name → ValueRecord → Type 0) (false-P : P (bool false))
+    (to-P : (f : Bool) (r : Rel) (x : Name) (l : ValueRecord) → Q x l → P (bound-of f r x l))
+    (to-Q : (f : Bool) (r : Rel) (x : Name) (l : ValueRecord) → P (bound-of f r x l) → Q x l) where
   abbrev In : Name → List Side → Type 0
   In x ds = All (λ (d : Side). Q x (d .lit)) ds
 
@@ -511,7 +511,7 @@ module _ (P : Expr → Type 0) (Q : Name → Lit → Type 0) (false-P : P (bool 
       (All-mapped (up-expr (g .key)) (All-map (λ (d : Side) k. to-P (d .flipped) (above (d .strict)) (g .key) (d .lit) k) (most-in ltZ (g .key) (h .ups-in))))
       (All-mapped (down-expr (g .key)) (All-map (λ (d : Side) k. to-P (d .flipped) (below (d .strict)) (g .key) (d .lit) k) (most-in gtZ (g .key) (h .downs-in)))))
 
-  place-in : (r : Rel) (l : Lit) (f : Bool) (g : Group) → Q (g .key) l → InGroup g → InGroup (place r l f g)
+  place-in : (r : Rel) (l : ValueRecord) (f : Bool) (g : Group) → Q (g .key) l → InGroup g → InGroup (place r l f g)
   place-in same-as l f g k h = record { eqs-in = acons k (h .eqs-in); ups-in = h .ups-in; downs-in = h .downs-in }
   place-in (above s) l f g k h = record { eqs-in = h .eqs-in; ups-in = acons k (h .ups-in); downs-in = h .downs-in }
   place-in (below s) l f g k h = record { eqs-in = h .eqs-in; ups-in = h .ups-in; downs-in = acons k (h .downs-in) }
@@ -549,14 +549,14 @@ module _ (P : Expr → Type 0) (Q : Name → Lit → Type 0) (false-P : P (bool 
 -- ---- the columns stay those of the conjuncts
 
 module _ (c : Name → Bool) where
-  bound-cols : (f : Bool) (r : Rel) (x : Name) (l : Lit) → on-cols c (bound-of f r x l) ≡ c x
+  lit-cols : (l : ValueRecord) → on-cols c (literalIs l) ≡ true
+  unfolding on-cols
+  lit-cols l = literal-cases (λ e v. on-cols c e ≡ true) (λ z. refl) (λ b. refl) (λ t. refl) l
+
+  bound-cols : (f : Bool) (r : Rel) (x : Name) (l : ValueRecord) → on-cols c (bound-of f r x l) ≡ c x
   unfolding bound-of on-cols
-  bound-cols false r x (lnum z) = and-true _
-  bound-cols false r x (lbool b) = and-true _
-  bound-cols false r x (lnul t) = and-true _
-  bound-cols true r x (lnum z) = and-comm _ _ ∙ and-true _
-  bound-cols true r x (lbool b) = and-comm _ _ ∙ and-true _
-  bound-cols true r x (lnul t) = and-comm _ _ ∙ and-true _
+  bound-cols false r x l = rw (lit-cols l) (and-true _)
+  bound-cols true r x l = rw (lit-cols l) (and-comm _ _ ∙ and-true _)
 
   pub simplified-over : {es : List Expr} → All (λ e. on-cols c e ≡ true) es → All (λ e. on-cols c e ≡ true) (simplify-predicates es)
   unfolding on-cols

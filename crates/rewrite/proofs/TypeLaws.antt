@@ -1,24 +1,27 @@
 -- The type rules through each step of the rewrite: conjuncts split, joined, simplified; columns replaced; clauses and inferred predicates.
-use Prim.Native.Nat.{ℕ, _+_}
+use Prim.Native.Nat.{ℕ}
 use mathlib.Core.Path.{_≡_, refl, sym, ap, ap₂, _∙_}
 use mathlib.Core.Bool.{Bool, true, false, not, _||_, cond}
 use mathlib.Core.List.{List, [], _∷_, map}
 use mathlib.Core.Option.{Option, none, some}
-use lib.ListN.{length, length-map, length-append}
+use lib.ListN.{length}
 use lib.Dec.{eqb}
 use borrow.Author.Tests.{eqb-true, eq-eqb}
 use Rattle.plan.specs.Lists.{_&_, choose, any, all, flat}
+use Rattle.plan.proofs.Literals.{literal-cases}
+use Rattle.plan.specs.Values.{ValueRecord, literalIs}
 use Rattle.plan.proofs.Lists.{and-l, and-r, and-intro, All, anil, acons, All-both, All-append, All-keep, All-mapped}
-use Rattle.plan.specs.Syntax.{Name, and, or, cmp, Expr, col, num, bool, nul, bin, neg, test, between, inlist, fn, Exprs, enil, econs, Entry, Pair, Kind, inner, left, right, full, leftSemi, rightSemi, leftAnti, rightAnti, Plan, scan, filter, project, join, alias, union, distinct, sort, repartition, limit, aggregate, window, Plans, pnil, pcons}
-use Rattle.plan.specs.Schema.{lookD, same, schema, schema-first, sides, has}
-use Rattle.meaning.proofs.Names.{same-eq}
+use Rattle.plan.specs.Syntax.{Name, and, or, cmp, Expr, col, num, bool, nul, bin, neg, test, between, inlist, fn, Exprs, enil, econs, Entry, Pair}
+use Rattle.plan.specs.Schema.{lookD, same, has}
+use Rattle.plan.proofs.Names.{same-eq}
 use Rattle.plan.specs.Columns.{on-cols, on-cols-all}
 use Rattle.rewrite.specs.Utils.{replace-cols, replace-cols-all, split-conjunction, split-conjunction?, conjoin, conjunction}
-use Rattle.rewrite.specs.SimplifyPredicates.{Lit, lnum, lbool, lnul, lit-expr, Rel, bound-of, as-column, simplify-predicates}
+use Rattle.rewrite.specs.SimplifyPredicates.{Rel, bound-of, as-column, simplify-predicates}
 use Rattle.rewrite.specs.ReorderPredicates.{reorder-predicates}
 use Rattle.rewrite.specs.PushDownFilter.{both-or, either-and, guarded, extract-or-clause, is-or, listed, extract-or-clauses-for-join, pair-of, partner, to-partner, swap-keys, infer-join-predicates, if-list, pick, names, simplify-filter}
-use Rattle.plan.specs.Types.{Types, type-of, side-types, types, types-first}
-use Rattle.rewrite.proofs.Typed.{operands, any-type, of-type, well, well-all, boolean, boolean?}
+use Rattle.plan.specs.Types.{Types, type-of}
+use Rattle.acceptance.specs.Types.{operands, any-type, of-type}
+use Rattle.acceptance.proofs.TypesRule.{well, well-all, boolean, boolean?}
 use Rattle.rewrite.proofs.Simplify.{simplified-in}
 use Rattle.rewrite.proofs.SimplifyFilter.{reorder-all}
 
@@ -171,25 +174,23 @@ module _ (τ : Types) where
 
   -- ---- simplified
 
-  lit-well : (l : Lit) → well τ (lit-expr l) ≡ true
+  lit-well : (l : ValueRecord) → well τ (literalIs l) ≡ true
   unfolding well
-  lit-well (lnum z) = refl
-  lit-well (lbool b) = refl
-  lit-well (lnul t) = refl
+  lit-well l = literal-cases (λ e v. well τ e ≡ true) (λ z. refl) (λ b. refl) (λ t. refl) l
 
-  bound-boolean : (f : Bool) (r : Rel) (x : Name) (l : Lit) → eqb (τ x) (type-of τ (lit-expr l)) ≡ true → boolean τ (bound-of f r x l) ≡ true
+  bound-boolean : (f : Bool) (r : Rel) (x : Name) (l : ValueRecord) → eqb (τ x) (type-of τ (literalIs l)) ≡ true → boolean τ (bound-of f r x l) ≡ true
   unfolding bound-of boolean type-of well
   bound-boolean false r x l h = and-intro refl (and-intro h (and-intro refl (lit-well l)))
-  bound-boolean true r x l h = and-intro refl (and-intro (eq-eqb (type-of τ (lit-expr l)) (τ x) (sym (eqb-true (τ x) (type-of τ (lit-expr l)) h))) (and-intro (lit-well l) refl))
+  bound-boolean true r x l h = and-intro refl (and-intro (eq-eqb (type-of τ (literalIs l)) (τ x) (sym (eqb-true (τ x) (type-of τ (literalIs l)) h))) (and-intro (lit-well l) refl))
 
-  boolean-bound : (f : Bool) (r : Rel) (x : Name) (l : Lit) → boolean τ (bound-of f r x l) ≡ true → eqb (τ x) (type-of τ (lit-expr l)) ≡ true
+  boolean-bound : (f : Bool) (r : Rel) (x : Name) (l : ValueRecord) → boolean τ (bound-of f r x l) ≡ true → eqb (τ x) (type-of τ (literalIs l)) ≡ true
   unfolding bound-of boolean type-of well
   boolean-bound false r x l h = and-l _ _ (and-r _ _ h)
-  boolean-bound true r x l h = eq-eqb (τ x) (type-of τ (lit-expr l)) (sym (eqb-true (type-of τ (lit-expr l)) (τ x) (and-l _ _ (and-r _ _ h))))
+  boolean-bound true r x l h = eq-eqb (τ x) (type-of τ (literalIs l)) (sym (eqb-true (type-of τ (literalIs l)) (τ x) (and-l _ _ (and-r _ _ h))))
 
   bools-simplified : {es : List Expr} → Bools τ es → Bools τ (simplify-predicates es)
   unfolding boolean type-of well _&_
-  bools-simplified h = simplified-in (λ e. boolean τ e ≡ true) (λ x l. eqb (τ x) (type-of τ (lit-expr l)) ≡ true) refl bound-boolean boolean-bound h
+  bools-simplified h = simplified-in (λ e. boolean τ e ≡ true) (λ x l. eqb (τ x) (type-of τ (literalIs l)) ≡ true) refl bound-boolean boolean-bound h
 
   pub simplify-filter-boolean : (e : Expr) → boolean τ e ≡ true → boolean? τ (simplify-filter e) ≡ true
   unfolding simplify-filter choose
@@ -316,36 +317,3 @@ pick-well υ (e ∷ es) w x h = go (same (e .name) x) h (pick-well υ es (and-r 
     go : (b : Bool) → b || has (names es) x ≡ true → (has (names es) x ≡ true → well υ (pick es x) ≡ true) → well υ (cond b (e .expr) (pick es x)) ≡ true
     go true h k = and-l _ _ w
     go false h k = k h
-
--- ---- a type for each field
-
-side-length : (k : Kind) (s t : List Name) (u v : List ℕ) → length u ≡ length s → length v ≡ length t → length (side-types k u v) ≡ length (sides k s t)
-side-length inner s t u v h i = simp length-append (ap₂ _+_ h i)
-side-length left s t u v h i = simp length-append (ap₂ _+_ h i)
-side-length right s t u v h i = simp length-append (ap₂ _+_ h i)
-side-length full s t u v h i = simp length-append (ap₂ _+_ h i)
-side-length leftSemi s t u v h i = h
-side-length rightSemi s t u v h i = i
-side-length leftAnti s t u v h i = h
-side-length rightAnti s t u v h i = i
-
-mutual
-  unfolding types schema
-
-  pub types-length : (p : Plan) → length (types p) ≡ length (schema p)
-  types-length (scan t fs es) = simp length-map
-  types-length (filter e p) = types-length p
-  types-length (project es p) = simp length-map
-  types-length (join k l r on f) = side-length k _ _ _ _ (types-length l) (types-length r)
-  types-length (alias q p) = simp length-map (types-length p)
-  types-length (union ps) = types-first-length ps
-  types-length (distinct p) = types-length p
-  types-length (sort f ks p) = types-length p
-  types-length (repartition p) = types-length p
-  types-length (limit n k p) = types-length p
-  types-length (aggregate gs ags p) = simp (length-append, length-map)
-  types-length (window ws p) = simp (length-append, length-map) (ap (_+ length ws) (types-length p))
-
-  types-first-length : (ps : Plans) → length (types-first ps) ≡ length (schema-first ps)
-  types-first-length pnil = refl
-  types-first-length (pcons p ps) = types-length p

@@ -1,6 +1,6 @@
 -- What each step of the rewrite makes obeys the type rules again.
 use Prim.Native.Nat.{ℕ}
-use mathlib.Core.Path.{_≡_, refl, sym, ap, ap₂, _∙_, subst}
+use mathlib.Core.Path.{_≡_, refl, sym, ap, _∙_, subst}
 use mathlib.Core.Bool.{Bool, true, not}
 use mathlib.Core.List.{List, [], _∷_, _++_, map}
 use mathlib.Core.Option.{Option, none, some}
@@ -10,21 +10,22 @@ use borrow.Author.Tests.{eqb-true}
 use Rattle.plan.proofs.Lists.{and-l, and-r, and-intro, All, anil, acons, All-append, All-keep, All-both}
 use Rattle.plan.specs.Syntax.{Name, Expr, col, num, bool, nul, bin, neg, test, between, inlist, fn, Field, Entry, Pair, Key, AggEntry, WinEntry, Kind, inner, left, right, full, leftSemi, rightSemi, leftAnti, rightAnti, Plan, scan, filter, project, join, alias, union, sort, aggregate, window, Plans, pnil, pcons}
 use Rattle.plan.specs.Schema.{lookD, schema, schema-first, sides, requalify, has}
-use Rattle.meaning.proofs.Names.{nodup, apart, lookD-left, lookD-right}
+use Rattle.plan.proofs.Names.{nodup, apart, lookD-left, lookD-right}
 use Rattle.plan.specs.Columns.{on-cols}
 use Rattle.rewrite.specs.Utils.{replace-cols, split-conjunction, split-conjunction?, conjunction, with-filters, unique}
 use Rattle.rewrite.specs.SimplifyPredicates.{as-column}
 use Rattle.rewrite.specs.PushDownFilter.{pick, names, stay, move, pushable, in-groups, in-partitions, supported-filters, unsupported-filters, volatile-filters, renamed, filter-each, left-preserved, right-preserved, on-left-preserved, on-right-preserved, is-inner, rest, push-to, push-not, keep-predicates, join-conditions, on-filter-join-conditions, inferred-join-predicates, left-push, right-push, push-down-all-join}
 use Rattle.plan.specs.Types.{Types, type-of, side-types, types, types-first, field-types, both-types, scans, scans-all}
-use Rattle.rewrite.proofs.Typed.{well, boolean, boolean?, same-types, typed, typed-all}
+use Rattle.acceptance.proofs.TypesRule.{well, boolean, boolean?, typed, typed-all, same-types-eq}
 use Rattle.rewrite.proofs.Exprs.{filtered-schema}
 use Rattle.rewrite.proofs.Project.{split-cols}
 use Rattle.rewrite.proofs.Places.{look-ren}
 use Rattle.rewrite.proofs.Join.{Over}
 use Rattle.rewrite.proofs.PushJoin.{over-left, over-right}
-use Rattle.rewrite.proofs.Ok.{reads, names-nodup, ok, ok-all, ok-nodup, rule}
+use Rattle.acceptance.proofs.NamesRule.{reads, names-nodup, ok, ok-all, ok-nodup, rule}
 use Rattle.rewrite.proofs.References.{all-true, true-all, unique-all, split?-over}
-use Rattle.rewrite.proofs.TypeLaws.{Bools, bools-cong, boolean-sub, bools-sub, bools-split, bools-split?, conjunction-boolean, bools-clauses, Linked, bools-inferred, bools-if, pick-type, pick-well, types-length}
+use Rattle.rewrite.proofs.TypeLaws.{Bools, bools-cong, boolean-sub, bools-sub, bools-split, bools-split?, conjunction-boolean, bools-clauses, Linked, bools-inferred, bools-if, pick-type, pick-well}
+use Rattle.plan.proofs.Types.{types-length}
 
 -- ---- Filters over a plan
 
@@ -99,12 +100,6 @@ project-arm-typed e es p h o =
 pub alias-arm-typed : (e : Expr) (q : ℕ) (p : Plan) → ok p ≡ true → reads (map (requalify q) (schema p)) e ≡ true → typed (filter e (alias q p)) ≡ true → typed (alias q (filter (renamed (map (requalify q) (schema p)) (schema p) e) p)) ≡ true
 unfolding typed types schema renamed type-of well
 alias-arm-typed e q p k h o = and-intro (boolean-sub (has (map (requalify q) (schema p))) _ (field-types p) _ (λ x i. sym (look-ren 0 (map (requalify q) (schema p)) (schema p) (types p) x (length-map (schema p) (requalify q)) (ok-nodup p k) i)) (λ x i. refl) e h (and-l _ _ o)) (and-r _ _ o)
-
-pub same-types-eq : (ts us : List ℕ) → same-types ts us ≡ true → ts ≡ us
-same-types-eq [] [] h = refl
-same-types-eq [] (u ∷ us) h = cc
-same-types-eq (t ∷ ts) [] h = cc
-same-types-eq (t ∷ ts) (u ∷ us) h = ap₂ _∷_ (eqb-true t u (and-l _ _ h)) (same-types-eq ts us (and-r _ _ h))
 
 each-typed : (s : List Name) (ts : List ℕ) (e : Expr) (n : ℕ) (ps : Plans) → reads s e ≡ true → boolean (lookD 0 s ts) e ≡ true → length s ≡ n → ok-all n ps ≡ true → typed-all ts ps ≡ true → typed-all ts (filter-each s e ps) ≡ true
 unfolding filter-each typed types schema rule renamed type-of well

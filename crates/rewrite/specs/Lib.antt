@@ -5,3 +5,5 @@ pub mod ReorderPredicates
 pub mod RewriteAt
 pub mod SimplifyPredicates
 pub mod Utils
+pub mod OnBytes
+pub mod RowTest

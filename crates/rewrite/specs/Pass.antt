@@ -9,9 +9,9 @@ use Rattle.image.specs.Limits.{maxDepth, recordBytes}
 use Rattle.image.specs.Tree.{Forest, none, node, size}
 use Rattle.plan.specs.Lists.{choose}
 use Rattle.plan.specs.Syntax.{Plan}
+use Rattle.plan.specs.Measure.{sizeP}
 use Rattle.plan.specs.Kinds.{isPlan}
 use Rattle.plan.specs.Trees.{bitOf, kidsP}
-use Rattle.plan.specs.Measure.{sizeP}
 use Rattle.rewrite.specs.RewriteAt.{Focus, focus, granted, refused, rewriteAt}
 
 -- ---- the plans among the children of a plan

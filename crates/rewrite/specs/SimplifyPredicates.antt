@@ -7,30 +7,16 @@ use lib.Dec.{eqb, ltb}
 use lib.IntN.{ℤ}
 use lib.Signed.{ltZ}
 use Rattle.plan.specs.Lists.{_&_, choose, all, flat}
-use Rattle.plan.specs.Syntax.{Value, null, int, truth, Name, nm, Cmp, eq, ne, lt, le, gt, ge, Expr, col, num, bool, nul, bin, and, or, cmp, neg}
-use Rattle.plan.specs.Syntax.{test, between, inlist, fn}
+use Rattle.plan.specs.Syntax.{Value, Name, nm, Cmp, eq, ne, lt, le, gt, ge, Expr, col, num, bool, nul, bin, and, or, cmp, neg, test, between, inlist, fn}
 use Rattle.meaning.specs.Meaning.{isN, kindOf, code, sameV}
 use Rattle.plan.specs.Schema.{same}
+use Rattle.plan.specs.Values.{ValueRecord, caseOf, literalIs, literalIn, literal?}
 
 -- ---- a comparison of a column with a literal, as it was written
 
--- the literal
-pub data Lit : Type 0 where
-  lnum : ℤ → Lit
-  lbool : Bool → Lit
-  lnul : ℕ → Lit
-
--- it as an expression
-abbrev pub lit-expr : Lit → Expr
-lit-expr (lnum z) = num z
-lit-expr (lbool b) = bool b
-lit-expr (lnul t) = nul t
-
--- its value
-abbrev pub lit-val : Lit → Value
-lit-val (lnum z) = int z
-lit-val (lbool b) = truth b
-lit-val (lnul t) = null
+-- the value of a literal
+abbrev pub lit-val : ValueRecord → Value
+lit-val l = caseOf (l .case)
 
 -- what it is to its column: an equality, a lower bound, an upper bound; strict or not
 pub data Rel : Type 0 where
@@ -50,16 +36,16 @@ rel-cmp true (below true) = gt
 rel-cmp true (below false) = ge
 
 -- the comparison again
-unfoldable pub bound-of : Bool → Rel → Name → Lit → Expr
-bound-of false r x l = bin (cmp (rel-cmp false r)) (col x) (lit-expr l)
-bound-of true r x l = bin (cmp (rel-cmp true r)) (lit-expr l) (col x)
+unfoldable pub bound-of : Bool → Rel → Name → ValueRecord → Expr
+bound-of false r x l = bin (cmp (rel-cmp false r)) (col x) (literalIs l)
+bound-of true r x l = bin (cmp (rel-cmp true r)) (literalIs l) (col x)
 
 -- ---- find_most_restrictive_predicate
 
 -- a bound on one side of its column
 pub record Side : Type 0 where
   pub strict : Bool
-  pub lit : Lit
+  pub lit : ValueRecord
   pub flipped : Bool
 
 -- the value of its literal
@@ -149,7 +135,7 @@ simplify-column-predicates g =
 pub record Item : Type 0 where
   pub key : Name
   pub rel : Rel
-  pub lit : Lit
+  pub lit : ValueRecord
   pub flipped : Bool
 
 -- put together again
@@ -169,18 +155,9 @@ rel-of true le = some (above false)
 rel-of true gt = some (below true)
 rel-of true ge = some (below false)
 
--- the literals
-unfoldable pub as-literal : Expr → Option Lit
-as-literal (num z) = some (lnum z)
-as-literal (bool b) = some (lbool b)
-as-literal (nul t) = some (lnul t)
-as-literal (col x) = none
-as-literal (bin o a b) = none
-as-literal (neg a) = none
-as-literal (test t a) = none
-as-literal (between n a l u) = none
-as-literal (inlist n a xs) = none
-as-literal (fn p q r xs) = none
+-- the literal that an expression is
+unfoldable pub as-literal : Expr → Option ValueRecord
+as-literal e = literal? (literalIn e)
 
 -- extract_column_from_expr, try_as_col
 unfoldable pub as-column : Expr → Option Name
@@ -196,7 +173,7 @@ as-column (inlist n a xs) = none
 as-column (fn p q r xs) = none
 
 -- all three parts, or nothing
-unfoldable pub make : Bool → Option Rel → Option Name → Option Lit → Option Item
+unfoldable pub make : Bool → Option Rel → Option Name → Option ValueRecord → Option Item
 make f none x l = none
 make f (some r) none l = none
 make f (some r) (some x) none = none
@@ -230,7 +207,7 @@ abbrev pub name-under : Name → Name → Bool
 name-under (nm q n) (nm r m) = ltb q r || (eqb q r & ltb n m)
 
 -- a comparison in front of its column's others
-abbrev pub place : Rel → Lit → Bool → Group → Group
+abbrev pub place : Rel → ValueRecord → Bool → Group → Group
 place same-as l f g = record { key = g .key; eqs = record { strict = false; lit = l; flipped = f } ∷ g .eqs; ups = g .ups; downs = g .downs }
 place (above s) l f g = record { key = g .key; eqs = g .eqs; ups = record { strict = s; lit = l; flipped = f } ∷ g .ups; downs = g .downs }
 place (below s) l f g = record { key = g .key; eqs = g .eqs; ups = g .ups; downs = record { strict = s; lit = l; flipped = f } ∷ g .downs }

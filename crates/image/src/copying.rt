@@ -1,0 +1,64 @@
+// Copying: records written flat, each with its depth in the place of its first link, into a work buffer of 2,048 records.
+use crate::limits::MAX_RECORDS;
+use crate::limits::NO_ROOM;
+use crate::records::FIRST_LINK;
+use crate::records::Label;
+use crate::records::NEXT_LINK;
+use crate::records::from_record;
+use crate::records::label_at;
+use crate::records::put_record;
+use crate::words::word_at;
+ghost use mathlib.Core.Path.{_≡_};
+ghost use Prim.Native.Nat.{_+_, _≤_, _<_};
+ghost use lib.ListN.{length};
+ghost use Rattle.image.specs.Limits.{workBytes};
+ghost use Rattle.image.specs.Tree.{Tree, At, Readable, labelAt};
+ghost use Rattle.image.specs.Room.{Put, Wrote};
+
+// Writes a record with its depth, where there is room, and returns the record after it: 2,049 at most.
+pub fn put(out: &mut [u8], at: usize, label: Label, level: usize) -> usize
+    requires { ⌜ length (now out) ≡ workBytes ⌝ }
+    ensures { λ n. ⌜ Put (now (out .entry)) (now (out .exit)) at level n label ⌝ }
+{
+    if at < MAX_RECORDS {
+        put_record(out, at, label, level, 0);
+        return at + 1;
+    }
+    NO_ROOM
+}
+
+// Writes the label of the record at the start of s.
+pub fn put_label(s: &[u8], out: &mut [u8], at: usize, level: usize) -> usize
+    requires { ⌜ (32 ≤ length (now s)) × (length (now out) ≡ workBytes) ⌝ }
+    ensures { λ n. ⌜ Put (now (out .entry)) (now (out .exit)) at level n (labelAt (now (s .entry))) ⌝ }
+{
+    put(out, at, label_at(s), level)
+}
+
+// Writes the tree that stands at the start of s flat, from record `at` on, and returns the record after it.
+pub fn copy_tree(
+    s: &[u8],
+    base: usize,
+    depth: usize,
+    out: &mut [u8],
+    at: usize,
+    level: usize,
+) -> usize
+    requires { ⌜ Readable depth (now s) base ⌝ }
+    requires { ⌜ level + depth < 4096 ⌝ }
+    requires { ⌜ length (now out) ≡ workBytes ⌝ }
+    ensures { λ r. ⌜ ((t : Tree) → At t (now (s .entry)) base → Wrote (now (out .entry)) (now (out .exit)) at level r t) ⌝ }
+{
+    // Past the buffer's end nothing is written, and no record need be looked at.
+    if MAX_RECORDS <= at {
+        return NO_ROOM;
+    }
+    let mut to = put_label(s, out, at, level);
+    let mut from = word_at(s, FIRST_LINK);
+    while from != 0 {
+        let part = from_record(s, base, from);
+        to = copy_tree(part, from, depth - 1, out, to, level + 1);
+        from = word_at(part, NEXT_LINK);
+    }
+    to
+}

@@ -1,0 +1,19 @@
+// The limits of an image, all of them.
+
+// Records of an image.
+pub const MAX_RECORDS: usize = 2048;
+
+// What a writer counts up to: a record that has no room.
+pub const NO_ROOM: usize = MAX_RECORDS + 1;
+
+// Records from the root down to the deepest, both counted.
+pub const MAX_DEPTH: usize = 256;
+
+// Fields of a schema, and of both inputs of a join together.
+pub const MAX_FIELDS: usize = 64;
+
+// Conjuncts of a filter, and filters of a scan.
+pub const MAX_LIST: usize = 128;
+
+// Bytes of a record: eight words.
+pub const RECORD_BYTES: usize = 32;

@@ -1,0 +1,85 @@
+// Records: eight words, of which six are the label and two are links.
+use crate::limits::RECORD_BYTES;
+use crate::words::put_four;
+use crate::words::word_at;
+ghost use mathlib.Core.Path.{_≡_};
+ghost use Prim.Native.Nat.{_+_, _-_, _*_, _≤_};
+ghost use lib.ListN.{length, drop};
+ghost use lib.Seq.{sets};
+ghost use Rattle.image.specs.Flat.{bytesOf};
+ghost use Rattle.image.specs.Tree.{Fits32, labelAt, nodeOf};
+
+// The byte of a record at which the link to its first child stands.
+pub const FIRST_LINK: usize = 24;
+
+// The byte of a record at which the link to its next sibling stands.
+pub const NEXT_LINK: usize = 28;
+
+// What a record says of itself, without its links.
+pub struct Label {
+    pub kind: usize,
+    pub p: usize,
+    pub q: usize,
+    pub r: usize,
+    pub lo: usize,
+    pub hi: usize,
+}
+
+// The label of the record at the start of s.
+pub fn label_at(s: &[u8]) -> Label
+    requires { ⌜ 32 ≤ length (now s) ⌝ }
+    ensures { λ r. ⌜ (r ≡ labelAt (now (s .entry))) × Fits32 r ⌝ }
+{
+    Label {
+        kind: word_at(s, 0),
+        p: word_at(s, 4),
+        q: word_at(s, 8),
+        r: word_at(s, 12),
+        lo: word_at(s, 16),
+        hi: word_at(s, 20),
+    }
+}
+
+// What a walk looks at in a record: its kind, its first words and its links.
+pub struct Node {
+    pub kind: usize,
+    pub p: usize,
+    pub q: usize,
+    pub r: usize,
+    pub first: usize,
+    pub next: usize,
+}
+
+// The record at the start of s, as a walk looks at it.
+pub fn look(s: &[u8]) -> Node
+    requires { ⌜ 32 ≤ length (now s) ⌝ }
+    ensures { λ r. ⌜ r ≡ nodeOf (now (s .entry)) ⌝ }
+{
+    Node {
+        kind: word_at(s, 0),
+        p: word_at(s, 4),
+        q: word_at(s, 8),
+        r: word_at(s, 12),
+        first: word_at(s, FIRST_LINK),
+        next: word_at(s, NEXT_LINK),
+    }
+}
+
+// The part of s that begins at record `at`, where s begins at record `base`.
+pub fn from_record(s: &[u8], base: usize, at: usize) -> &[u8]
+    requires { ⌜ (base ≤ at) × (32 * (at - base) ≤ length (now s)) ⌝ }
+    ensures { λ r. ⌜ now r ≡ drop (32 * (at - base)) (now (s .entry)) ⌝ }
+{
+    let a = RECORD_BYTES * (at - base);
+    &s[a..]
+}
+
+// Stores record `at`: a label, the link to its first child and the link to its next sibling.
+pub fn put_record(out: &mut [u8], at: usize, label: Label, first: usize, next: usize)
+    requires { ⌜ 32 * (at + 1) ≤ length (now out) ⌝ }
+    ensures { λ _. ⌜ now (out .exit) ≡ sets (now (out .entry)) (32 * at) (bytesOf label first next) ⌝ }
+{
+    let i = RECORD_BYTES * at;
+    put_four(out, i, label.kind, label.p, label.q, label.r);
+    put_four(out, i + 16, label.lo, label.hi, first, next);
+}

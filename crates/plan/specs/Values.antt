@@ -1,0 +1,68 @@
+-- What the code's value records stand for.
+use Prim.Native.Nat.{ℕ}
+use mathlib.Core.Bool.{Bool, cond}
+use mathlib.Core.Option.{Option, none, some}
+use lib.Dec.{eqb}
+use lib.IntN.{ℤ}
+use Rattle.image.specs.Tree.{Label}
+use Rattle.plan.specs.Kinds as K
+use Rattle.plan.specs.Syntax as S
+use Rattle.plan.specs.Read.{signed}
+use Rattle.plan.specs.declared.values.Case.{Case}
+use Rattle.plan.specs.declared.values.Case.the-variants.{Null, Integer, Truth}
+use Rattle.plan.specs.declared.values.Value.{Value}
+use Rattle.plan.specs.declared.values.Literal.{Literal}
+use Rattle.plan.specs.declared.values.Literal.the-variants.{Of, Not}
+
+-- the code's value record: a type, and the case inside
+abbrev pub ValueRecord : Type 0
+ValueRecord = Value
+
+-- an integer, a boolean, a NULL of a type
+abbrev pub integer : ℤ → ValueRecord
+integer z = record { ty = 1; case = Integer z }
+
+abbrev pub boolean : Bool → ValueRecord
+boolean b = record { ty = 2; case = Truth b }
+
+abbrev pub nullOf : ℕ → ValueRecord
+nullOf t = record { ty = t; case = Null }
+
+-- the value that a case is
+abbrev pub caseOf : Case → S.Value
+caseOf Null = S.null
+caseOf (Integer z) = S.int z
+caseOf (Truth b) = S.truth b
+
+-- the literal expression of a type and a case
+abbrev pub literalBy : ℕ → Case → S.Expr
+literalBy t Null = S.nul t
+literalBy t (Integer z) = S.num z
+literalBy t (Truth b) = S.bool b
+
+abbrev pub literalIs : ValueRecord → S.Expr
+literalIs v = literalBy (v .ty) (v .case)
+
+-- the literal that a record is: an integer (2), a boolean (3) or a NULL (4)
+unfoldable pub literalOf : Label → Literal
+literalOf l =
+    cond (eqb (l .kind) (K.numberE K.Integer)) (Of (integer (signed (l .lo) (l .hi))))
+    (cond (eqb (l .kind) (K.numberE K.Boolean)) (Of (boolean (eqb (l .p) 1)))
+    (cond (eqb (l .kind) (K.numberE K.Null)) (Of (nullOf (l .p))) Not))
+
+-- the literal that an expression is
+unfoldable pub literalIn : S.Expr → Literal
+literalIn (S.num z) = Of (integer z)
+literalIn (S.bool b) = Of (boolean b)
+literalIn (S.nul t) = Of (nullOf t)
+literalIn (S.col x) = Not
+literalIn (S.bin o a b) = Not
+literalIn (S.neg a) = Not
+literalIn (S.test t a) = Not
+literalIn (S.between n a l h) = Not
+literalIn (S.inlist n a xs) = Not
+literalIn (S.fn p q r xs) = Not
+
+unfoldable pub literal? : Literal → Option ValueRecord
+literal? (Of v) = some v
+literal? Not = none

@@ -1,0 +1,68 @@
+// Values: a record of a type, with its case inside. Literals, row cells and bounds are such records.
+use image::records::Label;
+ghost use mathlib.Core.Path.{_≡_};
+ghost use Prim.Native.Nat.{_<_};
+ghost use Rattle.image.specs.Tree.{Fits32};
+ghost use Rattle.plan.specs.Read.{signed};
+ghost use Rattle.plan.specs.Values.{literalOf};
+
+// The types of fields and values.
+pub const INTEGER: usize = 1;
+
+pub const BOOLEAN: usize = 2;
+
+pub enum Case {
+    Null,
+    Integer(i64),
+    Truth(bool),
+}
+
+pub struct Value {
+    pub ty: usize,
+    pub case: Case,
+}
+
+// A literal, or a record that is none.
+pub enum Literal {
+    Of(Value),
+    Not,
+}
+
+// The signed 64-bit number of its halves, by two's complement.
+pub fn signed(lo: u64, hi: u64) -> i64
+    requires { ⌜ (lo < 4294967296) × (hi < 4294967296) ⌝ }
+    ensures { λ r. ⌜ r ≡ signed lo hi ⌝ }
+{
+    if hi < 2147483648 {
+        return (hi * 4294967296 + lo) as i64;
+    }
+    let below = (4294967295 - hi) * 4294967296 + (4294967295 - lo);
+    -1 - (below as i64)
+}
+
+// The literal that a record is.
+pub fn literal_of(l: Label) -> Literal
+    requires { ⌜ Fits32 l ⌝ }
+    ensures { λ r. ⌜ r ≡ literalOf l ⌝ }
+{
+    let kind = l.kind;
+    if kind == 2 {
+        return Literal::Of(Value {
+            ty: INTEGER,
+            case: Case::Integer(signed(l.lo as u64, l.hi as u64)),
+        });
+    }
+    if kind == 3 {
+        return Literal::Of(Value {
+            ty: BOOLEAN,
+            case: Case::Truth(l.p == 1),
+        });
+    }
+    if kind == 4 {
+        return Literal::Of(Value {
+            ty: l.p,
+            case: Case::Null,
+        });
+    }
+    Literal::Not
+}

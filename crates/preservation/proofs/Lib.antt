@@ -1,0 +1,3 @@
+-- The proof of demand 3.
+pub mod Images
+pub mod Depth
