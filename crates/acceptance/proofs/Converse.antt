@@ -30,7 +30,9 @@ use Rattle.plan.specs.Trees.{planTree}
 use Rattle.plan.specs.Read.{planAt}
 use Rattle.plan.proofs.Written.{planAt-back}
 use Rattle.plan.proofs.Rebuilt.{Bounds, bounds, words-at, kind-e, kind-p, kind-w}
-use Rattle.acceptance.proofs.Accept.{accepted, word-drop, or-assoc}
+use Rattle.acceptance.proofs.Accept.{accepted}
+use Rattle.image.proofs.Standing.{word-drop}
+use Rattle.image.proofs.Lowest.{or-assoc}
 
 -- ---- what stands is read
 
@@ -177,6 +179,14 @@ passes-all p w = rw (w .depth, w .form, planAt-back p (w .integers), w .names, w
 pub accepts : (s : List ℕ) (p : Plan) → Accepted s p → check s ≡ verdict 0 0
 accepts s p h = rw (h .image) (check-image (planTree p) (h .well .words) (h .well .records) ∙ passes-all p (h .well))
 
+-- the links of a well-formed plan's image lead to its tree
+pub same-tree : (p : Plan) → WellFormed p → linked (enc 0 (planTree p)) (length (enc 0 (planTree p)) / 32) ≡ tree (planTree p)
+same-tree p w =
+    let t = planTree p in
+    let len = length-image t in
+    let n : length (enc 0 t) / 32 ≡ sizeT t = omega arith in
+    ap (linked (enc 0 t)) n ∙ linked-complete t (enc 0 t) (stands-alone t (w .words) (w .records))
+
 -- one plan only has the image
 pub unique : (s : List ℕ) (p q : Plan) → Accepted s p → Accepted s q → p ≡ q
 unique s p q h k =
@@ -187,13 +197,6 @@ unique s p q h k =
     let d : planTree p ≡ planTree q = tree-is c in
     sym (planAt-back p (h .well .integers)) ∙ (ap planAt d ∙ planAt-back q (k .well .integers))
   where
-    same-tree : (p : Plan) → WellFormed p → linked (enc 0 (planTree p)) (length (enc 0 (planTree p)) / 32) ≡ tree (planTree p)
-    same-tree p w =
-        let t = planTree p in
-        let len = length-image t in
-        let n : length (enc 0 t) / 32 ≡ sizeT t = omega arith in
-        ap (linked (enc 0 t)) n ∙ linked-complete t (enc 0 t) (stands-alone t (w .words) (w .records))
-
     tree-is : {t u : Tree} → _≡_ {A = Links} (tree t) (tree u) → t ≡ u
     tree-is e = cc
 

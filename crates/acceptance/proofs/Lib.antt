@@ -1,6 +1,10 @@
 pub mod Accept
 pub mod Converse
 pub mod Limits
+pub mod Marks
+pub mod NamesMarks
 pub mod NamesRule
 pub mod Opened
+pub mod TypesMarks
 pub mod TypesRule
+pub mod WellFormed

@@ -1,5 +1,5 @@
--- The name rules of a plan in the form that proofs by induction on plans want, and the widths of a Union's inputs, which rows need too: every
--- reference names a field of the schema that it stands over, every schema is sound. What follows: schemas repeat no name.
+-- The name rules of a plan in the form that proofs by induction on plans want, and the widths of a Union's inputs, which rows need too:
+-- every reference names a field of the schema that it stands over, every schema is sound. What follows: schemas repeat no name.
 use Prim.Native.Nat.{ℕ}
 use mathlib.Core.Path.{_≡_, refl}
 use mathlib.Core.Bool.{Bool, true, false, not, _||_}
@@ -32,7 +32,8 @@ unfoldable mutual
   rule w (project es p) = sound (map (λ (e : Entry). e .name) es) & (all (λ (e : Entry). reads (schema p) (e .expr)) es & rule w p)
   rule w (join k l r on f) =
       sound (schema l ++ schema r)
-      & (all (λ (k : Pair). reads (schema l) (k .lhs) & reads (schema r) (k .rhs)) on & (reads? (schema l ++ schema r) f & (rule w l & rule w r)))
+      & (all (λ (k : Pair). reads (schema l) (k .lhs) & reads (schema r) (k .rhs)) on
+      & (reads? (schema l ++ schema r) f & (rule w l & rule w r)))
   rule w (alias q p) = sound (map (requalify q) (schema p)) & rule w p
   rule w (union ps) = rule-all w (length (schema-first ps)) ps
   rule w (distinct p) = rule w p
@@ -72,7 +73,8 @@ unfolding any
 no-clash x [] h = refl
 no-clash x (y ∷ s) h = go (same y x) refl (clash x y) refl h (no-clash x s)
   where
-    go : (b : Bool) → same y x ≡ b → (c : Bool) → clash x y ≡ c → not (c || any (clash x) s) ≡ true → (not (any (clash x) s) ≡ true → not (has s x) ≡ true) → not (b || has s x) ≡ true
+    go : (b : Bool) → same y x ≡ b → (c : Bool) → clash x y ≡ c → not (c || any (clash x) s) ≡ true
+        → (not (any (clash x) s) ≡ true → not (has s x) ≡ true) → not (b || has s x) ≡ true
     go true e true f h k = h
     go true e false f h k = cc (clash-same x y e)
     go false e true f h k = cc
@@ -140,16 +142,20 @@ mutual
   ok-names (project es p) h = and-intro (and-l _ _ h) (and-intro (and-l _ _ (and-r _ _ h)) (ok-names p (and-r _ _ (and-r _ _ h))))
   ok-names (join k l r on f) h =
       let i = and-r _ _ (and-r _ _ h) in
-      and-intro (and-l _ _ h) (and-intro (and-l _ _ (and-r _ _ h)) (and-intro (and-l _ _ i) (and-intro (ok-names l (and-l _ _ (and-r _ _ i))) (ok-names r (and-r _ _ (and-r _ _ i))))))
+      let inputs = and-intro (ok-names l (and-l _ _ (and-r _ _ i))) (ok-names r (and-r _ _ (and-r _ _ i))) in
+      and-intro (and-l _ _ h) (and-intro (and-l _ _ (and-r _ _ h)) (and-intro (and-l _ _ i) inputs))
   ok-names (alias q p) h = and-intro (and-l _ _ h) (ok-names p (and-r _ _ h))
   ok-names (union ps) h = ok-names-all ps _ h
   ok-names (distinct p) h = ok-names p h
   ok-names (sort f ks p) h = and-intro (and-l _ _ h) (ok-names p (and-r _ _ h))
   ok-names (repartition p) h = ok-names p h
   ok-names (limit n k p) h = ok-names p h
-  ok-names (aggregate gs ags p) h = and-intro (and-l _ _ h) (and-intro (and-l _ _ (and-r _ _ h)) (and-intro (and-l _ _ (and-r _ _ (and-r _ _ h))) (ok-names p (and-r _ _ (and-r _ _ (and-r _ _ h))))))
+  ok-names (aggregate gs ags p) h =
+      let i = and-r _ _ (and-r _ _ h) in
+      and-intro (and-l _ _ h) (and-intro (and-l _ _ (and-r _ _ h)) (and-intro (and-l _ _ i) (ok-names p (and-r _ _ i))))
   ok-names (window ws p) h = and-intro (and-l _ _ h) (and-intro (and-l _ _ (and-r _ _ h)) (ok-names p (and-r _ _ (and-r _ _ h))))
 
   ok-names-all : (ps : Plans) (n : ℕ) → ok-all n ps ≡ true → rule-all (λ a b. true) n ps ≡ true
   ok-names-all pnil n h = refl
-  ok-names-all (pcons p ps) n h = and-intro refl (and-intro (ok-names p (and-l _ _ (and-r _ _ h))) (ok-names-all ps n (and-r _ _ (and-r _ _ h))))
+  ok-names-all (pcons p ps) n h =
+      and-intro refl (and-intro (ok-names p (and-l _ _ (and-r _ _ h))) (ok-names-all ps n (and-r _ _ (and-r _ _ h))))

@@ -3,7 +3,7 @@ use Prim.Native.Nat.{ℕ}
 use mathlib.Core.List.{List}
 use Rattle.image.specs.Word.{word}
 use Rattle.image.specs.Links.{parse}
-use Rattle.image.specs.Lowest.{orElse, unless, lowest}
+use Rattle.image.specs.Lowest.{orElse, unless, lowest, firstFalse}
 use Rattle.plan.specs.Lists.{_&_, all, any, flat}
 use Rattle.plan.specs.Kinds.{among, whatOf}
 use Rattle.plan.specs.Words.{wordsOk, inside, fits}
@@ -12,7 +12,7 @@ use Rattle.plan.specs.Read.{signed, nth, exprsOf, run, plansOf, planAt}
 use Rattle.plan.specs.Syntax.{Plan}
 use Rattle.plan.specs.Schema.{schema, schema-first}
 use Rattle.plan.specs.Types.{type-of, types, types-first, scans, scans-all}
-use Rattle.acceptance.specs.Marks.{firstFalse, marks-in, marks-in-all, marks-of, marks-of-all}
+use Rattle.acceptance.specs.Marks.{marks-in, marks-in-all, marks-of, marks-of-all}
 use Rattle.acceptance.specs.Names.{holders, one-field, sound, sound-plan, badName}
 use Rattle.acceptance.specs.Types.{of-type, typed-operands, first-scanned, as-first, typed-plan, badType}
 use Rattle.acceptance.specs.Check.{Verdict, at, bufferOk, badWords, linked, tooDeep, checkPlan, checkTree, check}

@@ -50,15 +50,21 @@ unfoldable mutual
   typed (scan t fs es) = all (boolean (lookD 0 (map (λ (f : Field). f .name) fs) (map (λ (f : Field). f .ty) fs))) es
   typed (filter e p) = boolean (field-types p) e & typed p
   typed (project es p) = all (λ (e : Entry). well (field-types p) (e .expr)) es & typed p
-  typed (join k l r on f) = all (λ (k : Pair). eqb (type-of (field-types l) (k .lhs)) (type-of (field-types r) (k .rhs)) & (well (field-types l) (k .lhs) & well (field-types r) (k .rhs))) on & (boolean? (both-types l r) f & (typed l & typed r))
+  typed (join k l r on f) =
+      all (λ (k : Pair). eqb (type-of (field-types l) (k .lhs)) (type-of (field-types r) (k .rhs))
+      & (well (field-types l) (k .lhs) & well (field-types r) (k .rhs))) on
+      & (boolean? (both-types l r) f & (typed l & typed r))
   typed (alias q p) = typed p
   typed (union ps) = typed-all (types-first ps) ps
   typed (distinct p) = typed p
   typed (sort f ks p) = all (λ (k : Key). well (field-types p) (k .expr)) ks & typed p
   typed (repartition p) = typed p
   typed (limit n k p) = typed p
-  typed (aggregate gs ags p) = all (λ (e : Entry). well (field-types p) (e .expr)) gs & (all (λ (a : AggEntry). takes-type (a .fun) (type-of (field-types p) (a .expr)) & well (field-types p) (a .expr)) ags & typed p)
-  typed (window ws p) = all (λ (w : WinEntry). takes-type (w .fun) (type-of (field-types p) (w .expr)) & well (field-types p) (w .expr)) ws & typed p
+  typed (aggregate gs ags p) =
+      all (λ (e : Entry). well (field-types p) (e .expr)) gs
+      & (all (λ (a : AggEntry). takes-type (a .fun) (type-of (field-types p) (a .expr)) & well (field-types p) (a .expr)) ags & typed p)
+  typed (window ws p) =
+      all (λ (w : WinEntry). takes-type (w .fun) (type-of (field-types p) (w .expr)) & well (field-types p) (w .expr)) ws & typed p
 
   pub typed-all : List ℕ → Plans → Bool
   typed-all ts pnil = true
@@ -91,22 +97,31 @@ mutual
   pub names-typed-ok : (p : Plan) → names-rule p ≡ true → typed p ≡ true → ok p ≡ true
   names-typed-ok (scan t fs es) h y = h
   names-typed-ok (filter e p) h y = and-intro (and-l _ _ h) (names-typed-ok p (and-r _ _ h) (and-r _ _ y))
-  names-typed-ok (project es p) h y = and-intro (and-l _ _ h) (and-intro (and-l _ _ (and-r _ _ h)) (names-typed-ok p (and-r _ _ (and-r _ _ h)) (and-r _ _ y)))
+  names-typed-ok (project es p) h y =
+      and-intro (and-l _ _ h) (and-intro (and-l _ _ (and-r _ _ h)) (names-typed-ok p (and-r _ _ (and-r _ _ h)) (and-r _ _ y)))
   names-typed-ok (join k l r on f) h y =
       let i = and-r _ _ (and-r _ _ h) in
       let z = and-r _ _ (and-r _ _ y) in
-      and-intro (and-l _ _ h) (and-intro (and-l _ _ (and-r _ _ h)) (and-intro (and-l _ _ i) (and-intro (names-typed-ok l (and-l _ _ (and-r _ _ i)) (and-l _ _ z)) (names-typed-ok r (and-r _ _ (and-r _ _ i)) (and-r _ _ z)))))
+      let l-ok = names-typed-ok l (and-l _ _ (and-r _ _ i)) (and-l _ _ z) in
+      let r-ok = names-typed-ok r (and-r _ _ (and-r _ _ i)) (and-r _ _ z) in
+      and-intro (and-l _ _ h) (and-intro (and-l _ _ (and-r _ _ h)) (and-intro (and-l _ _ i) (and-intro l-ok r-ok)))
   names-typed-ok (alias q p) h y = and-intro (and-l _ _ h) (names-typed-ok p (and-r _ _ h) y)
   names-typed-ok (union ps) h y = names-typed-all ps (types-first ps) (length (schema-first ps)) (types-first-length ps) h y
   names-typed-ok (distinct p) h y = names-typed-ok p h y
   names-typed-ok (sort f ks p) h y = and-intro (and-l _ _ h) (names-typed-ok p (and-r _ _ h) (and-r _ _ y))
   names-typed-ok (repartition p) h y = names-typed-ok p h y
   names-typed-ok (limit n k p) h y = names-typed-ok p h y
-  names-typed-ok (aggregate gs ags p) h y = and-intro (and-l _ _ h) (and-intro (and-l _ _ (and-r _ _ h)) (and-intro (and-l _ _ (and-r _ _ (and-r _ _ h))) (names-typed-ok p (and-r _ _ (and-r _ _ (and-r _ _ h))) (and-r _ _ (and-r _ _ y)))))
-  names-typed-ok (window ws p) h y = and-intro (and-l _ _ h) (and-intro (and-l _ _ (and-r _ _ h)) (names-typed-ok p (and-r _ _ (and-r _ _ h)) (and-r _ _ y)))
+  names-typed-ok (aggregate gs ags p) h y =
+      let i = and-r _ _ (and-r _ _ h) in
+      and-intro (and-l _ _ h)
+      (and-intro (and-l _ _ (and-r _ _ h)) (and-intro (and-l _ _ i) (names-typed-ok p (and-r _ _ i) (and-r _ _ (and-r _ _ y)))))
+  names-typed-ok (window ws p) h y =
+      and-intro (and-l _ _ h) (and-intro (and-l _ _ (and-r _ _ h)) (names-typed-ok p (and-r _ _ (and-r _ _ h)) (and-r _ _ y)))
 
-  names-typed-all : (ps : Plans) (ts : List ℕ) (n : ℕ) → length ts ≡ n → rule-all (λ a b. true) n ps ≡ true → typed-all ts ps ≡ true → ok-all n ps ≡ true
+  names-typed-all : (ps : Plans) (ts : List ℕ) (n : ℕ) → length ts ≡ n → rule-all (λ a b. true) n ps ≡ true → typed-all ts ps ≡ true
+      → ok-all n ps ≡ true
   names-typed-all pnil ts n w h y = refl
   names-typed-all (pcons p ps) ts n w h y =
       and-intro (eq-eqb (length (schema p)) n (sym (types-length p) ∙ ap length (same-types-eq (types p) ts (and-l _ _ y)) ∙ w))
-      (and-intro (names-typed-ok p (and-l _ _ (and-r _ _ h)) (and-l _ _ (and-r _ _ y))) (names-typed-all ps ts n w (and-r _ _ (and-r _ _ h)) (and-r _ _ (and-r _ _ y))))
+      (and-intro (names-typed-ok p (and-l _ _ (and-r _ _ h)) (and-l _ _ (and-r _ _ y)))
+      (names-typed-all ps ts n w (and-r _ _ (and-r _ _ h)) (and-r _ _ (and-r _ _ y))))

@@ -1,17 +1,10 @@
 -- A mark for each record of a plan, in the order in which its image has them: true where the record keeps a rule.
 -- The record that a test names is the first whose mark is false.
-use Prim.Native.Nat.{ℕ, _+_}
 use mathlib.Core.Bool.{Bool, true}
 use mathlib.Core.List.{List, [], _∷_, _++_, map}
 use mathlib.Core.Option.{Option, none, some}
-use Rattle.image.specs.Lowest.{Found, nothing, orElse, unless}
 use Rattle.plan.specs.Lists.{flat}
 use Rattle.plan.specs.Syntax.{Expr, col, num, bool, nul, bin, neg, test, between, inlist, fn, Exprs, enil, econs, Field, Entry, Pair, Key, Agg, AggEntry, WinEntry, Plan, scan, filter, project, join, alias, union, distinct, sort, repartition, limit, aggregate, window, Plans, pnil, pcons}
-
--- the number of the first mark that is false, where the first of all has the number b
-unfoldable pub firstFalse : ℕ → List Bool → Found
-firstFalse b [] = nothing
-firstFalse b (m ∷ ms) = orElse (unless m b) (firstFalse (b + 1) ms)
 
 -- ---- expressions: the record, then its children in order
 
@@ -22,11 +15,11 @@ module _ (rule : Expr → Bool) where
     marks-in (num z) = rule (num z) ∷ []
     marks-in (bool b) = rule (bool b) ∷ []
     marks-in (nul t) = rule (nul t) ∷ []
-    marks-in (bin o a b) = rule (bin o a b) ∷ marks-in a ++ marks-in b
+    marks-in (bin o a b) = rule (bin o a b) ∷ (marks-in a ++ marks-in b)
     marks-in (neg a) = rule (neg a) ∷ marks-in a
     marks-in (test t a) = rule (test t a) ∷ marks-in a
-    marks-in (between n a l u) = rule (between n a l u) ∷ marks-in a ++ marks-in l ++ marks-in u
-    marks-in (inlist n a xs) = rule (inlist n a xs) ∷ marks-in a ++ marks-in-all xs
+    marks-in (between n a l u) = rule (between n a l u) ∷ (marks-in a ++ marks-in l ++ marks-in u)
+    marks-in (inlist n a xs) = rule (inlist n a xs) ∷ (marks-in a ++ marks-in-all xs)
     marks-in (fn p q r xs) = rule (fn p q r xs) ∷ marks-in-all xs
 
     pub marks-in-all : Exprs → List Bool
@@ -51,15 +44,15 @@ pub record Rules : Type 0 where
   -- of an entry 52 or 53 over an input, by its function and its expression
   pub value : Plan → Agg → Expr → Bool
 
-module _ (R : Rules) where
-  abbrev pub field-mark : Field → Bool
-  field-mark f = true
+abbrev pub field-mark : Field → Bool
+field-mark f = true
 
+module _ (R : Rules) where
   abbrev pub entry-marks : Plan → Entry → List Bool
   entry-marks p e = true ∷ marks-in (R .over p) (e .expr)
 
   abbrev pub pair-marks : Plan → Plan → Pair → List Bool
-  pair-marks l r k = R .pair l r k ∷ marks-in (R .over l) (k .lhs) ++ marks-in (R .over r) (k .rhs)
+  pair-marks l r k = R .pair l r k ∷ (marks-in (R .over l) (k .lhs) ++ marks-in (R .over r) (k .rhs))
 
   abbrev pub key-marks : Plan → Key → List Bool
   key-marks p k = true ∷ marks-in (R .over p) (k .expr)
@@ -69,24 +62,24 @@ module _ (R : Rules) where
 
   -- the partition columns are references
   abbrev pub win-marks : Plan → WinEntry → List Bool
-  win-marks p w = R .value p (w .fun) (w .expr) ∷ marks-in (R .over p) (w .expr) ++ map (λ x. R .over p (col x)) (w .parts)
+  win-marks p w = R .value p (w .fun) (w .expr) ∷ (marks-in (R .over p) (w .expr) ++ map (λ x. R .over p (col x)) (w .parts))
 
   -- the filters of a scan stand over its own fields, a join's filter over both inputs, all else over the one input
   unfoldable mutual
     pub marks-of : Plan → List Bool
-    marks-of (scan t fs es) = R .plan (scan t fs es) ∷ map field-mark fs ++ flat (marks-in (R .over (scan t fs es))) es
-    marks-of (filter e p) = R .plan (filter e p) ∷ marks-in (R .over p) e ++ marks-of p
-    marks-of (project es p) = R .plan (project es p) ∷ flat (entry-marks p) es ++ marks-of p
+    marks-of (scan t fs es) = R .plan (scan t fs es) ∷ (map field-mark fs ++ flat (marks-in (R .over (scan t fs es))) es)
+    marks-of (filter e p) = R .plan (filter e p) ∷ (marks-in (R .over p) e ++ marks-of p)
+    marks-of (project es p) = R .plan (project es p) ∷ (flat (entry-marks p) es ++ marks-of p)
     marks-of (join k l r on f) =
-        R .plan (join k l r on f) ∷ marks-of l ++ marks-of r ++ flat (pair-marks l r) on ++ marks-in? (R .both l r) f
+        R .plan (join k l r on f) ∷ (marks-of l ++ marks-of r ++ flat (pair-marks l r) on ++ marks-in? (R .both l r) f)
     marks-of (alias q p) = R .plan (alias q p) ∷ marks-of p
     marks-of (union ps) = R .plan (union ps) ∷ marks-of-all ps
     marks-of (distinct p) = R .plan (distinct p) ∷ marks-of p
-    marks-of (sort f ks p) = R .plan (sort f ks p) ∷ flat (key-marks p) ks ++ marks-of p
+    marks-of (sort f ks p) = R .plan (sort f ks p) ∷ (flat (key-marks p) ks ++ marks-of p)
     marks-of (repartition p) = R .plan (repartition p) ∷ marks-of p
     marks-of (limit n k p) = R .plan (limit n k p) ∷ marks-of p
-    marks-of (aggregate gs ags p) = R .plan (aggregate gs ags p) ∷ flat (entry-marks p) gs ++ flat (agg-marks p) ags ++ marks-of p
-    marks-of (window ws p) = R .plan (window ws p) ∷ flat (win-marks p) ws ++ marks-of p
+    marks-of (aggregate gs ags p) = R .plan (aggregate gs ags p) ∷ (flat (entry-marks p) gs ++ flat (agg-marks p) ags ++ marks-of p)
+    marks-of (window ws p) = R .plan (window ws p) ∷ (flat (win-marks p) ws ++ marks-of p)
 
     pub marks-of-all : Plans → List Bool
     marks-of-all pnil = []

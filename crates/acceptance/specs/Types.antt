@@ -1,16 +1,16 @@
--- Type (7): operands of comparisons, Between and InList share a type; And, Or, Not, tests 3 to 8, the predicate of a Filter and the filters of
--- scans and joins take booleans; the sides of a key pair share a type; Min and Max take integers; the inputs of a Union have equal types by
--- place; scans of one table share field types.
+-- Type (7): operands of comparisons, Between and InList share a type; And, Or, Not, tests 3 to 8, the predicate of a Filter and the filters
+-- of scans and joins take booleans; the sides of a key pair share a type; Min and Max take integers; the inputs of a Union have equal types
+-- by place; scans of one table share field types, and the later scan is named.
 use Prim.Native.Nat.{ℕ}
 use mathlib.Core.Bool.{Bool, true, false, _||_, cond}
 use mathlib.Core.List.{List, [], _∷_, map}
 use mathlib.Core.Option.{Option, none, some}
 use lib.Dec.{eqb}
-use Rattle.image.specs.Lowest.{Found}
+use Rattle.image.specs.Lowest.{Found, firstFalse}
 use Rattle.plan.specs.Lists.{_&_, all}
 use Rattle.plan.specs.Syntax.{Op, and, or, cmp, Test, isNull, isNotNull, isTrue, isFalse, isUnknown, isNotTrue, isNotFalse, isNotUnknown, Expr, col, num, bool, nul, bin, neg, test, between, inlist, fn, Exprs, enil, econs, Field, Agg, count, min, max, Plan, scan, filter, project, join, alias, union, distinct, sort, repartition, limit, aggregate, window, Plans, pnil, pcons}
 use Rattle.plan.specs.Types.{Types, type-of, types, types-first, field-types, both-types, Scanned, scans}
-use Rattle.acceptance.specs.Marks.{firstFalse, marks-in, Rules, marks-of}
+use Rattle.acceptance.specs.Marks.{marks-in, Rules, marks-of}
 
 -- ---- expressions
 

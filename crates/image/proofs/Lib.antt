@@ -7,3 +7,4 @@ pub mod Reading
 pub mod Standing
 pub mod Relinking
 pub mod RoundTrip
+pub mod Bytes

@@ -11,7 +11,7 @@ use native.Mathlib.Omega.{arith}
 use lib.ListN.{length, drop, length-append}
 use Rattle.image.specs.Word.{word}
 use Rattle.image.specs.Tree.{Label, Forest, none, node, size, link}
-use Rattle.image.specs.Lowest.{Found, nothing, found, orElse, unless, lowest}
+use Rattle.image.specs.Lowest.{firstFalse, Found, nothing, found, orElse, unless, lowest}
 use Rattle.image.proofs.Walking.{Turn}
 
 -- ---- nothing found
@@ -71,11 +71,6 @@ module _ {C : Type 0} (rule : C → Label → Forest → Bool) (hand : C → Lab
   marks-length c after (node l cs ns) =
       simp length-append (omega (arith, marks-length (hand c l cs .0) (hand c l cs .1) cs, marks-length after after ns))
 
--- the number of the first that is false, where the first of all has the number b
-abbrev pub firstFalse : ℕ → List Bool → Found
-firstFalse b [] = nothing
-firstFalse b (t ∷ ts) = orElse (unless t b) (firstFalse (b + 1) ts)
-
 -- three searches, grouped either way
 pub or-assoc : (f g h : Found) → orElse (orElse f g) h ≡ orElse f (orElse g h)
 unfolding orElse
@@ -84,7 +79,7 @@ or-assoc (found r) g h = refl
 
 -- the first false of two lists, one after the other
 false-append : (b : ℕ) (xs ys : List Bool) → firstFalse b (xs ++ ys) ≡ orElse (firstFalse b xs) (firstFalse (b + length xs) ys)
-unfolding orElse
+unfolding firstFalse orElse
 false-append b [] ys = let e : b + 0 ≡ b = omega arith in rw e
 false-append b (x ∷ xs) ys =
     let e : b + 1 + length xs ≡ b + suc (length xs) = omega arith in
@@ -94,7 +89,7 @@ false-append b (x ∷ xs) ys =
 module _ {C : Type 0} (rule : C → Label → Forest → Bool) (hand : C → Label → Forest → C × C) where
   -- `lowest` is what its name says: the first of the forest's records, by number, of which the rule does not hold
   pub lowest-is : (c after : C) (b : ℕ) (f : Forest) → lowest rule hand c after b f ≡ firstFalse b (marks rule hand c after f)
-  unfolding lowest
+  unfolding firstFalse lowest
   lowest-is c after b none = refl
   lowest-is c after b (node l cs ns) =
       let ms = marks rule hand (hand c l cs .0) (hand c l cs .1) cs in

@@ -1,5 +1,6 @@
 -- The lowest record, by number, of a forest that breaks a rule.
 use mathlib.Core.Bool.{Bool, true, false}
+use mathlib.Core.List.{List, [], _∷_}
 use Prim.Native.Nat.{ℕ, _+_}
 use Rattle.image.specs.Tree.{Label, Forest, none, node, Tree, size}
 
@@ -30,3 +31,8 @@ module _ {C : Type 0} (rule : C → Label → Forest → Bool) (hand : C → Lab
 -- the tree alone
 abbrev pub alone : Tree → Forest
 alone t = node (t .label) (t .below) none
+
+-- the place of the first mark that is false, of marks that are counted from b
+unfoldable pub firstFalse : ℕ → List Bool → Found
+firstFalse b [] = nothing
+firstFalse b (m ∷ ms) = orElse (unless m b) (firstFalse (b + 1) ms)

@@ -195,11 +195,11 @@ joined leftAnti m nl nr ls rs = keep (λ l. not (any (m l) rs)) ls
 joined rightAnti m nl nr ls rs = keep (λ r. not (any (λ l. m l r) ls)) rs
 
 module _ (W : World) where
-  -- "Rows match in a join if Eq of every key pair
+  -- "Rows match in a join if Eq of every key pair .. TRUE"
   abbrev pub keys-match : List Name → List Name → List Pair → Row → Row → Bool
   keys-match s t on l r = all (λ (k : Pair). isT (compare eq (eval W (look s l) (k .lhs)) (eval W (look t r) (k .rhs)))) on
 
-  -- and the filter are TRUE"
+  -- "Rows match in a join if Eq of every key pair and the filter are TRUE", the filter over the fields of both sides
   abbrev pub matching : List Name → List Name → List Pair → Option Expr → Row → Row → Bool
   matching s t on f l r = keys-match s t on l r & sat? W (s ++ t) f (l ++ r)
 

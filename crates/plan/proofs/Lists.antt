@@ -26,6 +26,10 @@ unfolding _&_
 and-true true = refl
 and-true false = refl
 
+pub true-and : (a : Bool) → true & a ≡ a
+unfolding _&_
+true-and a = refl
+
 pub and-false : (a : Bool) → a & false ≡ false
 unfolding _&_
 and-false true = refl

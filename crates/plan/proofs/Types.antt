@@ -7,7 +7,8 @@ use Rattle.plan.specs.Syntax.{Name, Kind, inner, left, right, full, left
 use Rattle.plan.specs.Schema.{schema, schema-first, sides}
 use Rattle.plan.specs.Types.{side-types, types, types-first}
 
-side-length : (k : Kind) (s t : List Name) (u v : List ℕ) → length u ≡ length s → length v ≡ length t → length (side-types k u v) ≡ length (sides k s t)
+side-length : (k : Kind) (s t : List Name) (u v : List ℕ) → length u ≡ length s → length v ≡ length t
+    → length (side-types k u v) ≡ length (sides k s t)
 side-length inner s t u v h i = simp length-append (ap₂ _+_ h i)
 side-length left s t u v h i = simp length-append (ap₂ _+_ h i)
 side-length right s t u v h i = simp length-append (ap₂ _+_ h i)

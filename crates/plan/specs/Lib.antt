@@ -3,6 +3,7 @@ pub mod Form
 pub mod Integers
 pub mod Kinds
 pub mod Lists
+pub mod Measure
 pub mod Read
 pub mod Schema
 pub mod Syntax

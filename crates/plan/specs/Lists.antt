@@ -39,15 +39,6 @@ module _ {A : Type 0} where
   any f [] = false
   any f (x ∷ xs) = f x || any f xs
 
-  -- the first and the second of a list, or what stands for them
-  unfoldable pub first : A → List A → A
-  first d [] = d
-  first d (x ∷ xs) = x
-
-  unfoldable pub second : A → List A → A
-  second d [] = d
-  second d (x ∷ xs) = first d xs
-
 -- the lists of all elements, one after another
 unfoldable pub flat : {A B : Type 0} → (A → List B) → List A → List B
 flat f [] = []

@@ -1,4 +1,6 @@
 -- The proof of demand 3.
+pub mod Images
+pub mod Depth
 pub mod Everywhere
 pub mod ExprsKept
 pub mod PlansKept

@@ -1,1 +1,3 @@
 -- The statement of demand 3.
+pub mod Volatile
+pub mod Statement

@@ -24,15 +24,16 @@ mutual
   on-cols-mono c d f (bin o a b) h = and-intro (on-cols-mono c d f a (and-l _ _ h)) (on-cols-mono c d f b (and-r _ _ h))
   on-cols-mono c d f (neg a) h = on-cols-mono c d f a h
   on-cols-mono c d f (test t a) h = on-cols-mono c d f a h
-  on-cols-mono c d f (between n a l u) h = and-intro (on-cols-mono c d f a (and-l _ _ h)) (and-intro (on-cols-mono c d f l (and-l _ _ (and-r _ _ h))) (on-cols-mono c d f u (and-r _ _ (and-r _ _ h))))
+  on-cols-mono c d f (between n a l u) h =
+      and-intro (on-cols-mono c d f a (and-l _ _ h))
+      (and-intro (on-cols-mono c d f l (and-l _ _ (and-r _ _ h))) (on-cols-mono c d f u (and-r _ _ (and-r _ _ h))))
   on-cols-mono c d f (inlist n a xs) h = and-intro (on-cols-mono c d f a (and-l _ _ h)) (on-cols-all-mono c d f xs (and-r _ _ h))
   on-cols-mono c d f (fn p q r xs) h = on-cols-all-mono c d f xs h
 
-  on-cols-all-mono : (c d : Name → Bool) → ((x : Name) → c x ≡ true → d x ≡ true) → (xs : Exprs) → on-cols-all c xs ≡ true → on-cols-all d xs ≡ true
+  on-cols-all-mono : (c d : Name → Bool) → ((x : Name) → c x ≡ true → d x ≡ true) → (xs : Exprs)
+      → on-cols-all c xs ≡ true → on-cols-all d xs ≡ true
   on-cols-all-mono c d f enil h = refl
   on-cols-all-mono c d f (econs x xs) h = and-intro (on-cols-mono c d f x (and-l _ _ h)) (on-cols-all-mono c d f xs (and-r _ _ h))
-
--- ---- substitution
 
 -- ---- conjuncts
 
@@ -59,14 +60,18 @@ module _ (W : World) where
       eval-cong (bin o a b) h = ap₂ (binary o) (eval-cong a (and-l _ _ h)) (eval-cong b (and-r (on-cols c a) _ h))
       eval-cong (neg a) h = ap not3 (eval-cong a h)
       eval-cong (test t a) h = ap (λ v. truth (tested t v)) (eval-cong a h)
-      eval-cong (between n a l u) h = let h₁ = and-r (on-cols c a) _ h in rw (eval-cong a (and-l (on-cols c a) _ h), eval-cong l (and-l (on-cols c l) _ h₁), eval-cong u (and-r (on-cols c l) _ h₁))
-      eval-cong (inlist n a xs) h = ap₂ (λ v vs. negate n (in-list v vs)) (eval-cong a (and-l _ _ h)) (evals-cong xs (and-r (on-cols c a) _ h))
+      eval-cong (between n a l u) h =
+          let i = and-r (on-cols c a) _ h in
+          rw (eval-cong a (and-l (on-cols c a) _ h), eval-cong l (and-l (on-cols c l) _ i), eval-cong u (and-r (on-cols c l) _ i))
+      eval-cong (inlist n a xs) h =
+          ap₂ (λ v vs. negate n (in-list v vs)) (eval-cong a (and-l _ _ h)) (evals-cong xs (and-r (on-cols c a) _ h))
       eval-cong (fn p q r xs) h = ap (W .fun p q r) (evals-cong xs h)
 
       evals-cong : (xs : Exprs) → on-cols-all c xs ≡ true → evals W ρ xs ≡ evals W σ xs
       evals-cong enil h = refl
       evals-cong (econs x xs) h = ap₂ _∷_ (eval-cong x (and-l _ _ h)) (evals-cong xs (and-r (on-cols c x) _ h))
 
+  -- replaced columns: what the replacements say, as an environment
   mutual
     unfolding eval replace-cols
 
@@ -94,7 +99,8 @@ module _ (W : World) where
 
   pub all-split : (ρ : Env) (e : Expr) → all (λ x. isT (eval W ρ x)) (split-conjunction e) ≡ isT (eval W ρ e)
   unfolding split-conjunction eval
-  all-split ρ (bin and a b) = all-append _ (split-conjunction a) (split-conjunction b) ∙ ap₂ _&_ (all-split ρ a) (all-split ρ b) ∙ sym (isT-tri _ _)
+  all-split ρ (bin and a b) =
+      all-append _ (split-conjunction a) (split-conjunction b) ∙ ap₂ _&_ (all-split ρ a) (all-split ρ b) ∙ sym (isT-tri _ _)
   all-split ρ (bin or a b) = sole ρ (bin or a b)
   all-split ρ (bin (cmp c) a b) = sole ρ (bin (cmp c) a b)
   all-split ρ (col x) = sole ρ (col x)
@@ -118,6 +124,7 @@ module _ (W : World) where
   filtered-rows [] p = sym (keep-all (rows W p))
   filtered-rows (e ∷ es) p = keep-cong _ _ (all-of (λ r. conj-all (look (schema p) r) e es) (rows W p))
 
+  -- a Filter of the split list is the Filter
   pub split-rows : (e : Expr) (p : Plan) → rows W (with-filters (split-conjunction e) p) ≡ rows W (filter e p)
   unfolding rows
   split-rows e p = filtered-rows (split-conjunction e) p ∙ keep-cong _ _ (all-of (λ r. all-split (look (schema p) r) e) (rows W p))

@@ -54,14 +54,26 @@ module _ (c : Name → Bool) where
   unfolding Found both-or on-cols eval
   found-or a b none p f g = tt
   found-or a b (some x) none f g = tt
-  found-or a b (some x) (some y) f g = record { reads-side = and-intro (f .reads-side) (g .reads-side); implied = λ W ρ t. isT-tri _ _ ∙ or-mono _ _ _ _ (f .implied W ρ) (g .implied W ρ) (sym (isT-tri _ _) ∙ t) }
+  found-or a b (some x) (some y) f g = record {
+    reads-side = and-intro (f .reads-side) (g .reads-side);
+    implied = λ W ρ t. isT-tri _ _ ∙ or-mono _ _ _ _ (f .implied W ρ) (g .implied W ρ) (sym (isT-tri _ _) ∙ t);
+  }
 
   found-and : (a b : Expr) (o p : Option Expr) → Found a o → Found b p → Found (bin and a b) (either-and o p)
   unfolding Found either-and on-cols eval
   found-and a b none none f g = tt
-  found-and a b none (some y) f g = record { reads-side = g .reads-side; implied = λ W ρ t. g .implied W ρ (and-r _ _ (sym (isT-tri _ _) ∙ t)) }
-  found-and a b (some x) none f g = record { reads-side = f .reads-side; implied = λ W ρ t. f .implied W ρ (and-l _ _ (sym (isT-tri _ _) ∙ t)) }
-  found-and a b (some x) (some y) f g = record { reads-side = and-intro (f .reads-side) (g .reads-side); implied = λ W ρ t. isT-tri _ _ ∙ and-mono _ _ _ _ (f .implied W ρ) (g .implied W ρ) (sym (isT-tri _ _) ∙ t) }
+  found-and a b none (some y) f g = record {
+    reads-side = g .reads-side;
+    implied = λ W ρ t. g .implied W ρ (and-r _ _ (sym (isT-tri _ _) ∙ t));
+  }
+  found-and a b (some x) none f g = record {
+    reads-side = f .reads-side;
+    implied = λ W ρ t. f .implied W ρ (and-l _ _ (sym (isT-tri _ _) ∙ t));
+  }
+  found-and a b (some x) (some y) f g = record {
+    reads-side = and-intro (f .reads-side) (g .reads-side);
+    implied = λ W ρ t. isT-tri _ _ ∙ and-mono _ _ _ _ (f .implied W ρ) (g .implied W ρ) (sym (isT-tri _ _) ∙ t);
+  }
 
   found : (e : Expr) → Found e (extract-or-clause c e)
   unfolding extract-or-clause
@@ -83,7 +95,8 @@ module _ (c : Name → Bool) where
   one-over e none f = anil
   one-over e (some x) f = acons (f .reads-side) anil
 
-  one-holds : (W : World) (ρ : Env) (e : Expr) (o : Option Expr) → Found e o → isT (eval W ρ e) ≡ true → all (λ x. isT (eval W ρ x)) (listed o) ≡ true
+  one-holds : (W : World) (ρ : Env) (e : Expr) (o : Option Expr) → Found e o → isT (eval W ρ e) ≡ true
+      → all (λ x. isT (eval W ρ x)) (listed o) ≡ true
   unfolding Found listed all _&_
   one-holds W ρ e none f h = refl
   one-holds W ρ e (some x) f h = rw (f .implied W ρ h)
@@ -93,6 +106,7 @@ module _ (c : Name → Bool) where
   over-flat [] = anil
   over-flat (e ∷ es) = All-append (one-over e _ (found e)) (over-flat es)
 
+  -- and read the side's columns
   pub clauses-over : (es : List Expr) → All (λ x. on-cols c x ≡ true) (extract-or-clauses-for-join c es)
   unfolding extract-or-clauses-for-join
   clauses-over es = over-flat (keep is-or es)
@@ -101,12 +115,17 @@ module _ (c : Name → Bool) where
   all-part : (t f : Expr → Bool) (es : List Expr) → all t es ≡ true → all t (keep f es) ≡ true
   all-part t f es h = and-l _ _ (all-parts t f es ∙ h)
 
-  holds-flat : (W : World) (ρ : Env) (es : List Expr) → all (λ x. isT (eval W ρ x)) es ≡ true → all (λ x. isT (eval W ρ x)) (flat (λ e. listed (extract-or-clause c e)) es) ≡ true
+  holds-flat : (W : World) (ρ : Env) (es : List Expr) → all (λ x. isT (eval W ρ x)) es ≡ true
+      → all (λ x. isT (eval W ρ x)) (flat (λ e. listed (extract-or-clause c e)) es) ≡ true
   unfolding flat all
   holds-flat W ρ [] h = refl
-  holds-flat W ρ (e ∷ es) h = all-append _ (listed (extract-or-clause c e)) _ ∙ and-intro (one-holds W ρ e _ (found e) (and-l _ _ h)) (holds-flat W ρ es (and-r _ _ h))
+  holds-flat W ρ (e ∷ es) h =
+      all-append _ (listed (extract-or-clause c e)) _
+      ∙ and-intro (one-holds W ρ e _ (found e) (and-l _ _ h)) (holds-flat W ρ es (and-r _ _ h))
 
-  pub clauses-hold : (W : World) (ρ : Env) (es : List Expr) → all (λ x. isT (eval W ρ x)) es ≡ true → all (λ x. isT (eval W ρ x)) (extract-or-clauses-for-join c es) ≡ true
+  -- the clauses of a list are TRUE where the list is
+  pub clauses-hold : (W : World) (ρ : Env) (es : List Expr) → all (λ x. isT (eval W ρ x)) es ≡ true
+      → all (λ x. isT (eval W ρ x)) (extract-or-clauses-for-join c es) ≡ true
   unfolding extract-or-clauses-for-join
   clauses-hold W ρ es h = holds-flat W ρ (keep is-or es) (all-part _ is-or es h)
 
@@ -158,13 +177,15 @@ module _ (W : World) (ρ : Env) where
   Agrees x none = Unit {0}
   Agrees x (some y) = ρ x ≡ ρ y
 
-  pick-ok : (x y z : Name) (rest : Option Name) → ρ y ≡ ρ z → Agrees x rest → (b c : Bool) → same y x ≡ b → same z x ≡ c → Agrees x (cond b (some z) (cond c (some y) rest))
+  pick-ok : (x y z : Name) (rest : Option Name) → ρ y ≡ ρ z → Agrees x rest → (b c : Bool) → same y x ≡ b → same z x ≡ c
+      → Agrees x (cond b (some z) (cond c (some y) rest))
   unfolding Agrees
   pick-ok x y z rest e k true c p q = ap ρ (sym (same-eq y x p)) ∙ e
   pick-ok x y z rest e k false true p q = ap ρ (sym (same-eq z x q)) ∙ sym e
   pick-ok x y z rest e k false false p q = k
 
-  pair-ok : (x : Name) (a b : Expr) (o p rest : Option Name) → ColOf a o → ColOf b p → eval W ρ a ≡ eval W ρ b → Agrees x rest → Agrees x (pair-of x o p rest)
+  pair-ok : (x : Name) (a b : Expr) (o p rest : Option Name) → ColOf a o → ColOf b p → eval W ρ a ≡ eval W ρ b → Agrees x rest
+      → Agrees x (pair-of x o p rest)
   unfolding ColOf pair-of
   pair-ok x a b none p rest f g e k = k
   pair-ok x a b (some y) none rest f g e k = k
@@ -177,7 +198,9 @@ module _ (W : World) (ρ : Env) where
   partner-ok : (on : List Pair) → keys-hold on ≡ true → (x : Name) → Agrees x (partner on x)
   unfolding keys-hold partner Agrees all
   partner-ok [] h x = tt
-  partner-ok (k ∷ on) h x = pair-ok x (k .lhs) (k .rhs) _ _ _ (as-col-ok (k .lhs)) (as-col-ok (k .rhs)) (eq-true _ _ (and-l _ _ h)) (partner-ok on (and-r _ _ h) x)
+  partner-ok (k ∷ on) h x =
+      pair-ok x (k .lhs) (k .rhs) _ _ _ (as-col-ok (k .lhs)) (as-col-ok (k .rhs))
+      (eq-true _ _ (and-l _ _ h)) (partner-ok on (and-r _ _ h) x)
 
   to-partner-ok : (x : Name) (o : Option Name) → Agrees x o → eval W ρ (to-partner x o) ≡ ρ x
   unfolding Agrees to-partner eval
@@ -186,8 +209,14 @@ module _ (W : World) (ρ : Env) where
 
   swapped : (on : List Pair) → keys-hold on ≡ true → (e : Expr) → eval W ρ (replace-cols (swap-keys on) e) ≡ eval W ρ e
   unfolding swap-keys
-  swapped on h e = eval-sub W (swap-keys on) ρ e ∙ ap (λ (τ : Env). eval W τ e) (fun-ext (λ x. to-partner-ok x _ (partner-ok on h x)))
+  swapped on h e =
+      eval-sub W (swap-keys on) ρ e ∙ ap (λ (τ : Env). eval W τ e) (fun-ext (λ x. to-partner-ok x _ (partner-ok on h x)))
 
-  pub inferred-hold : (on : List Pair) → all (λ (k : Pair). isT (compare eq (eval W ρ (k .lhs)) (eval W ρ (k .rhs)))) on ≡ true → (es : List Expr) → all (λ x. isT (eval W ρ x)) es ≡ true → all (λ x. isT (eval W ρ x)) (infer-join-predicates on es) ≡ true
+  -- where the keys match, what is inferred is TRUE where the list is
+  pub inferred-hold : (on : List Pair) → all (λ (k : Pair). isT (compare eq (eval W ρ (k .lhs)) (eval W ρ (k .rhs)))) on ≡ true
+      → (es : List Expr) → all (λ x. isT (eval W ρ x)) es ≡ true → all (λ x. isT (eval W ρ x)) (infer-join-predicates on es) ≡ true
   unfolding infer-join-predicates keys-hold
-  inferred-hold on h es k = all-map _ _ (keep (λ e. not (on-cols (λ x. nothing (partner on x)) e)) es) ∙ all-cong _ _ (all-of (λ e. ap isT (swapped on h e)) _) ∙ all-part (λ x. true) _ _ es k
+  inferred-hold on h es k =
+      all-map _ _ (keep (λ e. not (on-cols (λ x. nothing (partner on x)) e)) es)
+      ∙ all-cong _ _ (all-of (λ e. ap isT (swapped on h e)) _)
+      ∙ all-part (λ x. true) _ _ es k

@@ -9,7 +9,9 @@ use lib.Dec.{eqb, leb}
 use borrow.Author.Tests.{le-leb, lt-leb, ne-eqb}
 use Rattle.plan.specs.Lists.{choose}
 use Rattle.plan.specs.Syntax.{Expr, Entry, Pair, Key, AggEntry, WinEntry, Kind, Plan, scan, filter, project, join, alias, union, distinct, sort, repartition, limit, aggregate, window, Plans, pcons}
-use Rattle.rewrite.specs.Limits.{sizeE, total, sizeEntry, sizeKey, sizeAgg, sizeWin, sizeP, sizePs, depthP, depthPs}
+use Rattle.plan.specs.Measure.{sizeE, sizeP, depthP, sizes}
+use Rattle.plan.proofs.Measure.{sizePs, depthPs, size-filter, size-project, size-join, size-alias, size-union, size-distinct, size-sort, size-repartition, size-limit, size-aggregate, size-window, size-pcons, one-record, deep-filter, deep-project, deep-left, deep-right, deep-alias, deep-union, deep-distinct, deep-sort, deep-repartition, deep-limit, deep-aggregate, deep-window, deep-first, deep-later}
+use Rattle.plan.specs.Trees.{entryKids, keyKids, aggKids, winKids}
 use Rattle.rewrite.specs.RewriteAt.{Focus, FocusAll, here, inside, inside-all, first-of, later-of, focus, focus-all}
 
 pub record Holed (n level : ℕ) (C : Plan → Plan) : Type 0 where
@@ -39,36 +41,6 @@ focus-start (repartition p) = refl
 focus-start (limit n k p) = refl
 focus-start (aggregate gs ags p) = refl
 focus-start (window ws p) = refl
-
-pub one-record : (t : Plan) → 0 < sizeP t
-unfolding sizeP
-one-record (scan t fs es) = omega arith
-one-record (filter e p) = omega arith
-one-record (project es p) = omega arith
-one-record (join k l r on f) = omega arith
-one-record (alias q p) = omega arith
-one-record (union ps) = omega arith
-one-record (distinct p) = omega arith
-one-record (sort f ks p) = omega arith
-one-record (repartition p) = omega arith
-one-record (limit n k p) = omega arith
-one-record (aggregate gs ags p) = omega arith
-one-record (window ws p) = omega arith
-
-pub one-level : (t : Plan) → 0 < depthP t
-unfolding depthP
-one-level (scan t fs es) = omega arith
-one-level (filter e p) = omega arith
-one-level (project es p) = omega arith
-one-level (join k l r on f) = omega arith
-one-level (alias q p) = omega arith
-one-level (union ps) = omega arith
-one-level (distinct p) = omega arith
-one-level (sort f ks p) = omega arith
-one-level (repartition p) = omega arith
-one-level (limit n k p) = omega arith
-one-level (aggregate gs ags p) = omega arith
-one-level (window ws p) = omega arith
 
 pub found-here : {n level : ℕ} {C : Plan → Plan} → Holed n level C → (t : Plan) → focus n (C t) ≡ some (record { plan = t; back = C })
 found-here {n} {level} {C} h t =
@@ -118,50 +90,85 @@ unfolding choose
 right-behind m p o = let e : 1 + m - 1 ≡ m = omega arith in rw (ne-eqb (1 + m) 0 (λ z. omega arith), e)
 
 pub in-filter : (e : Expr) → Holed (suc (sizeE e)) 1 (filter e)
-unfolding focus sizeP depthP
+unfolding focus
 in-filter e =
-    record { found = λ m t h. after-parts (sizeE e) m (filter e t) (filter e) (λ i. focus i t); room = λ t. omega arith; deep = λ t. omega arith }
-
-pub in-project : (es : List Entry) → Holed (suc (total sizeEntry es)) 1 (project es)
-unfolding focus sizeP depthP
-in-project es =
-    record { found = λ m t h. after-parts (total sizeEntry es) m (project es t) (project es) (λ i. focus i t); room = λ t. omega arith; deep = λ t. omega arith }
-
-pub in-alias : (q : ℕ) → Holed 1 1 (alias q)
-unfolding focus sizeP depthP
-in-alias q = record { found = λ m t h. right-behind m (alias q t) (λ i. inside (alias q) (focus i t)); room = λ t. omega arith; deep = λ t. omega arith }
-
-pub in-distinct : Holed 1 1 distinct
-unfolding focus sizeP depthP
-in-distinct = record { found = λ m t h. right-behind m (distinct t) (λ i. inside distinct (focus i t)); room = λ t. omega arith; deep = λ t. omega arith }
-
-pub in-sort : (f : Option ℕ) (ks : List Key) → Holed (suc (total sizeKey ks)) 1 (sort f ks)
-unfolding focus sizeP depthP
-in-sort f ks =
-    record { found = λ m t h. after-parts (total sizeKey ks) m (sort f ks t) (sort f ks) (λ i. focus i t); room = λ t. omega arith; deep = λ t. omega arith }
-
-pub in-repartition : Holed 1 1 repartition
-unfolding focus sizeP depthP
-in-repartition =
-    record { found = λ m t h. right-behind m (repartition t) (λ i. inside repartition (focus i t)); room = λ t. omega arith; deep = λ t. omega arith }
-
-pub in-limit : (n k : ℕ) → Holed 1 1 (limit n k)
-unfolding focus sizeP depthP
-in-limit n k = record { found = λ m t h. right-behind m (limit n k t) (λ i. inside (limit n k) (focus i t)); room = λ t. omega arith; deep = λ t. omega arith }
-
-pub in-aggregate : (gs : List Entry) (ags : List AggEntry) → Holed (suc (total sizeEntry gs + total sizeAgg ags)) 1 (aggregate gs ags)
-unfolding focus sizeP depthP
-in-aggregate gs ags =
     record {
-      found = λ m t h. after-parts (total sizeEntry gs + total sizeAgg ags) m (aggregate gs ags t) (aggregate gs ags) (λ i. focus i t);
-      room = λ t. omega arith;
-      deep = λ t. omega arith;
+      found = λ m t h. after-parts (sizeE e) m (filter e t) (filter e) (λ i. focus i t);
+      room = λ t. omega (arith, size-filter e t);
+      deep = λ t. deep-filter e t;
     }
 
-pub in-window : (ws : List WinEntry) → Holed (suc (total sizeWin ws)) 1 (window ws)
-unfolding focus sizeP depthP
+pub in-project : (es : List Entry) → Holed (suc (sizes entryKids es)) 1 (project es)
+unfolding focus
+in-project es =
+    record {
+      found = λ m t h. after-parts (sizes entryKids es) m (project es t) (project es) (λ i. focus i t);
+      room = λ t. omega (arith, size-project es t);
+      deep = λ t. deep-project es t;
+    }
+
+pub in-alias : (q : ℕ) → Holed 1 1 (alias q)
+unfolding focus
+in-alias q =
+    record {
+      found = λ m t h. right-behind m (alias q t) (λ i. inside (alias q) (focus i t));
+      room = λ t. omega (arith, size-alias q t);
+      deep = λ t. deep-alias q t;
+    }
+
+pub in-distinct : Holed 1 1 distinct
+unfolding focus
+in-distinct =
+    record {
+      found = λ m t h. right-behind m (distinct t) (λ i. inside distinct (focus i t));
+      room = λ t. omega (arith, size-distinct t);
+      deep = λ t. deep-distinct t;
+    }
+
+pub in-sort : (f : Option ℕ) (ks : List Key) → Holed (suc (sizes keyKids ks)) 1 (sort f ks)
+unfolding focus
+in-sort f ks =
+    record {
+      found = λ m t h. after-parts (sizes keyKids ks) m (sort f ks t) (sort f ks) (λ i. focus i t);
+      room = λ t. omega (arith, size-sort f ks t);
+      deep = λ t. deep-sort f ks t;
+    }
+
+pub in-repartition : Holed 1 1 repartition
+unfolding focus
+in-repartition =
+    record {
+      found = λ m t h. right-behind m (repartition t) (λ i. inside repartition (focus i t));
+      room = λ t. omega (arith, size-repartition t);
+      deep = λ t. deep-repartition t;
+    }
+
+pub in-limit : (n k : ℕ) → Holed 1 1 (limit n k)
+unfolding focus
+in-limit n k =
+    record {
+      found = λ m t h. right-behind m (limit n k t) (λ i. inside (limit n k) (focus i t));
+      room = λ t. omega (arith, size-limit n k t);
+      deep = λ t. deep-limit n k t;
+    }
+
+pub in-aggregate : (gs : List Entry) (ags : List AggEntry) → Holed (suc (sizes entryKids gs + sizes aggKids ags)) 1 (aggregate gs ags)
+unfolding focus
+in-aggregate gs ags =
+    record {
+      found = λ m t h. after-parts (sizes entryKids gs + sizes aggKids ags) m (aggregate gs ags t) (aggregate gs ags) (λ i. focus i t);
+      room = λ t. omega (arith, size-aggregate gs ags t);
+      deep = λ t. deep-aggregate gs ags t;
+    }
+
+pub in-window : (ws : List WinEntry) → Holed (suc (sizes winKids ws)) 1 (window ws)
+unfolding focus
 in-window ws =
-    record { found = λ m t h. after-parts (total sizeWin ws) m (window ws t) (window ws) (λ i. focus i t); room = λ t. omega arith; deep = λ t. omega arith }
+    record {
+      found = λ m t h. after-parts (sizes winKids ws) m (window ws t) (window ws) (λ i. focus i t);
+      room = λ t. omega (arith, size-window ws t);
+      deep = λ t. deep-window ws t;
+    }
 
 -- ---- the inputs of a Join
 
@@ -178,21 +185,21 @@ from-right k m p o x =
     rw (ne-eqb (suc k + m) 0 (λ z. omega arith), le-leb (suc k) (suc k + m) (omega arith), e)
 
 pub in-left : (k : Kind) (r : Plan) (on : List Pair) (g : Option Expr) → Holed 1 1 (λ l. join k l r on g)
-unfolding focus sizeP depthP
+unfolding focus
 in-left k r on g =
     record {
       found = λ m t h. before-right (sizeP t) m (join k t r on g) _ (λ i. inside (λ q. join k q r on g) (focus i t)) h;
-      room = λ t. omega arith;
-      deep = λ t. omega arith;
+      room = λ t. omega (arith, size-join k t r on g);
+      deep = λ t. deep-left k t r on g;
     }
 
 pub in-right : (k : Kind) (l : Plan) (on : List Pair) (g : Option Expr) → Holed (suc (sizeP l)) 1 (λ r. join k l r on g)
-unfolding focus sizeP depthP
+unfolding focus
 in-right k l on g =
     record {
       found = λ m t h. from-right (sizeP l) m (join k l t on g) (λ i. inside (λ q. join k l q on g) (focus i t)) _;
-      room = λ t. omega arith;
-      deep = λ t. omega arith;
+      room = λ t. omega (arith, size-join k l t on g);
+      deep = λ t. deep-right k l t on g;
     }
 
 -- ---- the inputs of a Union: the first of a run, and the run behind it
@@ -211,17 +218,21 @@ later-inside C p (some c) = refl
 
 module _ {n a : ℕ} (i l : ℕ) (C : Plan → Plan) (h : Holed n a C) (e : i ≡ n + 1) (f : l ≡ a + 1) where
   union-found : (m : ℕ) (ts : Plans) → m < sizePs ts → focus (i + m) (C (union ts)) ≡ inside-all (λ ps. C (union ps)) (focus-all m ts)
-  unfolding focus sizeP
+  unfolding focus
   union-found m ts s =
       let j : i + m ≡ n + (1 + m) = omega arith in
       ap (λ x. focus x (C (union ts))) j
-      ∙ h .found (1 + m) (union ts) (omega arith)
+      ∙ h .found (1 + m) (union ts) (omega (arith, size-union ts))
       ∙ ap (inside C) (right-behind m (union ts) (λ i. inside-all union (focus-all i ts)))
       ∙ all-inside C (focus-all m ts)
 
   pub in-union : HoledAll i l (λ ps. C (union ps))
-  unfolding sizeP depthP
-  in-union = record { found = union-found; room = λ ts. omega (arith, h .room (union ts)); deep = λ ts. omega (arith, h .deep (union ts)) }
+  in-union =
+      record {
+        found = union-found;
+        room = λ ts. omega (arith, h .room (union ts), size-union ts);
+        deep = λ ts. omega (arith, h .deep (union ts), deep-union ts);
+      }
 
 focus-first : (m : ℕ) (t : Plan) (ps : Plans) → m < sizeP t → focus-all m (pcons t ps) ≡ first-of ps (focus m t)
 unfolding focus choose
@@ -233,25 +244,32 @@ focus-later m p ts = let d : sizeP p + m - sizeP p ≡ m = omega arith in rw (le
 
 module _ {n a : ℕ} (C : Plans → Plan) (h : HoledAll n a C) where
   first-found : (ps : Plans) (m : ℕ) (t : Plan) → m < sizeP t → focus (n + m) (C (pcons t ps)) ≡ inside (λ q. C (pcons q ps)) (focus m t)
-  unfolding sizeP
   first-found ps m t s =
-      h .found m (pcons t ps) (omega arith)
+      h .found m (pcons t ps) (omega (arith, size-pcons t ps))
       ∙ ap (inside-all C) (focus-first m t ps s)
       ∙ first-inside C ps (focus m t)
 
   pub in-first : (ps : Plans) → Holed n a (λ q. C (pcons q ps))
-  unfolding sizeP depthP
-  in-first ps = record { found = first-found ps; room = λ t. omega (arith, h .room (pcons t ps)); deep = λ t. omega (arith, h .deep (pcons t ps)) }
+  in-first ps =
+      record {
+        found = first-found ps;
+        room = λ t. omega (arith, h .room (pcons t ps), size-pcons t ps);
+        deep = λ t. omega (arith, h .deep (pcons t ps), deep-first t ps);
+      }
 
-  later-found : (p : Plan) (m : ℕ) (ts : Plans) → m < sizePs ts → focus (n + sizeP p + m) (C (pcons p ts)) ≡ inside-all (λ ps. C (pcons p ps)) (focus-all m ts)
-  unfolding sizeP
+  later-found : (p : Plan) (m : ℕ) (ts : Plans) → m < sizePs ts
+      → focus (n + sizeP p + m) (C (pcons p ts)) ≡ inside-all (λ ps. C (pcons p ps)) (focus-all m ts)
   later-found p m ts s =
       let j : n + sizeP p + m ≡ n + (sizeP p + m) = omega arith in
       ap (λ x. focus x (C (pcons p ts))) j
-      ∙ h .found (sizeP p + m) (pcons p ts) (omega arith)
+      ∙ h .found (sizeP p + m) (pcons p ts) (omega (arith, size-pcons p ts))
       ∙ ap (inside-all C) (focus-later m p ts)
       ∙ later-inside C p (focus-all m ts)
 
   pub in-later : (p : Plan) → HoledAll (n + sizeP p) a (λ ps. C (pcons p ps))
-  unfolding sizeP depthP
-  in-later p = record { found = later-found p; room = λ ts. omega (arith, h .room (pcons p ts)); deep = λ ts. omega (arith, h .deep (pcons p ts)) }
+  in-later p =
+      record {
+        found = later-found p;
+        room = λ ts. omega (arith, h .room (pcons p ts), size-pcons p ts);
+        deep = λ ts. omega (arith, h .deep (pcons p ts), deep-later p ts);
+      }

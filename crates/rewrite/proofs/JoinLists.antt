@@ -35,7 +35,7 @@ module _ {A : Type 0} where
   any-cong f g anil = refl
   any-cong f g (acons h hs) = ap₂ _||_ h (any-cong f g hs)
 
-All-or-else : {A : Type 0} {P : A → Type 0} {xs : List A} (d : A) → P d → All P xs → All P (or-else d xs)
+pub All-or-else : {A : Type 0} {P : A → Type 0} {xs : List A} (d : A) → P d → All P xs → All P (or-else d xs)
 All-or-else d h anil = acons h anil
 All-or-else d h (acons k ks) = acons k ks
 
@@ -48,26 +48,46 @@ module _ {A B : Type 0} where
 -- `p` above and `m` between the sides are `k` above, `m′` between, `a` on the one side and `b` on the other
 module _ {A B : Type 0} (m m′ : A → B → Bool) (a : A → Bool) (b : B → Bool) where
   module _ {C : Type 0} (f : A → B → C) (p k : C → Bool) where
-    -- Inner
-    pub inner-law : {xs : List A} {ys : List B} → All (λ x. All (λ y. m x y & p (f x y) ≡ (a x & (b y & m′ x y)) & k (f x y)) ys) xs → keep p (flat (λ x. map (f x) (keep (m x) ys)) xs) ≡ keep k (flat (λ x. map (f x) (keep (m′ x) (keep b ys))) (keep a xs))
-    inner-law {xs} {ys} h = simp (keep-flat, keep-map, keep-keep, flat-keep, ← map-when, ← keep-and) (flat-cong _ _ (All-map (λ x hx. ap (map (f x)) (keep-cong _ _ hx)) h))
+    -- Inner: tests of a pair move freely between above, the join and both sides
+    pub inner-law : {xs : List A} {ys : List B}
+        → All (λ x. All (λ y. m x y & p (f x y) ≡ (a x & (b y & m′ x y)) & k (f x y)) ys) xs
+        → keep p (flat (λ x. map (f x) (keep (m x) ys)) xs) ≡ keep k (flat (λ x. map (f x) (keep (m′ x) (keep b ys))) (keep a xs))
+    inner-law {xs} {ys} h =
+        simp (keep-flat, keep-map, keep-keep, flat-keep, ← map-when, ← keep-and)
+        (flat-cong _ _ (All-map (λ x hx. ap (map (f x)) (keep-cong _ _ hx)) h))
 
     -- Left, and Right with its sides changed: a row of the one side stays with its matches, or with `d`
     module _ (d : A → C) where
-      row-law : (x : A) (ys : List B) → p (d x) ≡ a x & k (d x) → All (λ y. (m x y ≡ b y & m′ x y) × (p (f x y) ≡ a x & k (f x y))) ys → keep p (or-else (d x) (map (f x) (keep (m x) ys))) ≡ when (a x) (keep k (or-else (d x) (map (f x) (keep (m′ x) (keep b ys)))))
+      row-law : (x : A) (ys : List B) → p (d x) ≡ a x & k (d x)
+          → All (λ y. (m x y ≡ b y & m′ x y) × (p (f x y) ≡ a x & k (f x y))) ys
+          → keep p (or-else (d x) (map (f x) (keep (m x) ys)))
+          ≡ when (a x) (keep k (or-else (d x) (map (f x) (keep (m′ x) (keep b ys)))))
       row-law x ys e h =
           keep-cong p (λ c. a x & k c) (All-or-else (d x) e (All-mapped (f x) (All-keep (m x) (All-map (λ y hy. hy .1) h))))
           ∙ keep-and (a x) k (or-else (d x) (map (f x) (keep (m x) ys)))
-          ∙ ap (λ zs. when (a x) (keep k (or-else (d x) (map (f x) zs)))) (keep-cong _ _ (All-map (λ y hy. hy .0) h) ∙ sym (keep-keep (m′ x) b ys))
+          ∙ ap (λ zs. when (a x) (keep k (or-else (d x) (map (f x) zs))))
+          (keep-cong _ _ (All-map (λ y hy. hy .0) h) ∙ sym (keep-keep (m′ x) b ys))
 
-      pub outer-law : {xs : List A} {ys : List B} → All (λ x. (p (d x) ≡ a x & k (d x)) × All (λ y. (m x y ≡ b y & m′ x y) × (p (f x y) ≡ a x & k (f x y))) ys) xs → keep p (outer m f d xs ys) ≡ keep k (outer m′ f d (keep a xs) (keep b ys))
-      outer-law {xs} {ys} h = simp (keep-flat, flat-keep, keep-when) (flat-cong _ _ (All-map (λ x hx. row-law x ys (hx .0) (hx .1)) h))
+      pub outer-law : {xs : List A} {ys : List B}
+          → All (λ x. (p (d x) ≡ a x & k (d x)) × All (λ y. (m x y ≡ b y & m′ x y) × (p (f x y) ≡ a x & k (f x y))) ys) xs
+          → keep p (outer m f d xs ys) ≡ keep k (outer m′ f d (keep a xs) (keep b ys))
+      outer-law {xs} {ys} h =
+          simp (keep-flat, flat-keep, keep-when) (flat-cong _ _ (All-map (λ x hx. row-law x ys (hx .0) (hx .1)) h))
 
   module _ (p k : A → Bool) where
-    -- the semi joins
-    pub semi-law : {xs : List A} {ys : List B} → All (λ x. All (λ y. p x & m x y ≡ (a x & k x) & (b y & m′ x y)) ys) xs → keep p (keep (λ x. any (m x) ys) xs) ≡ keep k (keep (λ x. any (m′ x) (keep b ys)) (keep a xs))
-    semi-law {xs} {ys} h = simp (keep-keep, any-keep) (keep-cong _ _ (All-map (λ x hx. and-comm (any (m x) ys) (p x) ∙ sym (any-and (p x) (m x) ys) ∙ any-cong _ _ hx ∙ any-and (a x & k x) _ ys ∙ simp and-sort) h))
+    -- the semi joins: what stands above reads the one side, so it may go into "any row matches" and out again
+    pub semi-law : {xs : List A} {ys : List B} → All (λ x. All (λ y. p x & m x y ≡ (a x & k x) & (b y & m′ x y)) ys) xs
+        → keep p (keep (λ x. any (m x) ys) xs) ≡ keep k (keep (λ x. any (m′ x) (keep b ys)) (keep a xs))
+    semi-law {xs} {ys} h = simp (keep-keep, any-keep) (keep-cong _ _ (All-map (λ x hx. point x hx) h))
+      where
+        point : (x : A) → All (λ y. p x & m x y ≡ (a x & k x) & (b y & m′ x y)) ys
+            → any (m x) ys & p x ≡ (a x & any (λ y. b y & m′ x y) ys) & k x
+        point x hx =
+            and-comm (any (m x) ys) (p x) ∙ sym (any-and (p x) (m x) ys) ∙ any-cong _ _ hx ∙ any-and (a x & k x) _ ys ∙ simp and-sort
 
-    -- the anti joins
-    pub anti-law : {xs : List A} {ys : List B} → All (λ x. (p x ≡ a x & k x) × All (λ y. m x y ≡ b y & m′ x y) ys) xs → keep p (keep (λ x. not (any (m x) ys)) xs) ≡ keep k (keep (λ x. not (any (m′ x) (keep b ys))) (keep a xs))
-    anti-law {xs} {ys} h = simp (keep-keep, any-keep) (keep-cong _ _ (All-map (λ x hx. ap₂ (λ u v. not u & v) (any-cong _ _ (hx .1)) (hx .0) ∙ simp and-sort) h))
+    -- the anti joins: what stands above goes to the one side, what stands in the filter to the other
+    pub anti-law : {xs : List A} {ys : List B} → All (λ x. (p x ≡ a x & k x) × All (λ y. m x y ≡ b y & m′ x y) ys) xs
+        → keep p (keep (λ x. not (any (m x) ys)) xs) ≡ keep k (keep (λ x. not (any (m′ x) (keep b ys))) (keep a xs))
+    anti-law {xs} {ys} h =
+        simp (keep-keep, any-keep)
+        (keep-cong _ _ (All-map (λ x hx. ap₂ (λ u v. not u & v) (any-cong _ _ (hx .1)) (hx .0) ∙ simp and-sort) h))

@@ -1,11 +1,10 @@
 pub mod Accepted
 pub mod Calls
-pub mod Encode
 pub mod Exprs
 pub mod Extras
 pub mod Groups
 pub mod Holes
-pub mod Image
+pub mod Inputs
 pub mod Join
 pub mod JoinLists
 pub mod Marks

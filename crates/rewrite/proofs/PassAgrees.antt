@@ -12,13 +12,17 @@ use Rattle.image.specs.Limits.{maxDepth}
 use Rattle.plan.specs.Lists.{choose}
 use Rattle.plan.proofs.Lists.{and-l, and-r}
 use Rattle.plan.specs.Syntax.{Expr, Pair, Kind, Plan, scan, filter, project, join, alias, union, distinct, sort, repartition, limit, aggregate, window, Plans, pnil, pcons}
+use Rattle.plan.specs.Trees.{bitOf, entryKids, keyKids, aggKids, winKids, forestP}
 use Rattle.rewrite.specs.PushDownFilter.{rewrite}
-use Rattle.rewrite.specs.Limits.{sizeE, total, sizeEntry, sizeKey, sizeAgg, sizeWin, sizeP, sizePs, depthP, fits}
+use Rattle.plan.specs.Measure.{sizeE, sizes, sizeP, depthP}
+use Rattle.plan.proofs.Measure.{sizePs, size-filter, size-project, size-join, size-alias, size-union, size-distinct, size-sort, size-repartition, size-limit, size-aggregate, size-window, size-pnil, size-pcons, one-record, one-level}
+use Rattle.rewrite.specs.Limits.{fits}
 use Rattle.rewrite.specs.RewriteAt.{Focus, here, inside, focus, Answer, granted, refused, result-fits, rewrite-in, rewriteAt}
-use Rattle.rewrite.specs.Pass.{count-inputs, inputs, first-input, of-focus, at-record, Walk, walking, spent, failed, and-then, bit, each-input, visit, PassAnswer, passed, pass-refused, report, pass}
+use Rattle.rewrite.specs.Pass.{inputs, first-input, of-focus, at-record, Walk, walking, spent, failed, and-then, each-input, visit, PassAnswer, passed, pass-refused, report, pass, plans}
 use Rattle.rewrite.proofs.PassByRecords.{plan-from, visits, pass-by-records}
 use Rattle.rewrite.proofs.PlanFrom.{from-here, from-later, from-end, focus-end}
-use Rattle.rewrite.proofs.Holes.{Holed, HoledAll, one-record, one-level, found-here, whole, within, in-filter, in-project, in-alias, in-distinct, in-sort, in-repartition, in-limit, in-aggregate, in-window, in-left, in-right, in-union, in-first, in-later}
+use Rattle.rewrite.proofs.Holes.{Holed, HoledAll, found-here, whole, within, in-filter, in-project, in-alias, in-distinct, in-sort, in-repartition, in-limit, in-aggregate, in-window, in-left, in-right, in-union, in-first, in-later}
+use Rattle.rewrite.proofs.Inputs.{Inputs, no-inputs, inputs-filter, inputs-project, inputs-join, inputs-alias, inputs-union, inputs-pnil, inputs-pcons, inputs-distinct, inputs-sort, inputs-repartition, inputs-limit, inputs-aggregate, inputs-window}
 
 -- `r`, what the pass by records answers, seen from a walk through what stands in `C` at record `n`
 data Reached {A : Type 0} (size : A → ℕ) (n : ℕ) (C : A → Plan) (r : PassAnswer) : Walk → Type 0 where
@@ -102,7 +106,7 @@ module _ (d level : ℕ)
 
   -- a plan with one input, behind `k` records of its own
   one-input : (k : ℕ) (F : Plan → Plan) → Holed (suc k) 1 F
-      → ((s : Plan) → sizeP (F s) ≡ suc k + sizeP s)
+      → ((s : Plan) → sizeP (F s) ≡ suc (k + sizeP s))
       → ((s : Plan) (m : ℕ) → 0 < m → m < suc k → focus m (F s) ≡ none)
       → (s : Plan) → fits (C (F s)) ≡ true → (b v c : ℕ)
       → Reached sizeP n C (visits b (plan-from (suc n) (C (F s))) (C (F s)) v c) (each-input (visit d) 1 (n + suc k) (C (F s)) b v c)
@@ -110,9 +114,18 @@ module _ (d level : ℕ)
       let e : suc n ≡ n + 1 = omega arith in
       let e' : n + (1 + k) ≡ n + suc k = omega arith in
       let skip : plan-from (suc n) (C (F s)) ≡ plan-from (n + suc k) (C (F s)) =
-      ap (λ x. plan-from x (C (F s))) e ∙ gap C h (F s) k 1 (omega (arith, exact s)) (λ m i l. empty s m (omega arith) (omega arith)) ∙ ap (λ x. plan-from x (C (F s))) e' in
+      ap (λ x. plan-from x (C (F s))) e
+      ∙ gap C h (F s) k 1 (omega (arith, exact s)) (λ m i l. empty s m (omega arith) (omega arith))
+      ∙ ap (λ x. plan-from x (C (F s))) e' in
       rewritten sizeP n C (ap (λ o. visits b o (C (F s)) v c) skip)
-      (last-input (n + suc k) F g refl (λ s. let e : n + suc k + sizeP s ≡ n + sizeP (F s) = omega (arith, exact s) in ap (λ x. plan-from x (C (F s))) e) s f b v c)
+      (last-input (n + suc k) F g refl
+      (λ s. let e : n + suc k + sizeP s ≡ n + sizeP (F s) = omega (arith, exact s) in ap (λ x. plan-from x (C (F s))) e)
+      s f b v c)
+
+  -- right behind it
+  next-input : (F : Plan → Plan) → Holed 1 1 F → ((s : Plan) → sizeP (F s) ≡ suc (sizeP s)) → (s : Plan) → fits (C (F s)) ≡ true → (b v c : ℕ)
+      → Reached sizeP n C (visits b (plan-from (suc n) (C (F s))) (C (F s)) v c) (each-input (visit d) 1 (n + 1) (C (F s)) b v c)
+  next-input F g exact s f b v c = one-input 0 F g (λ s. omega (arith, exact s)) (λ s m i l. absurd (omega arith)) s f b v c
 
   no-input : (t : Plan) → ((m : ℕ) → 0 < m → focus m t ≡ none) → fits (C t) ≡ true → (b v c : ℕ)
       → Reached sizeP n C (visits b (plan-from (suc n) (C t)) (C t) v c) (walking (C t) b v c)
@@ -126,10 +139,11 @@ module _ (d level : ℕ)
   -- a Join: no plan stands behind its inputs
   join-tail : (k : Kind) (on : List Pair) (g : Option Expr) (l r : Plan)
       → plan-from (n + 1 + sizeP l + sizeP r) (C (join k l r on g)) ≡ plan-from (n + sizeP (join k l r on g)) (C (join k l r on g))
-  unfolding focus sizeP
+  unfolding focus
   join-tail k on g l r =
       let i : ℕ = 1 + sizeP l + sizeP r in
       let t : Plan = join k l r on g in
+      let z = size-join k l r on g in
       let e : n + 1 + sizeP l + sizeP r ≡ n + i = omega arith in
       let e' : n + (i + (sizeP t - i)) ≡ n + sizeP t = omega arith in
       ap (λ x. plan-from x (C t)) e
@@ -159,50 +173,63 @@ module _ (d level : ℕ)
   -- a run of inputs of a Union
   run-of-inputs : (ps : Plans) (i : ℕ) (K : Plans → Plan) → HoledAll i (suc level) K → fits (K ps) ≡ true → (b v c : ℕ)
       → {r : PassAnswer} → r ≡ visits b (plan-from i (K ps)) (K ps) v c
-      → Reached sizePs i K r (each-input (visit d) (count-inputs ps) i (K ps) b v c)
-  unfolding each-input count-inputs sizeP
+      → Reached sizePs i K r (each-input (visit d) (plans (forestP ps)) i (K ps) b v c)
+  unfolding each-input
   run-of-inputs pnil i K w f b v c e =
-      let z : i ≡ i + 0 = omega arith in goes-on pnil f (e ∙ ap (λ x. visits b (plan-from x (K pnil)) (K pnil) v c) z)
+      let z : i ≡ i + sizePs pnil = omega (arith, size-pnil) in
+      rw inputs-pnil (goes-on pnil f (e ∙ ap (λ x. visits b (plan-from x (K pnil)) (K pnil) v c) z))
   run-of-inputs (pcons p ps) i K w f b v c {r} e =
       let F : Plan → Plan = λ q. K (pcons q ps) in
       let u : Holed i (suc level) F = in-first K w ps in
-      then-reached sizeP sizePs i i F K _
+      rw (inputs-pcons p ps)
+      (then-reached sizeP sizePs i i F K _
       (λ a b v c f e. rw (at-hole F u sizeP a)
       (around sizePs sizePs (i + sizeP a) i K (pcons a)
-      (λ ts. let z : i + sizeP a + sizePs ts ≡ i + (sizeP a + sizePs ts) = omega arith in ap (λ x. plan-from x (K (pcons a ts))) z)
+      (λ ts. let z : i + sizeP a + sizePs ts ≡ i + sizePs (pcons a ts) = omega (arith, size-pcons a ts) in ap (λ x. plan-from x (K (pcons a ts))) z)
       (run-of-inputs ps (i + sizeP a) (λ ts. K (pcons a ts)) (in-later K w a) f b v c e)))
-      (rewritten sizeP i F (e ∙ ap (λ o. visits b o (F p) v c) (enter F u p)) (below i F u p f b v c))
+      (rewritten sizeP i F (e ∙ ap (λ o. visits b o (F p) v c) (enter F u p)) (below i F u p f b v c)))
 
   union-inputs : (ps : Plans) → fits (C (union ps)) ≡ true → (b v c : ℕ)
-      → Reached sizeP n C (visits b (plan-from (suc n) (C (union ps))) (C (union ps)) v c) (each-input (visit d) (count-inputs ps) (n + 1) (C (union ps)) b v c)
-  unfolding sizeP
+      → Reached sizeP n C (visits b (plan-from (suc n) (C (union ps))) (C (union ps)) v c)
+      (each-input (visit d) (plans (forestP ps)) (n + 1) (C (union ps)) b v c)
   union-inputs ps f b v c =
       let e : suc n ≡ n + 1 = omega arith in
       around sizePs sizeP (n + 1) n C union
-      (λ ts. let z : n + 1 + sizePs ts ≡ n + suc (sizePs ts) = omega arith in ap (λ x. plan-from x (C (union ts))) z)
+      (λ ts. let z : n + 1 + sizePs ts ≡ n + sizeP (union ts) = omega (arith, size-union ts) in ap (λ x. plan-from x (C (union ts))) z)
       (run-of-inputs ps (n + 1) (λ ts. C (union ts)) (in-union (n + 1) (suc level) C h refl (omega arith)) f b v c
       (ap (λ x. visits b (plan-from x (C (union ps))) (C (union ps)) v c) e))
 
+  standing : {t : Plan} {m k : ℕ} → Inputs t m k → {r : PassAnswer} (b v c : ℕ)
+      → Reached sizeP n C r (each-input (visit d) m (n + suc k) (C t) b v c)
+      → Reached sizeP n C r (each-input (visit d) (inputs t) (n + first-input t) (C t) b v c)
+  standing i b v c h = rw (i .count, i .first) h
+
   inputs-reached : (t : Plan) → fits (C t) ≡ true → (b v c : ℕ)
       → Reached sizeP n C (visits b (plan-from (suc n) (C t)) (C t) v c) (each-input (visit d) (inputs t) (n + first-input t) (C t) b v c)
-  unfolding inputs first-input focus sizeP each-input
-  inputs-reached (scan t fs es) f b v c = no-input (scan t fs es) (λ m i. not-first m _ i) f b v c
-  inputs-reached (filter e p) f b v c = one-input (sizeE e) (filter e) (in-filter e) (λ s. omega arith) (λ s m i l. before-input (sizeE e) m _ _ i l) p f b v c
+  unfolding focus each-input
+  inputs-reached (scan t fs es) f b v c = rw (no-inputs t fs es) (no-input (scan t fs es) (λ m i. not-first m _ i) f b v c)
+  inputs-reached (filter e p) f b v c =
+      standing (inputs-filter e p) b v c
+      (one-input (sizeE e) (filter e) (in-filter e) (size-filter e) (λ s m i l. before-input _ m _ _ i l) p f b v c)
   inputs-reached (project es p) f b v c =
-      one-input (total sizeEntry es) (project es) (in-project es) (λ s. omega arith) (λ s m i l. before-input (total sizeEntry es) m _ _ i l) p f b v c
-  inputs-reached (join k l r on g) f b v c = two-inputs k l r on g f b v c
-  inputs-reached (alias q p) f b v c = one-input 0 (alias q) (in-alias q) (λ s. omega arith) (λ s m i l. absurd (omega arith)) p f b v c
-  inputs-reached (union ps) f b v c = union-inputs ps f b v c
-  inputs-reached (distinct p) f b v c = one-input 0 distinct in-distinct (λ s. omega arith) (λ s m i l. absurd (omega arith)) p f b v c
+      standing (inputs-project es p) b v c
+      (one-input (sizes entryKids es) (project es) (in-project es) (size-project es) (λ s m i l. before-input _ m _ _ i l) p f b v c)
+  inputs-reached (join k l r on g) f b v c = standing (inputs-join k l r on g) b v c (two-inputs k l r on g f b v c)
+  inputs-reached (alias q p) f b v c = standing (inputs-alias q p) b v c (next-input (alias q) (in-alias q) (size-alias q) p f b v c)
+  inputs-reached (union ps) f b v c = standing (inputs-union ps) b v c (union-inputs ps f b v c)
+  inputs-reached (distinct p) f b v c = standing (inputs-distinct p) b v c (next-input distinct in-distinct size-distinct p f b v c)
   inputs-reached (sort g ks p) f b v c =
-      one-input (total sizeKey ks) (sort g ks) (in-sort g ks) (λ s. omega arith) (λ s m i l. before-input (total sizeKey ks) m _ _ i l) p f b v c
-  inputs-reached (repartition p) f b v c = one-input 0 repartition in-repartition (λ s. omega arith) (λ s m i l. absurd (omega arith)) p f b v c
-  inputs-reached (limit x y p) f b v c = one-input 0 (limit x y) (in-limit x y) (λ s. omega arith) (λ s m i l. absurd (omega arith)) p f b v c
+      standing (inputs-sort g ks p) b v c
+      (one-input (sizes keyKids ks) (sort g ks) (in-sort g ks) (size-sort g ks) (λ s m i l. before-input _ m _ _ i l) p f b v c)
+  inputs-reached (repartition p) f b v c = standing (inputs-repartition p) b v c (next-input repartition in-repartition size-repartition p f b v c)
+  inputs-reached (limit x y p) f b v c = standing (inputs-limit x y p) b v c (next-input (limit x y) (in-limit x y) (size-limit x y) p f b v c)
   inputs-reached (aggregate gs ags p) f b v c =
-      one-input (total sizeEntry gs + total sizeAgg ags) (aggregate gs ags) (in-aggregate gs ags) (λ s. omega arith)
-      (λ s m i l. before-input (total sizeEntry gs + total sizeAgg ags) m _ _ i l) p f b v c
+      standing (inputs-aggregate gs ags p) b v c
+      (one-input (sizes entryKids gs + sizes aggKids ags) (aggregate gs ags) (in-aggregate gs ags) (λ s. omega (arith, size-aggregate gs ags s))
+      (λ s m i l. before-input _ m _ _ i l) p f b v c)
   inputs-reached (window ws p) f b v c =
-      one-input (total sizeWin ws) (window ws) (in-window ws) (λ s. omega arith) (λ s m i l. before-input (total sizeWin ws) m _ _ i l) p f b v c
+      standing (inputs-window ws p) b v c
+      (one-input (sizes winKids ws) (window ws) (in-window ws) (size-window ws) (λ s m i l. before-input _ m _ _ i l) p f b v c)
 
 -- ---- a visit, and the pass
 
@@ -230,9 +257,9 @@ module _ (d level : ℕ)
     {n : ℕ} (C : Plan → Plan) (h : Holed n level C) where
   changed-reached : {a : Answer} → Changed C a → (b v c : ℕ)
       → Reached sizeP n C
-      (elim a as (λ x. PassAnswer) [ granted f q ↦ visits b (plan-from (suc n) q) q (v + 1) (c + bit f) | refused k r ↦ pass-refused k r ])
+      (elim a as (λ x. PassAnswer) [ granted f q ↦ visits b (plan-from (suc n) q) q (v + 1) (c + bitOf f) | refused k r ↦ pass-refused k r ])
       (elim a as (λ x. Walk) [
-        | granted f q ↦ each-input (visit d) (at-record inputs n q) (n + at-record first-input n q) q b (v + 1) (c + bit f)
+        | granted f q ↦ each-input (visit d) (at-record inputs n q) (n + at-record first-input n q) q b (v + 1) (c + bitOf f)
         | refused k r ↦ failed k r
       ])
   changed-reached (changed t f) b v c = rw (at-hole C h inputs t, at-hole C h first-input t) (inputs-reached d level below C h t f b _ _)

@@ -6,10 +6,12 @@ use lib.Dec.{leb}
 use Rattle.image.specs.Limits.{maxDepth, recordBytes}
 use Rattle.plan.specs.Lists.{choose}
 use Rattle.plan.proofs.Lists.{and-l, and-r}
+use Rattle.plan.specs.Trees.{bitOf}
 use Rattle.plan.specs.Syntax.{Plan}
-use Rattle.rewrite.specs.Limits.{sizeP, fits}
+use Rattle.plan.specs.Measure.{sizeP}
+use Rattle.rewrite.specs.Limits.{fits}
 use Rattle.rewrite.specs.RewriteAt.{Answer, granted, refused}
-use Rattle.rewrite.specs.Pass.{inputs, first-input, at-record, Walk, walking, spent, failed, and-then, bit, each-input, visit, PassAnswer, passed, pass-refused, report, pass, pass-with-room, pass-call}
+use Rattle.rewrite.specs.Pass.{inputs, first-input, at-record, Walk, walking, spent, failed, and-then, each-input, visit, PassAnswer, passed, pass-refused, report, pass, pass-with-room, pass-call}
 use Rattle.acceptance.proofs.NamesRule.{ok}
 use Rattle.rewrite.proofs.Accepted.{accepted}
 use Rattle.rewrite.proofs.Calls.{Answered, was-granted, was-refused, Leaves, Kept, keeps-trans, leaves-self, kept, accepted-ok, rewriteAt-answered}
@@ -41,7 +43,7 @@ module _ (f : ℕ → Plan → ℕ → ℕ → ℕ → Walk) (leaves : (n : ℕ)
 granted-leaves : (d n b v c : ℕ) {p : Plan} {a : Answer} → Answered p a
     → ((n : ℕ) (p : Plan) (b v c : ℕ) → ok p ≡ true → fits p ≡ true → WalkLeaves p (visit d n p b v c))
     → WalkLeaves p (elim a as (λ x. Walk) [
-      | granted f q ↦ each-input (visit d) (at-record inputs n q) (n + at-record first-input n q) q b (v + 1) (c + bit f)
+      | granted f q ↦ each-input (visit d) (at-record inputs n q) (n + at-record first-input n q) q b (v + 1) (c + bitOf f)
       | refused k r ↦ failed k r
     ])
 granted-leaves d n b v c (was-granted {q = q} l) ih = further l (each-leaves (visit d) ih _ _ q b _ _ (l .keeps .well) (l .fitting))

@@ -8,7 +8,7 @@ use mathlib.Core.Option.{Option, none, some}
 use lib.ListN.{length, getD}
 use borrow.Author.Tests.{le-leb, lt-leb}
 use Rattle.plan.specs.Syntax.{Plan}
-use Rattle.rewrite.specs.Limits.{sizeP}
+use Rattle.plan.specs.Measure.{sizeP}
 use Rattle.rewrite.specs.RewriteAt.{Focus, focus}
 use Rattle.rewrite.proofs.PassByRecords.{first-from, plan-from}
 use Rattle.rewrite.proofs.Marks.{plan-marks, marks-length, places, records-marks, is-some, focus-marks}

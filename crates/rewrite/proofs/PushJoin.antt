@@ -27,16 +27,30 @@ go-over true s es = passes _ es
 go-over false s es = All-map (λ e h. cc) (passes (λ e. false) es)
 
 module _ (k : Kind) (s t : List Name) (on : List Pair) (P G : List Expr) where
+  -- what moved to no side, of the lists for which a side is open: there OR clauses are looked for
+  abbrev unmoved : Bool → Bool → List Expr
+  unmoved p q =
+      if-list p (keep-predicates k s t on P G ++ join-conditions k s t on P G)
+      ++ if-list q (on-filter-join-conditions k s t on P G)
+
   pub over-left : Over s (left-push k s t on P G)
-  over-left = All-append (go-over (left-preserved k) s P) (All-append (go-over true s (inferred-join-predicates k s t on P G)) (All-append (go-over (on-left-preserved k) s G) (clauses-over (has s) (if-list (left-preserved k) (keep-predicates k s t on P G ++ join-conditions k s t on P G) ++ if-list (on-left-preserved k) (on-filter-join-conditions k s t on P G)))))
+  over-left =
+      All-append (go-over (left-preserved k) s P)
+      (All-append (go-over true s (inferred-join-predicates k s t on P G))
+      (All-append (go-over (on-left-preserved k) s G) (clauses-over (has s) (unmoved (left-preserved k) (on-left-preserved k)))))
 
   pub over-right : Over t (right-push k s t on P G)
-  over-right = All-append (go-over (right-preserved k) t (push-not (left-preserved k) s P)) (All-append (go-over true t (push-not true s (inferred-join-predicates k s t on P G))) (All-append (go-over (on-right-preserved k) t (push-not (on-left-preserved k) s G)) (clauses-over (has t) (if-list (right-preserved k) (keep-predicates k s t on P G ++ join-conditions k s t on P G) ++ if-list (on-right-preserved k) (on-filter-join-conditions k s t on P G)))))
+  over-right =
+      All-append (go-over (right-preserved k) t (push-not (left-preserved k) s P))
+      (All-append (go-over true t (push-not true s (inferred-join-predicates k s t on P G)))
+      (All-append (go-over (on-right-preserved k) t (push-not (on-left-preserved k) s G))
+      (clauses-over (has t) (unmoved (right-preserved k) (on-right-preserved k)))))
 
--- ---- truth: the lists of a partition, and Booleans
+-- ---- truth: a list is what goes to the one side, what goes to the other, and the rest
 
 module _ (t : Expr → Bool) where
-  thirds : (p q : Bool) (s u : List Name) (es : List Expr) → all t (push-to p s es) & (all t (push-to q u (push-not p s es)) & all t (rest p q s u es)) ≡ all t es
+  thirds : (p q : Bool) (s u : List Name) (es : List Expr)
+      → all t (push-to p s es) & (all t (push-to q u (push-not p s es)) & all t (rest p q s u es)) ≡ all t es
   unfolding push-to push-not
   thirds p q s u es = ap (_&_ _) (all-parts t _ (push-not p s es)) ∙ all-parts t _ es
 
@@ -61,7 +75,8 @@ module _ (t : Expr → Bool) where
   nil-all = refl
 
   -- the same with the sides changed
-  thirds′ : (p q : Bool) (s u : List Name) (es : List Expr) → all t (push-to q u (push-not p s es)) & (all t (push-to p s es) & all t (rest p q s u es)) ≡ all t es
+  thirds′ : (p q : Bool) (s u : List Name) (es : List Expr)
+      → all t (push-to q u (push-not p s es)) & (all t (push-to p s es) & all t (rest p q s u es)) ≡ all t es
   thirds′ p q s u es = and-left-comm _ _ _ ∙ thirds p q s u es
 
 iff : (a b : Bool) → (a ≡ true → b ≡ true) → (b ≡ true → a ≡ true) → a ≡ b
@@ -70,20 +85,24 @@ iff false true f g = g refl
 iff false false f g = refl
 
 -- the one side is open above, the other within
-one-above : (p pl pr p₂ il gl ol : Bool) → pl & (pr & p₂) ≡ p → pr ≡ true → il ≡ true → gl ≡ true → (p₂ ≡ true → ol ≡ true) → p ≡ (pl & (il & (gl & ol))) & p₂
+one-above : (p pl pr p₂ il gl ol : Bool) → pl & (pr & p₂) ≡ p → pr ≡ true → il ≡ true → gl ≡ true → (p₂ ≡ true → ol ≡ true)
+    → p ≡ (pl & (il & (gl & ol))) & p₂
 one-above p pl pr p₂ il gl ol hp hr hi hgl hol = sym hp ∙ iff _ _
     (λ h. and-intro (and-intro (and-l _ _ h) (and-intro hi (and-intro hgl (hol (and-r _ _ (and-r _ _ h)))))) (and-r _ _ (and-r _ _ h)))
     (λ h. and-intro (and-l _ _ (and-l _ _ h)) (and-intro hr (and-r _ _ h)))
 
-other-within : (g gl gr f pr ir or : Bool) → gl & (gr & f) ≡ g → gl ≡ true → pr ≡ true → ir ≡ true → (f ≡ true → or ≡ true) → g ≡ (pr & (ir & (gr & or))) & f
+other-within : (g gl gr f pr ir or : Bool) → gl & (gr & f) ≡ g → gl ≡ true → pr ≡ true → ir ≡ true → (f ≡ true → or ≡ true)
+    → g ≡ (pr & (ir & (gr & or))) & f
 other-within g gl gr f pr ir or hg hgl hr hi hor = sym hg ∙ iff _ _
-    (λ h. and-intro (and-intro hr (and-intro hi (and-intro (and-l _ _ (and-r _ _ h)) (hor (and-r _ _ (and-r _ _ h)))))) (and-r _ _ (and-r _ _ h)))
+    (λ h. let i = and-r _ _ h in and-intro (and-intro hr (and-intro hi (and-intro (and-l _ _ i) (hor (and-r _ _ i))))) (and-r _ _ i))
     (λ h. and-intro hgl (and-intro (and-l _ _ (and-r _ _ (and-r _ _ (and-l _ _ h)))) (and-r _ _ h)))
 
 -- conjuncts `p` are `pl`, `pr`, `p₂`; those of the filter, `g`, are `gl`, `gr`, `f`; `il`, `ir`, `ol`, `or` are implied
 module _ (p pl pr p₂ g gl gr f il ir ol or : Bool) (hp : pl & (pr & p₂) ≡ p) (hg : gl & (gr & f) ≡ g) where
   -- both sides are open, above and within; what is left above goes into the filter
-  all-open : (k q : Bool) → q ≡ true → ((k & g) & p ≡ true → il ≡ true) → ((k & g) & p ≡ true → ir ≡ true) → (p₂ & f ≡ true → ol ≡ true) → (p₂ & f ≡ true → or ≡ true)
+  all-open : (k q : Bool) → q ≡ true
+      → ((k & g) & p ≡ true → il ≡ true) → ((k & g) & p ≡ true → ir ≡ true)
+      → (p₂ & f ≡ true → ol ≡ true) → (p₂ & f ≡ true → or ≡ true)
       → (k & g) & p ≡ k & (((pl & (il & (gl & ol))) & (pr & (ir & (gr & or)))) & ((p₂ & f) & q))
   all-open k q hq hil hir hol hor = iff _ _ fwd bwd
     where
@@ -107,7 +126,8 @@ module _ (p pl pr p₂ g gl gr f il ir ol or : Bool) (hp : pl & (pr & p₂) ≡ 
           (sym hp ∙ and-intro (and-l _ _ hL) (and-intro (and-l _ _ hR) (and-l _ _ hF)))
 
   -- the one side is open above, both within
-  semi : (k : Bool) → pr ≡ true → il ≡ true → ir ≡ true → (p₂ & f ≡ true → ol ≡ true) → (f ≡ true → or ≡ true) → p & (k & g) ≡ ((pl & (il & (gl & ol))) & p₂) & ((pr & (ir & (gr & or))) & (k & f))
+  semi : (k : Bool) → pr ≡ true → il ≡ true → ir ≡ true → (p₂ & f ≡ true → ol ≡ true) → (f ≡ true → or ≡ true)
+      → p & (k & g) ≡ ((pl & (il & (gl & ol))) & p₂) & ((pr & (ir & (gr & or))) & (k & f))
   semi k hr hil hir hol hor = iff _ _ fwd bwd
     where
       fwd : p & (k & g) ≡ true → ((pl & (il & (gl & ol))) & p₂) & ((pr & (ir & (gr & or))) & (k & f)) ≡ true
@@ -117,7 +137,9 @@ module _ (p pl pr p₂ g gl gr f il ir ol or : Bool) (hp : pl & (pr & p₂) ≡ 
           let hF : f ≡ true = and-r _ _ (and-r _ _ hG) in
           let h2 : p₂ ≡ true = and-r _ _ (and-r _ _ hP) in
           and-intro (and-intro (and-intro (and-l _ _ hP) (and-intro hil (and-intro (and-l _ _ hG) (hol (and-intro h2 hF))))) h2)
-          (and-intro (and-intro hr (and-intro hir (and-intro (and-l _ _ (and-r _ _ hG)) (hor hF)))) (and-intro (and-l _ _ (and-r _ _ h)) hF))
+          (and-intro
+          (and-intro hr (and-intro hir (and-intro (and-l _ _ (and-r _ _ hG)) (hor hF))))
+          (and-intro (and-l _ _ (and-r _ _ h)) hF))
 
       bwd : ((pl & (il & (gl & ol))) & p₂) & ((pr & (ir & (gr & or))) & (k & f)) ≡ true → p & (k & g) ≡ true
       bwd h =
@@ -125,15 +147,21 @@ module _ (p pl pr p₂ g gl gr f il ir ol or : Bool) (hp : pl & (pr & p₂) ≡ 
           let hR = and-l _ _ (and-r _ _ h) in
           let hF = and-r _ _ (and-r _ _ h) in
           and-intro (sym hp ∙ and-intro (and-l _ _ hL) (and-intro hr (and-r _ _ (and-l _ _ h))))
-          (and-intro (and-l _ _ hF) (sym hg ∙ and-intro (and-l _ _ (and-r _ _ (and-r _ _ hL))) (and-intro (and-l _ _ (and-r _ _ (and-r _ _ hR))) (and-r _ _ hF))))
+          (and-intro (and-l _ _ hF)
+          (sym hg ∙ and-intro (and-l _ _ (and-r _ _ (and-r _ _ hL))) (and-intro (and-l _ _ (and-r _ _ (and-r _ _ hR))) (and-r _ _ hF))))
 
--- ---- the conditions of the laws of joins, kind by kind
+-- ---- the conditions of the laws of joins, kind by kind. What a side gains: conjuncts from above, inferred ones, conjuncts of the
+-- filter, OR clauses. For all kinds but Inner nothing is inferred.
 
 module _ (W : World) (s t : List Name) (on : List Pair) (P G : List Expr) where
   inner-cond : (ρ : Env) → (keys-in W ρ on & holds-all W ρ G) & holds-all W ρ P
-      ≡ keys-in W ρ on & ((holds-all W ρ (left-push inner s t on P G) & holds-all W ρ (right-push inner s t on P G)) & (holds-all W ρ (join-conditions inner s t on P G ++ on-filter-join-conditions inner s t on P G) & holds-all W ρ (keep-predicates inner s t on P G)))
+      ≡ keys-in W ρ on
+      & ((holds-all W ρ (left-push inner s t on P G) & holds-all W ρ (right-push inner s t on P G))
+      & (holds-all W ρ (join-conditions inner s t on P G ++ on-filter-join-conditions inner s t on P G)
+      & holds-all W ρ (keep-predicates inner s t on P G)))
   inner-cond ρ =
-      simp all-append (all-open _ _ _ _ _ _ _ _ _ _ _ _ (thirds τ true true s t P) (thirds τ true true s t G) (keys-in W ρ on) _ (nil-all τ)
+      simp all-append
+      (all-open _ _ _ _ _ _ _ _ _ _ _ _ (thirds τ true true s t P) (thirds τ true true s t G) (keys-in W ρ on) _ (nil-all τ)
       (λ h. part-l τ _ s _ (new-holds h)) (λ h. part-l τ _ t _ (part-r τ _ s _ (new-holds h)))
       (λ h. clauses-hold (has s) W ρ _ (both τ _ _ (and-l _ _ h) (and-r _ _ h)))
       (λ h. clauses-hold (has t) W ρ _ (both τ _ _ (and-l _ _ h) (and-r _ _ h))))
@@ -157,25 +185,56 @@ module _ (W : World) (s t : List Name) (on : List Pair) (P G : List Expr) where
     unfolding push-to push-not keep all
     none-new′ u v = refl
 
+    -- OR clauses of what is kept above; of that and of what stays in the filter
+    kept-clauses : (u : List Name) (es : List Expr) → all τ es ≡ true
+        → all τ (extract-or-clauses-for-join (has u) ((es ++ []) ++ [])) ≡ true
+    kept-clauses u es h = clauses-hold (has u) W ρ _ (both τ _ [] (both τ _ [] h (nil-all τ)) (nil-all τ))
+
+    both-clauses : (u : List Name) (es fs : List Expr) → all τ es & all τ fs ≡ true
+        → all τ (extract-or-clauses-for-join (has u) ((es ++ []) ++ fs)) ≡ true
+    both-clauses u es fs h = clauses-hold (has u) W ρ _ (both τ _ _ (both τ _ [] (and-l _ _ h) (nil-all τ)) (and-r _ _ h))
+
     left-above : holds-all W ρ P ≡ holds-all W ρ (left-push left s t on P G) & holds-all W ρ (keep-predicates left s t on P G)
-    left-above = simp all-append (one-above _ _ _ _ _ _ _ (thirds τ true false s t P) (none-all τ t _) (none-new s) (none-all τ s G) (λ h. clauses-hold (has s) W ρ _ (both τ _ [] (both τ _ [] h (nil-all τ)) (nil-all τ))))
+    left-above =
+        simp all-append
+        (one-above _ _ _ _ _ _ _ (thirds τ true false s t P) (none-all τ t _) (none-new s) (none-all τ s G) (kept-clauses s _))
 
     left-within : holds-all W ρ G ≡ holds-all W ρ (right-push left s t on P G) & holds-all W ρ (on-filter-join-conditions left s t on P G)
-    left-within = simp all-append (other-within _ _ _ _ _ _ _ (thirds τ false true s t G) (none-all τ s G) (none-all τ t _) (none-new′ t s) (λ h. clauses-hold (has t) W ρ _ h))
+    left-within =
+        simp all-append
+        (other-within _ _ _ _ _ _ _ (thirds τ false true s t G) (none-all τ s G) (none-all τ t _) (none-new′ t s)
+        (clauses-hold (has t) W ρ _))
 
     right-above : holds-all W ρ P ≡ holds-all W ρ (right-push right s t on P G) & holds-all W ρ (keep-predicates right s t on P G)
-    right-above = simp all-append (one-above _ _ _ _ _ _ _ (thirds′ τ false true s t P) (none-all τ s P) (none-new′ t s) (none-all τ t _) (λ h. clauses-hold (has t) W ρ _ (both τ _ [] (both τ _ [] h (nil-all τ)) (nil-all τ))))
+    right-above =
+        simp all-append
+        (one-above _ _ _ _ _ _ _ (thirds′ τ false true s t P) (none-all τ s P) (none-new′ t s) (none-all τ t _) (kept-clauses t _))
 
     right-within : holds-all W ρ G ≡ holds-all W ρ (left-push right s t on P G) & holds-all W ρ (on-filter-join-conditions right s t on P G)
-    right-within = simp all-append (other-within _ _ _ _ _ _ _ (thirds′ τ true false s t G) (none-all τ t _) (none-all τ s P) (none-new s) (λ h. clauses-hold (has s) W ρ _ h))
+    right-within =
+        simp all-append
+        (other-within _ _ _ _ _ _ _ (thirds′ τ true false s t G) (none-all τ t _) (none-all τ s P) (none-new s)
+        (clauses-hold (has s) W ρ _))
 
-    leftSemi-cond : holds-all W ρ P & (keys-in W ρ on & holds-all W ρ G) ≡ (holds-all W ρ (left-push leftSemi s t on P G) & holds-all W ρ (keep-predicates leftSemi s t on P G)) & (holds-all W ρ (right-push leftSemi s t on P G) & (keys-in W ρ on & holds-all W ρ (on-filter-join-conditions leftSemi s t on P G)))
-    leftSemi-cond = simp all-append (semi _ _ _ _ _ _ _ _ _ _ _ _ (thirds τ true false s t P) (thirds τ true true s t G) _ (none-all τ t _) (none-new s) (none-new′ t s) (λ h. clauses-hold (has s) W ρ _ (both τ _ _ (both τ _ [] (and-l _ _ h) (nil-all τ)) (and-r _ _ h))) (λ h. clauses-hold (has t) W ρ _ h))
+    leftSemi-cond : holds-all W ρ P & (keys-in W ρ on & holds-all W ρ G)
+        ≡ (holds-all W ρ (left-push leftSemi s t on P G) & holds-all W ρ (keep-predicates leftSemi s t on P G))
+        & (holds-all W ρ (right-push leftSemi s t on P G)
+        & (keys-in W ρ on & holds-all W ρ (on-filter-join-conditions leftSemi s t on P G)))
+    leftSemi-cond =
+        simp all-append
+        (semi _ _ _ _ _ _ _ _ _ _ _ _ (thirds τ true false s t P) (thirds τ true true s t G) _
+        (none-all τ t _) (none-new s) (none-new′ t s) (both-clauses s _ _) (clauses-hold (has t) W ρ _))
 
-    rightSemi-cond : holds-all W ρ P & (keys-in W ρ on & holds-all W ρ G) ≡ (holds-all W ρ (right-push rightSemi s t on P G) & holds-all W ρ (keep-predicates rightSemi s t on P G)) & (holds-all W ρ (left-push rightSemi s t on P G) & (keys-in W ρ on & holds-all W ρ (on-filter-join-conditions rightSemi s t on P G)))
-    rightSemi-cond = simp all-append (semi _ _ _ _ _ _ _ _ _ _ _ _ (thirds′ τ false true s t P) (thirds′ τ true true s t G) _ (none-all τ s P) (none-new′ t s) (none-new s) (λ h. clauses-hold (has t) W ρ _ (both τ _ _ (both τ _ [] (and-l _ _ h) (nil-all τ)) (and-r _ _ h))) (λ h. clauses-hold (has s) W ρ _ h))
+    rightSemi-cond : holds-all W ρ P & (keys-in W ρ on & holds-all W ρ G)
+        ≡ (holds-all W ρ (right-push rightSemi s t on P G) & holds-all W ρ (keep-predicates rightSemi s t on P G))
+        & (holds-all W ρ (left-push rightSemi s t on P G)
+        & (keys-in W ρ on & holds-all W ρ (on-filter-join-conditions rightSemi s t on P G)))
+    rightSemi-cond =
+        simp all-append
+        (semi _ _ _ _ _ _ _ _ _ _ _ _ (thirds′ τ false true s t P) (thirds′ τ true true s t G) _
+        (none-all τ s P) (none-new′ t s) (none-new s) (both-clauses t _ _) (clauses-hold (has s) W ρ _))
 
--- ---- the rows
+-- ---- the rows. Full: nothing moves
 
 go-none : (s : List Name) (es : List Expr) → push-to false s es ≡ []
 unfolding push-to keep put
@@ -200,7 +259,8 @@ unfolding extract-or-clauses-for-join keep flat
 clauses-nil c = refl
 
 -- nothing moves out of or into a Full join
-full-stays : (l r : Plan) (on : List Pair) (P G : List Expr) → push-down-all-join full l r on P G .plan ≡ with-filters P (join full l r on (conjunction G))
+full-stays : (l r : Plan) (on : List Pair) (P G : List Expr)
+    → push-down-all-join full l r on P G .plan ≡ with-filters P (join full l r on (conjunction G))
 unfolding push-down-all-join with-filters
 full-stays l r on P G = simp (go-none, no-none, go-nil, no-nil, clauses-nil)
 
@@ -214,12 +274,15 @@ module _ (W : World) where
   split?-sat s none r = refl
   split?-sat s (some e) r = sat?-conj W s (split-conjunction e) r ∙ all-split W (look s r) e
 
-  split?-match : (s t : List Name) (on : List Pair) (f : Option Expr) → matching W s t on (conjunction (split-conjunction? f)) ≡ matching W s t on f
+  split?-match : (s t : List Name) (on : List Pair) (f : Option Expr)
+      → matching W s t on (conjunction (split-conjunction? f)) ≡ matching W s t on f
   split?-match s t on f = fun-ext (λ a. fun-ext (λ b. ap (keys-match W s t on a b &_) (split?-sat (s ++ t) f (a ++ b))))
 
-  pub split?-rows : (k : Kind) (l r : Plan) (on : List Pair) (f : Option Expr) → rows W (join k l r on (conjunction (split-conjunction? f))) ≡ rows W (join k l r on f)
+  pub split?-rows : (k : Kind) (l r : Plan) (on : List Pair) (f : Option Expr)
+      → rows W (join k l r on (conjunction (split-conjunction? f))) ≡ rows W (join k l r on f)
   unfolding rows
-  split?-rows k l r on f = ap (λ m. joined k m (length (schema l)) (length (schema r)) (rows W l) (rows W r)) (split?-match (schema l) (schema r) on f)
+  split?-rows k l r on f =
+      ap (λ m. joined k m (length (schema l)) (length (schema r)) (rows W l) (rows W r)) (split?-match (schema l) (schema r) on f)
 
   module _ (l r : Plan) (on : List Pair)
       (names-ok : nodup (schema l ++ schema r) ≡ true)
@@ -227,13 +290,29 @@ module _ (W : World) where
       (wl : All (Wide (schema l)) (rows W l))
       (wr : All (Wide (schema r)) (rows W r))
       (P G : List Expr) where
-    pub push-join-rows : (k : Kind) → Over (sides k (schema l) (schema r)) P → rows W (with-filters P (join k l r on (conjunction G))) ≡ rows W (push-down-all-join k l r on P G .plan)
+    -- the rewrite of a join under P, with G in its filter, keeps the rows: the law of its kind, with the kind's lists put in
+    pub push-join-rows : (k : Kind) → Over (sides k (schema l) (schema r)) P
+        → rows W (with-filters P (join k l r on (conjunction G))) ≡ rows W (push-down-all-join k l r on P G .plan)
     unfolding push-down-all-join
-    push-join-rows inner o = inner-rows W l r on names-ok on-ok wl wr _ _ _ _ _ _ (over-left inner _ _ on P G) (over-right inner _ _ on P G) (inner-cond W _ _ on P G)
-    push-join-rows left o = left-rows W l r on names-ok on-ok wl wr _ _ _ _ _ _ (over-left left _ _ on P G) (over-right left _ _ on P G) (left-above W _ _ on P G) (left-within W _ _ on P G)
-    push-join-rows right o = right-rows W l r on names-ok on-ok wl wr _ _ _ _ _ _ (over-left right _ _ on P G) (over-right right _ _ on P G) (right-above W _ _ on P G) (right-within W _ _ on P G)
+    push-join-rows inner o =
+        inner-rows W l r on names-ok on-ok wl wr _ _ _ _ _ _ (over-left inner _ _ on P G) (over-right inner _ _ on P G)
+        (inner-cond W _ _ on P G)
+    push-join-rows left o =
+        left-rows W l r on names-ok on-ok wl wr _ _ _ _ _ _ (over-left left _ _ on P G) (over-right left _ _ on P G)
+        (left-above W _ _ on P G) (left-within W _ _ on P G)
+    push-join-rows right o =
+        right-rows W l r on names-ok on-ok wl wr _ _ _ _ _ _ (over-left right _ _ on P G) (over-right right _ _ on P G)
+        (right-above W _ _ on P G) (right-within W _ _ on P G)
     push-join-rows full o = ap (rows W) (sym (full-stays l r on P G))
-    push-join-rows leftSemi o = leftSemi-rows W l r on names-ok on-ok wl wr _ _ _ _ _ _ (over-left leftSemi _ _ on P G) (over-right leftSemi _ _ on P G) o (rest-over true false _ _ _ o) (leftSemi-cond W _ _ on P G)
-    push-join-rows rightSemi o = rightSemi-rows W l r on names-ok on-ok wl wr _ _ _ _ _ _ (over-left rightSemi _ _ on P G) (over-right rightSemi _ _ on P G) o (rest-over false true _ _ _ o) (rightSemi-cond W _ _ on P G)
-    push-join-rows leftAnti o = leftAnti-rows W l r on names-ok on-ok wl wr _ _ _ _ _ _ (over-left leftAnti _ _ on P G) (over-right leftAnti _ _ on P G) (left-above W _ _ on P G) (left-within W _ _ on P G)
-    push-join-rows rightAnti o = rightAnti-rows W l r on names-ok on-ok wl wr _ _ _ _ _ _ (over-left rightAnti _ _ on P G) (over-right rightAnti _ _ on P G) (right-above W _ _ on P G) (right-within W _ _ on P G)
+    push-join-rows leftSemi o =
+        leftSemi-rows W l r on names-ok on-ok wl wr _ _ _ _ _ _ (over-left leftSemi _ _ on P G) (over-right leftSemi _ _ on P G)
+        o (rest-over true false _ _ _ o) (leftSemi-cond W _ _ on P G)
+    push-join-rows rightSemi o =
+        rightSemi-rows W l r on names-ok on-ok wl wr _ _ _ _ _ _ (over-left rightSemi _ _ on P G) (over-right rightSemi _ _ on P G)
+        o (rest-over false true _ _ _ o) (rightSemi-cond W _ _ on P G)
+    push-join-rows leftAnti o =
+        leftAnti-rows W l r on names-ok on-ok wl wr _ _ _ _ _ _ (over-left leftAnti _ _ on P G) (over-right leftAnti _ _ on P G)
+        (left-above W _ _ on P G) (left-within W _ _ on P G)
+    push-join-rows rightAnti o =
+        rightAnti-rows W l r on names-ok on-ok wl wr _ _ _ _ _ _ (over-left rightAnti _ _ on P G) (over-right rightAnti _ _ on P G)
+        (right-above W _ _ on P G) (right-within W _ _ on P G)

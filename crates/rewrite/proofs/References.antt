@@ -1,4 +1,5 @@
--- What stands over a schema stays over it, or over the other schema, when conjuncts move: the name rule of references, for each step of the rewrite.
+-- What stands over a schema stays over it, or over the other schema, when conjuncts move: the name rule of references, for each step of
+-- the rewrite.
 use Prim.Native.Nat.{ℕ}
 use mathlib.Core.Path.{_≡_, refl, sym, _∙_}
 use mathlib.Core.Bool.{Bool, true, false, _||_, cond}
@@ -53,7 +54,9 @@ module _ (c d : Name → Bool) (σ : Name → Expr) (f : (x : Name) → c x ≡ 
     replaced-cols (bin o a b) h = and-intro (replaced-cols a (and-l _ _ h)) (replaced-cols b (and-r _ _ h))
     replaced-cols (neg a) h = replaced-cols a h
     replaced-cols (test t a) h = replaced-cols a h
-    replaced-cols (between n a l u) h = and-intro (replaced-cols a (and-l _ _ h)) (and-intro (replaced-cols l (and-l _ _ (and-r _ _ h))) (replaced-cols u (and-r _ _ (and-r _ _ h))))
+    replaced-cols (between n a l u) h =
+        and-intro (replaced-cols a (and-l _ _ h))
+        (and-intro (replaced-cols l (and-l _ _ (and-r _ _ h))) (replaced-cols u (and-r _ _ (and-r _ _ h))))
     replaced-cols (inlist n a xs) h = and-intro (replaced-cols a (and-l _ _ h)) (replaced-cols-all xs (and-r _ _ h))
     replaced-cols (fn p q r xs) h = replaced-cols-all xs h
 
@@ -61,18 +64,23 @@ module _ (c d : Name → Bool) (σ : Name → Expr) (f : (x : Name) → c x ≡ 
     replaced-cols-all enil h = refl
     replaced-cols-all (econs x xs) h = and-intro (replaced-cols x (and-l _ _ h)) (replaced-cols-all xs (and-r _ _ h))
 
-pick-reads : (s : List Name) (es : List Entry) → all (λ (e : Entry). reads s (e .expr)) es ≡ true → (x : Name) → has (names es) x ≡ true → reads s (pick es x) ≡ true
+pick-reads : (s : List Name) (es : List Entry) → all (λ (e : Entry). reads s (e .expr)) es ≡ true → (x : Name)
+    → has (names es) x ≡ true → reads s (pick es x) ≡ true
 unfolding pick all any
 pick-reads s [] h x k = cc
 pick-reads s (e ∷ es) h x k = go (same (e .name) x) k (pick-reads s es (and-r _ _ h) x)
   where
-    go : (b : Bool) → b || has (names es) x ≡ true → (has (names es) x ≡ true → reads s (pick es x) ≡ true) → reads s (cond b (e .expr) (pick es x)) ≡ true
+    go : (b : Bool) → b || has (names es) x ≡ true → (has (names es) x ≡ true → reads s (pick es x) ≡ true)
+        → reads s (cond b (e .expr) (pick es x)) ≡ true
     go true k m = and-l _ _ h
     go false k m = m k
 
 -- what moves below entries reads the input
-pub picked-over : (s : List Name) (es : List Entry) → all (λ (e : Entry). reads s (e .expr)) es ≡ true → {xs : List Expr} → Over (names es) xs → Over s (map (replace-cols (pick es)) xs)
-picked-over s es h k = All-mapped (replace-cols (pick es)) (All-map (λ e i. replaced-cols (has (names es)) (has s) (pick es) (pick-reads s es h) e i) k)
+pub picked-over : (s : List Name) (es : List Entry) → all (λ (e : Entry). reads s (e .expr)) es ≡ true
+    → {xs : List Expr} → Over (names es) xs → Over s (map (replace-cols (pick es)) xs)
+picked-over s es h k =
+    All-mapped (replace-cols (pick es))
+    (All-map (λ e i. replaced-cols (has (names es)) (has s) (pick es) (pick-reads s es h) e i) k)
 
 pub renamed-reads : (s t : List Name) (e : Expr) → length s ≡ length t → reads s e ≡ true → reads t (renamed s t e) ≡ true
 unfolding renamed on-cols
@@ -85,12 +93,15 @@ unfolding with-filters rule
 with-filters-ok p anil o = o
 with-filters-ok p (acons h hs) o = and-intro (conj-reads (schema p) _ _ h hs) o
 
-pub filter-each-ok : (s : List Name) (e : Expr) (n : ℕ) (ps : Plans) → reads s e ≡ true → length s ≡ n → ok-all n ps ≡ true → ok-all n (filter-each s e ps) ≡ true
+pub filter-each-ok : (s : List Name) (e : Expr) (n : ℕ) (ps : Plans) → reads s e ≡ true → length s ≡ n
+    → ok-all n ps ≡ true → ok-all n (filter-each s e ps) ≡ true
 unfolding filter-each rule schema
 filter-each-ok s e n pnil h w o = refl
 filter-each-ok s e n (pcons p ps) h w o =
     let i : length (schema p) ≡ n = eqb-true (length (schema p)) n (and-l _ _ o) in
-    and-intro (and-l _ _ o) (and-intro (and-intro (renamed-reads s (schema p) e (w ∙ sym i) h) (and-l _ _ (and-r _ _ o))) (filter-each-ok s e n ps h w (and-r _ _ (and-r _ _ o))))
+    and-intro (and-l _ _ o)
+    (and-intro (and-intro (renamed-reads s (schema p) e (w ∙ sym i) h) (and-l _ _ (and-r _ _ o)))
+    (filter-each-ok s e n ps h w (and-r _ _ (and-r _ _ o))))
 
 -- ---- the lists of a join
 

@@ -1,4 +1,8 @@
 -- Theorem (c): a Filter moves below a stable Sort that has no fetch.
+--
+--     Filter e           Sort ks
+--       Sort ks  becomes   Filter e
+--         p                  p
 use native.Mathlib.Omega.{arith}
 use mathlib.Core.Path.{_≡_, refl, sym, ap, _∙_}
 use mathlib.Core.Bool.{Bool, true, false, not, _||_, cond}
@@ -20,6 +24,15 @@ record Order {A : Type 0} (u : A → A → Bool) : Type 0 where
 
 -- ---- filtering a sorted list
 
+module _ {A : Type 0} {P : A → Type 0} (u : A → A → Bool) where
+  pub All-insert : (x : A) {ys : List A} → P x → All P ys → All P (insert u x ys)
+  All-insert x h anil = acons h anil
+  All-insert x h (acons {x = y} {xs = ys} k ks) = go (u y x) (All-insert x h ks)
+    where
+      go : (b : Bool) → All P (insert u x ys) → All P (cond b (y ∷ insert u x ys) (x ∷ y ∷ ys))
+      go true hs = acons k hs
+      go false hs = acons h (acons k ks)
+
 data Sorted {A : Type 0} (u : A → A → Bool) : List A → Type 0 where
   snil : Sorted u []
   scons : {x : A} {xs : List A} → All (λ y. u y x ≡ false) xs → Sorted u xs → Sorted u (x ∷ xs)
@@ -40,31 +53,25 @@ module _ {A : Type 0} (u : A → A → Bool) (O : Order u) (p : A → Bool) wher
   ahead x anil = refl
   ahead x (acons h hs) = rw h
 
+  -- an element that passes it goes to the same place among those that do
   stay : (x : A) {ys : List A} → Sorted u ys → p x ≡ true → keep p (insert u x ys) ≡ insert u x (keep p ys)
   unfolding keep put
   stay x snil h = rw h
   stay x (scons {x = y} {xs = ys} a s) h = go (u y x) refl (p y) refl (stay x s h)
     where
-      go : (b : Bool) → u y x ≡ b → (c : Bool) → p y ≡ c → keep p (insert u x ys) ≡ insert u x (keep p ys) → keep p (cond b (y ∷ insert u x ys) (x ∷ y ∷ ys)) ≡ insert u x (put c y (keep p ys))
+      go : (b : Bool) → u y x ≡ b → (c : Bool) → p y ≡ c → keep p (insert u x ys) ≡ insert u x (keep p ys)
+          → keep p (cond b (y ∷ insert u x ys) (x ∷ y ∷ ys)) ≡ insert u x (put c y (keep p ys))
       go true e true q k = rw (q, e, k)
       go true e false q k = rw q k
       go false e true q k = rw (h, q, e)
       go false e false q k = rw (h, q) (sym (ahead x (All-keep p (All-map (λ z hz. O .trans z y x hz e) a))))
-
-  All-insert : {P : A → Type 0} (x : A) {ys : List A} → P x → All P ys → All P (insert u x ys)
-  All-insert x h anil = acons h anil
-  All-insert {P} x h (acons {x = y} {xs = ys} k ks) = go (u y x) (All-insert x h ks)
-    where
-      go : (b : Bool) → All P (insert u x ys) → All P (cond b (y ∷ insert u x ys) (x ∷ y ∷ ys))
-      go true hs = acons k hs
-      go false hs = acons h (acons k ks)
 
   insert-sorted : (x : A) {ys : List A} → Sorted u ys → Sorted u (insert u x ys)
   insert-sorted x snil = scons anil snil
   insert-sorted x (scons {x = y} {xs = ys} a s) = go (u y x) refl (insert-sorted x s)
     where
       go : (b : Bool) → u y x ≡ b → Sorted u (insert u x ys) → Sorted u (cond b (y ∷ insert u x ys) (x ∷ y ∷ ys))
-      go true e k = scons (All-insert x (O .asym y x e) a) k
+      go true e k = scons (All-insert u x (O .asym y x e) a) k
       go false e k = scons (acons e (All-map (λ z hz. O .trans z y x hz e) a)) (scons a s)
 
   sorted-sorted : (xs : List A) → Sorted u (sorted u xs)
@@ -76,7 +83,8 @@ module _ {A : Type 0} (u : A → A → Bool) (O : Order u) (p : A → Bool) wher
   keep-sorted [] = refl
   keep-sorted (x ∷ xs) = go (p x) refl (keep-sorted xs)
     where
-      go : (b : Bool) → p x ≡ b → keep p (sorted u xs) ≡ sorted u (keep p xs) → keep p (insert u x (sorted u xs)) ≡ sorted u (put b x (keep p xs))
+      go : (b : Bool) → p x ≡ b → keep p (sorted u xs) ≡ sorted u (keep p xs)
+          → keep p (insert u x (sorted u xs)) ≡ sorted u (put b x (keep p xs))
       go true e k = stay x (sorted-sorted xs) e ∙ ap (insert u x) k
       go false e k = skip x (sorted u xs) e ∙ k
 
@@ -101,7 +109,8 @@ dir-asym : (d : Bool) (a b : ℤ) → cond d (ltZ b a) (ltZ a b) ≡ true → co
 dir-asym true a b h = ltZ-asym b a h
 dir-asym false a b h = ltZ-asym a b h
 
-dir-trans : (d : Bool) (a b c : ℤ) → cond d (ltZ b a) (ltZ a b) ≡ false → cond d (ltZ c b) (ltZ b c) ≡ false → cond d (ltZ c a) (ltZ a c) ≡ false
+dir-trans : (d : Bool) (a b c : ℤ) → cond d (ltZ b a) (ltZ a b) ≡ false → cond d (ltZ c b) (ltZ b c) ≡ false
+    → cond d (ltZ c a) (ltZ a c) ≡ false
 dir-trans true a b c h k = ltZ-trans c b a k h
 dir-trans false a b c h k = ltZ-trans a b c h k
 
@@ -109,7 +118,8 @@ before-asym : (d : Bool) (a b : Value) → before d a b ≡ true → before d b 
 unfolding before _&_
 before-asym d a b h = go (isN a) (isN b) h
   where
-    go : (m n : Bool) → not m & (n || cond d (ltZ (code b) (code a)) (ltZ (code a) (code b))) ≡ true → not n & (m || cond d (ltZ (code a) (code b)) (ltZ (code b) (code a))) ≡ false
+    go : (m n : Bool) → not m & (n || cond d (ltZ (code b) (code a)) (ltZ (code a) (code b))) ≡ true
+        → not n & (m || cond d (ltZ (code a) (code b)) (ltZ (code b) (code a))) ≡ false
     go true n h = cc
     go false true h = refl
     go false false h = dir-asym d (code a) (code b) h
@@ -118,7 +128,9 @@ before-trans : (d : Bool) (a b c : Value) → before d a b ≡ false → before 
 unfolding before _&_
 before-trans d a b c h k = go (isN a) (isN b) (isN c) h k
   where
-    go : (l m n : Bool) → not l & (m || cond d (ltZ (code b) (code a)) (ltZ (code a) (code b))) ≡ false → not m & (n || cond d (ltZ (code c) (code b)) (ltZ (code b) (code c))) ≡ false → not l & (n || cond d (ltZ (code c) (code a)) (ltZ (code a) (code c))) ≡ false
+    go : (l m n : Bool) → not l & (m || cond d (ltZ (code b) (code a)) (ltZ (code a) (code b))) ≡ false
+        → not m & (n || cond d (ltZ (code c) (code b)) (ltZ (code b) (code c))) ≡ false
+        → not l & (n || cond d (ltZ (code c) (code a)) (ltZ (code a) (code c))) ≡ false
     go true m n h k = refl
     go false true n h k = cc
     go false false true h k = cc
@@ -139,7 +151,8 @@ module _ {A : Type 0} (u v : A → A → Bool) (Ou : Order u) (Ov : Order v) whe
   unfolding lex _&_
   lex-trans a b c h k = go (u a b) (u b a) (u b c) (u c b) (u a c) (u c a) refl refl refl refl refl refl h k
     where
-      go : (m n i j s t : Bool) → u a b ≡ m → u b a ≡ n → u b c ≡ i → u c b ≡ j → u a c ≡ s → u c a ≡ t → m || (not n & v a b) ≡ false → i || (not j & v b c) ≡ false → s || (not t & v a c) ≡ false
+      go : (m n i j s t : Bool) → u a b ≡ m → u b a ≡ n → u b c ≡ i → u c b ≡ j → u a c ≡ s → u c a ≡ t
+          → m || (not n & v a b) ≡ false → i || (not j & v b c) ≡ false → s || (not t & v a c) ≡ false
       go true n i j s t e₁ e₂ e₃ e₄ e₅ e₆ h k = cc
       go false n true j s t e₁ e₂ e₃ e₄ e₅ e₆ h k = cc
       go false n false j true t e₁ e₂ e₃ e₄ e₅ e₆ h k = sym e₅ ∙ Ou .trans a b c e₁ e₃
@@ -154,7 +167,8 @@ module _ {A : Type 0} (u v : A → A → Bool) (Ou : Order u) (Ov : Order v) whe
 module _ (W : World) where
   key-order : (s : List Name) (ks : List Key) → Order (sorts-before W s ks)
   key-order s [] = record { asym = λ a b h. refl; trans = λ a b c h k. refl }
-  key-order s (k ∷ ks) = lex-order _ _ (record { asym = λ a b. before-asym (k .desc) _ _; trans = λ a b c. before-trans (k .desc) _ _ _ }) (key-order s ks)
+  key-order s (k ∷ ks) =
+      lex-order _ _ (record { asym = λ a b. before-asym (k .desc) _ _; trans = λ a b c. before-trans (k .desc) _ _ _ }) (key-order s ks)
 
   pub sort-rows : (e : Expr) (ks : List Key) (p : Plan) → rows W (filter e (sort none ks p)) ≡ rows W (sort none ks (filter e p))
   unfolding rows schema

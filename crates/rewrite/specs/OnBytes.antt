@@ -11,7 +11,7 @@ use Rattle.plan.specs.Syntax.{Plan, scan}
 use Rattle.plan.specs.Trees.{bitOf, planTree}
 use Rattle.plan.specs.Read.{planAt}
 use Rattle.acceptance.specs.Check.{Links, tree, broken, linked, Verdict, verdict, check}
-use Rattle.rewrite.specs.Limits.{sizeP}
+use Rattle.plan.specs.Measure.{sizeP}
 use Rattle.rewrite.specs.RewriteAt.{Answer, granted, refused, rewrite-call}
 use Rattle.rewrite.specs.Pass.{PassAnswer, passed, pass-refused, pass-call}
 

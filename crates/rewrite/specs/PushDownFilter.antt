@@ -19,14 +19,17 @@ pub record Transformed : Type 0 where
   pub plan : Plan
   pub transformed : Bool
 
+-- Transformed::yes: the flag is raised
 abbrev pub Transformed·yes : Plan → Transformed
 Transformed·yes p = record { plan = p; transformed = true }
 
+-- Transformed::no
 abbrev pub Transformed·no : Plan → Transformed
 Transformed·no p = record { plan = p; transformed = false }
 
 -- ---- lr_is_preserved, on_lr_is_preserved
 
+-- lr_is_preserved: a predicate above the join may move to its left input
 abbrev pub left-preserved : Kind → Bool
 left-preserved inner = true
 left-preserved left = true
@@ -37,6 +40,7 @@ left-preserved rightSemi = false
 left-preserved leftAnti = true
 left-preserved rightAnti = false
 
+-- .. to its right input
 abbrev pub right-preserved : Kind → Bool
 right-preserved inner = true
 right-preserved left = false
@@ -47,6 +51,7 @@ right-preserved rightSemi = true
 right-preserved leftAnti = false
 right-preserved rightAnti = true
 
+-- on_lr_is_preserved: a predicate of the join's own filter may move to its left input ("Sides preserved for a join's own filter")
 abbrev pub on-left-preserved : Kind → Bool
 on-left-preserved inner = true
 on-left-preserved left = false
@@ -57,6 +62,7 @@ on-left-preserved rightSemi = true
 on-left-preserved leftAnti = false
 on-left-preserved rightAnti = true
 
+-- .. to its right input
 abbrev pub on-right-preserved : Kind → Bool
 on-right-preserved inner = true
 on-right-preserved left = true
@@ -67,6 +73,7 @@ on-right-preserved rightSemi = true
 on-right-preserved leftAnti = true
 on-right-preserved rightAnti = false
 
+-- JoinType::Inner, of which alone predicates are inferred (D5) and into which they go as conditions
 abbrev pub is-inner : Kind → Bool
 is-inner inner = true
 is-inner left = false
@@ -79,16 +86,19 @@ is-inner rightAnti = false
 
 -- ---- extract_or_clause, extract_or_clauses_for_join
 
+-- an OR: a clause only if both operands yield one
 unfoldable pub both-or : Option Expr → Option Expr → Option Expr
 both-or none o = none
 both-or (some a) none = none
 both-or (some a) (some b) = some (bin or a b)
 
+-- an AND: "keeps each operand that yields"
 unfoldable pub either-and : Option Expr → Option Expr → Option Expr
 either-and none o = o
 either-and (some a) none = some a
 either-and (some a) (some b) = some (bin and a b)
 
+-- any other expression, if it reads that side alone
 unfoldable pub guarded : Bool → Expr → Option Expr
 guarded true e = some e
 guarded false e = none
@@ -109,6 +119,7 @@ extract-or-clause c (between n a l u) = guarded (on-cols c (between n a l u)) (b
 extract-or-clause c (inlist n a xs) = guarded (on-cols c (inlist n a xs)) (inlist n a xs)
 extract-or-clause c (fn p q r xs) = guarded (on-cols c (fn p q r xs)) (fn p q r xs)
 
+-- "a conjunct that is an OR at its top"
 unfoldable pub is-or : Expr → Bool
 is-or (bin and a b) = false
 is-or (bin or a b) = true
@@ -123,6 +134,7 @@ is-or (between n a l u) = false
 is-or (inlist n a xs) = false
 is-or (fn p q r xs) = false
 
+-- a clause or nothing, as a list
 unfoldable pub listed : Option Expr → List Expr
 listed none = []
 listed (some e) = e ∷ []
@@ -140,19 +152,23 @@ pair-of x none r rest = rest
 pair-of x (some y) none rest = rest
 pair-of x (some y) (some z) rest = cond (same y x) (some z) (cond (same z x) (some y) rest)
 
+-- in the first pair of the join's keys that holds the column
 unfoldable pub partner : List Pair → Name → Option Name
 unfolding as-column pair-of
 partner [] x = none
 partner (k ∷ on) x = pair-of x (as-column (k .lhs)) (as-column (k .rhs)) (partner on x)
 
+-- the partner where there is one, else the column itself
 unfoldable pub to-partner : Name → Option Name → Expr
 to-partner x none = col x
 to-partner x (some y) = col y
 
+-- a column, or its partner by the join's keys
 unfoldable pub swap-keys : List Pair → Name → Expr
 unfolding to-partner
 swap-keys on x = to-partner x (partner on x)
 
+-- the column has no partner
 unfoldable pub nothing : Option Name → Bool
 nothing none = true
 nothing (some x) = false
@@ -164,10 +180,11 @@ infer-join-predicates on es = map (replace-cols (swap-keys on)) (keep (λ e. not
 
 -- ---- push_down_all_join, push_down_join
 
--- those of a list that move to a side, if it is open (`p`), and the others
+-- those of a list that move to a side, if it is open (`p`)
 unfoldable pub push-to : Bool → List Name → List Expr → List Expr
 push-to p s es = keep (λ e. cond p (has-all-column-refs s e) false) es
 
+-- those that do not
 unfoldable pub push-not : Bool → List Name → List Expr → List Expr
 push-not p s es = keep (λ e. not (cond p (has-all-column-refs s e) false)) es
 
@@ -175,6 +192,7 @@ push-not p s es = keep (λ e. not (cond p (has-all-column-refs s e) false)) es
 abbrev pub rest : Bool → Bool → List Name → List Name → List Expr → List Expr
 rest p q s t es = push-not q t (push-not p s es)
 
+-- a list, or none of it
 abbrev pub if-list : Bool → List Expr → List Expr
 if-list true es = es
 if-list false es = []
@@ -182,18 +200,23 @@ if-list false es = []
 -- `P` is the predicates above, `G` those of the join's filter, `s` and `t` the inputs' schemas. `can_evaluate_as_join_condition` holds of every
 -- expression of document 01.
 module _ (k : Kind) (s t : List Name) (on : List Pair) (P G : List Expr) where
+  -- of the predicates above, those that move to no side
   abbrev pub unpushed : List Expr
   unpushed = rest (left-preserved k) (right-preserved k) s t P
 
+  -- of the join's own filter, those that move to no side
   abbrev pub on-filter-join-conditions : List Expr
   on-filter-join-conditions = rest (on-left-preserved k) (on-right-preserved k) s t G
 
+  -- what stays above the join: of an Inner join nothing
   abbrev pub keep-predicates : List Expr
   keep-predicates = if-list (not (is-inner k)) unpushed
 
+  -- what becomes a condition of the join: of an Inner join only
   abbrev pub join-conditions : List Expr
   join-conditions = if-list (is-inner k) unpushed
 
+  -- inferred from the predicates above, then from the join's own filter
   abbrev pub inferred-join-predicates : List Expr
   inferred-join-predicates = if-list (is-inner k) (infer-join-predicates on (P ++ G))
 
@@ -203,14 +226,17 @@ module _ (k : Kind) (s t : List Name) (on : List Pair) (P G : List Expr) where
       push-to (left-preserved k) s P
       ++ (push-to true s inferred-join-predicates
       ++ (push-to (on-left-preserved k) s G
-      ++ extract-or-clauses-for-join (has s) (if-list (left-preserved k) (keep-predicates ++ join-conditions) ++ if-list (on-left-preserved k) on-filter-join-conditions)))
+      ++ extract-or-clauses-for-join (has s)
+      (if-list (left-preserved k) (keep-predicates ++ join-conditions) ++ if-list (on-left-preserved k) on-filter-join-conditions)))
 
+  -- likewise; what moved to the left does not move to the right as well
   abbrev pub right-push : List Expr
   right-push =
       push-to (right-preserved k) t (push-not (left-preserved k) s P)
       ++ (push-to true t (push-not true s inferred-join-predicates)
       ++ (push-to (on-right-preserved k) t (push-not (on-left-preserved k) s G)
-      ++ extract-or-clauses-for-join (has t) (if-list (right-preserved k) (keep-predicates ++ join-conditions) ++ if-list (on-right-preserved k) on-filter-join-conditions)))
+      ++ extract-or-clauses-for-join (has t)
+      (if-list (right-preserved k) (keep-predicates ++ join-conditions) ++ if-list (on-right-preserved k) on-filter-join-conditions)))
 
   -- nothing moves
   abbrev pub nothing-moves : Bool
@@ -229,6 +255,7 @@ push-down-all-join k l r on P G =
       transformed = not (nothing-moves k s t on P G);
     }
 
+-- push_down_join: the join's own filter split at its Ands
 abbrev pub push-down-join : Kind → Plan → Plan → List Pair → Option Expr → List Expr → Transformed
 push-down-join k l r on f P = push-down-all-join k l r on P (split-conjunction? f)
 
@@ -239,6 +266,7 @@ unfoldable pub pick : List Entry → Name → Expr
 pick [] x = col x
 pick (e ∷ es) x = cond (same (e .name) x) (e .expr) (pick es x)
 
+-- the output names of entries
 abbrev pub names : List Entry → List Name
 names es = map (λ (e : Entry). e .name) es
 
@@ -250,13 +278,15 @@ non-pushable es x = any (λ (e : Entry). same (e .name) x & (is-volatile (e .exp
 abbrev pub pushable : List Entry → Expr → Bool
 pushable es e = on-cols (λ x. not (non-pushable es x)) e
 
--- the conjuncts that stay, and those that move
+-- the conjuncts that stay
 abbrev pub stay : (Expr → Bool) → Expr → List Expr
 stay push e = keep (λ x. not (push x)) (split-conjunction e)
 
+-- and those that move
 abbrev pub move : (Expr → Bool) → Expr → List Expr
 move push e = keep push (split-conjunction e)
 
+-- Filter over Projection: what reads no such entry goes below, over the entries' expressions; if nothing does, all stays as it is
 unfoldable pub rewrite-projection : Expr → List Entry → Plan → Transformed
 rewrite-projection e es p =
     choose (is-empty (move (pushable es) e))
@@ -265,25 +295,31 @@ rewrite-projection e es p =
 
 -- ---- the other arms of the match on the Filter's input
 
--- supports_filters_pushdown is Exact: the conjunct has a column, and all its columns are marked
+-- the column is a field of the scan that is marked
 abbrev pub marked : List Field → Name → Bool
 marked fs x = any (λ (f : Field). same (f .name) x & f .exact) fs
 
+-- supports_filters_pushdown is Exact: "A scan takes a non-volatile predicate exactly if it has a column and all its columns are marked."
 abbrev pub supports-pushdown : List Field → Expr → Bool
 supports-pushdown fs e = not (no-columns e) & on-cols (marked fs) e
 
+-- the conjuncts that a scan never takes
 abbrev pub volatile-filters : Expr → List Expr
 volatile-filters e = keep is-volatile (split-conjunction e)
 
+-- the others
 abbrev pub non-volatile-filters : Expr → List Expr
 non-volatile-filters e = keep (λ x. not (is-volatile x)) (split-conjunction e)
 
+-- of these the ones that the scan takes
 abbrev pub supported-filters : List Field → Expr → List Expr
 supported-filters fs e = keep (supports-pushdown fs) (non-volatile-filters e)
 
+-- and the ones that it leaves
 abbrev pub unsupported-filters : List Field → Expr → List Expr
 unsupported-filters fs e = keep (λ x. not (supports-pushdown fs x)) (non-volatile-filters e)
 
+-- Filter over TableScan: what it takes joins its filters, repeats dropped; the rest stays above, volatile ones last
 unfoldable pub rewrite-scan : Expr → ℕ → List Field → List Expr → Transformed
 rewrite-scan e t fs es =
     choose (is-empty (supported-filters fs e))
@@ -295,6 +331,7 @@ abbrev pub in-groups : List Entry → Expr → Bool
 in-groups [] e = false
 in-groups (g ∷ gs) e = has-all-column-refs (names (g ∷ gs)) e
 
+-- Filter over Aggregate: what reads group columns alone goes below, over the group entries' expressions
 unfoldable pub rewrite-aggregate : Expr → List Entry → List AggEntry → Plan → Transformed
 rewrite-aggregate e gs ags p = record {
   plan = with-filters (stay (in-groups gs) e) (aggregate gs ags (with-filters (map (replace-cols (pick gs)) (move (in-groups gs) e)) p));
@@ -305,6 +342,7 @@ rewrite-aggregate e gs ags p = record {
 abbrev pub in-partitions : List WinEntry → Expr → Bool
 in-partitions ws e = all (λ (w : WinEntry). has-all-column-refs (w .parts) e) ws
 
+-- Filter over Window: what reads partition columns of every entry goes below
 unfoldable pub rewrite-window : Expr → List WinEntry → Plan → Transformed
 rewrite-window e ws p = record {
   plan = with-filters (stay (in-partitions ws) e) (window ws (with-filters (move (in-partitions ws) e) p));
@@ -338,10 +376,12 @@ simplify-filter e =
 unfoldable pub merged : Expr → Expr → List Expr
 merged parent child = unique (split-conjunction child ++ split-conjunction parent)
 
+-- the merged predicate, simplified as the Filter's own
 abbrev pub simplify-merged : Option Expr → Option Expr
 simplify-merged none = none
 simplify-merged (some e) = simplify-filter e
 
+-- what is done with the predicate that is left; the input alone where none is
 abbrev pub resume : Option Expr → (Expr → Transformed) → Plan → Transformed
 resume none f p = Transformed·yes p
 resume (some e) f p = f e
@@ -362,6 +402,7 @@ rewrite-filter e (limit n k p) = Transformed·no (filter e (limit n k p))
 rewrite-filter e (aggregate gs ags p) = rewrite-aggregate e gs ags p
 rewrite-filter e (window ws p) = rewrite-window e ws p
 
+-- PushDownFilter::rewrite of one node: a Filter by its input, a Join by its own filter, no other
 unfoldable pub rewrite : Plan → Transformed
 rewrite (scan t fs es) = Transformed·no (scan t fs es)
 rewrite (filter e p) = resume (simplify-filter e) (λ x. rewrite-filter x p) p
@@ -378,10 +419,12 @@ rewrite (window ws p) = Transformed·no (window ws p)
 
 -- ---- the plan as it stands after each merge of Filters, for test 11
 
+-- nothing where no predicate is left
 abbrev pub if-some : Option Expr → (Expr → List Plan) → List Plan
 if-some none f = []
 if-some (some e) f = f e
 
+-- .. of a Filter with this predicate, which is simplified already, over this plan
 unfoldable pub merges-under : Expr → Plan → List Plan
 merges-under e (filter b p) = if-some (conjunction (merged e b)) (λ m. filter m p ∷ if-some (simplify-filter m) (λ x. merges-under x p))
 merges-under e (scan t fs es) = []
@@ -396,6 +439,7 @@ merges-under e (limit n k p) = []
 merges-under e (aggregate gs ags p) = []
 merges-under e (window ws p) = []
 
+-- "the plan after a merge of Filters": the merged Filter in the place of both, not yet rewritten
 unfoldable pub merges : Plan → List Plan
 merges (filter e p) = if-some (simplify-filter e) (λ x. merges-under x p)
 merges (scan t fs es) = []

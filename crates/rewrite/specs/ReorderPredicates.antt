@@ -15,13 +15,16 @@ needs-reorder [] = false
 needs-reorder (e ∷ []) = false
 needs-reorder (e ∷ f ∷ es) = (not (is-cheap-predicate e) & is-cheap-predicate f) || needs-reorder (f ∷ es)
 
+-- a list, and whether its order changed
 pub record Reordered : Type 0 where
   pub predicates : List Expr
   pub changed : Bool
 
+-- the list as it stands
 abbrev pub unchanged : List Expr → Reordered
 unchanged es = record { predicates = es; changed = false }
 
+-- cheap ones first, each sort in its order
 abbrev pub cheap-first : List Expr → Reordered
 cheap-first es = record { predicates = keep is-cheap-predicate es ++ keep (λ e. not (is-cheap-predicate e)) es; changed = true }
 

@@ -7,7 +7,9 @@ use Rattle.plan.specs.Lists.{_&_, choose, all}
 use Rattle.plan.specs.Syntax.{Plan, scan, filter, project, join, alias, union, distinct, sort, repartition, limit, aggregate, window, Plans, pnil, pcons}
 use Rattle.rewrite.specs.PushDownFilter.{rewrite, merges}
 use Rattle.image.specs.Limits.{recordBytes}
-use Rattle.rewrite.specs.Limits.{sizeE, total, sizeEntry, sizeKey, sizeAgg, sizeWin, sizeP, fits}
+use Rattle.plan.specs.Trees.{entryKids, keyKids, aggKids, winKids}
+use Rattle.plan.specs.Measure.{sizeE, sizeP, sizes}
+use Rattle.rewrite.specs.Limits.{fits}
 
 -- ---- the plan that stands at a record
 
@@ -16,47 +18,63 @@ pub record Focus : Type 0 where
   pub plan : Plan
   pub back : Plan → Plan
 
+-- a plan within the inputs of a Union
 pub record FocusAll : Type 0 where
   pub plan : Plan
   pub back : Plan → Plans
 
+-- the plan itself
 abbrev pub here : Plan → Option Focus
 here p = some (record { plan = p; back = λ q. q })
 
+-- what is found in an input, seen from the plan above it
 abbrev pub inside : (Plan → Plan) → Option Focus → Option Focus
 inside f none = none
 inside f (some c) = some (record { plan = c .plan; back = λ q. f (c .back q) })
 
+-- .. seen from the Union above its inputs
 abbrev pub inside-all : (Plans → Plan) → Option FocusAll → Option Focus
 inside-all f none = none
 inside-all f (some c) = some (record { plan = c .plan; back = λ q. f (c .back q) })
 
+-- what is found in the first input of a Union
 abbrev pub first-of : Plans → Option Focus → Option FocusAll
 first-of ps none = none
 first-of ps (some c) = some (record { plan = c .plan; back = λ q. pcons (c .back q) ps })
 
+-- .. in the later ones
 abbrev pub later-of : Plan → Option FocusAll → Option FocusAll
 later-of p none = none
 later-of p (some c) = some (record { plan = c .plan; back = λ q. pcons p (c .back q) })
 
+-- record `n` is the plan's own, or it is looked for below
+abbrev pub own-or : ℕ → Plan → Option Focus → Option Focus
+own-or n p o = choose (eqb n 0) (here p) o
+
+-- an input that stands behind `k` records
+abbrev pub behind : ℕ → ℕ → (Plan → Plan) → Option Focus → Option Focus
+behind k n f o = choose (leb k n) (inside f o) none
+
 -- the plan at the record `n`, counted from the plan's own record; none where no record or no plan stands there
 unfoldable mutual
   pub focus : ℕ → Plan → Option Focus
-  focus n (scan t fs es) = choose (eqb n 0) (here (scan t fs es)) none
-  focus n (filter e p) = let k = suc (sizeE e) in choose (eqb n 0) (here (filter e p)) (choose (leb k n) (inside (filter e) (focus (n - k) p)) none)
-  focus n (project es p) = let k = suc (total sizeEntry es) in choose (eqb n 0) (here (project es p)) (choose (leb k n) (inside (project es) (focus (n - k) p)) none)
+  focus n (scan t fs es) = own-or n (scan t fs es) none
+  focus n (filter e p) = let k = suc (sizeE e) in own-or n (filter e p) (behind k n (filter e) (focus (n - k) p))
+  focus n (project es p) = let k = suc (sizes entryKids es) in own-or n (project es p) (behind k n (project es) (focus (n - k) p))
   focus n (join k l r on g) =
       let m = suc (sizeP l) in
-      choose (eqb n 0) (here (join k l r on g))
+      own-or n (join k l r on g)
       (choose (leb m n) (inside (λ q. join k l q on g) (focus (n - m) r)) (inside (λ q. join k q r on g) (focus (n - 1) l)))
-  focus n (alias q p) = choose (eqb n 0) (here (alias q p)) (inside (alias q) (focus (n - 1) p))
-  focus n (union ps) = choose (eqb n 0) (here (union ps)) (inside-all union (focus-all (n - 1) ps))
-  focus n (distinct p) = choose (eqb n 0) (here (distinct p)) (inside distinct (focus (n - 1) p))
-  focus n (sort f ks p) = let k = suc (total sizeKey ks) in choose (eqb n 0) (here (sort f ks p)) (choose (leb k n) (inside (sort f ks) (focus (n - k) p)) none)
-  focus n (repartition p) = choose (eqb n 0) (here (repartition p)) (inside repartition (focus (n - 1) p))
-  focus n (limit i j p) = choose (eqb n 0) (here (limit i j p)) (inside (limit i j) (focus (n - 1) p))
-  focus n (aggregate gs ags p) = let k = suc (total sizeEntry gs + total sizeAgg ags) in choose (eqb n 0) (here (aggregate gs ags p)) (choose (leb k n) (inside (aggregate gs ags) (focus (n - k) p)) none)
-  focus n (window ws p) = let k = suc (total sizeWin ws) in choose (eqb n 0) (here (window ws p)) (choose (leb k n) (inside (window ws) (focus (n - k) p)) none)
+  focus n (alias q p) = own-or n (alias q p) (inside (alias q) (focus (n - 1) p))
+  focus n (union ps) = own-or n (union ps) (inside-all union (focus-all (n - 1) ps))
+  focus n (distinct p) = own-or n (distinct p) (inside distinct (focus (n - 1) p))
+  focus n (sort f ks p) = let k = suc (sizes keyKids ks) in own-or n (sort f ks p) (behind k n (sort f ks) (focus (n - k) p))
+  focus n (repartition p) = own-or n (repartition p) (inside repartition (focus (n - 1) p))
+  focus n (limit i j p) = own-or n (limit i j p) (inside (limit i j) (focus (n - 1) p))
+  focus n (aggregate gs ags p) =
+      let k = suc (sizes entryKids gs + sizes aggKids ags) in
+      own-or n (aggregate gs ags p) (behind k n (aggregate gs ags) (focus (n - k) p))
+  focus n (window ws p) = let k = suc (sizes winKids ws) in own-or n (window ws p) (behind k n (window ws) (focus (n - k) p))
 
   pub focus-all : ℕ → Plans → Option FocusAll
   focus-all n pnil = none
@@ -73,10 +91,13 @@ pub data Answer : Type 0 where
 unfoldable pub result-fits : Focus → Bool
 result-fits c = fits (c .back (rewrite (c .plan) .plan)) & all (λ m. fits (c .back m)) (merges (c .plan))
 
+-- test 8: no plan stands there; else the rewrite of what does, or test 11
 unfoldable pub rewrite-in : ℕ → Option Focus → Answer
 rewrite-in n none = refused 8 n
-rewrite-in n (some c) = choose (result-fits c) (granted (rewrite (c .plan) .transformed) (c .back (rewrite (c .plan) .plan))) (refused 11 n)
+rewrite-in n (some c) =
+    choose (result-fits c) (granted (rewrite (c .plan) .transformed) (c .back (rewrite (c .plan) .plan))) (refused 11 n)
 
+-- PushDownFilter::rewrite of the plan at record `n`, in its place
 unfoldable pub rewriteAt : ℕ → Plan → Answer
 rewriteAt n p = rewrite-in n (focus n p)
 

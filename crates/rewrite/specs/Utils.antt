@@ -122,10 +122,12 @@ unfoldable pub both-pos : (a b : ℕ) → Dec (a ≡ b) → Dec (pos a ≡ pos b
 both-pos a b (yes p) = yes (ap pos p)
 both-pos a b (no f) = no (λ e. f (cc))
 
+-- .. of two negative ones
 unfoldable pub both-neg : (a b : ℕ) → Dec (a ≡ b) → Dec (negsuc a ≡ negsuc b)
 both-neg a b (yes p) = yes (ap negsuc p)
 both-neg a b (no f) = no (λ e. f (cc))
 
+-- .. of any two
 unfoldable pub Z-eq : Discrete ℤ
 unfolding both-pos both-neg
 Z-eq (pos a) (pos b) = both-pos a b (ℕ-discrete a b)
@@ -137,6 +139,7 @@ Z-eq (negsuc a) (negsuc b) = both-neg a b (ℕ-discrete a b)
 abbrev pub Expr-eq : Discrete Expr
 Expr-eq = Expr-disc (Name-disc ℕ-discrete) Z-eq Bool-discrete ℕ-discrete (Op-disc Cmp-disc) Test-disc
 
+-- two expressions are equal
 unfoldable pub sameE : Expr → Expr → Bool
 sameE a b = decide (Expr-eq a b)
 
@@ -145,6 +148,7 @@ unfoldable pub unique : List Expr → List Expr
 unique [] = []
 unique (e ∷ es) = e ∷ keep (λ x. not (sameE e x)) (unique es)
 
+-- is_empty
 abbrev pub is-empty : {A : Type 0} → List A → Bool
 is-empty [] = true
 is-empty (x ∷ xs) = false

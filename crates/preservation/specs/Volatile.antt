@@ -1,0 +1,22 @@
+-- Plans with no volatile function.
+use mathlib.Core.Path.{_≡_}
+use mathlib.Core.Bool.{Bool, true, not, _||_}
+use lib.Dec.{eqb}
+use Rattle.image.specs.Tree.{Label, Forest, none, node}
+use Rattle.image.specs.Lowest.{alone}
+use Rattle.plan.specs.Lists.{_&_}
+use Rattle.plan.specs.Kinds.{expr, Function, isKind}
+use Rattle.plan.specs.Syntax.{Plan}
+use Rattle.plan.specs.Trees.{planTree}
+
+-- "A function is volatile if its q is 1 or 3."
+unfoldable pub volatile : Label → Bool
+volatile l = isKind (expr Function) l & (eqb (l .q) 1 || eqb (l .q) 3)
+
+-- no record of the forest is a volatile function
+unfoldable pub lasting : Forest → Bool
+lasting none = true
+lasting (node l cs ns) = not (volatile l) & (lasting cs & lasting ns)
+
+abbrev pub NoVolatile : Plan → Type 0
+NoVolatile p = lasting (alone (planTree p)) ≡ true
