@@ -1,19 +1,19 @@
 -- Lists of conjuncts through each step of the rewrite: if a test of every record passes before, it passes after.
-use Prim.Native.Nat.{ℕ, suc}
-use mathlib.Core.Path.{_≡_, refl, sym, ap, _∙_}
+use Prim.Native.Nat.{suc}
+use mathlib.Core.Path.{_≡_, refl, ap, _∙_}
 use mathlib.Core.Bool.{Bool, true, false, not, _||_, cond}
-use mathlib.Core.List.{List, [], _∷_, _++_, map}
+use mathlib.Core.List.{List, [], _∷_, map}
 use mathlib.Core.Option.{Option, none, some}
 use lib.ListN.{length}
 use lib.Dec.{eqb}
-use Rattle.plan.specs.Lists.{_&_, choose, all}
-use Rattle.plan.proofs.Lists.{and-l, and-r, and-intro, and-comm, All, anil, acons, All-map, All-append, All-keep, All-mapped, All-flat}
+use Rattle.plan.specs.Lists.{choose, all}
+use Rattle.plan.proofs.Lists.{and-l, and-r, and-intro, All, anil, acons, All-map, All-append, All-keep, All-mapped, All-flat}
 use Rattle.plan.specs.Values.{ValueRecord, literalIs}
 use Rattle.plan.specs.Syntax.{Name, Op, and, or, cmp, Expr, col, num, bool, nul, bin, neg, test, between, inlist, fn, Exprs, enil, econs, Entry, Pair}
 use Rattle.plan.specs.Schema.{same}
 use Rattle.plan.specs.Columns.{on-cols}
 use Rattle.plan.specs.Trees.{columnLabel, labelE}
-use Rattle.rewrite.specs.Utils.{replace-cols, replace-cols-all, split-conjunction, split-conjunction?, conjoin, conjunction, unique}
+use Rattle.rewrite.specs.Utils.{replace-cols, replace-cols-all, split-conjunction, split-conjunction?, conjoin, conjunction}
 use Rattle.rewrite.specs.SimplifyPredicates.{Rel, rel-cmp, bound-of, as-column, simplify-predicates}
 use Rattle.rewrite.specs.ReorderPredicates.{Reordered, reorder-predicates}
 use Rattle.rewrite.specs.PushDownFilter.{both-or, either-and, guarded, extract-or-clause, is-or, listed, extract-or-clauses-for-join, pair-of, partner, to-partner, swap-keys, infer-join-predicates, if-list, pick, ren, renamed, simplify-filter}

@@ -14,8 +14,8 @@ use Rattle.image.specs.Tree.{Label, Forest, none, node}
 use Rattle.image.specs.Limits.{maxList}
 use Rattle.image.specs.Lowest.{nothing, orElse, unless, alone}
 use Rattle.image.proofs.Lowest.{or-second, Passes, passes, finds-nothing}
-use Rattle.plan.specs.Lists.{_&_, all}
-use Rattle.plan.proofs.Lists.{and-l, and-r, and-intro, and-assoc, and-true, and-sort}
+use Rattle.plan.specs.Lists.{_&_}
+use Rattle.plan.proofs.Lists.{and-assoc, and-true, true-and, and-sort}
 use Rattle.plan.specs.Kinds as K
 use Rattle.plan.specs.Kinds.{expr, plan, part, what, whatOf, among, exprW, planW, isExpr, isPlan, isKind}
 use Rattle.plan.specs.Form.{end, one, past, many, perhaps, childrenE, childrenP, childrenQ, isAnd, conjuncts, exprsIn, formOk, badForm}
@@ -25,10 +25,10 @@ use Rattle.plan.specs.Trees.{columnLabel, labelE, kidsE, forestE, before, each,
 use Rattle.plan.specs.Read.{isField, isEntry, isPair, isKey, isAgg, isWin}
 use Rattle.plan.proofs.Written.{Stops, past-each, no-part, no-part-e}
 use Rattle.rewrite.specs.Utils.{split-conjunction, split-conjunction?}
-use Rattle.preservation.proofs.Everywhere.{Tests, countE, countP, good, good-all, good?, good-field, good-entry, good-pair, good-key, good-agg, good-win, everywhere, everywhere-all}
+use Rattle.preservation.proofs.Everywhere.{Tests, countE, countP, good, good-all, good?, good-entry, good-pair, good-key, good-agg, good-win, everywhere, everywhere-all}
 use Rattle.rewrite.specs.Limits.{listP, listPs}
 use Rattle.preservation.proofs.Tells.{Tells, tells-nothing, three}
-use Rattle.preservation.proofs.Rules.{true-and, passed, below, beside, sound, sound-each}
+use Rattle.preservation.proofs.Rules.{passed, below, beside, sound, sound-each}
 
 -- runs that may not be empty
 abbrev pub Runs : Tests

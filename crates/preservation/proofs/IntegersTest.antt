@@ -1,17 +1,13 @@
 -- The integers of a plan have 64 bits, as a test on plans.
-use Prim.Native.Nat.{ℕ}
-use mathlib.Core.Path.{_≡_, refl, ap, _∙_}
-use mathlib.Core.Bool.{Bool, true, decide, decide-iff}
-use mathlib.Core.List.{List}
+use mathlib.Core.Bool.{true, decide, decide-iff}
 use mathlib.Core.Option.{Option, none, some}
 use native.Mathlib.Decide.{decLt}
 use lib.IntN.{ℤ, pos, negsuc}
-use Rattle.plan.specs.Lists.{_&_, all}
+use Rattle.plan.specs.Lists.{_&_}
 use Rattle.plan.proofs.Lists.{and-true, all-true}
-use Rattle.plan.specs.Syntax.{Name, Expr, col, num, bool, nul, bin, neg, test, between, inlist, fn, Exprs, enil, econs, Field, Entry, Pair, Key, AggEntry, WinEntry, Plan, scan, filter, project, join, alias, union, distinct, sort, repartition, limit, aggregate, window, Plans, pnil, pcons}
+use Rattle.plan.specs.Syntax.{Expr, col, num, bool, nul, bin, neg, test, between, inlist, fn, Exprs, enil, econs, Entry, Pair, Key, AggEntry, WinEntry, Plan, scan, filter, project, join, alias, union, distinct, sort, repartition, limit, aggregate, window, Plans, pnil, pcons}
 use Rattle.plan.specs.Integers.{FitsZ, FitsE, FitsEs, Fits?, FitsP, FitsPs}
 use Rattle.preservation.proofs.Everywhere.{Tests, good, good-all, good?, good-entry, good-pair, good-key, good-agg, good-win, everywhere, everywhere-all}
-use Rattle.preservation.proofs.Rules.{passed}
 use Rattle.preservation.proofs.Tells.{Tells, tells-nothing, both, three, four, every}
 
 -- whether 64 bits hold it, by the bounds of FitsZ

@@ -2,14 +2,12 @@
 use Prim.Native.Nat.{ℕ}
 use mathlib.Core.Path.{_≡_}
 use mathlib.Core.Bool.{Bool, true}
-use lib.Dec.{leb}
-use Rattle.plan.specs.Lists.{_&_}
 use Rattle.plan.proofs.Lists.{and-l, and-r, and-intro}
 use Rattle.plan.specs.Syntax.{Plan}
 use Rattle.rewrite.specs.RewriteAt.{granted, rewriteAt}
-use Rattle.preservation.proofs.Everywhere.{Closed, any-words}
+use Rattle.preservation.proofs.Everywhere.{any-words}
 use Rattle.preservation.proofs.PlansKept.{rewriteAt-kept}
-use Rattle.preservation.proofs.IntegersTest.{Integers, fits?}
+use Rattle.preservation.proofs.IntegersTest.{Integers}
 use Rattle.preservation.proofs.WordsTest.{Words, words-ok, words-closed}
 use Rattle.preservation.proofs.FormTest.{Runs, formed}
 

@@ -7,6 +7,7 @@ pub mod PlansKept
 pub mod Rules
 pub mod Tells
 pub mod IntegersTest
+pub mod Labels
 pub mod WordsTest
 pub mod FormTest
 pub mod Kept

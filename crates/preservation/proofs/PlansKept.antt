@@ -1,19 +1,19 @@
 -- If a test of every record passes of a plan, it passes of what the rewrite makes of it, at the root and at a record.
 use Prim.Native.Nat.{ℕ, suc}
-use mathlib.Core.Path.{_≡_, refl, ap, subst, _∙_}
+use mathlib.Core.Path.{_≡_, refl, ap, _∙_}
 use mathlib.Core.Bool.{Bool, true, false, not}
-use mathlib.Core.List.{List, [], _∷_, _++_, map}
+use mathlib.Core.List.{List, [], _++_, map}
 use mathlib.Core.Option.{Option, none, some}
 use native.Mathlib.Omega.{arith}
 use lib.Dec.{eqb}
-use Rattle.plan.specs.Lists.{_&_, choose, all}
+use Rattle.plan.specs.Lists.{choose, all}
 use Rattle.plan.proofs.Lists.{and-l, and-r, and-intro, All, anil, acons, All-map, All-append, All-keep, All-mapped}
 use Rattle.plan.specs.Syntax.{Name, Expr, Field, Entry, Pair, AggEntry, WinEntry, Kind, inner, left, right, full, leftSemi, rightSemi, leftAnti, rightAnti, Plan, scan, filter, project, join, alias, union, distinct, sort, repartition, limit, aggregate, window, Plans, pnil, pcons}
 use Rattle.plan.specs.Schema.{schema, schema-first, sides, requalify, has}
 use Rattle.plan.specs.Trees.{labelP}
 use Rattle.rewrite.specs.Utils.{replace-cols, split-conjunction, split-conjunction?, conjoin, conjunction, with-filters, unique, is-empty}
-use Rattle.rewrite.specs.PushDownFilter.{Transformed·yes, Transformed·no, pick, stay, move, pushable, in-groups, in-partitions, supported-filters, unsupported-filters, volatile-filters, renamed, filter-each, left-preserved, right-preserved, on-left-preserved, on-right-preserved, is-inner, push-to, push-not, if-list, unpushed, keep-predicates, join-conditions, on-filter-join-conditions, inferred-join-predicates, left-push, right-push, push-down-all-join, push-down-join, rewrite-projection, rewrite-scan, rewrite-aggregate, rewrite-window, simplify-filter, merged, simplify-merged, resume, rewrite-filter, rewrite}
-use Rattle.rewrite.specs.RewriteAt.{Focus, FocusAll, here, inside, inside-all, first-of, later-of, focus, focus-all, Answer, granted, refused, result-fits, rewrite-in, rewriteAt}
+use Rattle.rewrite.specs.PushDownFilter.{Transformed·yes, Transformed·no, pick, stay, move, pushable, supported-filters, unsupported-filters, volatile-filters, renamed, filter-each, left-preserved, right-preserved, on-left-preserved, on-right-preserved, is-inner, push-to, push-not, if-list, unpushed, keep-predicates, join-conditions, on-filter-join-conditions, inferred-join-predicates, left-push, right-push, push-down-all-join, push-down-join, rewrite-projection, rewrite-scan, rewrite-aggregate, rewrite-window, simplify-filter, merged, simplify-merged, resume, rewrite-filter, rewrite}
+use Rattle.rewrite.specs.RewriteAt.{Focus, FocusAll, here, inside, inside-all, first-of, later-of, focus, focus-all, granted, refused, result-fits, rewrite-in, rewriteAt}
 use Rattle.rewrite.proofs.References.{all-true, true-all, unique-all}
 use Rattle.preservation.proofs.Everywhere.{Tests, Closed, countP, good, good?, good-field, good-entry, good-pair, good-agg, good-win, everywhere, everywhere-all}
 use Rattle.preservation.proofs.ExprsKept.{Good, Named, all-replaced-good, pick-good, renamed-good, inferred-good, if-good, split-good, split?-good, conjoin-good, conjunction-good, simplify-filter-good, clauses-good}

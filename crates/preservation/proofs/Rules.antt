@@ -4,12 +4,8 @@ use mathlib.Core.Bool.{Bool, true}
 use mathlib.Core.List.{List, [], _∷_}
 use Rattle.image.specs.Tree.{Label, Forest, none, node}
 use Rattle.plan.specs.Lists.{_&_, all}
-use Rattle.plan.proofs.Lists.{and-assoc}
+use Rattle.plan.proofs.Lists.{and-assoc, true-and}
 use Rattle.plan.specs.Trees.{each}
-
-pub true-and : (b : Bool) → true & b ≡ b
-unfolding _&_
-true-and b = refl
 
 -- a test that passes, in front of another
 pub passed : {a b : Bool} → a ≡ true → a & b ≡ b
