@@ -31,7 +31,7 @@ use Rattle.plan.specs.Trees.{planTree}
 use Rattle.plan.specs.Read.{planAt}
 use Rattle.plan.proofs.Integers.{planAt-fits}
 
--- ---- nothing found
+-- ---- the verdict
 
 at-found : (n : ℕ) (f : Found) (v : Verdict) → 0 < n → at n f v ≡ verdict 0 0 → f ≡ nothing
 unfolding at
@@ -83,7 +83,7 @@ rooted-tree l n next (good cs j) t h = go (eqb next 0) refl (eqb j n) refl h
     go true e false g q = let z : _≡_ {A = ℕ} 0 1 = cc in absurd (omega arith)
     go false e b g q = let z : _≡_ {A = ℕ} 0 1 = cc in absurd (omega arith)
 
--- ---- bytes
+-- ---- words
 
 -- each of the k records at the start of s has the words of its kind
 pub words-of : (k : ℕ) (s : List ℕ) (b : ℕ) → badWords k s b ≡ nothing → (i : ℕ) → i < k → wordsOk (labelAt (drop (32 * i) s)) ≡ true
@@ -103,7 +103,7 @@ worded (node l cs ns) s b h k = (
       (λ i j. let e : 32 * suc (size cs) + 32 * i ≡ 32 * (suc (size cs) + i) = omega arith in rw (drop-drop, e) (h (suc (size cs) + i) (omega arith))) (k .after),
 )
 
--- ---- form
+-- ---- from acceptance to a plan
 
 module _ (s : List ℕ) (n : ℕ) (t : Tree) (len : length s ≡ 32 * n) (some-records : 1 ≤ n) (h : linked s n ≡ tree t) where
   root-read : Rooted (labelAt s) n (word s 28) (parse (suc n) s n 1 (word s 24) 0) t

@@ -1,5 +1,6 @@
 pub mod Accept
 pub mod Converse
+pub mod InOrder
 pub mod Limits
 pub mod Marks
 pub mod NamesMarks

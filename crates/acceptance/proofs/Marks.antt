@@ -13,7 +13,7 @@ use Rattle.image.specs.Lowest.{nothing, orElse, unless, firstFalse}
 use Rattle.plan.specs.Lists.{_&_, all, flat}
 use Rattle.plan.specs.Syntax.{Name, Expr, col, num, bool, nul, bin, neg, test, between, inlist, fn, Exprs, enil, econs, Field, Pair, WinEntry, Plan, scan, filter, project, join, alias, union, distinct, sort, repartition, limit, aggregate, window, Plans, pnil, pcons}
 use Rattle.plan.specs.Trees.{columnLabel, labelE, kidsE, forestE, before, each, nothingBelow, fieldLabel, entryLabel, entryKids, pairLabel, pairKids, keyLabel, keyKids, aggLabel, aggKids, winLabel, winKids, filterKids, kidsP, forestP, planTree}
-use Rattle.acceptance.specs.Marks.{marks-in, marks-in-all, marks-in?, Rules, field-mark, entry-marks, pair-marks, key-marks, agg-marks, win-marks, marks-of, marks-of-all}
+use Rattle.acceptance.specs.Marks.{marks-in, marks-in-all, marks-in?, Rules, entry-marks, pair-marks, key-marks, agg-marks, win-marks, marks-of, marks-of-all}
 
 -- all marks are true
 abbrev pub kept : List Bool → Bool
@@ -33,7 +33,7 @@ all-kept b (false ∷ ms) h = let z : _≡_ {A = ℕ} 0 1 = cc in absurd (omega 
 
 -- ---- a mark for each record
 
-module _ (rule : Expr → Bool) where
+module _ {M : Type 0} (rule : Expr → M) where
   mutual
     unfolding marks-in kidsE
 
@@ -58,23 +58,24 @@ module _ (rule : Expr → Bool) where
   marks-in?-length (some e) = marks-in-length e ∙ omega arith
 
 -- a run of parts, in front of other trees
-run-length : {A : Type 0} (f : A → List Bool) (l : A → Label) (k : A → Forest) → ((x : A) → length (f x) ≡ suc (size (k x)))
+run-length : {A M : Type 0} (f : A → List M) (l : A → Label) (k : A → Forest) → ((x : A) → length (f x) ≡ suc (size (k x)))
     → (xs : List A) (ns : Forest) → size (each l k xs ns) ≡ length (flat f xs) + size ns
 unfolding each flat
 run-length f l k h [] ns = omega arith
 run-length f l k h (x ∷ xs) ns = simp (length-append, h x, run-length f l k h xs ns) (omega arith)
 
-names-length : (g : Name → Bool) (xs : List Name) → size (each columnLabel nothingBelow xs none) ≡ length (map g xs)
+names-length : {M : Type 0} (g : Name → M) (xs : List Name) → size (each columnLabel nothingBelow xs none) ≡ length (map g xs)
 unfolding each
 names-length g [] = refl
 names-length g (x ∷ xs) = simp (names-length g xs) (omega arith)
 
-fields-length : (fs : List Field) (ns : Forest) → size (each fieldLabel nothingBelow fs ns) ≡ length (map field-mark fs) + size ns
+fields-length : {M : Type 0} (g : Field → M) (fs : List Field) (ns : Forest)
+    → size (each fieldLabel nothingBelow fs ns) ≡ length (map g fs) + size ns
 unfolding each
-fields-length [] ns = omega arith
-fields-length (f ∷ fs) ns = simp (fields-length fs ns) (omega arith)
+fields-length g [] ns = omega arith
+fields-length g (f ∷ fs) ns = simp (fields-length g fs ns) (omega arith)
 
-module _ (R : Rules) where
+module _ {M : Type 0} (R : Rules M) where
   one-length : (p : Plan) (e : Expr) → suc (length (marks-in (R .over p) e)) ≡ suc (size (before e none))
   one-length p e = simp (marks-in-length (R .over p)) (omega arith)
 
@@ -89,7 +90,8 @@ module _ (R : Rules) where
 
     marks-below : (p : Plan) → length (marks-of R p) ≡ suc (size (kidsP p))
     marks-below (scan t fs es) =
-        simp (length-append, fields-length, run-length (marks-in (R .over (scan t fs es))) labelE kidsE (marks-in-length _)) (omega arith)
+        let run = run-length (marks-in (R .over (scan t fs es))) labelE kidsE (marks-in-length (R .over (scan t fs es))) in
+        simp (length-append, fields-length (R .field), run) (omega arith)
     marks-below (filter e p) = simp (length-append, marks-in-length, marks-below p) (omega arith)
     marks-below (project es p) =
         simp (length-append, run-length (entry-marks R p) entryLabel entryKids (λ e. one-length p (e .expr)), marks-below p) (omega arith)

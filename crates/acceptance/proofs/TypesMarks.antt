@@ -13,7 +13,7 @@ use Rattle.plan.proofs.Lists.{and-l, and-r, and-intro, and-assoc, and-true, tru
 use Rattle.plan.specs.Syntax.{Expr, col, num, bool, nul, bin, neg, test, between, inlist, fn, Exprs, enil, econs, Field, Plan, scan, filter, project, join, alias, union, distinct, sort, repartition, limit, aggregate, window, Plans, pnil, pcons}
 use Rattle.plan.specs.Schema.{schema}
 use Rattle.plan.specs.Types.{Types, types, types-first, field-types, both-types, Scanned, scans, scans-all}
-use Rattle.acceptance.specs.Marks.{field-mark, marks-in, marks-in-all, marks-in?, marks-of, marks-of-all}
+use Rattle.acceptance.specs.Marks.{marks-in, marks-in-all, marks-in?, marks-of, marks-of-all}
 use Rattle.acceptance.specs.Types.{typed-operands, same-types, united, first-scanned, as-first, scanned, typed-plan, type-rules, types-in, types-of, badType, is-boolean, is-boolean?}
 use Rattle.acceptance.proofs.Marks.{kept, none-false, all-kept}
 use Rattle.acceptance.proofs.TypesRule.{well, well-all, boolean, boolean?, typed, typed-all, agree, all-agree, types-ok, same-types-eq}
@@ -50,7 +50,7 @@ unfolding boolean
 all-boolean τ es = all-and (is-boolean τ) (well τ) es
 
 scan-kept : (τ : Types) (a : Bool) (fs : List Field) (es : List Expr)
-    → (all (is-boolean τ) es & a) & kept (map field-mark fs ++ flat (types-in τ) es) ≡ all (boolean τ) es & (a & true)
+    → (all (is-boolean τ) es & a) & kept (map (λ (f : Field). true) fs ++ flat (types-in τ) es) ≡ all (boolean τ) es & (a & true)
 scan-kept τ a fs es = simp (all-append, all-map, all-true, all-flat, well-kept, all-boolean, and-sort)
 
 -- the conjunctions below, regrouped: b of a predicate's type, w of what is below it, t and s of an input's types and scans

@@ -66,13 +66,18 @@ sound-plan p = sound (schema p) & sound-inputs p
 
 -- ---- the test
 
-abbrev pub name-rules : Rules
+-- parts have no rule of their own
+abbrev pub name-rules : Rules Bool
 name-rules = record {
   plan = sound-plan;
   over = λ p. one-field (schema p);
   both = λ l r. one-field (schema l ++ schema r);
+  field = λ f. true;
+  entry = λ e. true;
   pair = λ l r k. true;
-  value = λ p g e. true;
+  key = λ k. true;
+  agg = λ p a. true;
+  win = λ p w. true;
 }
 
 -- the marks of an expression over a schema, and of a plan

@@ -105,13 +105,17 @@ typed-plan ss (window ws p) = true
 -- ---- the test
 
 -- ss: the scans of the whole plan, in reading order
-abbrev pub type-rules : List Scanned → Rules
+abbrev pub type-rules : List Scanned → Rules Bool
 type-rules ss = record {
   plan = typed-plan ss;
   over = λ p. typed-operands (field-types p);
   both = λ l r. typed-operands (both-types l r);
+  field = λ f. true;
+  entry = λ e. true;
   pair = λ l r k. eqb (type-of (field-types l) (k .lhs)) (type-of (field-types r) (k .rhs));
-  value = λ p g e. takes-type g (type-of (field-types p) e);
+  key = λ k. true;
+  agg = λ p a. takes-type (a .fun) (type-of (field-types p) (a .expr));
+  win = λ p w. takes-type (w .fun) (type-of (field-types p) (w .expr));
 }
 
 -- the marks of an expression over the types of its columns, and of a plan

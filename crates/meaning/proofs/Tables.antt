@@ -20,6 +20,10 @@ module _ (W : World) where
   fit-right [] ts h = h
   fit-right (s ∷ ss) ts h = fit-right ss ts (h .1)
 
+-- scans that are the same
+pub fit-same : (W : World) {ss ts : List Scanned} → ss ≡ ts → ScansFit W ts → ScansFit W ss
+fit-same W e h = rw e h
+
 row-width : {ts : List ℕ} {r : Row} → RowFits ts r → length r ≡ length ts
 row-width no-fields = refl
 row-width (field-fits v r) = ap suc (row-width r)

@@ -1,7 +1,7 @@
 -- Demand 3 on plans: a list of calls of rewrite, granted or refused, keeps the rows of the root, whatever the functions mean and whatever
 -- tables fit the plan; and each call leaves a plan that is again accepted.
 use Prim.Native.Nat.{ℕ, _*_}
-use mathlib.Core.Path.{_≡_, refl, sym, ap, _∙_, subst}
+use mathlib.Core.Path.{_≡_, refl, ap, _∙_}
 use mathlib.Core.Bool.{Bool, true, false}
 use mathlib.Core.List.{List, [], _∷_, _++_}
 use mathlib.Core.Option.{Option, none, some}
@@ -12,7 +12,7 @@ use Rattle.plan.proofs.Lists.{and-l, and-r, and-intro}
 use Rattle.plan.specs.Syntax.{Expr, Entry, Pair, Key, AggEntry, WinEntry, Kind, Plan, scan, filter, project, join, alias, union, distinct, sort, repartition, limit, aggregate, window, Plans, pnil, pcons}
 use Rattle.meaning.specs.Meaning.{World, rows, rows-all}
 use Rattle.meaning.specs.Tables.{ScansFit, TablesFit}
-use Rattle.meaning.proofs.Tables.{fit-left, fit-right}
+use Rattle.meaning.proofs.Tables.{fit-left, fit-right, fit-same}
 use Rattle.plan.specs.Schema.{schema, schema-first}
 use Rattle.rewrite.specs.PushDownFilter.{rewrite}
 use Rattle.image.specs.Limits.{recordBytes}
@@ -26,15 +26,11 @@ use Rattle.rewrite.proofs.TypesKept.{filter-typed, project-typed, join-
 use Rattle.rewrite.proofs.Accepted.{accepted}
 use Rattle.rewrite.proofs.Rewrite.{Keeps, keeps-self, filter-ok, project-ok, join-ok, aggregate-ok, window-ok, rewrite-keeps}
 
--- the tables that fit a plan fit what may stand in its place, which has the same scans
-fit-again : {q p : Plan} → Keeps q p → (W : World) → TablesFit W p → TablesFit W q
-fit-again h W d = subst (ScansFit W) (sym (h .scans-same)) d
-
 -- one rewrite after another
 pub keeps-trans : {a b c : Plan} → Keeps a b → Keeps b c → Keeps a c
 keeps-trans h k = record {
   schemas = h .schemas ∙ k .schemas;
-  row-lists = λ W d. h .row-lists W (fit-again k W d) ∙ k .row-lists W d;
+  row-lists = λ W d. h .row-lists W (fit-same W (k .scans-same) d) ∙ k .row-lists W d;
   well = h .well;
   types-same = h .types-same ∙ k .types-same;
   scans-same = h .scans-same ∙ k .scans-same;
@@ -357,11 +353,12 @@ unfoldable pub after-calls : List Call → Plan → Plan
 after-calls [] p = p
 after-calls (c ∷ cs) p = after-calls cs (left-by p (rewrite-call (c .place) (c .room) p))
 
--- what a caller learns: the plan left has the rows, the schema and the types of the plan given, and is accepted
+-- what a caller learns: the plan left has the rows, the schema, the types and the scans of the plan given, and is accepted
 pub record Kept (q p : Plan) : Type 0 where
   pub same-rows : (W : World) → TablesFit W p → rows W q ≡ rows W p
   pub same-schema : schema q ≡ schema p
   pub same-types : types q ≡ types p
+  pub same-scans : scans q ≡ scans p
   pub accepted-again : accepted q ≡ true
 
 pub leaves-self : {p : Plan} → ok p ≡ true → fits p ≡ true → Leaves p p
@@ -385,6 +382,7 @@ kept {q} {p} l y = record {
   same-rows = l .keeps .row-lists;
   same-schema = l .keeps .schemas;
   same-types = l .keeps .types-same;
+  same-scans = l .keeps .scans-same;
   accepted-again = and-intro (l .fitting) (and-intro (ok-names q (l .keeps .well)) (types-ok-again q p (l .keeps) y));
 }
 

@@ -5,17 +5,18 @@ use native.Mathlib.Omega.{arith}
 use native.Mathlib.Nat.{suc-sub-suc, sub-zero}
 use mathlib.Core.Path.{_≡_, refl, sym, ap, ap₂, _∙_}
 use mathlib.Core.Bool.{Bool, true, false}
-use mathlib.Core.List.{List, [], _∷_, _++_, append-assoc, append-nil}
+use mathlib.Core.List.{List, [], _∷_, _++_, map, append-assoc, append-nil}
 use mathlib.Core.Option as O
 use mathlib.Core.Option.{Option, some}
 use lib.ListN.{length, getD, length-append}
 use lib.Dec.{eqb, leb, leb·zero, leb·suc-zero, leb·suc-suc, eqb·suc-zero}
 use Rattle.image.specs.Tree.{Label, Forest, none, node, size}
-use Rattle.plan.specs.Lists.{choose}
+use Rattle.plan.specs.Lists.{choose, _&_}
 use Rattle.plan.specs.Syntax.{Name, Expr, col, num, bool, nul, bin, neg, test, between, inlist, fn, Exprs, enil, econs, Field, Entry, Pair, Key, AggEntry, WinEntry, Kind, Plans, pnil, pcons, Plan, scan, filter, project, join, alias, union, distinct, sort, repartition, limit, aggregate, window}
 use Rattle.plan.specs.Kinds.{isPlan, whatOf, among}
 use Rattle.plan.specs.Trees.{columnLabel, labelE, kidsE, forestE, before, each, nothingBelow, fieldLabel, entryLabel, entryKids, pairLabel, pairKids, keyLabel, keyKids, aggLabel, aggKids, winLabel, winKids, filterKids, labelP, kidsP, forestP}
 use Rattle.plan.specs.Measure.{sizeE, sizeP, sizes}
+use Rattle.plan.proofs.PlanKinds.{plan-number, plan-kind}
 use Rattle.rewrite.specs.RewriteAt.{Focus, FocusAll, here, inside, inside-all, first-of, later-of, focus, focus-all}
 use Rattle.rewrite.proofs.PassByRecords.{plan-records, plan-records-all}
 
@@ -398,7 +399,7 @@ inside-next n xs p f o h = some-choose (eqb n 0) (here p) _ ∙ ap (choose (eqb 
 mutual
   unfolding focus marks plan-marks kidsP
 
-  -- test 8: a plan is found at a record exactly if the record's kind is a plan's
+  -- a plan is found at a record exactly if it is marked
   pub focus-marks : (p : Plan) (n : ℕ) → is-some (focus n p) ≡ getD (plan-marks p) n false
   focus-marks (scan t fs es) n =
       some-choose (eqb n 0) (here (scan t fs es)) O.none
@@ -460,3 +461,37 @@ mutual
       (some-first ps (focus n p) ∙ focus-marks p n)
       ∙ ap (λ m. choose (leb m n) (getD (marks (forestP ps)) (n - m) false) (getD (plan-marks p) n false)) (sym (marks-length p))
       ∙ sym (getD-append (plan-marks p) (marks (forestP ps)) n)
+
+-- ---- the same by the kinds of the records
+
+unfoldable pub kinds : Forest → List ℕ
+kinds none = []
+kinds (node l cs ns) = l .kind ∷ (kinds cs ++ kinds ns)
+
+-- the kinds of the records of `planTree p`, in reading order
+unfoldable pub plan-kinds : Plan → List ℕ
+plan-kinds p = labelP p .kind ∷ kinds (kidsP p)
+
+map-append : {A B : Type 0} (f : A → B) (xs ys : List A) → map f (xs ++ ys) ≡ map f xs ++ map f ys
+map-append f [] ys = refl
+map-append f (x ∷ xs) ys = ap (f x ∷_) (map-append f xs ys)
+
+marks-kinds : (f : Forest) → marks f ≡ map plan-number (kinds f)
+unfolding marks kinds
+marks-kinds none = refl
+marks-kinds (node l cs ns) =
+    ap₂ _∷_ (plan-kind l) (ap₂ _++_ (marks-kinds cs) (marks-kinds ns) ∙ sym (map-append plan-number (kinds cs) (kinds ns)))
+
+at-kind : (xs : List ℕ) (n : ℕ) → getD (map plan-number xs) n false ≡ plan-number (getD xs n 0)
+unfolding _&_
+at-kind [] n = refl
+at-kind (x ∷ xs) zero = refl
+at-kind (x ∷ xs) (suc n) = at-kind xs n
+
+-- test 8: a plan is found at a record exactly if the record is there and its kind is 32 to 43
+pub focus-kind : (n : ℕ) (p : Plan) → is-some (focus n p) ≡ plan-number (getD (plan-kinds p) n 0)
+unfolding plan-marks plan-kinds
+focus-kind n p =
+    focus-marks p n
+    ∙ ap (λ bs. getD bs n false) (ap₂ _∷_ (plan-kind (labelP p)) (marks-kinds (kidsP p)))
+    ∙ at-kind (plan-kinds p) n

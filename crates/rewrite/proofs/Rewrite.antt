@@ -9,8 +9,8 @@ use Rattle.plan.specs.Lists.{_&_, choose, any, put, keep, all}
 use Rattle.plan.proofs.Lists.{and-assoc, and-comm, and-l, and-r, and-intro, All, anil, acons, All-map, All-append, All-keep, all-of, keep-all, keep-cong, keep-keep, all-parts, all-append}
 use Rattle.plan.specs.Syntax.{Name, Expr, Field, Entry, Pair, AggEntry, WinEntry, Kind, Plan, scan, filter, project, join, alias, union, distinct, sort, repartition, limit, aggregate, window, Plans}
 use Rattle.meaning.specs.Meaning.{World, Row, look, sat, sats, sat?, rows}
-use Rattle.meaning.specs.Tables.{ScansFit, TablesFit}
-use Rattle.meaning.proofs.Tables.{fit-left, fit-right}
+use Rattle.meaning.specs.Tables.{TablesFit}
+use Rattle.meaning.proofs.Tables.{fit-left, fit-right, fit-same}
 use Rattle.plan.specs.Schema.{same, schema, schema-first, requalify, sides, has}
 use Rattle.plan.proofs.Names.{same-eq}
 use Rattle.rewrite.specs.Utils.{is-empty, is-volatile, replace-cols, split-conjunction, split-conjunction?, conjoin, conjunction, with-filters, unique}
@@ -56,7 +56,7 @@ keeps-for : {q x y : Plan} → schema x ≡ schema y → types x ≡ types y →
     → ((W : World) → rows W x ≡ rows W y) → (typed y ≡ true → typed x ≡ true) → Keeps q x → Keeps q y
 keeps-for s t c f z k = record {
   schemas = k .schemas ∙ s;
-  row-lists = λ W d. k .row-lists W (subst (ScansFit W) (sym c) d) ∙ f W;
+  row-lists = λ W d. k .row-lists W (fit-same W c d) ∙ f W;
   well = k .well;
   types-same = k .types-same ∙ t;
   scans-same = k .scans-same ∙ c;
@@ -226,7 +226,7 @@ module _ (k : Kind) (l r : Plan) (on : List Pair) (f : Option Expr)
   unfolding push-down-all-join schema rule types scans
   join-keeps T st rt tt′ ct yt = record {
     schemas = simp filtered-schema st;
-    row-lists = λ W d. join-rows W (subst (ScansFit W) (sym ct) d) ∙ rt W;
+    row-lists = λ W d. join-rows W (fit-same W ct d) ∙ rt W;
     well = with-filters-ok _
         (simp filtered-schema (keep-over (schema l) (schema r) on P G k h))
         (join-ok k (with-filters L l) l (with-filters R r) r on f (conjunction (J ++ F)) (filtered-schema L l) (filtered-schema R r)
