@@ -10,4 +10,5 @@ pub mod IntegersTest
 pub mod Labels
 pub mod WordsTest
 pub mod FormTest
+pub mod VolatileTest
 pub mod Kept

@@ -248,9 +248,13 @@ module _ (T : Tests) (c : Closed T) where
   -- ---- at a record
 
   -- the plan there passes, and the whole passes with another that passes in its place
+  pub record InFocus (f : Focus) : Type 0 where
+    pub there : Passes T (f .plan)
+    pub put-back : (q : Plan) → Passes T q → Passes T (f .back q)
+
   data Focused : Option Focus → Type 0 where
     not-there : Focused none
-    found : {f : Focus} → Passes T (f .plan) → ((q : Plan) → Passes T q → Passes T (f .back q)) → Focused (some f)
+    found : {f : Focus} → InFocus f → Focused (some f)
 
   -- among the inputs of a Union, which stay so many
   data FocusedAll (n : ℕ) : Option FocusAll → Type 0 where
@@ -258,21 +262,24 @@ module _ (T : Tests) (c : Closed T) where
     found-all : {f : FocusAll} → Passes T (f .plan) → ((q : Plan) → Passes T q → everywhere-all T (f .back q) ≡ true) → ((q : Plan) → countP (f .back q) ≡ n) → FocusedAll n (some f)
 
   focus-here : (p : Plan) → Passes T p → Focused (here p)
-  focus-here p o = found o (λ q k. k)
+  focus-here p o = found (record { there = o; put-back = λ q k. k })
 
   focus-inside : {o : Option Focus} (f : Plan → Plan) → ((q : Plan) → Passes T q → Passes T (f q)) → Focused o → Focused (inside f o)
   focus-inside f step not-there = not-there
-  focus-inside f step (found h b) = found h (λ q k. step _ (b q k))
+  focus-inside f step (found h) = found (record { there = h .there; put-back = λ q k. step _ (h .put-back q k) })
 
   focus-union : (ps : Plans) {o : Option FocusAll} → Passes T (union ps) → FocusedAll (countP ps) o → Focused (inside-all union o)
   unfolding everywhere labelP
   focus-union ps w not-there-all = not-there
-  focus-union ps w (found-all h b n) = found h (λ q k. and-intro (and-l _ _ w) (and-intro (ap (T .least 2) (n q) ∙ and-l _ _ (and-r _ _ w)) (b q k)))
+  focus-union ps w (found-all h b n) = found (record {
+    there = h;
+    put-back = λ q k. and-intro (and-l _ _ w) (and-intro (ap (T .least 2) (n q) ∙ and-l _ _ (and-r _ _ w)) (b q k));
+  })
 
   focus-first : (ps : Plans) {o : Option Focus} → everywhere-all T ps ≡ true → Focused o → FocusedAll (suc (countP ps)) (first-of ps o)
   unfolding everywhere
   focus-first ps w not-there = not-there-all
-  focus-first ps w (found h b) = found-all h (λ q k. and-intro (b q k) w) (λ q. refl)
+  focus-first ps w (found h) = found-all (h .there) (λ q k. and-intro (h .put-back q k) w) (λ q. refl)
 
   focus-later : (p : Plan) {n : ℕ} {o : Option FocusAll} → Passes T p → FocusedAll n o → FocusedAll (suc n) (later-of p o)
   unfolding everywhere
@@ -343,15 +350,24 @@ module _ (T : Tests) (c : Closed T) where
     focused-all (pcons p ps) n o =
         either-all _ (focus-later p (and-l _ _ o) (focused-all ps _ (and-r _ _ o))) (focus-first ps (and-r _ _ o) (focused p n (and-l _ _ o)))
 
-  in-kept : (n : ℕ) {o : Option Focus} → Focused o → (b : Bool) (q : Plan) → rewrite-in n o ≡ granted b q → Passes T q
-  unfolding rewrite-in choose
-  in-kept n not-there b q e = let z : _≡_ {A = ℕ} 0 1 = cc in absurd (omega arith)
-  in-kept n (found {f = f} h k) b q e = go (result-fits f) e
+  pub focus-kept : (n : ℕ) (p : Plan) (f : Focus) → Passes T p → focus n p ≡ some f → InFocus f
+  focus-kept n p f o e = go (focused p n o) e
     where
-      go : (r : Bool) → choose r (granted (rewrite (f .plan) .transformed) (f .back (rewrite (f .plan) .plan))) (refused 11 n) ≡ granted b q → Passes T q
-      go true e = let i : f .back (rewrite (f .plan) .plan) ≡ q = cc in rw i at (k (rewrite (f .plan) .plan) (rewrite-kept (f .plan) h))
-      go false e = let z : _≡_ {A = ℕ} 0 1 = cc in absurd (omega arith)
+      go : {x : Option Focus} → Focused x → x ≡ some f → InFocus f
+      go not-there e = let z : _≡_ {A = ℕ} 0 1 = cc in absurd (omega arith)
+      go (found {f = g} h) e = let i : g ≡ f = cc in rw i at h
 
   pub rewriteAt-kept : (n : ℕ) (p : Plan) (b : Bool) (q : Plan) → Passes T p → rewriteAt n p ≡ granted b q → Passes T q
-  unfolding rewriteAt
-  rewriteAt-kept n p b q o e = in-kept n (focused p n o) b q e
+  unfolding rewriteAt rewrite-in choose
+  rewriteAt-kept n p b q o e = go (focus n p) (λ f i. focus-kept n p f o i) e
+    where
+      chosen : (f : Focus) → InFocus f → (r : Bool)
+          → choose r (granted (rewrite (f .plan) .transformed) (f .back (rewrite (f .plan) .plan))) (refused 11 n) ≡ granted b q → Passes T q
+      chosen f h true e =
+          let i : f .back (rewrite (f .plan) .plan) ≡ q = cc in
+          rw i at (h .put-back (rewrite (f .plan) .plan) (rewrite-kept (f .plan) (h .there)))
+      chosen f h false e = let z : _≡_ {A = ℕ} 0 1 = cc in absurd (omega arith)
+
+      go : (x : Option Focus) → ((f : Focus) → x ≡ some f → InFocus f) → rewrite-in n x ≡ granted b q → Passes T q
+      go none h e = let z : _≡_ {A = ℕ} 0 1 = cc in absurd (omega arith)
+      go (some f) h e = chosen f (h f refl) (result-fits f) e
