@@ -13,10 +13,11 @@ use Rattle.rewrite.specs.Limits.{fits}
 use Rattle.preservation.specs.Volatile.{NoVolatile}
 use Rattle.rewrite.specs.RewriteAt.{granted, rewriteAt}
 use Rattle.preservation.proofs.Everywhere.{any-words}
-use Rattle.preservation.proofs.PlansKept.{rewriteAt-kept}
+use Rattle.preservation.proofs.RecordsKept.{rewriteAt-kept}
 use Rattle.preservation.proofs.IntegersTest.{Integers}
 use Rattle.preservation.proofs.WordsTest.{Words, words-ok, words-ok-law, words-closed}
-use Rattle.preservation.proofs.FormTest.{Runs, formed, formed-law}
+use Rattle.preservation.proofs.ExprForm.{Runs}
+use Rattle.preservation.proofs.FormTest.{formed, formed-law}
 use Rattle.preservation.proofs.VolatileTest.{Lasting, lasting-tree, lasting-closed}
 
 pub words-kept : (n : ℕ) (p : Plan) (b : Bool) (q : Plan) → words-ok p ≡ true → rewriteAt n p ≡ granted b q → words-ok q ≡ true

@@ -4,11 +4,13 @@ pub mod Depth
 pub mod Everywhere
 pub mod ExprsKept
 pub mod PlansKept
+pub mod RecordsKept
 pub mod Rules
 pub mod Tells
 pub mod IntegersTest
 pub mod Labels
 pub mod WordsTest
+pub mod ExprForm
 pub mod FormTest
 pub mod VolatileTest
 pub mod Kept

@@ -30,4 +30,7 @@ module _ (rule : Label → Forest → Bool) where
     pub sound-each : (xs : List A) (ns : Forest) → sound (each l k xs ns) ≡ all t xs & sound ns
     unfolding sound each all _&_
     sound-each [] ns = refl
-    sound-each (x ∷ xs) ns = sym (and-assoc (rule (l x) (k x)) (sound (k x)) (sound (each l k xs ns))) ∙ ap₂ _&_ (is x) (sound-each xs ns) ∙ sym (and-assoc (t x) (all t xs) (sound ns))
+    sound-each (x ∷ xs) ns =
+        sym (and-assoc (rule (l x) (k x)) (sound (k x)) (sound (each l k xs ns)))
+        ∙ ap₂ _&_ (is x) (sound-each xs ns)
+        ∙ sym (and-assoc (t x) (all t xs) (sound ns))

@@ -62,7 +62,8 @@ unfolding wordsOk whatOf among fits
 name-words x r h = and-intro (and-l _ _ h) (and-intro (and-l _ _ (and-r _ _ h)) unused-words)
 
 -- and the qualifier of an alias
-alias-words : (q : ℕ) (p : Plan) (x : Name) → wordsOk (labelP (alias q p)) ≡ true → wordsOk (columnLabel x) ≡ true → wordsOk (columnLabel (requalify q x)) ≡ true
+alias-words : (q : ℕ) (p : Plan) (x : Name) → wordsOk (labelP (alias q p)) ≡ true → wordsOk (columnLabel x) ≡ true
+    → wordsOk (columnLabel (requalify q x)) ≡ true
 unfolding wordsOk whatOf among fits inside labelP
 alias-words q p (nm r n) h k = and-intro (and-intro (le-leb 0 q (omega arith)) (and-r _ _ (and-l _ _ h))) (and-r _ _ k)
 
