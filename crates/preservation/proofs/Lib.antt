@@ -7,10 +7,12 @@ pub mod PlansKept
 pub mod RecordsKept
 pub mod Rules
 pub mod Tells
-pub mod IntegersTest
 pub mod Labels
+pub mod IntegersTest
 pub mod WordsTest
 pub mod ExprForm
 pub mod FormTest
-pub mod VolatileTest
 pub mod Kept
+pub mod VolatileTest
+pub mod Granted
+pub mod Demand3

@@ -14,9 +14,9 @@ unfoldable pub volatile : Label → Bool
 volatile l = isKind (expr Function) l & (eqb (l .q) 1 || eqb (l .q) 3)
 
 -- no record of the forest is a volatile function
-unfoldable pub lasting : Forest → Bool
-lasting none = true
-lasting (node l cs ns) = not (volatile l) & (lasting cs & lasting ns)
+unfoldable pub none-volatile : Forest → Bool
+none-volatile none = true
+none-volatile (node l cs ns) = not (volatile l) & (none-volatile cs & none-volatile ns)
 
 abbrev pub NoVolatile : Plan → Type 0
-NoVolatile p = lasting (alone (planTree p)) ≡ true
+NoVolatile p = none-volatile (alone (planTree p)) ≡ true

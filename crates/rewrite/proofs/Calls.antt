@@ -372,7 +372,7 @@ pub accepted-ok : (p : Plan) → accepted p ≡ true → ok p ≡ true
 unfolding accepted types-ok
 accepted-ok p h = names-typed-ok p (and-l _ _ (and-r _ _ h)) (and-l _ _ (and-r _ _ (and-r _ _ h)))
 
-types-ok-again : (q p : Plan) → Keeps q p → types-ok p ≡ true → types-ok q ≡ true
+pub types-ok-again : (q p : Plan) → Keeps q p → types-ok p ≡ true → types-ok q ≡ true
 unfolding types-ok
 types-ok-again q p k h = and-intro (k .typed-again (and-l _ _ h)) (rw (k .scans-same) (and-r _ _ h))
 
