@@ -100,7 +100,8 @@ pub record Closed (T : Tests) : Type 0 where
   pub of-entry : (e : Entry) → T .label (entryLabel e) ≡ true → T .label (columnLabel (e .name)) ≡ true
   pub of-agg : (a : AggEntry) → T .label (aggLabel a) ≡ true → T .label (columnLabel (a .name)) ≡ true
   pub of-win : (w : WinEntry) → T .label (winLabel w) ≡ true → T .label (columnLabel (w .name)) ≡ true
-  pub of-alias : (q : ℕ) (p : Plan) (x : Name) → T .label (labelP (alias q p)) ≡ true → T .label (columnLabel x) ≡ true → T .label (columnLabel (requalify q x)) ≡ true
+  pub of-alias : (q : ℕ) (p : Plan) (x : Name) → T .label (labelP (alias q p)) ≡ true → T .label (columnLabel x) ≡ true
+      → T .label (columnLabel (requalify q x)) ≡ true
 
 -- where a record's words do not matter, all of this is plain
 pub any-words : (number : ℤ → Bool) (least : ℕ → ℕ → Bool) → Closed (record { label = λ l. true; number = number; least = least })

@@ -128,7 +128,8 @@ module _ (T : Tests) where
   partner-named [] h x = tt
   partner-named (k ∷ on) h x =
       let g = and-r _ _ (and-l _ _ h) in
-      pair-named x (as-column (k .lhs)) (as-column (k .rhs)) (partner on x) (column-named (k .lhs) (and-l _ _ g)) (column-named (k .rhs) (and-r _ _ g)) (partner-named on (and-r _ _ h) x)
+      pair-named x (as-column (k .lhs)) (as-column (k .rhs)) (partner on x)
+      (column-named (k .lhs) (and-l _ _ g)) (column-named (k .rhs) (and-r _ _ g)) (partner-named on (and-r _ _ h) x)
 
   to-partner-good : (x : Name) (o : Option Name) → Named T x → Named? o → Good T (to-partner x o)
   unfolding to-partner good labelE Named?
@@ -235,8 +236,12 @@ module _ (T : Tests) (c : Closed T) where
 
   extract-good : (d : Name → Bool) (e : Expr) → Good T e → good? T (extract-or-clause d e) ≡ true
   unfolding extract-or-clause good
-  extract-good d (bin and a b) h = let k = and-r _ _ h in either-good (extract-or-clause d a) (extract-or-clause d b) (extract-good d a (and-l _ _ k)) (extract-good d b (and-r _ _ k))
-  extract-good d (bin or a b) h = let k = and-r _ _ h in both-good (extract-or-clause d a) (extract-or-clause d b) (extract-good d a (and-l _ _ k)) (extract-good d b (and-r _ _ k))
+  extract-good d (bin and a b) h =
+      let k = and-r _ _ h in
+      either-good (extract-or-clause d a) (extract-or-clause d b) (extract-good d a (and-l _ _ k)) (extract-good d b (and-r _ _ k))
+  extract-good d (bin or a b) h =
+      let k = and-r _ _ h in
+      both-good (extract-or-clause d a) (extract-or-clause d b) (extract-good d a (and-l _ _ k)) (extract-good d b (and-r _ _ k))
   extract-good d (bin (cmp o) a b) h = guarded-good (on-cols d (bin (cmp o) a b)) (bin (cmp o) a b) h
   extract-good d (col x) h = guarded-good (on-cols d (col x)) (col x) h
   extract-good d (num z) h = guarded-good (on-cols d (num z)) (num z) h

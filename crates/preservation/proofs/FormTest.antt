@@ -3,212 +3,33 @@ use Prim.Native.Nat.{ℕ, suc, _+_, max as larger}
 use native.Mathlib.Omega.{arith}
 use mathlib.Core.Path.{_≡_, refl, sym, ap, ap₂, _∙_}
 use mathlib.Core.Logic.{_↔_, Iff·rfl}
-use mathlib.Core.Bool.{Bool, true, false, not, cond}
+use mathlib.Core.Bool.{Bool, true, false, not}
 use mathlib.Core.List.{List, [], _∷_}
 use mathlib.Core.Option as O
 use mathlib.Core.Option.{Option, some}
 use lib.Dec.{leb}
-use lib.ListN.{length, length-append}
+use lib.ListN.{length}
 use borrow.Author.Tests.{leb-true, leb-false, le-leb, lt-leb}
 use Rattle.image.specs.Tree.{Label, Forest, none, node}
 use Rattle.image.specs.Limits.{maxList}
 use Rattle.image.specs.Lowest.{nothing, orElse, unless, alone}
 use Rattle.image.proofs.Lowest.{or-second, Passes, passes, finds-nothing}
 use Rattle.plan.specs.Lists.{_&_}
-use Rattle.plan.proofs.Lists.{and-assoc, and-true, and-sort}
+use Rattle.plan.proofs.Lists.{and-assoc, and-true, true-and, and-sort}
 use Rattle.plan.specs.Kinds as K
-use Rattle.plan.specs.Kinds.{expr, plan, part, what, whatOf, among, exprW, planW, isExpr, isPlan, isKind}
-use Rattle.plan.specs.Form.{end, one, past, many, perhaps, childrenE, childrenP, childrenQ, isAnd, conjuncts, exprsIn, formOk, badForm}
+use Rattle.plan.specs.Kinds.{expr, plan, what, whatOf, among, exprW, planW, isExpr, isPlan, isKind}
+use Rattle.plan.specs.Form.{end, one, past, many, perhaps, childrenP, conjuncts, exprsIn, formOk, badForm}
 use Rattle.plan.specs.Form as Form
-use Rattle.plan.specs.Syntax.{Name, eq, ne, lt, le, gt, ge, and, or, cmp, Expr, col, num, bool, nul, bin, neg, test, between, inlist, fn, Exprs, enil, econs, Field, Entry, Pair, Key, AggEntry, WinEntry, Plan, scan, filter, project, join, alias, union, distinct, sort, repartition, limit, aggregate, window, Plans, pnil, pcons}
-use Rattle.plan.specs.Trees.{columnLabel, labelE, kidsE, forestE, before, each, nothingBelow, fieldLabel, entryLabel, entryKids, pairLabel, pairKids, keyLabel, keyKids, aggLabel, aggKids, winLabel, winKids, filterKids, labelP, kidsP, forestP, planTree}
+use Rattle.plan.specs.Syntax.{Name, Expr, Field, Entry, Pair, Key, AggEntry, WinEntry, Plan, scan, filter, project, join, alias, union, distinct, sort, repartition, limit, aggregate, window, Plans, pnil, pcons}
+use Rattle.plan.specs.Trees.{columnLabel, labelE, kidsE, each, nothingBelow, fieldLabel, entryLabel, entryKids, pairLabel, pairKids, keyLabel, keyKids, aggLabel, aggKids, winLabel, winKids, filterKids, labelP, kidsP, forestP, planTree}
 use Rattle.plan.specs.Read.{isField, isEntry, isPair, isKey, isAgg, isWin}
 use Rattle.plan.proofs.Written.{Stops, past-each, no-part, no-part-e}
 use Rattle.rewrite.specs.Utils.{split-conjunction, split-conjunction?}
-use Rattle.preservation.proofs.Everywhere.{Tests, countE, countP, good, good-all, good?, good-entry, good-pair, good-key, good-agg, good-win, everywhere, everywhere-all}
+use Rattle.preservation.proofs.Everywhere.{countP, good, good?, good-entry, good-pair, good-key, good-agg, good-win, everywhere, everywhere-all}
 use Rattle.rewrite.specs.Limits.{listP, listPs}
 use Rattle.preservation.proofs.Tells.{Tells, tells-nothing, three}
-use Rattle.preservation.proofs.Rules.{true-and, passed, below, beside, sound, sound-each}
-
--- runs that may not be empty
-abbrev pub Runs : Tests
-Runs = record { label = λ l. true; number = λ z. true; least = leb }
-
--- ---- kinds
-
-abbrev kindE : Expr → K.ExprKind
-kindE (col x) = K.Column
-kindE (num z) = K.Integer
-kindE (bool b) = K.Boolean
-kindE (nul t) = K.Null
-kindE (bin o a b) = K.Binary
-kindE (neg a) = K.Not
-kindE (test t a) = K.Test
-kindE (between n a l h) = K.Between
-kindE (inlist n a xs) = K.InList
-kindE (fn p q r xs) = K.Function
-
-what-e : (e : Expr) → what (labelE e) ≡ expr (kindE e)
-unfolding labelE whatOf among
-what-e (col x) = refl
-what-e (num z) = refl
-what-e (bool b) = refl
-what-e (nul t) = refl
-what-e (bin o a b) = refl
-what-e (neg a) = refl
-what-e (test t a) = refl
-what-e (between n a l h) = refl
-what-e (inlist n a xs) = refl
-what-e (fn p q r xs) = refl
-
-is-expr : (e : Expr) → isExpr (labelE e) ≡ true
-is-expr e = ap exprW (what-e e)
-
--- ---- the children of an expression
-
--- of an expression, and of a part, the children alone are tested
-form-e-is : (e : Expr) (cs : Forest) → formOk (labelE e) cs ≡ childrenE (kindE e) cs
-unfolding formOk
-form-e-is e cs = rw (what-e e) (and-true _)
-
-form-q-is : (q : K.PartKind) (l : Label) (cs : Forest) → what l ≡ part q → formOk l cs ≡ childrenQ q cs
-unfolding formOk
-form-q-is q l cs h = rw h (and-true _)
-
-one-expr : (rest : Forest → Bool) (e : Expr) (ns : Forest) → one isExpr rest (before e ns) ≡ rest ns
-unfolding one
-one-expr rest e ns = passed (is-expr e)
-
-past-exprs : (xs : Exprs) → past isExpr (forestE xs) ≡ none
-unfolding past forestE
-past-exprs enil = refl
-past-exprs (econs x xs) = rw (is-expr x) (past-exprs xs)
-
--- an InList has items
-abbrev enough : Expr → Bool
-enough (col x) = true
-enough (num z) = true
-enough (bool b) = true
-enough (nul t) = true
-enough (bin o a b) = true
-enough (neg a) = true
-enough (test t a) = true
-enough (between n a l h) = true
-enough (inlist n a xs) = leb 1 (countE xs)
-enough (fn p q r xs) = true
-
-some-items : (xs : Exprs) → one isExpr (many isExpr end) (forestE xs) ≡ leb 1 (countE xs)
-unfolding one end forestE
-some-items enil = refl
-some-items (econs x xs) = passed (is-expr x) ∙ ap end (past-exprs xs) ∙ sym (le-leb 1 (suc (countE xs)) (omega arith))
-
-children-e : (e : Expr) → childrenE (kindE e) (kidsE e) ≡ enough e
-unfolding kidsE end
-children-e (col x) = refl
-children-e (num z) = refl
-children-e (bool b) = refl
-children-e (nul t) = refl
-children-e (bin o a b) = one-expr _ a _ ∙ one-expr _ b _
-children-e (neg a) = one-expr _ a _
-children-e (test t a) = one-expr _ a _
-children-e (between n a l h) = one-expr _ a _ ∙ one-expr _ l _ ∙ one-expr _ h _
-children-e (inlist n a xs) = one-expr _ a _ ∙ some-items xs
-children-e (fn p q r xs) = ap end (past-exprs xs)
-
-form-node : (e : Expr) → formOk (labelE e) (kidsE e) ≡ enough e
-form-node e = form-e-is e (kidsE e) ∙ children-e e
-
-mutual
-  unfolding sound good kidsE forestE
-
-  form-e : (e : Expr) (x : Bool) → formOk (labelE e) (kidsE e) & (sound formOk (kidsE e) & x) ≡ good Runs e & x
-  form-e (col y) x = ap₂ _&_ (form-node (col y)) (true-and x)
-  form-e (num z) x = below _ (form-node (num z)) refl
-  form-e (bool b) x = ap₂ _&_ (form-node (bool b)) (true-and x)
-  form-e (nul t) x = ap₂ _&_ (form-node (nul t)) (true-and x)
-  form-e (bin o a b) x = below _ (form-node (bin o a b)) (beside _ (form-e a _) (form-e b true ∙ and-true _))
-  form-e (neg a) x = below _ (form-node (neg a)) (form-e a true ∙ and-true _)
-  form-e (test t a) x = below _ (form-node (test t a)) (form-e a true ∙ and-true _)
-  form-e (between n a l h) x =
-      below _ (form-node (between n a l h)) (beside _ (form-e a _) (beside _ (form-e l _) (form-e h true ∙ and-true _)))
-  form-e (inlist n a xs) x = below _ (form-node (inlist n a xs)) (beside _ (form-e a _) (form-es xs)) ∙ sym (ap (_& x) (true-and _))
-  form-e (fn p q r xs) x = below _ (form-node (fn p q r xs)) (form-es xs)
-
-  form-es : (xs : Exprs) → sound formOk (forestE xs) ≡ good-all Runs xs
-  form-es enil = refl
-  form-es (econs y xs) = beside _ (form-e y _) (form-es xs)
-
--- an expression that stands last
-last-e : (e : Expr) → sound formOk (before e none) ≡ good Runs e
-unfolding sound
-last-e e = form-e e true ∙ and-true _
-
--- ---- conjuncts
-
--- of expressions only an And is split
-abbrev splits : Expr → Bool
-splits (bin and a b) = true
-splits (bin or a b) = false
-splits (bin (cmp c) a b) = false
-splits (col x) = false
-splits (num z) = false
-splits (bool b) = false
-splits (nul t) = false
-splits (neg a) = false
-splits (test t a) = false
-splits (between n a l h) = false
-splits (inlist n a xs) = false
-splits (fn p q r xs) = false
-
-is-and : (e : Expr) → isAnd (labelE e) (kidsE e) ≡ splits e
-unfolding isAnd labelE kidsE end _&_
-is-and (bin and a b) = one-expr _ a _ ∙ one-expr _ b _
-is-and (bin or a b) = refl
-is-and (bin (cmp eq) a b) = refl
-is-and (bin (cmp ne) a b) = refl
-is-and (bin (cmp lt) a b) = refl
-is-and (bin (cmp le) a b) = refl
-is-and (bin (cmp gt) a b) = refl
-is-and (bin (cmp ge) a b) = refl
-is-and (col x) = refl
-is-and (num z) = refl
-is-and (bool b) = refl
-is-and (nul t) = refl
-is-and (neg a) = refl
-is-and (test t a) = refl
-is-and (between n a l h) = refl
-is-and (inlist n a xs) = refl
-is-and (fn p q r xs) = refl
-
-conjuncts-is : (e : Expr) (ns : Forest) → conjuncts (before e ns) ≡ cond (splits e) (conjuncts (kidsE e)) 1 + conjuncts ns
-unfolding conjuncts
-conjuncts-is e ns = rw (is-expr e, is-and e)
-
-conjuncts-none : conjuncts none ≡ 0
-unfolding conjuncts
-conjuncts-none = refl
-
-conjuncts-and : (a b : Expr) → conjuncts (kidsE (bin and a b)) ≡ conjuncts (before a (before b none))
-unfolding kidsE
-conjuncts-and a b = refl
-
-conjuncts-split : (e : Expr) (ns : Forest) → conjuncts (before e ns) ≡ length (split-conjunction e) + conjuncts ns
-unfolding split-conjunction
-conjuncts-split (bin and a b) ns =
-    conjuncts-is (bin and a b) ns
-    ∙ rw (conjuncts-and a b, conjuncts-split a (before b none), conjuncts-split b none, length-append (split-conjunction a) (split-conjunction b), conjuncts-none)
-    (omega arith)
-conjuncts-split (bin or a b) ns = conjuncts-is (bin or a b) ns
-conjuncts-split (bin (cmp c) a b) ns = conjuncts-is (bin (cmp c) a b) ns
-conjuncts-split (col x) ns = conjuncts-is (col x) ns
-conjuncts-split (num z) ns = conjuncts-is (num z) ns
-conjuncts-split (bool b) ns = conjuncts-is (bool b) ns
-conjuncts-split (nul t) ns = conjuncts-is (nul t) ns
-conjuncts-split (neg a) ns = conjuncts-is (neg a) ns
-conjuncts-split (test t a) ns = conjuncts-is (test t a) ns
-conjuncts-split (between n a l h) ns = conjuncts-is (between n a l h) ns
-conjuncts-split (inlist n a xs) ns = conjuncts-is (inlist n a xs) ns
-conjuncts-split (fn p q r xs) ns = conjuncts-is (fn p q r xs) ns
+use Rattle.preservation.proofs.Rules.{passed, beside, sound, sound-each}
+use Rattle.preservation.proofs.ExprForm.{Runs, is-expr, form-q-is, one-expr, form-e, last-e, conjuncts-none, conjuncts-split}
 
 -- ---- parts
 
@@ -342,7 +163,8 @@ aggs-stop [] p = no-part p 49 (omega arith)
 aggs-stop (a ∷ ags) p = refl
 
 -- an Aggregate that has no entry of either sort is its input alone
-some-entry : (gs : List Entry) (ags : List AggEntry) (p : Plan) → not (one isPlan end (each entryLabel entryKids gs (each aggLabel aggKids ags (over p none)))) ≡ leb 1 (length gs + length ags)
+some-entry : (gs : List Entry) (ags : List AggEntry) (p : Plan)
+    → not (one isPlan end (each entryLabel entryKids gs (each aggLabel aggKids ags (over p none)))) ≡ leb 1 (length gs + length ags)
 unfolding one end each whatOf among _&_
 some-entry [] [] p = rw (is-plan p)
 some-entry [] (a ∷ ags) p = sym (le-leb 1 (0 + suc (length ags)) (omega arith))
@@ -472,7 +294,8 @@ mutual
   form-p : (p : Plan) (x : Bool) → formOk (labelP p) (kidsP p) & (sound formOk (kidsP p) & x) ≡ (everywhere Runs p & leb (listP p) maxList) & x
   form-p (scan t fs es) x =
       whole _ _ _ true x (form-node-p (scan t fs es))
-      (beside _ (sound-each formOk fieldLabel nothingBelow _ field-form fs _) (sound-each formOk labelE kidsE _ filter-form es none ∙ and-true _) ∙ sym (and-true _))
+      (beside _ (sound-each formOk fieldLabel nothingBelow _ field-form fs _) (sound-each formOk labelE kidsE _ filter-form es none ∙ and-true _)
+      ∙ sym (and-true _))
       refl (and-true _)
   form-p (filter e p) x =
       whole _ _ _ _ x (form-node-p (filter e p)) (beside _ (form-e e _) (form-p p true ∙ and-true _) ∙ sym (and-assoc _ _ _)) refl

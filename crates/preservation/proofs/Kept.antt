@@ -6,10 +6,11 @@ use Rattle.plan.proofs.Lists.{and-l, and-r, and-intro}
 use Rattle.plan.specs.Syntax.{Plan}
 use Rattle.rewrite.specs.RewriteAt.{granted, rewriteAt}
 use Rattle.preservation.proofs.Everywhere.{any-words}
-use Rattle.preservation.proofs.PlansKept.{rewriteAt-kept}
+use Rattle.preservation.proofs.RecordsKept.{rewriteAt-kept}
 use Rattle.preservation.proofs.IntegersTest.{Integers}
 use Rattle.preservation.proofs.WordsTest.{Words, words-ok, words-closed}
-use Rattle.preservation.proofs.FormTest.{Runs, formed}
+use Rattle.preservation.proofs.ExprForm.{Runs}
+use Rattle.preservation.proofs.FormTest.{formed}
 
 pub words-kept : (n : ℕ) (p : Plan) (b : Bool) (q : Plan) → words-ok p ≡ true → rewriteAt n p ≡ granted b q → words-ok q ≡ true
 unfolding words-ok

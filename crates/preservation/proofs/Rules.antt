@@ -4,12 +4,8 @@ use mathlib.Core.Bool.{Bool, true}
 use mathlib.Core.List.{List, [], _∷_}
 use Rattle.image.specs.Tree.{Label, Forest, none, node}
 use Rattle.plan.specs.Lists.{_&_, all}
-use Rattle.plan.proofs.Lists.{and-assoc}
+use Rattle.plan.proofs.Lists.{and-assoc, true-and}
 use Rattle.plan.specs.Trees.{each}
-
-pub true-and : (b : Bool) → true & b ≡ b
-unfolding _&_
-true-and b = refl
 
 -- a test that passes, in front of another
 pub passed : {a b : Bool} → a ≡ true → a & b ≡ b
@@ -34,4 +30,7 @@ module _ (rule : Label → Forest → Bool) where
     pub sound-each : (xs : List A) (ns : Forest) → sound (each l k xs ns) ≡ all t xs & sound ns
     unfolding sound each all _&_
     sound-each [] ns = refl
-    sound-each (x ∷ xs) ns = sym (and-assoc (rule (l x) (k x)) (sound (k x)) (sound (each l k xs ns))) ∙ ap₂ _&_ (is x) (sound-each xs ns) ∙ sym (and-assoc (t x) (all t xs) (sound ns))
+    sound-each (x ∷ xs) ns =
+        sym (and-assoc (rule (l x) (k x)) (sound (k x)) (sound (each l k xs ns)))
+        ∙ ap₂ _&_ (is x) (sound-each xs ns)
+        ∙ sym (and-assoc (t x) (all t xs) (sound ns))

@@ -10,9 +10,9 @@ use Rattle.plan.specs.Trees.{labelE, labelP, planTree}
 use Rattle.rewrite.specs.RewriteAt.{granted, rewriteAt}
 use Rattle.preservation.specs.Volatile.{volatile, none-volatile, NoVolatile}
 use Rattle.preservation.proofs.Everywhere.{Tests, Closed, everywhere}
-use Rattle.preservation.proofs.PlansKept.{rewriteAt-kept}
+use Rattle.preservation.proofs.RecordsKept.{rewriteAt-kept}
 use Rattle.preservation.proofs.Rules.{sound}
-use Rattle.preservation.proofs.WordsTest.{words-tree}
+use Rattle.preservation.proofs.Labels.{words-tree}
 
 abbrev Lasting : Tests
 Lasting = record { label = λ l. not (volatile l); number = λ z. true; least = λ m n. true }
