@@ -13,13 +13,7 @@ use lib.IntN.{ℤ, pos}
 use lib.Signed.{ltZ, leZ}
 use Rattle.plan.specs.Schema.{lookD, schema}
 use Rattle.plan.specs.Lists.{_&_, keep, all, any, flat}
-use Rattle.plan.specs.Syntax.{Value, null, int, truth, Name, Cmp, eq, ne, lt, le, gt, ge, Op, and, or, cmp}
-use Rattle.plan.specs.Syntax.{Test, isNull, isNotNull, isTrue, isFalse, isUnknown, isNotTrue, isNotFalse, isNotUnknown}
-use Rattle.plan.specs.Syntax.{Expr, col, num, bool, nul, bin, neg, test, between, inlist, fn, Exprs, enil, econs}
-use Rattle.plan.specs.Syntax.{Field, Entry, Pair, Key, Agg, count, min, max, AggEntry, WinEntry}
-use Rattle.plan.specs.Syntax.{Kind, inner, left, right, full, leftSemi, rightSemi, leftAnti, rightAnti}
-use Rattle.plan.specs.Syntax.{Plan, scan, filter, project, join, alias, union, distinct, sort, repartition, limit, aggregate, window}
-use Rattle.plan.specs.Syntax.{Plans, pnil, pcons}
+use Rattle.plan.specs.Syntax.{Value, null, int, truth, Name, Cmp, eq, ne, lt, le, gt, ge, Op, and, or, cmp, Test, isNull, isNotNull, isTrue, isFalse, isUnknown, isNotTrue, isNotFalse, isNotUnknown, Expr, col, num, bool, nul, bin, neg, test, between, inlist, fn, Exprs, enil, econs, Field, Entry, Pair, Key, Agg, count, min, max, AggEntry, WinEntry, Kind, inner, left, right, full, leftSemi, rightSemi, leftAnti, rightAnti, Plan, scan, filter, project, join, alias, union, distinct, sort, repartition, limit, aggregate, window, Plans, pnil, pcons}
 
 -- ---- rows, tables, functions
 

@@ -20,9 +20,7 @@ use Rattle.plan.proofs.Names.{same-eq}
 use Rattle.plan.specs.Columns.{on-cols}
 use Rattle.rewrite.specs.Utils.{replace-cols}
 use Rattle.rewrite.specs.SimplifyPredicates.{as-column}
-use Rattle.rewrite.specs.PushDownFilter.{both-or, either-and, guarded, extract-or-clause, is-or, listed}
-use Rattle.rewrite.specs.PushDownFilter.{extract-or-clauses-for-join, pair-of, partner, to-partner, swap-keys, nothing}
-use Rattle.rewrite.specs.PushDownFilter.{infer-join-predicates, rest}
+use Rattle.rewrite.specs.PushDownFilter.{both-or, either-and, guarded, extract-or-clause, is-or, listed, extract-or-clauses-for-join, pair-of, partner, to-partner, swap-keys, nothing, infer-join-predicates, rest}
 use Rattle.rewrite.proofs.Exprs.{eval-sub}
 
 -- ---- clauses out of ORs

@@ -1,0 +1,1 @@
+-- Laws of names and types on records.

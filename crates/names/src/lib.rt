@@ -1,0 +1,1 @@
+// Names and types, asked of the records of an image.
