@@ -6,3 +6,4 @@ pub mod Links
 pub mod Flattened
 pub mod Room
 pub mod Lowest
+pub mod Places

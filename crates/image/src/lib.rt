@@ -2,6 +2,7 @@
 pub mod copying;
 pub mod limits;
 pub mod links;
+pub mod places;
 pub mod records;
 pub mod relink;
 pub mod words;
