@@ -41,7 +41,7 @@ module _ (T : Tests) (σ : Name → Expr) (f : (x : Name) → Named T x → Good
   mutual
     unfolding good replace-cols labelE
 
-    pub replaced-good : (e : Expr) → Good T e → Good T (replace-cols σ e)
+    replaced-good : (e : Expr) → Good T e → Good T (replace-cols σ e)
     replaced-good (col x) h = f x h
     replaced-good (num z) h = h
     replaced-good (bool b) h = h
