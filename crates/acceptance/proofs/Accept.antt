@@ -22,7 +22,8 @@ use Rattle.plan.proofs.Lists.{and-l, and-r}
 use Rattle.plan.specs.Words.{wordsOk, Worded}
 use Rattle.plan.specs.Form.{badForm}
 use Rattle.image.specs.Lowest.{Found, nothing, found, alone}
-use Rattle.acceptance.specs.Check.{bufferOk, badWords, Links, tree, broken, rooted, linked, tooDeep, Verdict, verdict, at, checkPlan, checkTree, checkLinks, check}
+use Rattle.acceptance.specs.Check.{bufferOk, badWords, Links, tree, broken, rooted, linked, tooDeep, Verdict, verdict, at, checkPlan}
+use Rattle.acceptance.specs.Check.{checkTree, checkLinks, check}
 use Rattle.acceptance.specs.Names.{badName}
 use Rattle.acceptance.specs.Types.{badType}
 use Rattle.plan.specs.Syntax.{Plan}

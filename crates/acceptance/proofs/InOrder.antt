@@ -6,9 +6,13 @@ use mathlib.Core.Option.{Option, some}
 use Rattle.image.specs.Tree.{Label, Forest, none, node}
 use Rattle.image.specs.Lowest.{alone}
 use Rattle.plan.specs.Lists.{flat}
-use Rattle.plan.specs.Syntax.{Expr, col, num, bool, nul, bin, neg, test, between, inlist, fn, Exprs, enil, econs, Pair, WinEntry, Plan, scan, filter, project, join, alias, union, distinct, sort, repartition, limit, aggregate, window, Plans, pnil, pcons}
-use Rattle.plan.specs.Trees.{labelE, kidsE, forestE, before, each, nothingBelow, fieldLabel, entryLabel, entryKids, pairLabel, pairKids, keyLabel, keyKids, aggLabel, aggKids, winLabel, winKids, filterKids, labelP, kidsP, forestP, planTree}
-use Rattle.acceptance.specs.Marks.{marks-in, marks-in-all, marks-in?, Rules, entry-marks, pair-marks, key-marks, agg-marks, win-marks, marks-of, marks-of-all}
+use Rattle.plan.specs.Syntax.{Expr, col, num, bool, nul, bin, neg, test, between, inlist, fn, Exprs, enil, econs, Pair, WinEntry, Plan}
+use Rattle.plan.specs.Syntax.{scan, filter, project, join, alias, union, distinct, sort, repartition, limit, aggregate, window, Plans, pnil}
+use Rattle.plan.specs.Syntax.{pcons}
+use Rattle.plan.specs.Trees.{labelE, kidsE, forestE, before, each, nothingBelow, fieldLabel, entryLabel, entryKids, pairLabel, pairKids}
+use Rattle.plan.specs.Trees.{keyLabel, keyKids, aggLabel, aggKids, winLabel, winKids, filterKids, labelP, kidsP, forestP, planTree}
+use Rattle.acceptance.specs.Marks.{marks-in, marks-in-all, marks-in?, Rules, entry-marks, pair-marks, key-marks, agg-marks, win-marks}
+use Rattle.acceptance.specs.Marks.{marks-of, marks-of-all}
 
 -- the labels of a forest, in reading order
 abbrev pub labels : Forest → List Label

@@ -11,9 +11,13 @@ use Rattle.image.specs.Tree.{Label, Forest, none, size}
 use Rattle.image.specs.Flat.{sizeT}
 use Rattle.image.specs.Lowest.{nothing, orElse, unless, firstFalse}
 use Rattle.plan.specs.Lists.{_&_, all, flat}
-use Rattle.plan.specs.Syntax.{Name, Expr, col, num, bool, nul, bin, neg, test, between, inlist, fn, Exprs, enil, econs, Field, Pair, WinEntry, Plan, scan, filter, project, join, alias, union, distinct, sort, repartition, limit, aggregate, window, Plans, pnil, pcons}
-use Rattle.plan.specs.Trees.{columnLabel, labelE, kidsE, forestE, before, each, nothingBelow, fieldLabel, entryLabel, entryKids, pairLabel, pairKids, keyLabel, keyKids, aggLabel, aggKids, winLabel, winKids, filterKids, kidsP, forestP, planTree}
-use Rattle.acceptance.specs.Marks.{marks-in, marks-in-all, marks-in?, Rules, entry-marks, pair-marks, key-marks, agg-marks, win-marks, marks-of, marks-of-all}
+use Rattle.plan.specs.Syntax.{Name, Expr, col, num, bool, nul, bin, neg, test, between, inlist, fn, Exprs, enil, econs, Field, Pair}
+use Rattle.plan.specs.Syntax.{WinEntry, Plan, scan, filter, project, join, alias, union, distinct, sort, repartition, limit, aggregate}
+use Rattle.plan.specs.Syntax.{window, Plans, pnil, pcons}
+use Rattle.plan.specs.Trees.{columnLabel, labelE, kidsE, forestE, before, each, nothingBelow, fieldLabel, entryLabel, entryKids, pairLabel}
+use Rattle.plan.specs.Trees.{pairKids, keyLabel, keyKids, aggLabel, aggKids, winLabel, winKids, filterKids, kidsP, forestP, planTree}
+use Rattle.acceptance.specs.Marks.{marks-in, marks-in-all, marks-in?, Rules, entry-marks, pair-marks, key-marks, agg-marks, win-marks}
+use Rattle.acceptance.specs.Marks.{marks-of, marks-of-all}
 
 -- all marks are true
 abbrev pub kept : List Bool → Bool

@@ -10,7 +10,9 @@ use lib.Dec.{eqb}
 use borrow.Author.Tests.{eqb-true, eq-eqb}
 use Rattle.plan.specs.Lists.{_&_, all, any}
 use Rattle.plan.proofs.Lists.{and-l, and-r, and-intro}
-use Rattle.plan.specs.Syntax.{Name, nm, Expr, Field, Entry, Pair, Key, AggEntry, WinEntry, Kind, inner, left, right, full, leftSemi, rightSemi, leftAnti, rightAnti, Plan, scan, filter, project, join, alias, union, distinct, sort, repartition, limit, aggregate, window, Plans, pnil, pcons}
+use Rattle.plan.specs.Syntax.{Name, nm, Expr, Field, Entry, Pair, Key, AggEntry, WinEntry, Kind, inner, left, right, full, leftSemi}
+use Rattle.plan.specs.Syntax.{rightSemi, leftAnti, rightAnti, Plan, scan, filter, project, join, alias, union, distinct, sort, repartition}
+use Rattle.plan.specs.Syntax.{limit, aggregate, window, Plans, pnil, pcons}
 use Rattle.plan.specs.Schema.{same, schema, schema-first, requalify, sides, has}
 use Rattle.plan.proofs.Names.{nodup}
 use Rattle.plan.specs.Columns.{on-cols}

@@ -9,14 +9,18 @@ use lib.Dec.{eqb}
 use borrow.Author.Tests.{eqb-true, eq-eqb}
 use Rattle.image.specs.Lowest.{nothing}
 use Rattle.plan.specs.Lists.{_&_, all, flat}
-use Rattle.plan.proofs.Lists.{and-l, and-r, and-intro, and-assoc, and-true, true-and, and-sort, all-append, all-flat, all-map, all-true, all-and}
-use Rattle.plan.specs.Syntax.{Expr, col, num, bool, nul, bin, neg, test, between, inlist, fn, Exprs, enil, econs, Field, Plan, scan, filter, project, join, alias, union, distinct, sort, repartition, limit, aggregate, window, Plans, pnil, pcons}
+use Rattle.plan.proofs.Lists.{and-l, and-r, and-intro, and-assoc, and-true, true-and, and-sort, all-append, all-flat, all-map, all-true}
+use Rattle.plan.proofs.Lists.{all-and}
+use Rattle.plan.specs.Syntax.{Expr, col, num, bool, nul, bin, neg, test, between, inlist, fn, Exprs, enil, econs, Field, Plan, scan, filter}
+use Rattle.plan.specs.Syntax.{project, join, alias, union, distinct, sort, repartition, limit, aggregate, window, Plans, pnil, pcons}
 use Rattle.plan.specs.Schema.{schema}
 use Rattle.plan.specs.Types.{Types, types, types-first, field-types, both-types, Scanned, scans, scans-all}
 use Rattle.acceptance.specs.Marks.{marks-in, marks-in-all, marks-in?, marks-of, marks-of-all}
-use Rattle.acceptance.specs.Types.{typed-operands, same-types, united, first-scanned, as-first, scanned, typed-plan, type-rules, types-in, types-of, badType, is-boolean, is-boolean?}
+use Rattle.acceptance.specs.Types.{typed-operands, same-types, united, first-scanned, as-first, scanned, typed-plan, type-rules}
+use Rattle.acceptance.specs.Types.{types-in, types-of, badType, is-boolean, is-boolean?}
 use Rattle.acceptance.proofs.Marks.{kept, none-false, all-kept}
-use Rattle.acceptance.proofs.TypesRule.{well, well-all, boolean, boolean?, typed, typed-all, agree, all-agree, types-ok, same-types-eq}
+use Rattle.acceptance.proofs.TypesRule.{well, well-all, boolean, boolean?, typed, typed-all, agree, all-agree, types-ok}
+use Rattle.acceptance.proofs.TypesRule.{same-types-eq}
 
 -- ---- expressions
 

@@ -9,7 +9,9 @@ use lib.ListN.{length}
 use borrow.Author.Tests.{eqb-true, eq-eqb}
 use Rattle.plan.specs.Lists.{_&_, all}
 use Rattle.plan.proofs.Lists.{and-l, and-r, and-intro}
-use Rattle.plan.specs.Syntax.{Expr, col, num, bool, nul, bin, neg, test, between, inlist, fn, Exprs, enil, econs, Field, Entry, Pair, Key, AggEntry, WinEntry, Plan, scan, filter, project, join, alias, union, distinct, sort, repartition, limit, aggregate, window, Plans, pnil, pcons}
+use Rattle.plan.specs.Syntax.{Expr, col, num, bool, nul, bin, neg, test, between, inlist, fn, Exprs, enil, econs, Field, Entry, Pair, Key}
+use Rattle.plan.specs.Syntax.{AggEntry, WinEntry, Plan, scan, filter, project, join, alias, union, distinct, sort, repartition, limit}
+use Rattle.plan.specs.Syntax.{aggregate, window, Plans, pnil, pcons}
 use Rattle.plan.specs.Schema.{lookD, schema, schema-first}
 use Rattle.plan.specs.Types.{Scanned, scans, Types, type-of, types, types-first, field-types, both-types}
 use Rattle.plan.proofs.Types.{types-length, types-first-length}

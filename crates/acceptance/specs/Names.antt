@@ -9,7 +9,8 @@ use Rattle.image.specs.Limits.{maxFields}
 use Rattle.image.specs.Lowest.{Found, firstFalse}
 use Rattle.plan.specs.Lists.{_&_, any}
 use Rattle.plan.specs.Schema.{same, schema}
-use Rattle.plan.specs.Syntax.{Name, nm, Expr, col, num, bool, nul, bin, neg, test, between, inlist, fn, Plan, scan, filter, project, join, alias, union, distinct, sort, repartition, limit, aggregate, window}
+use Rattle.plan.specs.Syntax.{Name, nm, Expr, col, num, bool, nul, bin, neg, test, between, inlist, fn, Plan, scan, filter, project, join}
+use Rattle.plan.specs.Syntax.{alias, union, distinct, sort, repartition, limit, aggregate, window}
 use Rattle.acceptance.specs.Marks.{marks-in, Rules, marks-of}
 
 -- ---- references

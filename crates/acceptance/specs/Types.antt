@@ -8,7 +8,10 @@ use mathlib.Core.Option.{Option, none, some}
 use lib.Dec.{eqb}
 use Rattle.image.specs.Lowest.{Found, firstFalse}
 use Rattle.plan.specs.Lists.{_&_, all}
-use Rattle.plan.specs.Syntax.{Op, and, or, cmp, Test, isNull, isNotNull, isTrue, isFalse, isUnknown, isNotTrue, isNotFalse, isNotUnknown, Expr, col, num, bool, nul, bin, neg, test, between, inlist, fn, Exprs, enil, econs, Field, Agg, count, min, max, Plan, scan, filter, project, join, alias, union, distinct, sort, repartition, limit, aggregate, window, Plans, pnil, pcons}
+use Rattle.plan.specs.Syntax.{Op, and, or, cmp, Test, isNull, isNotNull, isTrue, isFalse, isUnknown, isNotTrue, isNotFalse, isNotUnknown}
+use Rattle.plan.specs.Syntax.{Expr, col, num, bool, nul, bin, neg, test, between, inlist, fn, Exprs, enil, econs, Field, Agg, count, min}
+use Rattle.plan.specs.Syntax.{max, Plan, scan, filter, project, join, alias, union, distinct, sort, repartition, limit, aggregate, window}
+use Rattle.plan.specs.Syntax.{Plans, pnil, pcons}
 use Rattle.plan.specs.Types.{Types, type-of, types, types-first, field-types, both-types, Scanned, scans}
 use Rattle.acceptance.specs.Marks.{marks-in, Rules, marks-of}
 

@@ -4,7 +4,9 @@ use mathlib.Core.Bool.{true, false}
 use mathlib.Core.List.{[], _∷_}
 use mathlib.Core.Option.{none, some}
 use lib.IntN.{negsuc}
-use Rattle.plan.specs.Syntax.{nm, eq, ne, lt, le, gt, ge, and, cmp, isNull, isNotNull, isTrue, num, bool, nul, bin, test, between, inlist, fn, enil, econs, count, min, max, inner, left, right, full, leftSemi, rightSemi, rightAnti, scan, filter, project, join, alias, union, distinct, sort, repartition, limit, aggregate, window, pnil, pcons}
+use Rattle.plan.specs.Syntax.{nm, eq, ne, lt, le, gt, ge, and, cmp, isNull, isNotNull, isTrue, num, bool, nul, bin, test, between, inlist}
+use Rattle.plan.specs.Syntax.{fn, enil, econs, count, min, max, inner, left, right, full, leftSemi, rightSemi, rightAnti, scan, filter}
+use Rattle.plan.specs.Syntax.{project, join, alias, union, distinct, sort, repartition, limit, aggregate, window, pnil, pcons}
 use Rattle.rewrite.specs.RewriteAt.{granted, rewriteAt}
 use Rattle.rewrite.specs.Pass.{passed, pass}
 use Rattle.rewrite.proofs.Opened.{opened}

@@ -3,7 +3,8 @@ use mathlib.Core.Path.{_≡_, refl}
 use mathlib.Core.Bool.{true, false}
 use mathlib.Core.List.{[], _∷_}
 use mathlib.Core.Option.{some}
-use Rattle.plan.specs.Syntax.{ne, gt, and, cmp, isNull, bool, bin, neg, test, inner, scan, filter, project, join, union, distinct, repartition, limit, pnil, pcons}
+use Rattle.plan.specs.Syntax.{ne, gt, and, cmp, isNull, bool, bin, neg, test, inner, scan, filter, project, join, union, distinct}
+use Rattle.plan.specs.Syntax.{repartition, limit, pnil, pcons}
 use Rattle.rewrite.specs.RewriteAt.{granted, refused, rewriteAt}
 use Rattle.rewrite.specs.Pass.{pass-refused, pass}
 use Rattle.rewrite.proofs.Opened.{opened}

@@ -4,7 +4,10 @@ use mathlib.Core.Bool.{true, false}
 use mathlib.Core.List.{[], _∷_}
 use mathlib.Core.Option.{none, some}
 use lib.IntN.{negsuc}
-use Rattle.plan.specs.Syntax.{nm, eq, ne, lt, le, gt, ge, and, or, cmp, isNull, isNotNull, isTrue, isFalse, isUnknown, isNotTrue, isNotFalse, isNotUnknown, num, bool, nul, bin, neg, test, between, inlist, fn, enil, econs, count, min, max, inner, left, right, full, leftSemi, rightSemi, leftAnti, rightAnti, scan, filter, project, join, alias, union, distinct, sort, repartition, limit, aggregate, window, pnil, pcons}
+use Rattle.plan.specs.Syntax.{nm, eq, ne, lt, le, gt, ge, and, or, cmp, isNull, isNotNull, isTrue, isFalse, isUnknown, isNotTrue}
+use Rattle.plan.specs.Syntax.{isNotFalse, isNotUnknown, num, bool, nul, bin, neg, test, between, inlist, fn, enil, econs, count, min, max}
+use Rattle.plan.specs.Syntax.{inner, left, right, full, leftSemi, rightSemi, leftAnti, rightAnti, scan, filter, project, join, alias, union}
+use Rattle.plan.specs.Syntax.{distinct, sort, repartition, limit, aggregate, window, pnil, pcons}
 use Rattle.cases.specs.Drawn.{image, w}
 use Rattle.cases.specs.Run.{v, i, fd, en, pr, ky, ag, wn}
 

@@ -4,7 +4,10 @@ use mathlib.Core.Bool.{true, false}
 use mathlib.Core.List.{[], _∷_}
 use mathlib.Core.Option.{none, some}
 use lib.IntN.{negsuc}
-use Rattle.plan.specs.Syntax.{nm, eq, ne, lt, le, gt, ge, and, cmp, isNull, isNotNull, isTrue, isFalse, isUnknown, isNotTrue, isNotFalse, isNotUnknown, num, bool, nul, bin, test, between, inlist, fn, enil, econs, count, min, max, inner, left, leftSemi, rightSemi, leftAnti, rightAnti, scan, filter, project, join, alias, union, distinct, sort, repartition, limit, aggregate, window, pnil, pcons}
+use Rattle.plan.specs.Syntax.{nm, eq, ne, lt, le, gt, ge, and, cmp, isNull, isNotNull, isTrue, isFalse, isUnknown, isNotTrue, isNotFalse}
+use Rattle.plan.specs.Syntax.{isNotUnknown, num, bool, nul, bin, test, between, inlist, fn, enil, econs, count, min, max, inner, left}
+use Rattle.plan.specs.Syntax.{leftSemi, rightSemi, leftAnti, rightAnti, scan, filter, project, join, alias, union, distinct, sort}
+use Rattle.plan.specs.Syntax.{repartition, limit, aggregate, window, pnil, pcons}
 use Rattle.rewrite.specs.RewriteAt.{granted, refused, rewriteAt}
 use Rattle.rewrite.specs.Pass.{passed, pass-refused, pass}
 use Rattle.rewrite.proofs.Opened.{opened}

@@ -6,7 +6,8 @@ use mathlib.Core.List.{List, [], _∷_, _++_, map}
 use lib.ListN.{length, take, drop}
 use lib.IntN.{ℤ, pos}
 use Rattle.plan.specs.Lists.{_&_, keep, flat}
-use Rattle.plan.specs.Syntax.{Value, null, int, truth, Name, Cmp, le, and, cmp, Expr, bin, between, inlist, Exprs, AggEntry, count, min, max, left, full, rightAnti, Plan, limit, repartition, union, pnil, pcons}
+use Rattle.plan.specs.Syntax.{Value, null, int, truth, Name, Cmp, le, and, cmp, Expr, bin, between, inlist, Exprs, AggEntry, count, min}
+use Rattle.plan.specs.Syntax.{max, left, full, rightAnti, Plan, limit, repartition, union, pnil, pcons}
 use Rattle.meaning.specs.Meaning.{World, Row, Env, compare, before, sameV, nulls, joined, aggregated, grouped, eval, rows}
 
 -- ---- expressions

@@ -13,7 +13,11 @@ use lib.IntN.{ℤ, pos}
 use lib.Signed.{ltZ, leZ}
 use Rattle.plan.specs.Schema.{lookD, schema}
 use Rattle.plan.specs.Lists.{_&_, keep, all, any, flat}
-use Rattle.plan.specs.Syntax.{Value, null, int, truth, Name, Cmp, eq, ne, lt, le, gt, ge, Op, and, or, cmp, Test, isNull, isNotNull, isTrue, isFalse, isUnknown, isNotTrue, isNotFalse, isNotUnknown, Expr, col, num, bool, nul, bin, neg, test, between, inlist, fn, Exprs, enil, econs, Field, Entry, Pair, Key, Agg, count, min, max, AggEntry, WinEntry, Kind, inner, left, right, full, leftSemi, rightSemi, leftAnti, rightAnti, Plan, scan, filter, project, join, alias, union, distinct, sort, repartition, limit, aggregate, window, Plans, pnil, pcons}
+use Rattle.plan.specs.Syntax.{Value, null, int, truth, Name, Cmp, eq, ne, lt, le, gt, ge, Op, and, or, cmp, Test, isNull, isNotNull, isTrue}
+use Rattle.plan.specs.Syntax.{isFalse, isUnknown, isNotTrue, isNotFalse, isNotUnknown, Expr, col, num, bool, nul, bin, neg, test, between}
+use Rattle.plan.specs.Syntax.{inlist, fn, Exprs, enil, econs, Field, Entry, Pair, Key, Agg, count, min, max, AggEntry, WinEntry, Kind}
+use Rattle.plan.specs.Syntax.{inner, left, right, full, leftSemi, rightSemi, leftAnti, rightAnti, Plan, scan, filter, project, join, alias}
+use Rattle.plan.specs.Syntax.{union, distinct, sort, repartition, limit, aggregate, window, Plans, pnil, pcons}
 
 -- ---- rows, tables, functions
 

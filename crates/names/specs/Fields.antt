@@ -5,7 +5,9 @@ use mathlib.Core.List.{List, [], _∷_, _++_, map}
 use Prim.Native.Nat.{ℕ}
 use lib.Dec.{eqb, leb}
 use Rattle.image.specs.Tree.{Label, Forest, none, node}
-use Rattle.plan.specs.Kinds.{What, expr, plan, part, unknown, what, ExprKind, Column, Integer, Boolean, Null, Binary, Not, Test, Between, InList, Function, PlanKind, TableScan, Filter, Projection, Join, SubqueryAlias, Union, Distinct, Sort, Repartition, Limit, Aggregate, Window, PartKind, FieldPart, EntryPart, PairPart, KeyPart, AggPart, WinPart}
+use Rattle.plan.specs.Kinds.{What, expr, plan, part, unknown, what, ExprKind, Column, Integer, Boolean, Null, Binary, Not, Test, Between}
+use Rattle.plan.specs.Kinds.{InList, Function, PlanKind, TableScan, Filter, Projection, Join, SubqueryAlias, Union, Distinct, Sort}
+use Rattle.plan.specs.Kinds.{Repartition, Limit, Aggregate, Window, PartKind, FieldPart, EntryPart, PairPart, KeyPart, AggPart, WinPart}
 use Rattle.plan.specs.Schema.{same}
 use Rattle.plan.specs.Syntax.{Name, nm}
 

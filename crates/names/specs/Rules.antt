@@ -5,7 +5,10 @@ use Prim.Native.Nat.{ℕ}
 use lib.Dec.{eqb, leb}
 use Rattle.image.specs.Tree.{Label, Forest, none, node, Tree}
 use Rattle.plan.specs.Lists.{_&_, put, all}
-use Rattle.plan.specs.Kinds.{What, expr, plan, part, unknown, what, isExpr, isKind, ExprKind, Column, Integer, Boolean, Null, Binary, Not, Test, Between, InList, Function, PlanKind, TableScan, Filter, Projection, Join, SubqueryAlias, Union, Distinct, Sort, Repartition, Limit, Aggregate, Window, PartKind, FieldPart, EntryPart, PairPart, KeyPart, AggPart, WinPart}
+use Rattle.plan.specs.Kinds.{What, expr, plan, part, unknown, what, isExpr, isKind, ExprKind, Column, Integer, Boolean, Null, Binary, Not}
+use Rattle.plan.specs.Kinds.{Test, Between, InList, Function, PlanKind, TableScan, Filter, Projection, Join, SubqueryAlias, Union, Distinct}
+use Rattle.plan.specs.Kinds.{Sort, Repartition, Limit, Aggregate, Window, PartKind, FieldPart, EntryPart, PairPart, KeyPart, AggPart}
+use Rattle.plan.specs.Kinds.{WinPart}
 use Rattle.image.specs.Lowest.{Found, lowest, alone}
 use Rattle.names.specs.Fields.{Fld, Schema, nameOf, typeOf, made, fieldsP, inputs, namesIn, first, second}
 use Rattle.acceptance.specs.Names.{sound, holders}

@@ -16,7 +16,8 @@ use Rattle.plan.specs.Form.{past}
 use Rattle.image.specs.Lowest.{alone}
 use Rattle.plan.specs.Syntax.{Exprs, enil, econs, Entry, Pair, Key, AggEntry, WinEntry, Plans, pnil, pcons}
 use Rattle.plan.specs.Integers.{FitsE, FitsEs, Every, Fits?, FitsP, FitsPs, FitsZ}
-use Rattle.plan.specs.Read.{signed, headE, tailE, listE, perhapsE, exprOf, exprBy, exprsOf, entryOf, pairOf, keyOf, aggOf, winOf, run, rest, headP, tailP, isField, isEntry, isPair, isKey, isAgg, isWin, planFrom, plansBy, plansOf, planAt}
+use Rattle.plan.specs.Read.{signed, headE, tailE, listE, perhapsE, exprOf, exprBy, exprsOf, entryOf, pairOf, keyOf, aggOf, winOf, run}
+use Rattle.plan.specs.Read.{rest, headP, tailP, isField, isEntry, isPair, isKey, isAgg, isWin, planFrom, plansBy, plansOf, planAt}
 use Rattle.plan.proofs.Rebuilt.{Bounds, bounds, words-at, worded-past}
 
 signed-fits : (lo hi : ℕ) → lo ≤ 4294967295 → hi ≤ 4294967295 → FitsZ (signed lo hi)

@@ -7,8 +7,11 @@ use mathlib.Core.List.{List, [], _∷_}
 use mathlib.Core.Option.{Option}
 use lib.IntN.{ℤ}
 use Rattle.image.specs.Tree.{Label, Forest, node, none, size}
-use Rattle.plan.specs.Syntax.{Name, Op, Test, Expr, col, num, bool, nul, bin, neg, test, between, inlist, fn, Exprs, econs, Field, Entry, Pair, Key, AggEntry, WinEntry, Kind, Plans, pnil, pcons, Plan, scan, filter, project, join, alias, union, distinct, sort, repartition, limit, aggregate, window}
-use Rattle.plan.specs.Trees.{labelE, kidsE, forestE, each, nothingBelow, fieldLabel, entryLabel, entryKids, pairLabel, pairKids, keyLabel, keyKids, aggLabel, aggKids, winLabel, winKids, filterKids, labelP, kidsP, forestP}
+use Rattle.plan.specs.Syntax.{Name, Op, Test, Expr, col, num, bool, nul, bin, neg, test, between, inlist, fn, Exprs, econs, Field}
+use Rattle.plan.specs.Syntax.{Entry, Pair, Key, AggEntry, WinEntry, Kind, Plans, pnil, pcons, Plan, scan, filter, project, join}
+use Rattle.plan.specs.Syntax.{alias, union, distinct, sort, repartition, limit, aggregate, window}
+use Rattle.plan.specs.Trees.{labelE, kidsE, forestE, each, nothingBelow, fieldLabel, entryLabel, entryKids, pairLabel, pairKids}
+use Rattle.plan.specs.Trees.{keyLabel, keyKids, aggLabel, aggKids, winLabel, winKids, filterKids, labelP, kidsP, forestP}
 use Rattle.plan.specs.Measure.{depth, sizeE, sizeP, sizes, depthP}
 
 -- ---- a run of parts in front of other trees

@@ -18,8 +18,12 @@ use Rattle.plan.specs.Kinds.{What, expr, plan, part, unknown, what, what
 use Rattle.plan.specs.Words.{Range, Row, rowE, rowP, rowQ, inside, fits, wordsBy, wordsOk, Worded}
 use Rattle.plan.specs.Form.{end, one, past, perhaps, childrenE, childrenP, childrenQ, childrenBy, formOk}
 use Rattle.plan.specs.Syntax.{and, Test, isNull, Exprs, enil, econs, count, inner, Plans}
-use Rattle.plan.specs.Trees.{lowHalf, highHalf, bitOf, opNumber, testNumber, joinNumber, aggNumber, columnLabel, labelE, kidsE, forestE, before, each, nothingBelow, fieldLabel, entryLabel, entryKids, pairLabel, pairKids, keyLabel, keyKids, aggLabel, aggKids, winLabel, winKids, fetchBit, fetchOf, filterKids, labelP, kidsP, forestP}
-use Rattle.plan.specs.Read.{signed, nth, ops, tests, joins, aggs, headE, tailE, listE, perhapsE, exprOf, exprBy, exprsOf, fieldOf, entryOf, pairOf, keyOf, aggOf, columnOf, run, rest, winOf, headP, tailP, isField, isEntry, isPair, isKey, isAgg, isWin, planFrom, plansBy, plansOf}
+use Rattle.plan.specs.Trees.{lowHalf, highHalf, bitOf, opNumber, testNumber, joinNumber, aggNumber, columnLabel, labelE, kidsE}
+use Rattle.plan.specs.Trees.{forestE, before, each, nothingBelow, fieldLabel, entryLabel, entryKids, pairLabel, pairKids, keyLabel}
+use Rattle.plan.specs.Trees.{keyKids, aggLabel, aggKids, winLabel, winKids, fetchBit, fetchOf, filterKids, labelP, kidsP, forestP}
+use Rattle.plan.specs.Read.{signed, nth, ops, tests, joins, aggs, headE, tailE, listE, perhapsE, exprOf, exprBy, exprsOf, fieldOf}
+use Rattle.plan.specs.Read.{entryOf, pairOf, keyOf, aggOf, columnOf, run, rest, winOf, headP, tailP, isField, isEntry, isPair, isKey}
+use Rattle.plan.specs.Read.{isAgg, isWin, planFrom, plansBy, plansOf}
 
 -- ---- all records of a forest
 

@@ -15,10 +15,19 @@ use Rattle.plan.specs.Kinds as K
 use Rattle.plan.specs.Kinds.{expr, part, what, whatOf, among, isKind}
 use Rattle.plan.specs.Form.{past, badForm}
 use Rattle.image.specs.Lowest.{nothing}
-use Rattle.plan.specs.Syntax.{Name, nm, eq, ne, lt, le, gt, ge, Op, and, or, cmp, Test, isNull, isNotNull, isTrue, isFalse, isUnknown, isNotTrue, isNotFalse, isNotUnknown, Expr, col, num, bool, nul, bin, neg, test, between, inlist, fn, Exprs, enil, econs, Field, Entry, Pair, Key, Agg, count, min, max, AggEntry, WinEntry, Kind, inner, left, right, full, leftSemi, rightSemi, leftAnti, rightAnti, Plan, scan, filter, project, join, alias, union, distinct, sort, repartition, limit, aggregate, window, Plans, pnil, pcons}
+use Rattle.plan.specs.Syntax.{Name, nm, eq, ne, lt, le, gt, ge, Op, and, or, cmp, Test, isNull, isNotNull, isTrue, isFalse, isUnknown}
+use Rattle.plan.specs.Syntax.{isNotTrue, isNotFalse, isNotUnknown, Expr, col, num, bool, nul, bin, neg, test, between, inlist, fn}
+use Rattle.plan.specs.Syntax.{Exprs, enil, econs, Field, Entry, Pair, Key, Agg, count, min, max, AggEntry, WinEntry, Kind, inner}
+use Rattle.plan.specs.Syntax.{left, right, full, leftSemi, rightSemi, leftAnti, rightAnti, Plan, scan, filter, project, join, alias}
+use Rattle.plan.specs.Syntax.{union, distinct, sort, repartition, limit, aggregate, window, Plans, pnil, pcons}
 use Rattle.plan.specs.Integers.{FitsE, FitsEs, Every, Fits?, FitsP, FitsPs, FitsZ}
-use Rattle.plan.specs.Trees.{lowHalf, highHalf, bitOf, qualifier, ident, opNumber, testNumber, joinNumber, aggNumber, columnLabel, labelE, kidsE, forestE, before, each, nothingBelow, fieldLabel, entryLabel, entryKids, pairLabel, pairKids, keyLabel, keyKids, aggLabel, aggKids, winLabel, winKids, fetchBit, fetchOf, filterKids, labelP, kidsP, forestP, planTree}
-use Rattle.plan.specs.Read.{signed, nth, ops, tests, joins, aggs, headE, listE, perhapsE, exprBy, exprsOf, fieldOf, entryOf, pairOf, keyOf, aggOf, columnOf, run, winOf, headP, isField, isEntry, isPair, isKey, isAgg, isWin, plansOf, planAt, planOf}
+use Rattle.plan.specs.Trees.{lowHalf, highHalf, bitOf, qualifier, ident, opNumber, testNumber, joinNumber, aggNumber, columnLabel}
+use Rattle.plan.specs.Trees.{labelE, kidsE, forestE, before, each, nothingBelow, fieldLabel, entryLabel, entryKids, pairLabel}
+use Rattle.plan.specs.Trees.{pairKids, keyLabel, keyKids, aggLabel, aggKids, winLabel, winKids, fetchBit, fetchOf, filterKids, labelP}
+use Rattle.plan.specs.Trees.{kidsP, forestP, planTree}
+use Rattle.plan.specs.Read.{signed, nth, ops, tests, joins, aggs, headE, listE, perhapsE, exprBy, exprsOf, fieldOf, entryOf, pairOf}
+use Rattle.plan.specs.Read.{keyOf, aggOf, columnOf, run, winOf, headP, isField, isEntry, isPair, isKey, isAgg, isWin, plansOf, planAt}
+use Rattle.plan.specs.Read.{planOf}
 
 -- ---- numbers
 

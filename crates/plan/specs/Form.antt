@@ -6,7 +6,10 @@ use Rattle.image.specs.Tree.{Label, Forest, none, node, Tree}
 use Rattle.image.specs.Limits.{maxList}
 use Rattle.image.specs.Lowest.{Found, orElse, unless, lowest, alone}
 use Rattle.plan.specs.Lists.{_&_}
-use Rattle.plan.specs.Kinds.{What, expr, plan, part, unknown, what, isExpr, isPlan, isKind, ExprKind, Column, Integer, Boolean, Null, Binary, Not, Test, Between, InList, Function, PlanKind, TableScan, Filter, Projection, Join, SubqueryAlias, Union, Distinct, Sort, Repartition, Limit, Aggregate, Window, PartKind, FieldPart, EntryPart, PairPart, KeyPart, AggPart, WinPart}
+use Rattle.plan.specs.Kinds.{What, expr, plan, part, unknown, what, isExpr, isPlan, isKind, ExprKind, Column, Integer, Boolean, Null}
+use Rattle.plan.specs.Kinds.{Binary, Not, Test, Between, InList, Function, PlanKind, TableScan, Filter, Projection, Join}
+use Rattle.plan.specs.Kinds.{SubqueryAlias, Union, Distinct, Sort, Repartition, Limit, Aggregate, Window, PartKind, FieldPart}
+use Rattle.plan.specs.Kinds.{EntryPart, PairPart, KeyPart, AggPart, WinPart}
 
 -- ---- patterns of children
 

@@ -4,7 +4,9 @@ use mathlib.Core.List.{List, [], _∷_}
 use mathlib.Core.Option as O
 use mathlib.Core.Option.{Option, some}
 use lib.IntN.{ℤ, pos, negsuc}
-use Rattle.plan.specs.Syntax.{Expr, col, num, bool, nul, bin, neg, test, between, inlist, fn, Exprs, enil, econs, Entry, Pair, Key, AggEntry, WinEntry, Plan, scan, filter, project, join, alias, union, distinct, sort, repartition, limit, aggregate, window, Plans, pnil, pcons}
+use Rattle.plan.specs.Syntax.{Expr, col, num, bool, nul, bin, neg, test, between, inlist, fn, Exprs, enil, econs, Entry, Pair, Key}
+use Rattle.plan.specs.Syntax.{AggEntry, WinEntry, Plan, scan, filter, project, join, alias, union, distinct, sort, repartition, limit}
+use Rattle.plan.specs.Syntax.{aggregate, window, Plans, pnil, pcons}
 
 -- the numbers that 64 bits hold
 abbrev pub FitsZ : ℤ → Type 0

@@ -4,7 +4,9 @@ use mathlib.Core.Bool.{Bool, cond}
 use mathlib.Core.List.{List, [], _∷_, _++_, map}
 use lib.Dec.{eqb}
 use Rattle.plan.specs.Lists.{_&_, any}
-use Rattle.plan.specs.Syntax.{Name, nm, Field, Entry, AggEntry, WinEntry, Kind, inner, left, right, full, leftSemi, rightSemi, leftAnti, rightAnti, Plan, scan, filter, project, join, alias, union, distinct, sort, repartition, limit, aggregate, window, Plans, pnil, pcons}
+use Rattle.plan.specs.Syntax.{Name, nm, Field, Entry, AggEntry, WinEntry, Kind, inner, left, right, full, leftSemi, rightSemi}
+use Rattle.plan.specs.Syntax.{leftAnti, rightAnti, Plan, scan, filter, project, join, alias, union, distinct, sort, repartition}
+use Rattle.plan.specs.Syntax.{limit, aggregate, window, Plans, pnil, pcons}
 
 -- ---- names
 

@@ -1,7 +1,9 @@
 -- The types of expressions and of the fields of a schema: 1 integer, 2 boolean; 0 where a name has none.
 use Prim.Native.Nat.{ℕ}
 use mathlib.Core.List.{List, [], _∷_, _++_, map}
-use Rattle.plan.specs.Syntax.{Name, Expr, col, num, bool, nul, bin, neg, test, between, inlist, fn, Field, Entry, AggEntry, WinEntry, Kind, inner, left, right, full, leftSemi, rightSemi, leftAnti, rightAnti, Plan, scan, filter, project, join, alias, union, distinct, sort, repartition, limit, aggregate, window, Plans, pnil, pcons}
+use Rattle.plan.specs.Syntax.{Name, Expr, col, num, bool, nul, bin, neg, test, between, inlist, fn, Field, Entry, AggEntry, WinEntry}
+use Rattle.plan.specs.Syntax.{Kind, inner, left, right, full, leftSemi, rightSemi, leftAnti, rightAnti, Plan, scan, filter, project}
+use Rattle.plan.specs.Syntax.{join, alias, union, distinct, sort, repartition, limit, aggregate, window, Plans, pnil, pcons}
 use Rattle.plan.specs.Schema.{lookD, schema}
 
 abbrev pub Types : Type 0

@@ -6,7 +6,10 @@ use mathlib.Core.Path.{_≡_}
 use Rattle.image.specs.Tree.{Label, Forest, none, node}
 use Rattle.image.specs.Limits.{maxWord}
 use Rattle.plan.specs.Lists.{_&_}
-use Rattle.plan.specs.Kinds.{What, expr, plan, part, unknown, what, ExprKind, Column, Integer, Boolean, Null, Binary, Not, Test, Between, InList, Function, PlanKind, TableScan, Filter, Projection, Join, SubqueryAlias, Union, Distinct, Sort, Repartition, Limit, Aggregate, Window, PartKind, FieldPart, EntryPart, PairPart, KeyPart, AggPart, WinPart}
+use Rattle.plan.specs.Kinds.{What, expr, plan, part, unknown, what, ExprKind, Column, Integer, Boolean, Null, Binary, Not, Test}
+use Rattle.plan.specs.Kinds.{Between, InList, Function, PlanKind, TableScan, Filter, Projection, Join, SubqueryAlias, Union, Distinct}
+use Rattle.plan.specs.Kinds.{Sort, Repartition, Limit, Aggregate, Window, PartKind, FieldPart, EntryPart, PairPart, KeyPart, AggPart}
+use Rattle.plan.specs.Kinds.{WinPart}
 
 pub record Range : Type 0 where
   pub low : ℕ

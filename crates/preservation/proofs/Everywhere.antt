@@ -8,7 +8,9 @@ use lib.IntN.{ℤ}
 use lib.ListN.{length}
 use Rattle.image.specs.Tree.{Label}
 use Rattle.plan.specs.Lists.{_&_, all}
-use Rattle.plan.specs.Syntax.{Name, Op, Expr, col, num, bool, nul, bin, neg, test, between, inlist, fn, Exprs, enil, econs, Field, Entry, Pair, Key, AggEntry, WinEntry, Plan, scan, filter, project, join, alias, union, distinct, sort, repartition, limit, aggregate, window, Plans, pnil, pcons}
+use Rattle.plan.specs.Syntax.{Name, Op, Expr, col, num, bool, nul, bin, neg, test, between, inlist, fn, Exprs, enil, econs, Field, Entry}
+use Rattle.plan.specs.Syntax.{Pair, Key, AggEntry, WinEntry, Plan, scan, filter, project, join, alias, union, distinct, sort, repartition}
+use Rattle.plan.specs.Syntax.{limit, aggregate, window, Plans, pnil, pcons}
 use Rattle.plan.specs.Schema.{requalify}
 use Rattle.plan.specs.Trees.{columnLabel, labelE, fieldLabel, entryLabel, pairLabel, keyLabel, aggLabel, winLabel, labelP}
 

@@ -12,7 +12,8 @@ use Rattle.plan.proofs.Lists.{and-true, true-and}
 use Rattle.plan.specs.Kinds as K
 use Rattle.plan.specs.Kinds.{expr, part, what, whatOf, among, exprW, isExpr}
 use Rattle.plan.specs.Form.{end, one, past, many, childrenE, childrenQ, isAnd, conjuncts, formOk}
-use Rattle.plan.specs.Syntax.{eq, ne, lt, le, gt, ge, and, or, cmp, Expr, col, num, bool, nul, bin, neg, test, between, inlist, fn, Exprs, enil, econs}
+use Rattle.plan.specs.Syntax.{eq, ne, lt, le, gt, ge, and, or, cmp, Expr, col, num, bool, nul, bin, neg, test, between, inlist, fn, Exprs}
+use Rattle.plan.specs.Syntax.{enil, econs}
 use Rattle.plan.specs.Trees.{labelE, kidsE, forestE, before}
 use Rattle.rewrite.specs.Utils.{split-conjunction}
 use Rattle.preservation.proofs.Everywhere.{Tests, countE, good, good-all}

@@ -9,14 +9,17 @@ use lib.Dec.{eqb}
 use Rattle.plan.specs.Lists.{choose, all}
 use Rattle.plan.proofs.Lists.{and-l, and-r, and-intro, All, anil, acons, All-map, All-append, All-keep, All-mapped, All-flat}
 use Rattle.plan.specs.Values.{ValueRecord, literalIs}
-use Rattle.plan.specs.Syntax.{Name, Op, and, or, cmp, Expr, col, num, bool, nul, bin, neg, test, between, inlist, fn, Exprs, enil, econs, Entry, Pair}
+use Rattle.plan.specs.Syntax.{Name, Op, and, or, cmp, Expr, col, num, bool, nul, bin, neg, test, between, inlist, fn, Exprs, enil, econs}
+use Rattle.plan.specs.Syntax.{Entry, Pair}
 use Rattle.plan.specs.Schema.{same}
 use Rattle.plan.specs.Columns.{on-cols}
 use Rattle.plan.specs.Trees.{columnLabel, labelE}
 use Rattle.rewrite.specs.Utils.{replace-cols, replace-cols-all, split-conjunction, split-conjunction?, conjoin, conjunction}
 use Rattle.rewrite.specs.SimplifyPredicates.{Rel, rel-cmp, bound-of, as-column, simplify-predicates}
 use Rattle.rewrite.specs.ReorderPredicates.{Reordered, reorder-predicates}
-use Rattle.rewrite.specs.PushDownFilter.{both-or, either-and, guarded, extract-or-clause, is-or, listed, extract-or-clauses-for-join, pair-of, partner, to-partner, swap-keys, infer-join-predicates, if-list, pick, ren, renamed, simplify-filter}
+use Rattle.rewrite.specs.PushDownFilter.{both-or, either-and, guarded, extract-or-clause, is-or, listed, extract-or-clauses-for-join}
+use Rattle.rewrite.specs.PushDownFilter.{pair-of, partner, to-partner, swap-keys, infer-join-predicates, if-list, pick, ren, renamed}
+use Rattle.rewrite.specs.PushDownFilter.{simplify-filter}
 use Rattle.rewrite.proofs.Simplify.{simplified-in}
 use Rattle.rewrite.proofs.SimplifyFilter.{reorder-all}
 use Rattle.preservation.proofs.Everywhere.{Tests, Closed, countE, good, good-all, good?, good-entry, good-pair}

@@ -20,12 +20,15 @@ use Rattle.plan.specs.Kinds as K
 use Rattle.plan.specs.Kinds.{expr, plan, what, whatOf, among, exprW, planW, isExpr, isPlan, isKind}
 use Rattle.plan.specs.Form.{end, one, past, many, perhaps, childrenP, conjuncts, exprsIn, formOk, badForm}
 use Rattle.plan.specs.Form as Form
-use Rattle.plan.specs.Syntax.{Name, Expr, Field, Entry, Pair, Key, AggEntry, WinEntry, Plan, scan, filter, project, join, alias, union, distinct, sort, repartition, limit, aggregate, window, Plans, pnil, pcons}
-use Rattle.plan.specs.Trees.{columnLabel, labelE, kidsE, each, nothingBelow, fieldLabel, entryLabel, entryKids, pairLabel, pairKids, keyLabel, keyKids, aggLabel, aggKids, winLabel, winKids, filterKids, labelP, kidsP, forestP, planTree}
+use Rattle.plan.specs.Syntax.{Name, Expr, Field, Entry, Pair, Key, AggEntry, WinEntry, Plan, scan, filter, project, join, alias, union}
+use Rattle.plan.specs.Syntax.{distinct, sort, repartition, limit, aggregate, window, Plans, pnil, pcons}
+use Rattle.plan.specs.Trees.{columnLabel, labelE, kidsE, each, nothingBelow, fieldLabel, entryLabel, entryKids, pairLabel, pairKids}
+use Rattle.plan.specs.Trees.{keyLabel, keyKids, aggLabel, aggKids, winLabel, winKids, filterKids, labelP, kidsP, forestP, planTree}
 use Rattle.plan.specs.Read.{isField, isEntry, isPair, isKey, isAgg, isWin}
 use Rattle.plan.proofs.Written.{Stops, past-each, no-part, no-part-e}
 use Rattle.rewrite.specs.Utils.{split-conjunction, split-conjunction?}
-use Rattle.preservation.proofs.Everywhere.{countP, good, good?, good-entry, good-pair, good-key, good-agg, good-win, everywhere, everywhere-all}
+use Rattle.preservation.proofs.Everywhere.{countP, good, good?, good-entry, good-pair, good-key, good-agg, good-win, everywhere}
+use Rattle.preservation.proofs.Everywhere.{everywhere-all}
 use Rattle.rewrite.specs.Limits.{listP, listPs}
 use Rattle.preservation.proofs.Tells.{Tells, tells-nothing, three}
 use Rattle.preservation.proofs.Rules.{passed, beside, sound, sound-each}

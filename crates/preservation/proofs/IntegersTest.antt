@@ -5,9 +5,12 @@ use native.Mathlib.Decide.{decLt}
 use lib.IntN.{ℤ, pos, negsuc}
 use Rattle.plan.specs.Lists.{_&_}
 use Rattle.plan.proofs.Lists.{and-true, all-true}
-use Rattle.plan.specs.Syntax.{Expr, col, num, bool, nul, bin, neg, test, between, inlist, fn, Exprs, enil, econs, Entry, Pair, Key, AggEntry, WinEntry, Plan, scan, filter, project, join, alias, union, distinct, sort, repartition, limit, aggregate, window, Plans, pnil, pcons}
+use Rattle.plan.specs.Syntax.{Expr, col, num, bool, nul, bin, neg, test, between, inlist, fn, Exprs, enil, econs, Entry, Pair, Key}
+use Rattle.plan.specs.Syntax.{AggEntry, WinEntry, Plan, scan, filter, project, join, alias, union, distinct, sort, repartition, limit}
+use Rattle.plan.specs.Syntax.{aggregate, window, Plans, pnil, pcons}
 use Rattle.plan.specs.Integers.{FitsZ, FitsE, FitsEs, Fits?, FitsP, FitsPs}
-use Rattle.preservation.proofs.Everywhere.{Tests, good, good-all, good?, good-entry, good-pair, good-key, good-agg, good-win, everywhere, everywhere-all}
+use Rattle.preservation.proofs.Everywhere.{Tests, good, good-all, good?, good-entry, good-pair, good-key, good-agg, good-win}
+use Rattle.preservation.proofs.Everywhere.{everywhere, everywhere-all}
 use Rattle.preservation.proofs.Tells.{Tells, tells-nothing, both, three, four, every}
 
 -- whether 64 bits hold it, by the bounds of FitsZ

@@ -11,9 +11,14 @@ use Rattle.image.specs.Tree.{Label, Forest, none}
 use Rattle.image.specs.Lowest.{alone}
 use Rattle.plan.specs.Lists.{_&_, all}
 use Rattle.plan.proofs.Lists.{and-true, true-and}
-use Rattle.plan.specs.Syntax.{Name, Expr, col, num, bool, nul, bin, neg, test, between, inlist, fn, Exprs, enil, econs, Field, Entry, Pair, Key, AggEntry, WinEntry, Plan, scan, filter, project, join, alias, union, distinct, sort, repartition, limit, aggregate, window, Plans, pnil, pcons}
-use Rattle.plan.specs.Trees.{columnLabel, labelE, kidsE, forestE, before, each, nothingBelow, fieldLabel, entryLabel, entryKids, pairLabel, pairKids, keyLabel, keyKids, aggLabel, aggKids, winLabel, winKids, filterKids, labelP, kidsP, forestP, planTree}
-use Rattle.preservation.proofs.Everywhere.{Tests, countE, countP, good, good-all, good?, good-field, good-entry, good-pair, good-key, good-agg, good-win, everywhere, everywhere-all}
+use Rattle.plan.specs.Syntax.{Name, Expr, col, num, bool, nul, bin, neg, test, between, inlist, fn, Exprs, enil, econs, Field, Entry, Pair}
+use Rattle.plan.specs.Syntax.{Key, AggEntry, WinEntry, Plan, scan, filter, project, join, alias, union, distinct, sort, repartition, limit}
+use Rattle.plan.specs.Syntax.{aggregate, window, Plans, pnil, pcons}
+use Rattle.plan.specs.Trees.{columnLabel, labelE, kidsE, forestE, before, each, nothingBelow, fieldLabel, entryLabel, entryKids, pairLabel}
+use Rattle.plan.specs.Trees.{pairKids, keyLabel, keyKids, aggLabel, aggKids, winLabel, winKids, filterKids, labelP, kidsP, forestP}
+use Rattle.plan.specs.Trees.{planTree}
+use Rattle.preservation.proofs.Everywhere.{Tests, countE, countP, good, good-all, good?, good-field, good-entry, good-pair, good-key}
+use Rattle.preservation.proofs.Everywhere.{good-agg, good-win, everywhere, everywhere-all}
 use Rattle.preservation.proofs.Rules.{passed, below, beside, sound, sound-each}
 
 module _ (T : Tests) (any-number : (z : ℤ) → T .number z ≡ true) (any-length : (m n : ℕ) → T .least m n ≡ true) where

@@ -6,14 +6,25 @@ use mathlib.Core.List.{List, [], _++_, map}
 use mathlib.Core.Option.{Option, none, some}
 use Rattle.plan.specs.Lists.{choose, all}
 use Rattle.plan.proofs.Lists.{and-l, and-r, and-intro, All, anil, acons, All-map, All-append, All-keep, All-mapped}
-use Rattle.plan.specs.Syntax.{Name, Expr, Field, Entry, Pair, AggEntry, WinEntry, Kind, inner, left, right, full, leftSemi, rightSemi, leftAnti, rightAnti, Plan, scan, filter, project, join, alias, union, distinct, sort, repartition, limit, aggregate, window, Plans, pnil, pcons}
+use Rattle.plan.specs.Syntax.{Name, Expr, Field, Entry, Pair, AggEntry, WinEntry, Kind, inner, left, right, full, leftSemi, rightSemi}
+use Rattle.plan.specs.Syntax.{leftAnti, rightAnti, Plan, scan, filter, project, join, alias, union, distinct, sort, repartition, limit}
+use Rattle.plan.specs.Syntax.{aggregate, window, Plans, pnil, pcons}
 use Rattle.plan.specs.Schema.{schema, schema-first, sides, requalify, has}
 use Rattle.plan.specs.Trees.{labelP}
 use Rattle.rewrite.specs.Utils.{replace-cols, split-conjunction, split-conjunction?, conjoin, conjunction, with-filters, unique, is-empty}
-use Rattle.rewrite.specs.PushDownFilter.{Transformed·yes, Transformed·no, pick, stay, move, pushable, supported-filters, unsupported-filters, volatile-filters, renamed, filter-each, left-preserved, right-preserved, on-left-preserved, on-right-preserved, is-inner, push-to, push-not, if-list, unpushed, keep-predicates, join-conditions, on-filter-join-conditions, inferred-join-predicates, left-push, right-push, push-down-all-join, push-down-join, rewrite-projection, rewrite-scan, rewrite-aggregate, rewrite-window, simplify-filter, merged, simplify-merged, resume, rewrite-filter, rewrite}
+use Rattle.rewrite.specs.PushDownFilter.{Transformed·yes, Transformed·no, pick, stay, move, pushable, supported-filters}
+use Rattle.rewrite.specs.PushDownFilter.{unsupported-filters, volatile-filters, renamed, filter-each, left-preserved, right-preserved}
+use Rattle.rewrite.specs.PushDownFilter.{on-left-preserved, on-right-preserved, is-inner, push-to, push-not, if-list, unpushed}
+use Rattle.rewrite.specs.PushDownFilter.{keep-predicates, join-conditions, on-filter-join-conditions, inferred-join-predicates, left-push}
+use Rattle.rewrite.specs.PushDownFilter.{right-push, push-down-all-join, push-down-join, rewrite-projection, rewrite-scan}
+use Rattle.rewrite.specs.PushDownFilter.{rewrite-aggregate, rewrite-window, simplify-filter, merged, simplify-merged, resume}
+use Rattle.rewrite.specs.PushDownFilter.{rewrite-filter, rewrite}
 use Rattle.rewrite.proofs.References.{all-true, true-all, unique-all}
-use Rattle.preservation.proofs.Everywhere.{Tests, Closed, countP, good, good?, good-field, good-entry, good-pair, good-agg, good-win, everywhere, everywhere-all}
-use Rattle.preservation.proofs.ExprsKept.{Good, Named, all-replaced-good, pick-good, renamed-good, inferred-good, if-good, split-good, split?-good, conjoin-good, conjunction-good, simplify-filter-good, clauses-good}
+use Rattle.preservation.proofs.Everywhere.{Tests, Closed, countP, good, good?, good-field, good-entry, good-pair, good-agg, good-win}
+use Rattle.preservation.proofs.Everywhere.{everywhere, everywhere-all}
+use Rattle.preservation.proofs.ExprsKept.{Good, Named, all-replaced-good, pick-good, renamed-good, inferred-good, if-good}
+use Rattle.preservation.proofs.ExprsKept.{split-good, split?-good, conjoin-good, conjunction-good, simplify-filter-good}
+use Rattle.preservation.proofs.ExprsKept.{clauses-good}
 
 module _ (T : Tests) where
   abbrev pub Passes : Plan → Type 0

@@ -7,10 +7,12 @@ use native.Mathlib.Omega.{arith}
 use lib.Dec.{eqb}
 use Rattle.plan.specs.Lists.{choose}
 use Rattle.plan.proofs.Lists.{and-l, and-r, and-intro}
-use Rattle.plan.specs.Syntax.{Plan, scan, filter, project, join, alias, union, distinct, sort, repartition, limit, aggregate, window, Plans, pnil, pcons}
+use Rattle.plan.specs.Syntax.{Plan, scan, filter, project, join, alias, union, distinct, sort, repartition, limit, aggregate, window, Plans}
+use Rattle.plan.specs.Syntax.{pnil, pcons}
 use Rattle.plan.specs.Trees.{labelP}
 use Rattle.rewrite.specs.PushDownFilter.{rewrite}
-use Rattle.rewrite.specs.RewriteAt.{Focus, FocusAll, here, inside, inside-all, first-of, later-of, focus, focus-all, granted, refused, result-fits, rewrite-in, rewriteAt}
+use Rattle.rewrite.specs.RewriteAt.{Focus, FocusAll, here, inside, inside-all, first-of, later-of, focus, focus-all, granted, refused}
+use Rattle.rewrite.specs.RewriteAt.{result-fits, rewrite-in, rewriteAt}
 use Rattle.preservation.proofs.Everywhere.{Tests, Closed, countP, everywhere, everywhere-all}
 use Rattle.preservation.proofs.PlansKept.{Passes, rewrite-kept}
 

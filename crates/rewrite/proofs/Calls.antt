@@ -9,7 +9,8 @@ use lib.ListN.{length}
 use lib.Dec.{eqb, leb}
 use Rattle.plan.specs.Lists.{choose}
 use Rattle.plan.proofs.Lists.{and-l, and-r, and-intro}
-use Rattle.plan.specs.Syntax.{Expr, Entry, Pair, Key, AggEntry, WinEntry, Kind, Plan, scan, filter, project, join, alias, union, distinct, sort, repartition, limit, aggregate, window, Plans, pnil, pcons}
+use Rattle.plan.specs.Syntax.{Expr, Entry, Pair, Key, AggEntry, WinEntry, Kind, Plan, scan, filter, project, join, alias, union, distinct}
+use Rattle.plan.specs.Syntax.{sort, repartition, limit, aggregate, window, Plans, pnil, pcons}
 use Rattle.meaning.specs.Meaning.{World, rows, rows-all}
 use Rattle.meaning.specs.Tables.{ScansFit, TablesFit}
 use Rattle.meaning.proofs.Tables.{fit-left, fit-right, fit-same}
@@ -18,7 +19,8 @@ use Rattle.rewrite.specs.PushDownFilter.{rewrite}
 use Rattle.image.specs.Limits.{recordBytes}
 use Rattle.plan.specs.Measure.{sizeP}
 use Rattle.rewrite.specs.Limits.{fits}
-use Rattle.rewrite.specs.RewriteAt.{Focus, FocusAll, here, inside, inside-all, first-of, later-of, focus, focus-all, Answer, granted, refused, result-fits, rewrite-in, rewriteAt, with-room, rewrite-call}
+use Rattle.rewrite.specs.RewriteAt.{Focus, FocusAll, here, inside, inside-all, first-of, later-of, focus, focus-all, Answer, granted}
+use Rattle.rewrite.specs.RewriteAt.{refused, result-fits, rewrite-in, rewriteAt, with-room, rewrite-call}
 use Rattle.acceptance.proofs.NamesRule.{ok, ok-all, rule, ok-names}
 use Rattle.plan.specs.Types.{types, types-first, scans, scans-all}
 use Rattle.acceptance.proofs.TypesRule.{typed, typed-all, types-ok, names-typed-ok}

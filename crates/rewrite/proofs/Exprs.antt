@@ -4,7 +4,8 @@ use mathlib.Core.Bool.{Bool, true, decide-iff}
 use mathlib.Core.List.{List, [], _∷_}
 use Rattle.plan.specs.Lists.{_&_, keep, all}
 use Rattle.plan.proofs.Lists.{and-l, and-r, and-intro, and-true, and-assoc, keep-all, keep-cong, all-of, all-append}
-use Rattle.plan.specs.Syntax.{truth, Name, and, or, cmp, Expr, col, num, bool, nul, bin, neg, test, between, inlist, fn, Exprs, enil, econs, Plan, filter}
+use Rattle.plan.specs.Syntax.{truth, Name, and, or, cmp, Expr, col, num, bool, nul, bin, neg, test, between, inlist, fn, Exprs, enil, econs}
+use Rattle.plan.specs.Syntax.{Plan, filter}
 use Rattle.meaning.specs.Meaning.{Env, World, eval, evals, isT, binary, not3, tested, negate, in-list, sats, rows, look}
 use Rattle.meaning.proofs.Logic.{isT-tri}
 use Rattle.plan.specs.Schema.{schema}

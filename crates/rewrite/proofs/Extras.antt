@@ -12,7 +12,8 @@ use lib.Signed.{leZ}
 use borrow.Author.Tests.{leb-true}
 use Rattle.plan.specs.Lists.{_&_, keep, all, flat}
 use Rattle.plan.proofs.Lists.{and-l, and-r, All, anil, acons, All-append, all-cong, all-parts, all-append, all-map, all-of, and-intro}
-use Rattle.plan.specs.Syntax.{Value, null, int, truth, eq, Name, Expr, col, num, bool, nul, bin, and, or, cmp, neg, test, between, inlist, fn, Pair}
+use Rattle.plan.specs.Syntax.{Value, null, int, truth, eq, Name, Expr, col, num, bool, nul, bin, and, or, cmp, neg, test, between, inlist}
+use Rattle.plan.specs.Syntax.{fn, Pair}
 use Rattle.meaning.specs.Meaning.{World, Env, isT, compare, eval}
 use Rattle.meaning.proofs.Logic.{isT-tri}
 use Rattle.plan.specs.Schema.{same}
@@ -20,7 +21,8 @@ use Rattle.plan.proofs.Names.{same-eq}
 use Rattle.plan.specs.Columns.{on-cols}
 use Rattle.rewrite.specs.Utils.{replace-cols}
 use Rattle.rewrite.specs.SimplifyPredicates.{as-column}
-use Rattle.rewrite.specs.PushDownFilter.{both-or, either-and, guarded, extract-or-clause, is-or, listed, extract-or-clauses-for-join, pair-of, partner, to-partner, swap-keys, nothing, infer-join-predicates, rest}
+use Rattle.rewrite.specs.PushDownFilter.{both-or, either-and, guarded, extract-or-clause, is-or, listed, extract-or-clauses-for-join}
+use Rattle.rewrite.specs.PushDownFilter.{pair-of, partner, to-partner, swap-keys, nothing, infer-join-predicates, rest}
 use Rattle.rewrite.proofs.Exprs.{eval-sub}
 
 -- ---- clauses out of ORs

@@ -8,9 +8,13 @@ use mathlib.Core.Option.{Option, none, some}
 use lib.Dec.{eqb, leb}
 use borrow.Author.Tests.{le-leb, lt-leb, ne-eqb}
 use Rattle.plan.specs.Lists.{choose}
-use Rattle.plan.specs.Syntax.{Expr, Entry, Pair, Key, AggEntry, WinEntry, Kind, Plan, scan, filter, project, join, alias, union, distinct, sort, repartition, limit, aggregate, window, Plans, pcons}
+use Rattle.plan.specs.Syntax.{Expr, Entry, Pair, Key, AggEntry, WinEntry, Kind, Plan, scan, filter, project, join, alias, union, distinct}
+use Rattle.plan.specs.Syntax.{sort, repartition, limit, aggregate, window, Plans, pcons}
 use Rattle.plan.specs.Measure.{sizeE, sizeP, depthP, sizes}
-use Rattle.plan.proofs.Measure.{sizePs, depthPs, size-filter, size-project, size-join, size-alias, size-union, size-distinct, size-sort, size-repartition, size-limit, size-aggregate, size-window, size-pcons, one-record, deep-filter, deep-project, deep-left, deep-right, deep-alias, deep-union, deep-distinct, deep-sort, deep-repartition, deep-limit, deep-aggregate, deep-window, deep-first, deep-later}
+use Rattle.plan.proofs.Measure.{sizePs, depthPs, size-filter, size-project, size-join, size-alias, size-union, size-distinct, size-sort}
+use Rattle.plan.proofs.Measure.{size-repartition, size-limit, size-aggregate, size-window, size-pcons, one-record, deep-filter}
+use Rattle.plan.proofs.Measure.{deep-project, deep-left, deep-right, deep-alias, deep-union, deep-distinct, deep-sort, deep-repartition}
+use Rattle.plan.proofs.Measure.{deep-limit, deep-aggregate, deep-window, deep-first, deep-later}
 use Rattle.plan.specs.Trees.{entryKids, keyKids, aggKids, winKids}
 use Rattle.rewrite.specs.RewriteAt.{Focus, FocusAll, here, inside, inside-all, first-of, later-of, focus, focus-all}
 

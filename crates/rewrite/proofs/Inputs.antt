@@ -9,8 +9,10 @@ use mathlib.Core.Option.{Option, some}
 use Rattle.image.specs.Tree.{Label, Forest, none, node}
 use Rattle.plan.specs.Lists.{choose}
 use Rattle.plan.specs.Kinds.{isPlan, whatOf, among}
-use Rattle.plan.specs.Syntax.{Expr, Field, Entry, Pair, Key, AggEntry, WinEntry, Kind, Plans, pnil, pcons, Plan, scan, filter, project, join, alias, union, distinct, sort, repartition, limit, aggregate, window}
-use Rattle.plan.specs.Trees.{labelE, kidsE, each, nothingBelow, fieldLabel, entryLabel, entryKids, pairLabel, pairKids, keyLabel, keyKids, aggLabel, aggKids, winLabel, winKids, filterKids, labelP, kidsP, forestP}
+use Rattle.plan.specs.Syntax.{Expr, Field, Entry, Pair, Key, AggEntry, WinEntry, Kind, Plans, pnil, pcons, Plan, scan, filter, project}
+use Rattle.plan.specs.Syntax.{join, alias, union, distinct, sort, repartition, limit, aggregate, window}
+use Rattle.plan.specs.Trees.{labelE, kidsE, each, nothingBelow, fieldLabel, entryLabel, entryKids, pairLabel, pairKids, keyLabel, keyKids}
+use Rattle.plan.specs.Trees.{aggLabel, aggKids, winLabel, winKids, filterKids, labelP, kidsP, forestP}
 use Rattle.plan.specs.Measure.{sizeE, sizes}
 use Rattle.rewrite.specs.Pass.{plans, before-plans, inputs, first-input}
 use Rattle.rewrite.proofs.Marks.{expr-mark, plan-mark}

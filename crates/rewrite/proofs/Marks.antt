@@ -12,9 +12,12 @@ use lib.ListN.{length, getD, length-append}
 use lib.Dec.{eqb, leb, leb·zero, leb·suc-zero, leb·suc-suc, eqb·suc-zero}
 use Rattle.image.specs.Tree.{Label, Forest, none, node, size}
 use Rattle.plan.specs.Lists.{choose, _&_}
-use Rattle.plan.specs.Syntax.{Name, Expr, col, num, bool, nul, bin, neg, test, between, inlist, fn, Exprs, enil, econs, Field, Entry, Pair, Key, AggEntry, WinEntry, Kind, Plans, pnil, pcons, Plan, scan, filter, project, join, alias, union, distinct, sort, repartition, limit, aggregate, window}
+use Rattle.plan.specs.Syntax.{Name, Expr, col, num, bool, nul, bin, neg, test, between, inlist, fn, Exprs, enil, econs, Field, Entry, Pair}
+use Rattle.plan.specs.Syntax.{Key, AggEntry, WinEntry, Kind, Plans, pnil, pcons, Plan, scan, filter, project, join, alias, union, distinct}
+use Rattle.plan.specs.Syntax.{sort, repartition, limit, aggregate, window}
 use Rattle.plan.specs.Kinds.{isPlan, whatOf, among}
-use Rattle.plan.specs.Trees.{columnLabel, labelE, kidsE, forestE, before, each, nothingBelow, fieldLabel, entryLabel, entryKids, pairLabel, pairKids, keyLabel, keyKids, aggLabel, aggKids, winLabel, winKids, filterKids, labelP, kidsP, forestP}
+use Rattle.plan.specs.Trees.{columnLabel, labelE, kidsE, forestE, before, each, nothingBelow, fieldLabel, entryLabel, entryKids, pairLabel}
+use Rattle.plan.specs.Trees.{pairKids, keyLabel, keyKids, aggLabel, aggKids, winLabel, winKids, filterKids, labelP, kidsP, forestP}
 use Rattle.plan.specs.Measure.{sizeE, sizeP, sizes}
 use Rattle.plan.proofs.PlanKinds.{plan-number, plan-kind}
 use Rattle.rewrite.specs.RewriteAt.{Focus, FocusAll, here, inside, inside-all, first-of, later-of, focus, focus-all}

@@ -8,7 +8,9 @@ use lib.ListN.{length, take, drop, length-map, length-append, length-replicate}
 use borrow.Author.Tests.{eqb-true}
 use Rattle.plan.specs.Lists.{keep}
 use Rattle.plan.proofs.Lists.{and-l, and-r, All, anil, acons, All-map, All-mapped, All-append, All-keep, All-flat, all-of}
-use Rattle.plan.specs.Syntax.{null, Name, Field, Entry, Kind, inner, left, right, full, leftSemi, rightSemi, leftAnti, rightAnti, Plan, scan, filter, project, join, alias, union, distinct, sort, repartition, limit, aggregate, window, Plans, pnil, pcons}
+use Rattle.plan.specs.Syntax.{null, Name, Field, Entry, Kind, inner, left, right, full, leftSemi, rightSemi, leftAnti, rightAnti, Plan}
+use Rattle.plan.specs.Syntax.{scan, filter, project, join, alias, union, distinct, sort, repartition, limit, aggregate, window, Plans, pnil}
+use Rattle.plan.specs.Syntax.{pcons}
 use Rattle.meaning.specs.Meaning.{World, Row, entries, joined, outer, nulls, sorted, fetched, sorts-before, group-keys, rows, rows-all}
 use Rattle.meaning.specs.Tables.{ScansFit, TablesFit}
 use Rattle.meaning.proofs.Tables.{fit-left, fit-right, scan-wide}

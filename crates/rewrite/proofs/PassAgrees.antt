@@ -11,18 +11,24 @@ use borrow.Author.Tests.{leb-true, le-leb, lt-leb, ne-eqb}
 use Rattle.image.specs.Limits.{maxDepth}
 use Rattle.plan.specs.Lists.{choose}
 use Rattle.plan.proofs.Lists.{and-l, and-r}
-use Rattle.plan.specs.Syntax.{Expr, Pair, Kind, Plan, scan, filter, project, join, alias, union, distinct, sort, repartition, limit, aggregate, window, Plans, pnil, pcons}
+use Rattle.plan.specs.Syntax.{Expr, Pair, Kind, Plan, scan, filter, project, join, alias, union, distinct, sort, repartition, limit}
+use Rattle.plan.specs.Syntax.{aggregate, window, Plans, pnil, pcons}
 use Rattle.plan.specs.Trees.{bitOf, entryKids, keyKids, aggKids, winKids, forestP}
 use Rattle.rewrite.specs.PushDownFilter.{rewrite}
 use Rattle.plan.specs.Measure.{sizeE, sizes, sizeP, depthP}
-use Rattle.plan.proofs.Measure.{sizePs, size-filter, size-project, size-join, size-alias, size-union, size-distinct, size-sort, size-repartition, size-limit, size-aggregate, size-window, size-pnil, size-pcons, one-record, one-level}
+use Rattle.plan.proofs.Measure.{sizePs, size-filter, size-project, size-join, size-alias, size-union, size-distinct, size-sort}
+use Rattle.plan.proofs.Measure.{size-repartition, size-limit, size-aggregate, size-window, size-pnil, size-pcons, one-record, one-level}
 use Rattle.rewrite.specs.Limits.{fits}
 use Rattle.rewrite.specs.RewriteAt.{Focus, here, inside, focus, Answer, granted, refused, result-fits, rewrite-in, rewriteAt}
-use Rattle.rewrite.specs.Pass.{inputs, first-input, of-focus, at-record, Walk, walking, spent, failed, and-then, each-input, visit, PassAnswer, passed, pass-refused, report, pass, plans}
+use Rattle.rewrite.specs.Pass.{inputs, first-input, of-focus, at-record, Walk, walking, spent, failed, and-then, each-input, visit}
+use Rattle.rewrite.specs.Pass.{PassAnswer, passed, pass-refused, report, pass, plans}
 use Rattle.rewrite.proofs.PassByRecords.{plan-from, visits, pass-by-records}
 use Rattle.rewrite.proofs.PlanFrom.{from-here, from-later, from-end, focus-end}
-use Rattle.rewrite.proofs.Holes.{Holed, HoledAll, found-here, whole, within, in-filter, in-project, in-alias, in-distinct, in-sort, in-repartition, in-limit, in-aggregate, in-window, in-left, in-right, in-union, in-first, in-later}
-use Rattle.rewrite.proofs.Inputs.{Inputs, no-inputs, inputs-filter, inputs-project, inputs-join, inputs-alias, inputs-union, inputs-pnil, inputs-pcons, inputs-distinct, inputs-sort, inputs-repartition, inputs-limit, inputs-aggregate, inputs-window}
+use Rattle.rewrite.proofs.Holes.{Holed, HoledAll, found-here, whole, within, in-filter, in-project, in-alias, in-distinct, in-sort}
+use Rattle.rewrite.proofs.Holes.{in-repartition, in-limit, in-aggregate, in-window, in-left, in-right, in-union, in-first, in-later}
+use Rattle.rewrite.proofs.Inputs.{Inputs, no-inputs, inputs-filter, inputs-project, inputs-join, inputs-alias, inputs-union}
+use Rattle.rewrite.proofs.Inputs.{inputs-pnil, inputs-pcons, inputs-distinct, inputs-sort, inputs-repartition, inputs-limit}
+use Rattle.rewrite.proofs.Inputs.{inputs-aggregate, inputs-window}
 
 -- `r`, what the pass by records answers, seen from a walk through what stands in `C` at record `n`
 data Reached {A : Type 0} (size : A → ℕ) (n : ℕ) (C : A → Plan) (r : PassAnswer) : Walk → Type 0 where

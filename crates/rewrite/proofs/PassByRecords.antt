@@ -5,7 +5,8 @@ use mathlib.Core.Bool.{cond}
 use mathlib.Core.List.{List, [], _∷_, _++_}
 use mathlib.Core.Option.{Option, none, some}
 use lib.Dec.{leb}
-use Rattle.plan.specs.Syntax.{Plan, scan, filter, project, join, alias, union, distinct, sort, repartition, limit, aggregate, window, Plans, pnil, pcons}
+use Rattle.plan.specs.Syntax.{Plan, scan, filter, project, join, alias, union, distinct, sort, repartition, limit, aggregate, window, Plans}
+use Rattle.plan.specs.Syntax.{pnil, pcons}
 use Rattle.plan.specs.Measure.{sizeE, sizeP, sizes}
 use Rattle.plan.specs.Trees.{bitOf, entryKids, keyKids, aggKids, winKids}
 use Rattle.rewrite.specs.RewriteAt.{granted, refused, rewriteAt}

@@ -9,8 +9,10 @@ use mathlib.Core.Path.{_≡_, refl, sym, ap, _∙_}
 use mathlib.Core.Bool.{Bool, true, false, _||_, cond}
 use mathlib.Core.List.{List, [], _∷_, map}
 use Rattle.plan.specs.Lists.{_&_, any, all}
-use Rattle.plan.proofs.Lists.{All, anil, acons, All-map, All-keep, All-append, and-l, and-r, all-map, all-cong, all-parts, all-of, keep-cong, keep-keep, keep-map}
-use Rattle.plan.specs.Syntax.{Name, Expr, col, num, bool, nul, bin, and, or, cmp, neg, test, between, inlist, fn, Entry, Plan, filter, project}
+use Rattle.plan.proofs.Lists.{All, anil, acons, All-map, All-keep, All-append, and-l, and-r, all-map, all-cong, all-parts, all-of}
+use Rattle.plan.proofs.Lists.{keep-cong, keep-keep, keep-map}
+use Rattle.plan.specs.Syntax.{Name, Expr, col, num, bool, nul, bin, and, or, cmp, neg, test, between, inlist, fn, Entry, Plan, filter}
+use Rattle.plan.specs.Syntax.{project}
 use Rattle.meaning.specs.Meaning.{World, Env, Row, isT, eval, rows, look, sats, entries}
 use Rattle.plan.specs.Schema.{same, schema, has}
 use Rattle.rewrite.specs.Utils.{split-conjunction, replace-cols, with-filters}

@@ -12,10 +12,14 @@ use Rattle.plan.specs.Schema.{schema, sides, has}
 use Rattle.plan.proofs.Names.{nodup}
 use Rattle.plan.specs.Columns.{on-cols}
 use Rattle.rewrite.specs.Utils.{split-conjunction, with-filters, conjunction, split-conjunction?}
-use Rattle.rewrite.specs.PushDownFilter.{extract-or-clauses-for-join, infer-join-predicates, left-preserved, right-preserved, on-left-preserved, on-right-preserved, push-to, push-not, rest, if-list, on-filter-join-conditions, keep-predicates, join-conditions, inferred-join-predicates, left-push, right-push, push-down-all-join}
+use Rattle.rewrite.specs.PushDownFilter.{extract-or-clauses-for-join, infer-join-predicates, left-preserved, right-preserved}
+use Rattle.rewrite.specs.PushDownFilter.{on-left-preserved, on-right-preserved, push-to, push-not, rest, if-list}
+use Rattle.rewrite.specs.PushDownFilter.{on-filter-join-conditions, keep-predicates, join-conditions, inferred-join-predicates}
+use Rattle.rewrite.specs.PushDownFilter.{left-push, right-push, push-down-all-join}
 use Rattle.rewrite.proofs.Exprs.{all-split}
 use Rattle.rewrite.proofs.Extras.{clauses-over, clauses-hold, inferred-hold}
-use Rattle.rewrite.proofs.Join.{sat?-conj, Over, Wide, holds-all, keys-in, inner-rows, left-rows, right-rows, leftSemi-rows, rightSemi-rows, leftAnti-rows, rightAnti-rows}
+use Rattle.rewrite.proofs.Join.{sat?-conj, Over, Wide, holds-all, keys-in, inner-rows, left-rows, right-rows, leftSemi-rows}
+use Rattle.rewrite.proofs.Join.{rightSemi-rows, leftAnti-rows, rightAnti-rows}
 use Rattle.rewrite.proofs.Groups.{passes}
 use Rattle.acceptance.proofs.NamesRule.{reads}
 

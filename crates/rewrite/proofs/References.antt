@@ -9,11 +9,13 @@ use lib.ListN.{length}
 use borrow.Author.Tests.{eqb-true}
 use Rattle.plan.proofs.Lists.{and-l, and-r, and-intro, All, anil, acons, All-map, All-keep, All-mapped}
 use Rattle.plan.specs.Lists.{any, all}
-use Rattle.plan.specs.Syntax.{Name, Expr, col, num, bool, nul, bin, neg, test, between, inlist, fn, Exprs, enil, econs, Entry, Pair, Kind, inner, left, right, full, leftSemi, rightSemi, leftAnti, rightAnti, Plan, Plans, pnil, pcons}
+use Rattle.plan.specs.Syntax.{Name, Expr, col, num, bool, nul, bin, neg, test, between, inlist, fn, Exprs, enil, econs, Entry, Pair, Kind}
+use Rattle.plan.specs.Syntax.{inner, left, right, full, leftSemi, rightSemi, leftAnti, rightAnti, Plan, Plans, pnil, pcons}
 use Rattle.plan.specs.Schema.{same, schema, sides, has}
 use Rattle.plan.specs.Columns.{on-cols, on-cols-all}
 use Rattle.rewrite.specs.Utils.{replace-cols, replace-cols-all, split-conjunction?, with-filters, unique}
-use Rattle.rewrite.specs.PushDownFilter.{pick, names, ren, renamed, filter-each, keep-predicates, join-conditions, on-filter-join-conditions}
+use Rattle.rewrite.specs.PushDownFilter.{pick, names, ren, renamed, filter-each, keep-predicates, join-conditions}
+use Rattle.rewrite.specs.PushDownFilter.{on-filter-join-conditions}
 use Rattle.rewrite.proofs.Project.{split-cols}
 use Rattle.rewrite.proofs.Places.{ren-has}
 use Rattle.rewrite.proofs.Join.{Over}

@@ -6,15 +6,22 @@ use mathlib.Core.List.{List, [], _∷_, _++_, map, append-nil}
 use mathlib.Core.Option.{Option, none, some}
 use lib.ListN.{length, length-map}
 use Rattle.plan.specs.Lists.{_&_, choose, any, put, keep, all}
-use Rattle.plan.proofs.Lists.{and-assoc, and-comm, and-l, and-r, and-intro, All, anil, acons, All-map, All-append, All-keep, all-of, keep-all, keep-cong, keep-keep, all-parts, all-append}
-use Rattle.plan.specs.Syntax.{Name, Expr, Field, Entry, Pair, AggEntry, WinEntry, Kind, Plan, scan, filter, project, join, alias, union, distinct, sort, repartition, limit, aggregate, window, Plans}
+use Rattle.plan.proofs.Lists.{and-assoc, and-comm, and-l, and-r, and-intro, All, anil, acons, All-map, All-append, All-keep, all-of}
+use Rattle.plan.proofs.Lists.{keep-all, keep-cong, keep-keep, all-parts, all-append}
+use Rattle.plan.specs.Syntax.{Name, Expr, Field, Entry, Pair, AggEntry, WinEntry, Kind, Plan, scan, filter, project, join, alias, union}
+use Rattle.plan.specs.Syntax.{distinct, sort, repartition, limit, aggregate, window, Plans}
 use Rattle.meaning.specs.Meaning.{World, Row, look, sat, sats, sat?, rows}
 use Rattle.meaning.specs.Tables.{TablesFit}
 use Rattle.meaning.proofs.Tables.{fit-left, fit-right, fit-same}
 use Rattle.plan.specs.Schema.{same, schema, schema-first, requalify, sides, has}
 use Rattle.plan.proofs.Names.{same-eq}
-use Rattle.rewrite.specs.Utils.{is-empty, is-volatile, replace-cols, split-conjunction, split-conjunction?, conjoin, conjunction, with-filters, unique}
-use Rattle.rewrite.specs.PushDownFilter.{Transformed, pick, names, stay, move, pushable, in-groups, in-partitions, supports-pushdown, volatile-filters, non-volatile-filters, supported-filters, unsupported-filters, renamed, filter-each, left-push, right-push, join-conditions, on-filter-join-conditions, push-down-all-join, rewrite-projection, rewrite-scan, rewrite-aggregate, rewrite-window, simplify-filter, simplify-merged, merged, resume, rewrite-filter, rewrite}
+use Rattle.rewrite.specs.Utils.{is-empty, is-volatile, replace-cols, split-conjunction, split-conjunction?, conjoin, conjunction}
+use Rattle.rewrite.specs.Utils.{with-filters, unique}
+use Rattle.rewrite.specs.PushDownFilter.{Transformed, pick, names, stay, move, pushable, in-groups, in-partitions, supports-pushdown}
+use Rattle.rewrite.specs.PushDownFilter.{volatile-filters, non-volatile-filters, supported-filters, unsupported-filters, renamed}
+use Rattle.rewrite.specs.PushDownFilter.{filter-each, left-push, right-push, join-conditions, on-filter-join-conditions}
+use Rattle.rewrite.specs.PushDownFilter.{push-down-all-join, rewrite-projection, rewrite-scan, rewrite-aggregate, rewrite-window}
+use Rattle.rewrite.specs.PushDownFilter.{simplify-filter, simplify-merged, merged, resume, rewrite-filter, rewrite}
 use Rattle.rewrite.proofs.Exprs.{on-cols-mono, all-split, filtered-rows, filtered-schema, split-rows}
 use Rattle.rewrite.proofs.Merge.{dedup-all, merge-rows}
 use Rattle.rewrite.proofs.Project.{split-cols, project-rows}
@@ -29,8 +36,10 @@ use Rattle.rewrite.proofs.SimplifyFilter.{simplify-filter-true, simplif
 use Rattle.acceptance.proofs.TypesRule.{boolean, boolean?, typed}
 use Rattle.plan.specs.Types.{scans, types, field-types}
 use Rattle.rewrite.proofs.TypeLaws.{Bools, bools-split, conjunction-boolean, simplify-filter-boolean}
-use Rattle.rewrite.proofs.TypesKept.{types-filtered, scans-filtered, scan-arm-typed, project-arm-typed, alias-arm-typed, each-types, each-scans, union-arm-typed, aggregate-arm-typed, window-arm-typed, join-arm-typed}
-use Rattle.rewrite.proofs.References.{all-true, true-all, unique-all, unique-over, picked-over, renamed-reads, with-filters-ok, filter-each-ok, split?-over, keep-over, conditions-over, on-conditions-over}
+use Rattle.rewrite.proofs.TypesKept.{types-filtered, scans-filtered, scan-arm-typed, project-arm-typed, alias-arm-typed, each-types}
+use Rattle.rewrite.proofs.TypesKept.{each-scans, union-arm-typed, aggregate-arm-typed, window-arm-typed, join-arm-typed}
+use Rattle.rewrite.proofs.References.{all-true, true-all, unique-all, unique-over, picked-over, renamed-reads, with-filters-ok}
+use Rattle.rewrite.proofs.References.{filter-each-ok, split?-over, keep-over, conditions-over, on-conditions-over}
 
 -- q may stand where p stands: same fields, same scans, and the same rows, whatever the functions mean, for tables that fit
 pub record Keeps (q p : Plan) : Type 0 where

@@ -13,13 +13,19 @@ use lib.Signed.{ltZ, leZ}
 use Rattle.plan.specs.Lists.{_&_, choose, all, flat}
 use Rattle.plan.proofs.Literals.{literal-cases}
 use Rattle.plan.specs.Values.{ValueRecord, literalIs, literalIn, literal?}
-use Rattle.plan.proofs.Lists.{and-l, and-r, and-intro, and-assoc, and-comm, and-left-comm, and-true, All, anil, acons, All-append, All-mapped, All-flat, all-of, all-append, all-map, all-cong, All-map}
-use Rattle.plan.specs.Syntax.{Value, null, int, truth, Name, Cmp, eq, ne, lt, le, gt, ge, Expr, col, num, bool, nul, bin, and, or, cmp, neg, test, between, inlist, fn}
+use Rattle.plan.proofs.Lists.{and-l, and-r, and-intro, and-assoc, and-comm, and-left-comm, and-true, All, anil, acons, All-append}
+use Rattle.plan.proofs.Lists.{All-mapped, All-flat, all-of, all-append, all-map, all-cong, All-map}
+use Rattle.plan.specs.Syntax.{Value, null, int, truth, Name, Cmp, eq, ne, lt, le, gt, ge, Expr, col, num, bool, nul, bin, and, or, cmp, neg}
+use Rattle.plan.specs.Syntax.{test, between, inlist, fn}
 use Rattle.meaning.specs.Meaning.{World, Env, isT, isN, kindOf, code, comparable, holds, compare, sameV, eval}
 use Rattle.plan.specs.Schema.{same}
 use Rattle.plan.proofs.Names.{same-eq}
 use Rattle.plan.specs.Columns.{on-cols}
-use Rattle.rewrite.specs.SimplifyPredicates.{lit-val, Rel, same-as, above, below, rel-cmp, bound-of, Side, val, stronger, is-better, find-most-restrictive-predicate, first-kind, of-kind, most-restrictive, Group, eq-expr, up-expr, down-expr, final, eq-part, gtZ, simplify-column-predicates, Item, item-expr, rel-of, as-literal, as-column, make, or-item, view, name-under, place, put-in, fresh, enter, Sorted, add, sort-out, simplify-predicates}
+use Rattle.rewrite.specs.SimplifyPredicates.{lit-val, Rel, same-as, above, below, rel-cmp, bound-of, Side, val, stronger, is-better}
+use Rattle.rewrite.specs.SimplifyPredicates.{find-most-restrictive-predicate, first-kind, of-kind, most-restrictive, Group, eq-expr}
+use Rattle.rewrite.specs.SimplifyPredicates.{up-expr, down-expr, final, eq-part, gtZ, simplify-column-predicates, Item, item-expr}
+use Rattle.rewrite.specs.SimplifyPredicates.{rel-of, as-literal, as-column, make, or-item, view, name-under, place, put-in, fresh}
+use Rattle.rewrite.specs.SimplifyPredicates.{enter, Sorted, add, sort-out, simplify-predicates}
 use Rattle.rewrite.proofs.Extras.{eq-true}
 use Rattle.rewrite.proofs.Sort.{ltZ-asym, ltZ-trans}
 use Rattle.rewrite.proofs.Groups.{sameV-eq}

@@ -5,7 +5,8 @@ use mathlib.Core.Bool.{true, false}
 use mathlib.Core.List.{List, [], _∷_, map}
 use mathlib.Core.Option.{none, some}
 use lib.IntN.{pos}
-use Rattle.plan.specs.Syntax.{nm, Expr, col, num, bin, nul, fn, enil, and, or, cmp, eq, gt, ge, lt, bool, Field, Pair, count, inner, left, Plan, scan, filter, join, limit, aggregate}
+use Rattle.plan.specs.Syntax.{nm, Expr, col, num, bin, nul, fn, enil, and, or, cmp, eq, gt, ge, lt, bool, Field, Pair, count, inner, left}
+use Rattle.plan.specs.Syntax.{Plan, scan, filter, join, limit, aggregate}
 use Rattle.rewrite.specs.RewriteAt.{Answer, granted, refused, rewriteAt, rewrite-call}
 use Rattle.rewrite.specs.Pass.{passed, pass-refused, pass, pass-call}
 use Rattle.rewrite.proofs.Opened.{opened}

@@ -11,14 +11,17 @@ use Rattle.plan.specs.Lists.{_&_, choose, any, all, flat}
 use Rattle.plan.proofs.Literals.{literal-cases}
 use Rattle.plan.specs.Values.{ValueRecord, literalIs}
 use Rattle.plan.proofs.Lists.{and-l, and-r, and-intro, All, anil, acons, All-both, All-append, All-keep, All-mapped}
-use Rattle.plan.specs.Syntax.{Name, and, or, cmp, Expr, col, num, bool, nul, bin, neg, test, between, inlist, fn, Exprs, enil, econs, Entry, Pair}
+use Rattle.plan.specs.Syntax.{Name, and, or, cmp, Expr, col, num, bool, nul, bin, neg, test, between, inlist, fn, Exprs, enil, econs, Entry}
+use Rattle.plan.specs.Syntax.{Pair}
 use Rattle.plan.specs.Schema.{lookD, same, has}
 use Rattle.plan.proofs.Names.{same-eq}
 use Rattle.plan.specs.Columns.{on-cols, on-cols-all}
 use Rattle.rewrite.specs.Utils.{replace-cols, replace-cols-all, split-conjunction, split-conjunction?, conjoin, conjunction}
 use Rattle.rewrite.specs.SimplifyPredicates.{Rel, bound-of, as-column, simplify-predicates}
 use Rattle.rewrite.specs.ReorderPredicates.{reorder-predicates}
-use Rattle.rewrite.specs.PushDownFilter.{both-or, either-and, guarded, extract-or-clause, is-or, listed, extract-or-clauses-for-join, pair-of, partner, to-partner, swap-keys, infer-join-predicates, if-list, pick, names, simplify-filter}
+use Rattle.rewrite.specs.PushDownFilter.{both-or, either-and, guarded, extract-or-clause, is-or, listed, extract-or-clauses-for-join}
+use Rattle.rewrite.specs.PushDownFilter.{pair-of, partner, to-partner, swap-keys, infer-join-predicates, if-list, pick, names}
+use Rattle.rewrite.specs.PushDownFilter.{simplify-filter}
 use Rattle.plan.specs.Types.{Types, type-of}
 use Rattle.acceptance.specs.Types.{operands, any-type, of-type}
 use Rattle.acceptance.proofs.TypesRule.{well, well-all, boolean, boolean?}

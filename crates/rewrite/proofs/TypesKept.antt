@@ -8,13 +8,19 @@ use lib.ListN.{length, length-map}
 use lib.Dec.{eqb}
 use borrow.Author.Tests.{eqb-true}
 use Rattle.plan.proofs.Lists.{and-l, and-r, and-intro, All, anil, acons, All-append, All-keep, All-both}
-use Rattle.plan.specs.Syntax.{Name, Expr, col, num, bool, nul, bin, neg, test, between, inlist, fn, Field, Entry, Pair, Key, AggEntry, WinEntry, Kind, inner, left, right, full, leftSemi, rightSemi, leftAnti, rightAnti, Plan, scan, filter, project, join, alias, union, sort, aggregate, window, Plans, pnil, pcons}
+use Rattle.plan.specs.Syntax.{Name, Expr, col, num, bool, nul, bin, neg, test, between, inlist, fn, Field, Entry, Pair, Key, AggEntry}
+use Rattle.plan.specs.Syntax.{WinEntry, Kind, inner, left, right, full, leftSemi, rightSemi, leftAnti, rightAnti, Plan, scan, filter}
+use Rattle.plan.specs.Syntax.{project, join, alias, union, sort, aggregate, window, Plans, pnil, pcons}
 use Rattle.plan.specs.Schema.{lookD, schema, schema-first, sides, requalify, has}
 use Rattle.plan.proofs.Names.{nodup, apart, lookD-left, lookD-right}
 use Rattle.plan.specs.Columns.{on-cols}
 use Rattle.rewrite.specs.Utils.{replace-cols, split-conjunction, split-conjunction?, conjunction, with-filters, unique}
 use Rattle.rewrite.specs.SimplifyPredicates.{as-column}
-use Rattle.rewrite.specs.PushDownFilter.{pick, names, stay, move, pushable, in-groups, in-partitions, supported-filters, unsupported-filters, volatile-filters, renamed, filter-each, left-preserved, right-preserved, on-left-preserved, on-right-preserved, is-inner, rest, push-to, push-not, keep-predicates, join-conditions, on-filter-join-conditions, inferred-join-predicates, left-push, right-push, push-down-all-join}
+use Rattle.rewrite.specs.PushDownFilter.{pick, names, stay, move, pushable, in-groups, in-partitions, supported-filters}
+use Rattle.rewrite.specs.PushDownFilter.{unsupported-filters, volatile-filters, renamed, filter-each, left-preserved, right-preserved}
+use Rattle.rewrite.specs.PushDownFilter.{on-left-preserved, on-right-preserved, is-inner, rest, push-to, push-not, keep-predicates}
+use Rattle.rewrite.specs.PushDownFilter.{join-conditions, on-filter-join-conditions, inferred-join-predicates, left-push, right-push}
+use Rattle.rewrite.specs.PushDownFilter.{push-down-all-join}
 use Rattle.plan.specs.Types.{Types, type-of, side-types, types, types-first, field-types, both-types, scans, scans-all}
 use Rattle.acceptance.proofs.TypesRule.{well, boolean, boolean?, typed, typed-all, same-types-eq}
 use Rattle.rewrite.proofs.Exprs.{filtered-schema}
@@ -24,7 +30,8 @@ use Rattle.rewrite.proofs.Join.{Over}
 use Rattle.rewrite.proofs.PushJoin.{over-left, over-right}
 use Rattle.acceptance.proofs.NamesRule.{reads, names-nodup, ok, ok-all, ok-nodup, rule}
 use Rattle.rewrite.proofs.References.{all-true, true-all, unique-all, split?-over}
-use Rattle.rewrite.proofs.TypeLaws.{Bools, bools-cong, boolean-sub, bools-sub, bools-split, bools-split?, conjunction-boolean, bools-clauses, Linked, bools-inferred, bools-if, pick-type, pick-well}
+use Rattle.rewrite.proofs.TypeLaws.{Bools, bools-cong, boolean-sub, bools-sub, bools-split, bools-split?, conjunction-boolean}
+use Rattle.rewrite.proofs.TypeLaws.{bools-clauses, Linked, bools-inferred, bools-if, pick-type, pick-well}
 use Rattle.plan.proofs.Types.{types-length}
 
 -- ---- Filters over a plan

@@ -6,7 +6,8 @@ use lib.Dec.{leb}
 use Rattle.image.specs.Limits.{maxRecords, maxDepth, maxList}
 use Rattle.plan.specs.Lists.{_&_}
 use Rattle.plan.specs.Measure.{sizeP, depthP}
-use Rattle.plan.specs.Syntax.{Plan, scan, filter, project, join, alias, union, distinct, sort, repartition, limit, aggregate, window, Plans, pnil, pcons}
+use Rattle.plan.specs.Syntax.{Plan, scan, filter, project, join, alias, union, distinct, sort, repartition, limit, aggregate, window, Plans}
+use Rattle.plan.specs.Syntax.{pnil, pcons}
 use Rattle.rewrite.specs.Utils.{split-conjunction, split-conjunction?}
 
 -- the longest list: the conjuncts of a Filter, those of a join's filter, the filters of a scan

@@ -7,10 +7,14 @@ use mathlib.Core.Option.{Option, none, some}
 use lib.ListN.{length}
 use lib.Dec.{eqb}
 use Rattle.plan.specs.Lists.{_&_, choose, keep, all, any, flat}
-use Rattle.plan.specs.Syntax.{Name, Expr, col, num, bool, nul, bin, and, or, cmp, neg, test, between, inlist, fn, Field, Entry, Pair, AggEntry, WinEntry, Kind, inner, left, right, full, leftSemi, rightSemi, leftAnti, rightAnti, Plan, scan, filter, project, join, alias, union, distinct, sort, repartition, limit, aggregate, window, Plans, pnil, pcons}
+use Rattle.plan.specs.Syntax.{Name, Expr, col, num, bool, nul, bin, and, or, cmp, neg, test, between, inlist, fn, Field, Entry, Pair}
+use Rattle.plan.specs.Syntax.{AggEntry, WinEntry, Kind, inner, left, right, full, leftSemi, rightSemi, leftAnti, rightAnti, Plan, scan}
+use Rattle.plan.specs.Syntax.{filter, project, join, alias, union, distinct, sort, repartition, limit, aggregate, window, Plans, pnil}
+use Rattle.plan.specs.Syntax.{pcons}
 use Rattle.plan.specs.Schema.{same, schema, schema-first, requalify, has}
 use Rattle.plan.specs.Columns.{on-cols}
-use Rattle.rewrite.specs.Utils.{has-all-column-refs, no-columns, is-volatile, is-leafward, replace-cols, split-conjunction, split-conjunction?, conjunction, with-filters, unique, is-empty}
+use Rattle.rewrite.specs.Utils.{has-all-column-refs, no-columns, is-volatile, is-leafward, replace-cols, split-conjunction}
+use Rattle.rewrite.specs.Utils.{split-conjunction?, conjunction, with-filters, unique, is-empty}
 use Rattle.rewrite.specs.SimplifyPredicates.{as-column, simplify-predicates}
 use Rattle.rewrite.specs.ReorderPredicates.{reorder-predicates}
 

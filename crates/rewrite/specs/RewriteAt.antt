@@ -4,7 +4,8 @@ use mathlib.Core.Bool.{Bool}
 use mathlib.Core.Option.{Option, none, some}
 use lib.Dec.{eqb, leb}
 use Rattle.plan.specs.Lists.{_&_, choose, all}
-use Rattle.plan.specs.Syntax.{Plan, scan, filter, project, join, alias, union, distinct, sort, repartition, limit, aggregate, window, Plans, pnil, pcons}
+use Rattle.plan.specs.Syntax.{Plan, scan, filter, project, join, alias, union, distinct, sort, repartition, limit, aggregate, window, Plans}
+use Rattle.plan.specs.Syntax.{pnil, pcons}
 use Rattle.rewrite.specs.PushDownFilter.{rewrite, merges}
 use Rattle.image.specs.Limits.{recordBytes}
 use Rattle.plan.specs.Trees.{entryKids, keyKids, aggKids, winKids}

@@ -7,7 +7,8 @@ use lib.Dec.{eqb, leb}
 use lib.IntN.{ℤ, pos}
 use lib.Signed.{leZ}
 use Rattle.plan.specs.Lists.{_&_, choose}
-use Rattle.plan.specs.Syntax.{Value, null, int, truth, Expr, Plan, scan, filter, project, join, alias, union, distinct, sort, repartition, limit, aggregate, window}
+use Rattle.plan.specs.Syntax.{Value, null, int, truth, Expr, Plan, scan, filter, project, join, alias, union, distinct, sort, repartition}
+use Rattle.plan.specs.Syntax.{limit, aggregate, window}
 use Rattle.plan.specs.Schema.{schema}
 use Rattle.plan.specs.Types.{types}
 use Rattle.meaning.specs.Meaning.{World, Row, look, eval, isT, isF}

@@ -7,7 +7,8 @@ use lib.Dec.{eqb, ltb}
 use lib.IntN.{ℤ}
 use lib.Signed.{ltZ}
 use Rattle.plan.specs.Lists.{_&_, choose, all, flat}
-use Rattle.plan.specs.Syntax.{Value, Name, nm, Cmp, eq, ne, lt, le, gt, ge, Expr, col, num, bool, nul, bin, and, or, cmp, neg, test, between, inlist, fn}
+use Rattle.plan.specs.Syntax.{Value, Name, nm, Cmp, eq, ne, lt, le, gt, ge, Expr, col, num, bool, nul, bin, and, or, cmp, neg, test}
+use Rattle.plan.specs.Syntax.{between, inlist, fn}
 use Rattle.meaning.specs.Meaning.{isN, kindOf, code, sameV}
 use Rattle.plan.specs.Schema.{same}
 use Rattle.plan.specs.Values.{ValueRecord, caseOf, literalIs, literalIn, literal?}

@@ -10,7 +10,8 @@ use lib.Dec.{eqb}
 use lib.IntN.{ℤ, pos, negsuc, pos-ne-negsuc}
 use Rattle.plan.specs.Columns.{on-cols}
 use Rattle.plan.specs.Lists.{keep}
-use Rattle.plan.specs.Syntax.{Name, Name-disc, Cmp-disc, Op-disc, Test-disc, and, or, cmp, Expr, Expr-disc, col, num, bool, nul, bin, neg, test, between, inlist, fn, Exprs, enil, econs, Plan, filter}
+use Rattle.plan.specs.Syntax.{Name, Name-disc, Cmp-disc, Op-disc, Test-disc, and, or, cmp, Expr, Expr-disc, col, num, bool, nul, bin, neg}
+use Rattle.plan.specs.Syntax.{test, between, inlist, fn, Exprs, enil, econs, Plan, filter}
 use Rattle.plan.specs.Schema.{has}
 
 -- has_all_column_refs: the columns of an expression are names of the schema. (The source's schema_columns also holds each field without its
