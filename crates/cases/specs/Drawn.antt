@@ -23,3 +23,11 @@ records (suc n) s = record { label = labelAt s; first = word s 24; next = word s
 unfoldable pub image : Plan → List Rec
 unfolding word le bytesOf lowHalf highHalf labelE kidsE forestE each labelP kidsP forestP records
 image p = records (sizeT (planTree p)) (enc 0 (planTree p))
+
+-- a plan, and the records that its image has
+pub record Drawing : Type 0 where
+  pub given : Plan
+  pub records : List Rec
+
+abbrev pub drawing : Plan → List Rec → Drawing
+drawing p rs = record { given = p; records = rs }

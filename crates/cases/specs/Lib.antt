@@ -1,15 +1,16 @@
-pub mod BoundsA
-pub mod ChecksA
+-- Stored cases, each computed by the definitions. Made by running the source over the same plans (D1 to D5 applied), and by an independent
+-- checker of images; docs/DIFFERENCES.md says how.
+pub mod Run
+pub mod Judged
 pub mod Drawn
-pub mod Edges
 pub mod Hex
-pub mod ImagesA
-pub mod ImagesBig
+pub mod Small
+pub mod Medium
+pub mod Lists
+pub mod Bounds
+pub mod Edges
+pub mod Verdicts
+pub mod Records
 pub mod ImagesEdges
 pub mod ImagesRandom
-pub mod Judged
-pub mod ListsA
-pub mod MediumA
-pub mod Run
-pub mod SmallA
-pub mod Walked
+pub mod ImagesBig
