@@ -15,7 +15,7 @@ use Rattle.acceptance.proofs.TypesMarks.{types-iff}
 use Rattle.rewrite.specs.Limits.{fits}
 use Rattle.rewrite.specs.RewriteAt.{granted, rewriteAt}
 use Rattle.rewrite.proofs.Rewrite.{Keeps}
-use Rattle.rewrite.proofs.Calls.{Leaves, Answered, was-granted, rewriteAt-answered, types-ok-again}
+use Rattle.rewrite.proofs.AtRecord.{Leaves, Answered, was-granted, rewriteAt-answered, types-ok-again}
 use Rattle.preservation.specs.Volatile.{NoVolatile}
 use Rattle.preservation.proofs.Depth.{not-too-deep}
 use Rattle.preservation.proofs.WordsTest.{words-ok, words-ok-law}

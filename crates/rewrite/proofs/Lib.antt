@@ -1,5 +1,5 @@
 pub mod Accepted
-pub mod Calls
+pub mod AtRecord
 pub mod Exprs
 pub mod Extras
 pub mod Groups

@@ -15,8 +15,8 @@ use Rattle.rewrite.specs.Pass.{inputs, first-input, at-record, Walk, wal
 use Rattle.rewrite.specs.Pass.{passed, pass-refused, report, pass, pass-with-room, pass-call}
 use Rattle.acceptance.proofs.NamesRule.{ok}
 use Rattle.rewrite.proofs.Accepted.{accepted}
-use Rattle.rewrite.proofs.Calls.{Answered, was-granted, was-refused, Leaves, Kept, keeps-trans, leaves-self, kept, accepted-ok}
-use Rattle.rewrite.proofs.Calls.{rewriteAt-answered}
+use Rattle.rewrite.proofs.AtRecord.{Answered, was-granted, was-refused, Leaves, Kept, keeps-trans, leaves-self, kept, accepted-ok}
+use Rattle.rewrite.proofs.AtRecord.{rewriteAt-answered}
 
 data WalkLeaves (p : Plan) : Walk → Type 0 where
   on-the-way : {q : Plan} {b v c : ℕ} → Leaves q p → WalkLeaves p (walking q b v c)

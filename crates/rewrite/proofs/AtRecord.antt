@@ -1,12 +1,12 @@
--- Demand 3 on plans: a list of calls of rewrite, granted or refused, keeps the rows of the root, whatever the functions mean and whatever
--- tables fit the plan; and each call leaves a plan that is again accepted.
-use Prim.Native.Nat.{ℕ, _*_}
+-- A rewrite at a record of a plan: what may stand in the place of a part may stand in the whole, so a granted rewrite keeps the rows of the root,
+-- whatever the functions mean and whatever tables fit the plan, and leaves a plan that keeps the rules. (Lists of calls: crate preservation.)
+use Prim.Native.Nat.{ℕ}
 use mathlib.Core.Path.{_≡_, refl, ap, _∙_}
 use mathlib.Core.Bool.{Bool, true, false}
-use mathlib.Core.List.{List, [], _∷_, _++_}
+use mathlib.Core.List.{List, _++_}
 use mathlib.Core.Option.{Option, none, some}
 use lib.ListN.{length}
-use lib.Dec.{eqb, leb}
+use lib.Dec.{eqb}
 use Rattle.plan.specs.Lists.{choose}
 use Rattle.plan.proofs.Lists.{and-l, and-r, and-intro}
 use Rattle.plan.specs.Syntax.{Expr, Entry, Pair, Key, AggEntry, WinEntry, Kind, Plan, scan, filter, project, join, alias, union, distinct}
@@ -16,11 +16,9 @@ use Rattle.meaning.specs.Tables.{ScansFit, TablesFit}
 use Rattle.meaning.proofs.Tables.{fit-left, fit-right, fit-same}
 use Rattle.plan.specs.Schema.{schema, schema-first}
 use Rattle.rewrite.specs.PushDownFilter.{rewrite}
-use Rattle.image.specs.Limits.{recordBytes}
-use Rattle.plan.specs.Measure.{sizeP}
 use Rattle.rewrite.specs.Limits.{fits}
 use Rattle.rewrite.specs.RewriteAt.{Focus, FocusAll, here, inside, inside-all, first-of, later-of, focus, focus-all, Answer, granted}
-use Rattle.rewrite.specs.RewriteAt.{refused, result-fits, rewrite-in, rewriteAt, with-room, rewrite-call}
+use Rattle.rewrite.specs.RewriteAt.{refused, result-fits, rewrite-in, rewriteAt}
 use Rattle.acceptance.proofs.NamesRule.{ok, ok-all, rule, ok-names}
 use Rattle.plan.specs.Types.{types, types-first, scans, scans-all}
 use Rattle.acceptance.proofs.TypesRule.{typed, typed-all, types-ok, names-typed-ok}
@@ -330,31 +328,6 @@ pub rewriteAt-answered : (n : ℕ) (p : Plan) → ok p ≡ true → Answered p (
 unfolding rewriteAt
 rewriteAt-answered n p o = in-answered n (focused p n o)
 
-room-answered : (room : ℕ) {p : Plan} {a : Answer} → Answered p a → Answered p (with-room room a)
-unfolding with-room choose
-room-answered room was-refused = was-refused
-room-answered room {p} (was-granted {f = f} {q = q} h) = go (leb (recordBytes * sizeP q) room)
-  where
-    go : (b : Bool) → Answered p (choose b (granted f q) (refused 12 0))
-    go true = was-granted h
-    go false = was-refused
-
--- ---- a list of calls
-
--- a call of rewrite: a record number and an output length
-pub record Call : Type 0 where
-  pub place : ℕ
-  pub room : ℕ
-
--- a granted call leaves its answer, a refused one the plan it got
-abbrev pub left-by : Plan → Answer → Plan
-left-by p (granted f q) = q
-left-by p (refused k r) = p
-
-unfoldable pub after-calls : List Call → Plan → Plan
-after-calls [] p = p
-after-calls (c ∷ cs) p = after-calls cs (left-by p (rewrite-call (c .place) (c .room) p))
-
 -- what a caller learns: the plan left has the rows, the schema, the types and the scans of the plan given, and is accepted
 pub record Kept (q p : Plan) : Type 0 where
   pub same-rows : (W : World) → TablesFit W p → rows W q ≡ rows W p
@@ -365,10 +338,6 @@ pub record Kept (q p : Plan) : Type 0 where
 
 pub leaves-self : {p : Plan} → ok p ≡ true → fits p ≡ true → Leaves p p
 leaves-self o f = record { keeps = keeps-self o; fitting = f }
-
-left-kept : {p : Plan} {a : Answer} → ok p ≡ true → fits p ≡ true → Answered p a → Leaves (left-by p a) p
-left-kept o f (was-granted l) = l
-left-kept o f was-refused = leaves-self o f
 
 pub accepted-ok : (p : Plan) → accepted p ≡ true → ok p ≡ true
 unfolding accepted types-ok
@@ -387,16 +356,3 @@ kept {q} {p} l y = record {
   same-scans = l .keeps .scans-same;
   accepted-again = and-intro (l .fitting) (and-intro (ok-names q (l .keeps .well)) (types-ok-again q p (l .keeps) y));
 }
-
-calls-leave : (cs : List Call) (p : Plan) → ok p ≡ true → fits p ≡ true → Leaves (after-calls cs p) p
-unfolding after-calls rewrite-call
-calls-leave [] p o f = leaves-self o f
-calls-leave (c ∷ cs) p o f =
-    let l = left-kept o f (room-answered (c .room) (rewriteAt-answered (c .place) p o)) in
-    let m = calls-leave cs _ (l .keeps .well) (l .fitting) in
-    record { keeps = keeps-trans (m .keeps) (l .keeps); fitting = m .fitting }
-
--- demand 3
-pub calls-keep-rows : (cs : List Call) (p : Plan) → accepted p ≡ true → Kept (after-calls cs p) p
-unfolding accepted
-calls-keep-rows cs p h = kept (calls-leave cs p (accepted-ok p h) (and-l _ _ h)) (and-r _ _ (and-r _ _ h))
