@@ -1,1 +1,4 @@
 -- Laws of names and types on records.
+pub mod TreeFields
+pub mod TreeMarks
+pub mod TreeNames
