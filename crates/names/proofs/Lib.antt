@@ -2,3 +2,5 @@
 pub mod TreeFields
 pub mod TreeMarks
 pub mod TreeNames
+pub mod TreeScans
+pub mod TreeTypes

@@ -187,7 +187,7 @@ pub names-append : (s t : Schema) → namesIn (s ++ t) ≡ namesIn s ++ namesIn 
 unfolding namesIn
 names-append s t = map-append (λ (f : Fld). f .name) s t
 
-pub types-append : (s t : Schema) → typesIn (s ++ t) ≡ typesIn s ++ typesIn t
+types-append : (s t : Schema) → typesIn (s ++ t) ≡ typesIn s ++ typesIn t
 unfolding typesIn
 types-append s t = map-append (λ (f : Fld). f .ty) s t
 
@@ -235,6 +235,11 @@ module _ {A : Type 0} (make : A → Fld) where
   unfolding typesIn
   types-made = map-map (λ (f : Fld). f .ty) make
 
+-- the types of a scan's fields, read off its children
+pub scan-types : (fs : List Field) (es : List Expr)
+    → typesIn (made [] (each fieldLabel nothingBelow fs (each labelE kidsE es none))) ≡ map (λ (f : Field). f .ty) fs
+scan-types fs es = ap typesIn (made-fields fs es) ∙ types-made scan-field fs
+
 mutual
   unfolding fields schema first namesIn
 
@@ -267,7 +272,7 @@ type-in [] x = refl
 type-in (f ∷ s) x = rw (type-in s x)
 
 -- a schema of these names and types gives a name the type that these lists give it
-pub typed-by : (s : Schema) {ns : List Name} {ts : List ℕ} → namesIn s ≡ ns → typesIn s ≡ ts → typeIn s ≡ lookD 0 ns ts
+typed-by : (s : Schema) {ns : List Name} {ts : List ℕ} → namesIn s ≡ ns → typesIn s ≡ ts → typeIn s ≡ lookD 0 ns ts
 typed-by s e h = λ i x. (type-in s x ∙ ap₂ (λ ns ts. lookD 0 ns ts x) e h) i
 
 entry-types : (p : Plan) → typesIn (fields p) ≡ types p → (es : List Entry)

@@ -61,7 +61,7 @@ hand-plan c (aggregate gs ags p) =
     rw (inputs-entries gs rest, inputs-aggs ags (stand p none), inputs-plan p none)
 hand-plan c (window ws p) = rw (inputs-wins ws (stand p none), inputs-plan p none)
 
-pub hand-expr : (c : Scope) (e : Expr) → hand c (labelE e) (kidsE e) ≡ (c, c)
+hand-expr : (c : Scope) (e : Expr) → hand c (labelE e) (kidsE e) ≡ (c, c)
 unfolding hand
 hand-expr c e = rw (expr-what e .1)
 
