@@ -1,4 +1,7 @@
--- The fields read off the records of a plan's tree are the plan's: their names are its schema, their types its types.
+-- The fields read off the records of a plan's tree are the plan's.
+--     tree-fields                  the tree of a plan gives one schema, `fields` of the plan
+--     fields-names, fields-types   its names are the plan's schema, its types the plan's types
+--     fields-typed, both-typed     so a name has the type that it has over the plan, or over both inputs of a join
 -- Assumes nothing.
 use Prim.Native.Nat.{ℕ}
 use mathlib.Core.Path.{_≡_, refl, ap, ap₂, _∙_}
@@ -35,7 +38,7 @@ type-label s (between n a l u) = refl
 type-label s (inlist n a xs) = refl
 type-label s (fn p q r xs) = refl
 
--- ---- the fields of a plan
+-- ---- the fields of a plan: `schema` and `types` side by side
 
 abbrev scan-field : Field → Fld
 scan-field f = fld (f .name) (f .ty)
@@ -110,7 +113,7 @@ module _ {A : Type 0} (l : A → Label) (k : A → Forest) (q : K.PartKind) (is 
     made-each [] ns = refl
     made-each (x ∷ xs) ns = rw (is x, makes x (made s (each l k xs ns)), made-each xs ns)
 
--- ---- the inputs of a plan, behind or in front of its parts
+-- ---- run by run
 
 pub inputs-entries : (es : List Entry) (ns : Forest) → inputs (each entryLabel entryKids es ns) ≡ inputs ns
 unfolding whatOf among
@@ -147,6 +150,7 @@ made-wins : (s : Schema) (ws : List WinEntry) (ns : Forest) → made s (each win
 unfolding whatOf among
 made-wins s = made-each winLabel winKids K.WinPart (λ x. refl) s win-field (λ w rest. rw (name-back (w .name)))
 
+-- the schemas of a plan in front of other trees, and of the inputs of a Union
 mutual
   unfolding inputs labelP kidsP forestP whatOf among fields first second
 
@@ -256,11 +260,9 @@ mutual
   fields-names (limit n k p) = fields-names p
   fields-names (aggregate gs ags p) =
       names-append (map (entry-field (fields p)) gs) (map agg-field ags)
-      ∙ ap₂ _++_ (names-made (entry-field (fields p)) gs)
-      (names-made agg-field ags)
+      ∙ ap₂ _++_ (names-made (entry-field (fields p)) gs) (names-made agg-field ags)
   fields-names (window ws p) =
-      names-append (fields p) (map win-field ws)
-      ∙ ap₂ _++_ (fields-names p) (names-made win-field ws)
+      names-append (fields p) (map win-field ws) ∙ ap₂ _++_ (fields-names p) (names-made win-field ws)
 
   first-names : (ps : Plans) → namesIn (first [] (fields-all ps)) ≡ schema-first ps
   first-names pnil = refl
@@ -299,8 +301,7 @@ mutual
       types-append (map (entry-field (fields p)) gs) (map agg-field ags)
       ∙ ap₂ _++_ (entry-types p (fields-types p) gs) (types-made agg-field ags)
   fields-types (window ws p) =
-      types-append (fields p) (map win-field ws)
-      ∙ ap₂ _++_ (fields-types p) (types-made win-field ws)
+      types-append (fields p) (map win-field ws) ∙ ap₂ _++_ (fields-types p) (types-made win-field ws)
 
   first-types : (ps : Plans) → typesIn (first [] (fields-all ps)) ≡ types-first ps
   first-types pnil = refl
