@@ -1,1 +1,6 @@
 -- Laws of names and types on records.
+pub mod TreeFields
+pub mod TreeMarks
+pub mod TreeNames
+pub mod TreeScans
+pub mod TreeTypes
