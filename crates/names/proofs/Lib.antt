@@ -1,1 +1,4 @@
 -- Laws of names and types on records.
+pub mod Counting
+pub mod KindRanges
+pub mod Typing

@@ -1,2 +1,4 @@
+pub mod Count
 pub mod Fields
 pub mod Rules
+pub mod Typed

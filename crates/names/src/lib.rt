@@ -1,1 +1,2 @@
 // Names and types, asked of the records of an image.
+pub mod fields;
