@@ -7,13 +7,13 @@ use Prim.Native.Nat.{ℕ, zero, suc, _+_, _-_, _*_, _≤_, _<_}
 use native.Mathlib.Omega.{arith}
 use lib.Dec.{eqb, leb}
 use lib.ListN.{length, drop, length-drop, length-append}
-use borrow.Author.Tests.{eq-eqb, ne-eqb, le-leb, lt-leb, leb-true, leb-false, eqb-true, eqb-false}
+use borrow.Author.Tests.{ne-eqb, le-leb, lt-leb, eqb-true, eqb-false}
 use Rattle.image.specs.Tree.{Label, Forest, none, node, size, Stands, Linked, Node}
 use Rattle.plan.specs.Kinds as K
-use Rattle.plan.specs.Kinds.{What, expr, plan, part, unknown, what, whatOf, isPlan, planW}
+use Rattle.plan.specs.Kinds.{What, expr, plan, part, unknown, what, whatOf, planW}
 use Rattle.plan.specs.Syntax.{Name, nm}
-use Rattle.names.specs.Fields.{Fld, Schema, nameOf, made, madeBy, inputs, inputsBy, fieldsP, requalify, joinFields, first, second}
-use Rattle.plan.proofs.Rebuilt.{kind-p, kind-w, kind-e, plan-is}
+use Rattle.names.specs.Fields.{Schema, nameOf, made, madeBy, inputs, inputsBy, fieldsP, requalify, joinFields, first, second}
+use Rattle.plan.proofs.Rebuilt.{kind-p, kind-w}
 use Rattle.image.proofs.Stepping.{Step}
 use Rattle.names.proofs.KindRanges.{plan-kind}
 use Rattle.names.specs.Count.{hits, hit, counted, input, makes, role, roleP, own, below}
@@ -321,6 +321,7 @@ makes-last n a b c = go (eqb n 53) refl
     none-left (part K.KeyPart) e d = refl
     none-left (part K.AggPart) e d = absurd (c (kind-w (of-kind n) K.AggPart e))
     none-left (part K.WinPart) e d = absurd (d (kind-w (of-kind n) K.WinPart e))
+
     go : (x : Bool) → eqb n 53 ≡ x → x ≡ makes (whatOf n)
     go true e = rw (eqb-true n 53 e) refl
     go false e = none-left (whatOf n) refl (eqb-false n 53 e)
@@ -410,10 +411,12 @@ module _ {f : Forest} {s : List ℕ} {b at : ℕ} {part : List ℕ} {v : Node} (
       has-more e =
           let z : r ≡ 0 → ⊥ = λ q. omega arith in
           let o = of-plan z in
-          let c = base (w .label) (w .below) (inputs (w .below)) (o .0) in
-          (c, ap (counted (hits mode q n)) (here z ∙ from-input-and-parts (w .label) (w .below) (inputs (w .below)) (o .0) (sym (o .1) ∙ e))
-          ∙ counted-++ (hits mode q n) (input 0 (inputs (w .below))) (made c (w .below))
-          ∙ ap (λ (x : ℕ). x + counted (hits mode q n) (made c (w .below))) (asked-plain r (v .p) mode q n (inputs (w .below)) e))
+          let c = base (w .label) (w .below) (inputs (w .below)) (o .0) in (
+            c,
+            ap (counted (hits mode q n)) (here z ∙ from-input-and-parts (w .label) (w .below) (inputs (w .below)) (o .0) (sym (o .1) ∙ e))
+                ∙ counted-++ (hits mode q n) (input 0 (inputs (w .below))) (made c (w .below))
+                ∙ ap (λ (x : ℕ). x + counted (hits mode q n) (made c (w .below))) (asked-plain r (v .p) mode q n (inputs (w .below)) e),
+          )
 
       pub has-input : (r ≡ 0 → ⊥) → (r ≡ 1 → ⊥) → (r ≡ 2 → ⊥) → (r ≡ 4 → ⊥) → counted (hits mode q n) (input k (inputs f)) ≡ asked
       has-input z a b d =

@@ -1,16 +1,16 @@
 -- The kinds of expressions are 1 to 10, of plans 32 to 43.
 -- Assumes nothing.
-use mathlib.Core.Path.{_≡_, refl, sym, _∙_}
+use mathlib.Core.Path.{_≡_, refl, sym}
 use mathlib.Core.Bool.{Bool, true, false, _&&_}
 use Prim.Native.Nat.{ℕ, zero, suc, _+_, _≤_, _<_}
 use native.Mathlib.Omega.{arith}
-use lib.Dec.{eqb, leb}
-use borrow.Author.Tests.{le-leb, lt-leb, leb-true, leb-false}
+use lib.Dec.{leb}
+use borrow.Author.Tests.{leb-true, leb-false}
 use Rattle.image.specs.Tree.{Label}
 use Rattle.plan.specs.Lists.{_&_}
 use Rattle.plan.proofs.Lists.{and-l, and-r}
 use Rattle.plan.specs.Kinds as K
-use Rattle.plan.specs.Kinds.{What, expr, plan, part, unknown, what, whatOf, among, exprW, planW, isExpr, isPlan}
+use Rattle.plan.specs.Kinds.{whatOf, among, exprW, planW, isExpr, isPlan}
 use Rattle.plan.proofs.Rebuilt.{kind-e, kind-p, expr-is, plan-is}
 
 -- a test of each number from a on, n of them

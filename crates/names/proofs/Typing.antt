@@ -3,26 +3,25 @@
 use mathlib.Core.Path.{_≡_, refl, sym, ap, subst, _∙_}
 use mathlib.Core.Bool.{Bool, true, false, cond, _&&_, _||_}
 use mathlib.Core.List.{List, [], _∷_, _++_, map}
-use Prim.Native.Nat.{ℕ, zero, suc, _+_, _-_, _*_, _≤_, _<_}
+use Prim.Native.Nat.{ℕ, _+_, _-_, _*_}
 use native.Mathlib.Omega.{arith}
 use lib.Dec.{eqb, leb}
-use lib.ListN.{length, drop, length-drop, length-append}
-use borrow.Author.Tests.{eq-eqb, ne-eqb, le-leb, lt-leb, leb-true, leb-false, eqb-true, eqb-false}
-use Rattle.image.specs.Tree.{Label, Forest, none, node, Tree, size, Stands, Linked, labelAt, Node, nodeOf}
+use lib.ListN.{drop}
+use borrow.Author.Tests.{eq-eqb, ne-eqb}
+use Rattle.image.specs.Tree.{Label, Forest, none, labelAt, Node, nodeOf}
 use Rattle.plan.specs.Lists.{_&_}
 use Rattle.plan.specs.Schema.{same}
 use Rattle.plan.specs.Kinds as K
-use Rattle.plan.specs.Kinds.{What, expr, plan, part, unknown, what, whatOf, isPlan, planW, exprW}
+use Rattle.plan.specs.Kinds.{What, expr, plan, part, unknown, what, whatOf, exprW}
 use Rattle.plan.specs.Syntax.{Name, nm}
-use Rattle.names.specs.Fields.{Fld, Schema, nameOf, made, madeBy, inputs, inputsBy, fieldsP, requalify, joinFields, typeIn, typeOf, typeBy, typeFirst, first, second}
-use Rattle.plan.proofs.Rebuilt.{kind-p, kind-w, kind-e, plan-is}
-use Rattle.image.proofs.Walking.{turn, ended, left, left-first, linked-first}
-use Rattle.names.proofs.KindRanges.{plan-kind, expr-kind}
+use Rattle.names.specs.Fields.{Schema, nameOf, made, madeBy, inputs, fieldsP, requalify, joinFields, typeIn, typeOf, typeBy, typeFirst, first}
+use Rattle.plan.proofs.Rebuilt.{kind-w, kind-e}
+use Rattle.image.proofs.Walking.{turn, ended}
+use Rattle.names.proofs.KindRanges.{expr-kind}
 use Rattle.names.specs.Count.{hits, hit, counted, input, makes, role, roleP, own, below}
-
 use Rattle.image.specs.Word.{word}
 use Rattle.names.specs.declared.fields.Source.{Source}
-use Rattle.names.specs.Typed.{typed, sourceType, plainType, plainE, who}
+use Rattle.names.specs.Typed.{typed, sourceType, plainType, who}
 use Rattle.names.proofs.Counting.{renamed-one, input-0, input-1, base, of-kind, of-plan, here}
 use Rattle.image.proofs.Stepping.{Step}
 
@@ -154,6 +153,7 @@ module _ {f : Forest} {s : List ℕ} {b at : ℕ} {part : List ℕ} {v : Node} (
       first-of : (x y : Bool) → (x && y) ≡ true → x ≡ true
       first-of true y m = refl
       first-of false y m = m
+
       go : (u : What) → whatOf (v .kind) ≡ u → makes u ≡ true → 1 ≡ partType u d (w .label) (w .below)
       go (expr k) q m = let z : _≡_ {A = ℕ} 0 1 = cc in absurd (omega arith)
       go (plan k) q m = let z : _≡_ {A = ℕ} 0 1 = cc in absurd (omega arith)
@@ -185,6 +185,7 @@ typed-name q n (f ∷ s) = step (f .name) (typed-name q n s)
     and true true x y = refl
     and true false x y = refl
     and false b x y = refl
+
     step : (x : Name) → typed (hits 0 q n) s ≡ typeIn s (nm q n) → cond (hits 0 q n x) (f .ty) (typed (hits 0 q n) s) ≡ cond (same x (nm q n)) (f .ty) (typeIn s (nm q n))
     step (nm r m) e = rw e (and (eqb r q) (eqb m n) (f .ty) (typeIn s (nm q n)))
 

@@ -5,7 +5,7 @@ use Prim.Native.Nat.{ℕ, zero, suc, _+_}
 use lib.Dec.{eqb, leb}
 use Rattle.plan.specs.Kinds.{What, expr, plan, part, unknown, PlanKind, TableScan, Filter, Projection, Join, SubqueryAlias, Union, Distinct, Sort, Repartition, Limit, Aggregate, Window, PartKind, FieldPart, EntryPart, PairPart, KeyPart, AggPart, WinPart}
 use Rattle.plan.specs.Syntax.{Name, nm}
-use Rattle.names.specs.Fields.{Schema, Fld}
+use Rattle.names.specs.Fields.{Schema}
 
 abbrev pub hit : ℕ → ℕ → ℕ → ℕ → ℕ → Bool
 hit mode q n r m = cond (eqb mode 0) (eqb r q && eqb m n) (cond (eqb mode 1) (eqb m n) (eqb mode 2))

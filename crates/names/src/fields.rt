@@ -117,7 +117,15 @@ pub fn made_count(s: &[u8], base: usize, at: usize, mode: usize, q: usize, n: us
 }
 
 // How many fields that the question asks for has the plan with the place `skip` among the trees from record `at` on.
-pub fn holders(s: &[u8], base: usize, at: usize, skip: usize, mode: usize, q: usize, n: usize) -> usize
+pub fn holders(
+    s: &[u8],
+    base: usize,
+    at: usize,
+    skip: usize,
+    mode: usize,
+    q: usize,
+    n: usize,
+) -> usize
     requires { ⌜ Chained (now s) base at ⌝ }
     ensures { λ r. ⌜ ((f : Forest) → Linked f (now (s .entry)) base at → r ≡ counted (hits mode q n) (input skip (inputs f))) ⌝ }
 {
@@ -136,7 +144,15 @@ pub fn holders(s: &[u8], base: usize, at: usize, skip: usize, mode: usize, q: us
     if role == 1 {
         return made_count(part, at, v.first, mode, q, n);
     }
-    let under = holders(part, at, v.first, own_input(role, v.p), question(role, v.p, mode, q), q, n);
+    let under = holders(
+        part,
+        at,
+        v.first,
+        own_input(role, v.p),
+        question(role, v.p, mode, q),
+        q,
+        n,
+    );
     if role == 2 {
         if v.p <= 4 {
             return under + holders(part, at, v.first, 1, mode, q, n);
@@ -185,9 +201,19 @@ pub fn source_of(s: &[u8]) -> Source
 {
     let v = look(s);
     if v.kind == 1 {
-        return Source { from: 1, ty: 0, q: v.p, n: v.q };
+        return Source {
+            from: 1,
+            ty: 0,
+            q: v.p,
+            n: v.q,
+        };
     }
-    Source { from: 0, ty: plain_type(v.kind, v.p, v.r), q: 0, n: 0 }
+    Source {
+        from: 0,
+        ty: plain_type(v.kind, v.p, v.r),
+        q: 0,
+        n: 0,
+    }
 }
 
 // The type of the first field asked for that the parts from record `at` on make.
@@ -196,27 +222,56 @@ pub fn made_type(s: &[u8], base: usize, at: usize, mode: usize, q: usize, n: usi
     ensures { λ x. ⌜ ((f : Forest) (d : Schema) → Linked f (now (s .entry)) base at → sourceType d x ≡ typed (hits mode q n) (made d f)) ⌝ }
 {
     if at == 0 {
-        return Source { from: 0, ty: 0, q: 0, n: 0 };
+        return Source {
+            from: 0,
+            ty: 0,
+            q: 0,
+            n: 0,
+        };
     }
     let part = from_record(s, base, at);
     let v = look(part);
     if makes_one(v.kind) & is_hit(mode, q, n, v.p, v.q) {
         if v.kind == 48 {
-            return Source { from: 0, ty: v.r, q: 0, n: 0 };
+            return Source {
+                from: 0,
+                ty: v.r,
+                q: 0,
+                n: 0,
+            };
         }
         if v.kind == 49 {
             if v.first == 0 {
-                return Source { from: 0, ty: 0, q: 0, n: 0 };
+                return Source {
+                    from: 0,
+                    ty: 0,
+                    q: 0,
+                    n: 0,
+                };
             }
             return source_of(from_record(part, at, v.first));
         }
-        return Source { from: 0, ty: 1, q: 0, n: 0 };
+        return Source {
+            from: 0,
+            ty: 1,
+            q: 0,
+            n: 0,
+        };
     }
     made_type(s, base, v.next, mode, q, n)
 }
 
 // Which answers: input 0 or 1, or the parts (2).
-fn answerer(s: &[u8], base: usize, at: usize, role: usize, p: usize, mode: usize, q: usize, n: usize) -> usize
+fn answerer(
+    s: &[u8],
+    base: usize,
+    at: usize,
+    role: usize,
+    p: usize,
+    mode: usize,
+    q: usize,
+    n: usize,
+) -> usize
     requires { ⌜ Chained (now s) base at ⌝ }
     ensures { λ r. ⌜ ((f : Forest) → Linked f (now (s .entry)) base at → r ≡ who role p (counted (hits mode q n) (input 0 (inputs f)))) ⌝ }
 {
@@ -242,7 +297,15 @@ fn answerer(s: &[u8], base: usize, at: usize, role: usize, p: usize, mode: usize
 }
 
 // The type of the first field asked for, as in `holders`; 0 for none.
-pub fn type_in(s: &[u8], base: usize, at: usize, skip: usize, mode: usize, q: usize, n: usize) -> usize
+pub fn type_in(
+    s: &[u8],
+    base: usize,
+    at: usize,
+    skip: usize,
+    mode: usize,
+    q: usize,
+    n: usize,
+) -> usize
     requires { ⌜ Chained (now s) base at ⌝ }
     ensures { λ r. ⌜ ((f : Forest) → Linked f (now (s .entry)) base at → r ≡ typed (hits mode q n) (input skip (inputs f))) ⌝ }
 {

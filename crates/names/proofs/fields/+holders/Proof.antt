@@ -1,14 +1,13 @@
 -- `names::holders` meets its contract. The measure is how many bytes are left.
-use mathlib.Core.Path.{_≡_, refl, sym, ap, _∙_}
+use mathlib.Core.Path.{sym, ap, _∙_}
 use mathlib.Core.List.{[]}
 use native.Mathlib.Omega.{arith}
-use lib.ListN.{length, length-drop}
-use Rattle.image.specs.Tree.{Forest, Linked}
+use lib.ListN.{length-drop}
 use Rattle.image.proofs.Walking.{turn, ended, left}
 use Rattle.names.specs.Count.{counted}
 use Rattle.image.proofs.Stepping.{step}
 use Rattle.names.proofs.Counting.{held-none, few-made, few-held, skip-part, skip-plan, has-parts, has-both, has-side, has-more, has-input}
-use Prim.Native.Nat.{ℕ, _<_, _+_, _*_, _-_}
+use Prim.Native.Nat.{ℕ, _<_}
 use borrow.Fn.Kinds.{In}
 use borrow.Fn.PlainCycle.{Measures, is, falls, and}
 use Rattle.names.proofs.fields.holders.Reads as holders

@@ -1,14 +1,13 @@
 -- `names::made_count` meets its contract. The measure is how many bytes are left.
-use mathlib.Core.Path.{_≡_, refl, sym, ap, _∙_}
+use mathlib.Core.Path.{sym, ap, _∙_}
 use mathlib.Core.Bool.{true, false}
 use mathlib.Core.List.{[]}
 use native.Mathlib.Omega.{arith}
-use lib.ListN.{length, length-drop}
-use Rattle.image.specs.Tree.{Forest, Linked}
-use Rattle.image.proofs.Walking.{turn, ended, left, left-first, linked-first}
+use lib.ListN.{length-drop}
+use Rattle.image.proofs.Walking.{turn, ended, left}
 use Rattle.image.proofs.Stepping.{step}
 use Rattle.names.proofs.Counting.{made-none, made-step, few-made}
-use Prim.Native.Nat.{ℕ, _<_, _+_, _*_, _-_}
+use Prim.Native.Nat.{ℕ, _<_, _+_}
 use borrow.Fn.Kinds.{In}
 use borrow.Fn.PlainCycle.{Measures, is, falls, and}
 use Rattle.names.proofs.fields.made_count.Reads as made-count

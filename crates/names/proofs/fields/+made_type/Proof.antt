@@ -1,14 +1,12 @@
 -- `names::made_type` meets its contract. The measure is how many bytes are left.
-use mathlib.Core.Path.{_≡_, refl, sym, ap, _∙_}
+use mathlib.Core.Path.{sym, _∙_}
 use mathlib.Core.Bool.{true, false}
 use native.Mathlib.Omega.{arith}
-use lib.ListN.{length, length-drop}
-use Rattle.image.specs.Tree.{Forest, Linked}
+use lib.ListN.{length-drop}
 use Rattle.image.proofs.Walking.{turn, ended, left}
 use Rattle.image.proofs.Stepping.{step}
-
 use Rattle.names.proofs.Typing.{typed-made-none, typed-step, of-field, of-no-entry, of-an-entry, of-other}
-use Prim.Native.Nat.{ℕ, _<_, _+_, _*_, _-_}
+use Prim.Native.Nat.{ℕ, _<_}
 use borrow.Fn.Kinds.{In}
 use borrow.Fn.PlainCycle.{Measures, is, falls, and}
 use Rattle.names.proofs.fields.made_type.Reads as made-type

@@ -1,8 +1,7 @@
 -- `names::type_in` meets its contract. The measure is how many bytes are left.
-use mathlib.Core.Path.{_≡_, refl, sym, ap, _∙_}
+use mathlib.Core.Path.{sym, ap, _∙_}
 use native.Mathlib.Omega.{arith}
-use lib.ListN.{length, length-drop}
-use Rattle.image.specs.Tree.{Forest, Linked}
+use lib.ListN.{length-drop}
 use Rattle.image.proofs.Walking.{turn, ended, left}
 use Rattle.names.specs.Fields.{Schema, typeIn}
 use Rattle.plan.specs.Syntax.{nm}
@@ -10,7 +9,7 @@ use Rattle.names.specs.Typed.{typed}
 use Rattle.image.proofs.Stepping.{step}
 use Rattle.names.proofs.Counting.{skip-part, skip-plan}
 use Rattle.names.proofs.Typing.{typed-none, typed-name, over, over-scan, over-other, by-parts, by-input, source-from, source-known, type-in-none}
-use Prim.Native.Nat.{ℕ, _<_, _+_, _*_, _-_}
+use Prim.Native.Nat.{ℕ, _<_}
 use borrow.Fn.Kinds.{In}
 use borrow.Fn.PlainCycle.{Measures, is, falls, and}
 use Rattle.names.proofs.fields.type_in.Reads as type-in

@@ -1,4 +1,4 @@
-use borrow.Author.Tests.{eq-eqb, ne-eqb, le-leb, lt-leb}
+use borrow.Author.Tests.{eq-eqb, ne-eqb}
 use Rattle.names.proofs.fields.question.Statement.{statement}
 use Rattle.names.proofs.fields.question.Tie as tie
 
