@@ -4,3 +4,7 @@ pub mod TreeMarks
 pub mod TreeNames
 pub mod TreeScans
 pub mod TreeTypes
+pub mod Counting
+pub mod KindRanges
+pub mod Scoping
+pub mod Typing

@@ -1,2 +1,5 @@
+pub mod Count
 pub mod Fields
 pub mod Rules
+pub mod Scopes
+pub mod Typed

@@ -1,1 +1,3 @@
 // Names and types, asked of the records of an image.
+pub mod fields;
+pub mod scopes;

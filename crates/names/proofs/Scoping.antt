@@ -1,0 +1,192 @@
+-- Laws of scopes: what is counted and typed in them, and what is handed down.
+-- Assumes nothing.
+use mathlib.Core.Path.{_≡_, refl, sym, ap, _∙_}
+use mathlib.Core.Bool.{Bool, true, false, cond, _&&_}
+use mathlib.Core.List.{List, [], _∷_, _++_}
+use Prim.Native.Nat.{ℕ, suc, _+_}
+use native.Mathlib.Omega.{arith}
+use lib.Dec.{eqb, leb}
+use borrow.Author.Tests.{eq-eqb, ne-eqb, eqb-true}
+use Rattle.image.specs.Tree.{Label, Forest, Node}
+use Rattle.plan.specs.Lists.{_&_}
+use Rattle.plan.specs.Schema.{same}
+use Rattle.plan.specs.Kinds as K
+use Rattle.plan.specs.Kinds.{What, expr, plan, part, unknown, what, whatOf, planW}
+use Rattle.plan.specs.Syntax.{Name, nm}
+use Rattle.names.specs.Fields.{Schema, inputs, typeIn, namesIn}
+use Rattle.acceptance.specs.Names.{holders}
+use Rattle.names.specs.Rules.{Scope, over, hand, handBy, handP}
+use Rattle.plan.proofs.Rebuilt.{kind-p, kind-w, kind-e}
+use Rattle.names.proofs.KindRanges.{plan-kind}
+use Rattle.image.proofs.Stepping.{Step}
+use Rattle.names.specs.Count.{hits, counted}
+use Rattle.names.specs.Typed.{typed}
+use Rattle.names.proofs.Typing.{typed-++, typed-name}
+use Rattle.names.proofs.Counting.{input-0, input-1, of-kind, counted-++}
+use Rattle.names.specs.Scopes.{scopeOf, sortP, sortW, firstSort, restSort}
+
+-- ---- counting
+
+-- a name's holders are the fields that have its qualifier and its name
+pub counted-name : (q n : ℕ) (s : Schema) → counted (hits 0 q n) s ≡ holders (namesIn s) (nm q n)
+unfolding counted holders namesIn _&_
+counted-name q n [] = refl
+counted-name q n (f ∷ s) = step (f .name) (counted-name q n s)
+  where
+    and : (a b : Bool) (x : ℕ) → cond (a && b) (x + 1) x ≡ cond (a & b) (suc x) x
+    and true true x = omega arith
+    and true false x = refl
+    and false b x = refl
+
+    step : (x : Name) → counted (hits 0 q n) s ≡ holders (namesIn s) (nm q n)
+        → cond (hits 0 q n x) (counted (hits 0 q n) s + 1) (counted (hits 0 q n) s) ≡ cond (same x (nm q n)) (suc (holders (namesIn s) (nm q n))) (holders (namesIn s) (nm q n))
+    step (nm r m) e = rw e (and (eqb r q) (eqb m n) (holders (namesIn s) (nm q n)))
+
+-- a schema with nothing beside it
+pub all-of : (s : Schema) → s ++ [] ≡ s
+all-of [] = refl
+all-of (f ∷ s) = ap (λ (t : Schema). f ∷ t) (all-of s)
+
+pub held-two : (h : Name → Bool) (s t : Schema) → counted h s + counted h t ≡ counted h (s ++ t)
+held-two h s t = sym (counted-++ h s t)
+
+pub held-one : (h : Name → Bool) (s : Schema) → counted h s ≡ counted h (s ++ [])
+held-one h s = ap (counted h) (sym (all-of s))
+
+pub held-nothing : (h : Name → Bool) → 0 ≡ counted h []
+unfolding counted
+held-nothing h = refl
+
+-- ---- the tables of the code
+
+module _ (n : ℕ) (a : n ≡ 32 → ⊥) (b : n ≡ 35 → ⊥) (d : n ≡ 37 → ⊥) where
+  sort-rest : (w : What) → whatOf n ≡ w → cond (planW w) 1 9 ≡ sortW w
+  sort-rest (expr k) e = refl
+  sort-rest (part k) e = refl
+  sort-rest unknown e = refl
+  sort-rest (plan K.TableScan) e = absurd (a (kind-p (of-kind n) K.TableScan e))
+  sort-rest (plan K.Filter) e = refl
+  sort-rest (plan K.Projection) e = refl
+  sort-rest (plan K.Join) e = absurd (b (kind-p (of-kind n) K.Join e))
+  sort-rest (plan K.SubqueryAlias) e = refl
+  sort-rest (plan K.Union) e = absurd (d (kind-p (of-kind n) K.Union e))
+  sort-rest (plan K.Distinct) e = refl
+  sort-rest (plan K.Sort) e = refl
+  sort-rest (plan K.Repartition) e = refl
+  sort-rest (plan K.Limit) e = refl
+  sort-rest (plan K.Aggregate) e = refl
+  sort-rest (plan K.Window) e = refl
+
+  pub sort-last : (x : Bool) → (leb 32 n && leb n 43) ≡ x → cond x 1 9 ≡ sortW (whatOf n)
+  sort-last x e = rw (← (plan-kind n ∙ e)) (sort-rest (whatOf n) refl)
+
+-- ---- what is handed down
+
+hand-p : (k : K.PlanKind) (cs : Forest) → handP k cs (inputs cs) ≡ scopeOf (sortP k) cs
+hand-p K.TableScan cs = refl
+hand-p K.Filter cs = rw (input-0 (inputs cs)) refl
+hand-p K.Projection cs = rw (input-0 (inputs cs)) refl
+hand-p K.Join cs = rw (input-0 (inputs cs), input-1 (inputs cs)) refl
+hand-p K.SubqueryAlias cs = rw (input-0 (inputs cs)) refl
+hand-p K.Union cs = refl
+hand-p K.Distinct cs = rw (input-0 (inputs cs)) refl
+hand-p K.Sort cs = rw (input-0 (inputs cs)) refl
+hand-p K.Repartition cs = rw (input-0 (inputs cs)) refl
+hand-p K.Limit cs = rw (input-0 (inputs cs)) refl
+hand-p K.Aggregate cs = rw (input-0 (inputs cs)) refl
+hand-p K.Window cs = rw (input-0 (inputs cs)) refl
+
+pair-first : (n : ℕ) (g : Forest) → over (scopeOf n g .left) [] ≡ scopeOf (cond (eqb n 2) 1 n) g
+pair-first n g = go (eqb n 1) refl (eqb n 2) refl (eqb n 3) refl (eqb n 4) refl
+  where
+    go : (a : Bool) → eqb n 1 ≡ a → (b : Bool) → eqb n 2 ≡ b → (c : Bool) → eqb n 3 ≡ c → (d : Bool) → eqb n 4 ≡ d → over (scopeOf n g .left) [] ≡ scopeOf (cond b 1 n) g
+    go true ea b eb c ec d ed = rw (← eb, eqb-true n 1 ea) refl
+    go false ea true eb c ec d ed = rw (eqb-true n 2 eb) refl
+    go false ea false eb true ec d ed = rw (eqb-true n 3 ec) refl
+    go false ea false eb false ec true ed = rw (eqb-true n 4 ed) refl
+    go false ea false eb false ec false ed = rw (ea, eb, ec, ed) refl
+
+pair-rest : (n : ℕ) (g : Forest) → over (scopeOf n g .right) [] ≡ scopeOf (cond (eqb n 2) 4 0) g
+pair-rest n g = go (eqb n 1) refl (eqb n 2) refl (eqb n 3) refl (eqb n 4) refl
+  where
+    go : (a : Bool) → eqb n 1 ≡ a → (b : Bool) → eqb n 2 ≡ b → (c : Bool) → eqb n 3 ≡ c → (d : Bool) → eqb n 4 ≡ d → over (scopeOf n g .right) [] ≡ scopeOf (cond b 4 0) g
+    go true ea b eb c ec d ed = rw (← eb, eqb-true n 1 ea) refl
+    go false ea true eb c ec d ed = rw (eqb-true n 2 eb) refl
+    go false ea false eb true ec d ed = rw (eqb-true n 3 ec) refl
+    go false ea false eb false ec true ed = rw (eqb-true n 4 ed) refl
+    go false ea false eb false ec false ed = rw (ea, eb, ec, ed) refl
+
+no-pair : whatOf 50 ≡ unknown → ⊥
+unfolding whatOf K.among
+no-pair k = let z : _≡_ {A = ℕ} 0 1 = cc in omega arith
+
+hand-q : (n : ℕ) (g : Forest) (l : Label) (cs : Forest) (w : What) → what l ≡ w → sortW w ≡ 9
+    → handBy w (scopeOf n g) cs ≡ (scopeOf (firstSort (l .kind) n) g, scopeOf (restSort (l .kind) n) g)
+hand-q n g l cs (part K.PairPart) e z = rw (kind-w l K.PairPart e, ← pair-first n g, ← pair-rest n g) refl
+hand-q n g l cs (part K.FieldPart) e z = rw (kind-w l K.FieldPart e) refl
+hand-q n g l cs (part K.EntryPart) e z = rw (kind-w l K.EntryPart e) refl
+hand-q n g l cs (part K.KeyPart) e z = rw (kind-w l K.KeyPart e) refl
+hand-q n g l cs (part K.AggPart) e z = rw (kind-w l K.AggPart e) refl
+hand-q n g l cs (part K.WinPart) e z = rw (kind-w l K.WinPart e) refl
+hand-q n g l cs (expr K.Column) e z = rw (kind-e l K.Column e) refl
+hand-q n g l cs (expr K.Integer) e z = rw (kind-e l K.Integer e) refl
+hand-q n g l cs (expr K.Boolean) e z = rw (kind-e l K.Boolean e) refl
+hand-q n g l cs (expr K.Null) e z = rw (kind-e l K.Null e) refl
+hand-q n g l cs (expr K.Binary) e z = rw (kind-e l K.Binary e) refl
+hand-q n g l cs (expr K.Not) e z = rw (kind-e l K.Not e) refl
+hand-q n g l cs (expr K.Test) e z = rw (kind-e l K.Test e) refl
+hand-q n g l cs (expr K.Between) e z = rw (kind-e l K.Between e) refl
+hand-q n g l cs (expr K.InList) e z = rw (kind-e l K.InList e) refl
+hand-q n g l cs (expr K.Function) e z = rw (kind-e l K.Function e) refl
+hand-q n g l cs (plan K.TableScan) e z = absurd (omega arith)
+hand-q n g l cs (plan K.Filter) e z = absurd (omega arith)
+hand-q n g l cs (plan K.Projection) e z = absurd (omega arith)
+hand-q n g l cs (plan K.Join) e z = absurd (omega arith)
+hand-q n g l cs (plan K.SubqueryAlias) e z = absurd (omega arith)
+hand-q n g l cs (plan K.Union) e z = absurd (omega arith)
+hand-q n g l cs (plan K.Distinct) e z = absurd (omega arith)
+hand-q n g l cs (plan K.Sort) e z = absurd (omega arith)
+hand-q n g l cs (plan K.Repartition) e z = absurd (omega arith)
+hand-q n g l cs (plan K.Limit) e z = absurd (omega arith)
+hand-q n g l cs (plan K.Aggregate) e z = absurd (omega arith)
+hand-q n g l cs (plan K.Window) e z = absurd (omega arith)
+hand-q n g l cs unknown e z = rw (ne-eqb (l .kind) 50 (λ q. let k : whatOf 50 ≡ unknown = ap whatOf (sym q) ∙ e in no-pair k)) refl
+
+module _ {f : Forest} {s : List ℕ} {b at : ℕ} {part : List ℕ} {v : Node} (w : Step f s b at part v) where
+  -- a plan hands its own scope to all its children
+  pub hand-plan : (c : Scope) (r : ℕ) → r ≡ sortW (whatOf (v .kind)) → (r ≡ 9 → ⊥) → hand c (w .label) (w .below) ≡ (scopeOf r (w .below), scopeOf r (w .below))
+  unfolding hand
+  hand-plan c r e z = go (what (w .label)) (e ∙ ap (λ (k : ℕ). sortW (whatOf k)) (w .kind))
+    where
+      go : (u : What) → r ≡ sortW u → handBy u c (w .below) ≡ (scopeOf r (w .below), scopeOf r (w .below))
+      go (expr k) q = absurd (z q)
+      go (K.part k) q = absurd (z q)
+      go unknown q = absurd (z q)
+      go (plan k) q = rw (q, hand-p k (w .below)) refl
+
+  -- another record hands on the scope that it has, and a key pair a part of it
+  pub hand-part : (n : ℕ) (g : Forest) {r i j : ℕ} → r ≡ sortW (whatOf (v .kind)) → r ≡ 9
+      → i ≡ firstSort (v .kind) n → j ≡ restSort (v .kind) n → hand (scopeOf n g) (w .label) (w .below) ≡ (scopeOf i g, scopeOf j g)
+  unfolding hand
+  hand-part n g {r} {i} {j} e z h k =
+      hand-q n g (w .label) (w .below) (what (w .label)) refl (sym (ap (λ (x : ℕ). sortW (whatOf x)) (w .kind)) ∙ sym e ∙ z)
+      ∙ ap (λ (x : ℕ). (scopeOf (firstSort x n) g, scopeOf (restSort x n) g)) (sym (w .kind))
+      ∙ ap (λ (x : ℕ). (scopeOf x g, scopeOf (restSort (v .kind) n) g)) (sym h) ∙ ap (λ (x : ℕ). (scopeOf i g, scopeOf x g)) (sym k)
+
+-- ---- types in a scope
+
+pub type-one : (q n : ℕ) (s : Schema) → typed (hits 0 q n) s ≡ typeIn (s ++ []) (nm q n)
+type-one q n s = typed-name q n s ∙ ap (λ (t : Schema). typeIn t (nm q n)) (sym (all-of s))
+
+type-two : (q n : ℕ) (s t : Schema) → cond (eqb (counted (hits 0 q n) s) 0) (typed (hits 0 q n) t) (typed (hits 0 q n) s) ≡ typeIn (s ++ t) (nm q n)
+type-two q n s t = sym (typed-++ (hits 0 q n) s t) ∙ typed-name q n (s ++ t)
+
+pub type-right : (q n : ℕ) (s t : Schema) {k : ℕ} → k ≡ counted (hits 0 q n) s → k ≡ 0 → typed (hits 0 q n) t ≡ typeIn (s ++ t) (nm q n)
+type-right q n s t e z = ap (λ (b : Bool). cond b (typed (hits 0 q n) t) (typed (hits 0 q n) s)) (sym (eq-eqb (counted (hits 0 q n) s) 0 (sym e ∙ z))) ∙ type-two q n s t
+
+pub type-left : (q n : ℕ) (s t : Schema) {k : ℕ} → k ≡ counted (hits 0 q n) s → (k ≡ 0 → ⊥) → typed (hits 0 q n) s ≡ typeIn (s ++ t) (nm q n)
+type-left q n s t e z = ap (λ (b : Bool). cond b (typed (hits 0 q n) t) (typed (hits 0 q n) s)) (sym (ne-eqb (counted (hits 0 q n) s) 0 (λ x. z (e ∙ x)))) ∙ type-two q n s t
+
+pub type-nothing : (x : Name) → 0 ≡ typeIn [] x
+unfolding typeIn
+type-nothing x = refl
