@@ -79,7 +79,8 @@ rooted-tree : (l : Label) (n next : ℕ) (p : Parsed) (t : Tree) → rooted l n 
 rooted-tree l n next (bad r) t h = let z : _≡_ {A = ℕ} 0 1 = cc in absurd (omega arith)
 rooted-tree l n next (good cs j) t h = go (eqb next 0) refl (eqb j n) refl h
   where
-    go : (a : Bool) → eqb next 0 ≡ a → (b : Bool) → eqb j n ≡ b → cond a (cond b (tree (record { label = l; below = cs })) (broken j)) (broken 0) ≡ tree t → Rooted l n next (good cs j) t
+    go : (a : Bool) → eqb next 0 ≡ a → (b : Bool) → eqb j n ≡ b
+        → cond a (cond b (tree (record { label = l; below = cs })) (broken j)) (broken 0) ≡ tree t → Rooted l n next (good cs j) t
     go true e true g q = record { cs = cs; read = ap (good cs) (eqb-true j n g); last = eqb-true next 0 e; is = cc }
     go true e false g q = let z : _≡_ {A = ℕ} 0 1 = cc in absurd (omega arith)
     go false e b g q = let z : _≡_ {A = ℕ} 0 1 = cc in absurd (omega arith)
@@ -101,7 +102,8 @@ worded (node l cs ns) s b h k = (
   rw (k .head .label) at (h 0 (omega arith)),
   worded cs (drop 32 s) (b + 1) (λ i j. let e : 32 + 32 * i ≡ 32 * suc i = omega arith in rw (drop-drop, e) (h (suc i) (omega arith))) (k .below),
   worded ns (drop (32 * suc (size cs)) s) (b + 1 + size cs)
-      (λ i j. let e : 32 * suc (size cs) + 32 * i ≡ 32 * (suc (size cs) + i) = omega arith in rw (drop-drop, e) (h (suc (size cs) + i) (omega arith))) (k .after),
+      (λ i j. let e : 32 * suc (size cs) + 32 * i ≡ 32 * (suc (size cs) + i) = omega arith in rw (drop-drop, e)
+      (h (suc (size cs) + i) (omega arith))) (k .after),
 )
 
 -- ---- from acceptance to a plan
@@ -148,7 +150,8 @@ buffer-of s h =
     let c = leb-true (length s / 32) maxRecords (and-r _ _ (and-r _ _ h)) in
     record { len = omega arith; one = omega (arith, a); most = c }
 
-accepted-tree : (s : List ℕ) → Bytes s → Buffer s → badWords (length s / 32) s 0 ≡ nothing → (t : Tree) → linked s (length s / 32) ≡ tree t → Clean t → (p : Plan) × Accepted s p
+accepted-tree : (s : List ℕ) → Bytes s → Buffer s → badWords (length s / 32) s 0 ≡ nothing → (t : Tree) → linked s (length s / 32) ≡ tree t
+    → Clean t → (p : Plan) × Accepted s p
 accepted-tree s bytes b words t l c =
     let n = length s / 32 in
     let e : n ≡ sizeT t = links-count s n t (b .len) (b .one) l in

@@ -36,7 +36,8 @@ use Rattle.image.proofs.Lowest.{or-assoc}
 
 -- ---- what stands is read
 
-pub complete : (f : Forest) (k n i : ℕ) (s : List ℕ) (link′ owner : ℕ) → 0 < i → i + size f ≤ n → size f < k → link′ ≡ link i f → Stands f (drop (32 * i) s) i → parse k s n i link′ owner ≡ good f (i + size f)
+pub complete : (f : Forest) (k n i : ℕ) (s : List ℕ) (link′ owner : ℕ) → 0 < i → i + size f ≤ n → size f < k → link′ ≡ link i f
+    → Stands f (drop (32 * i) s) i → parse k s n i link′ owner ≡ good f (i + size f)
 complete none k n i s link′ owner pos fits fuel e h = let z : i + 0 ≡ i = omega arith in rw (p-none s n i link′ owner k (omega arith) e, z)
 complete (node l cs ns) k n i s link′ owner pos fits fuel e h =
     let a : 32 * i + 32 ≡ 32 * (i + 1) = omega arith in
@@ -59,7 +60,14 @@ unfolding linked
 linked-complete t s h =
     let n = sizeT t in
     let z : 1 + size (t .below) ≡ n = omega arith in
-    rw (complete (t .below) (suc n) n 1 s (word s 24) 0 (omega arith) (omega arith) (omega arith) (h .head .first) (h .below), z, eq-eqb n n refl, h .next, h .head .label)
+    rw (
+      complete (t .below) (suc n) n 1 s (word s 24) 0 (omega arith) (omega arith) (omega arith) (h .head .first)
+          (h .below),
+      z,
+      eq-eqb n n refl,
+      h .next,
+      h .head .label,
+    )
 
 -- ---- words
 
@@ -70,7 +78,8 @@ words-append (suc a) b s c =
     let z : suc a + b ≡ suc (a + b) = omega arith in
     let y : c + 1 + a ≡ c + suc a = omega arith in
     let x : 32 + 32 * a ≡ 32 * suc a = omega arith in
-    rw (z, words-append a b (drop 32 s) (c + 1), drop-drop, x, y) (sym (or-assoc (unless (wordsOk (labelAt s)) c) (badWords a (drop 32 s) (c + 1)) (badWords b (drop (32 * suc a) s) (c + suc a))))
+    rw (z, words-append a b (drop 32 s) (c + 1), drop-drop, x, y)
+    (sym (or-assoc (unless (wordsOk (labelAt s)) c) (badWords a (drop 32 s) (c + 1)) (badWords b (drop (32 * suc a) s) (c + suc a))))
 
 words-complete : (f : Forest) (s : List ℕ) (b c : ℕ) → Worded f → Stands f s b → badWords (size f) s c ≡ nothing
 unfolding badWords orElse unless

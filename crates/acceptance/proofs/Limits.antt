@@ -46,7 +46,8 @@ conjuncts-128 : checkTree (record { label = label (plan K.Filter) 0 0 0 0 0; bel
 unfolding checked
 conjuncts-128 = refl
 
-join-conjuncts-128 : checkTree (record { label = label (plan K.Join) 1 0 0 0 0; below = node bare none (node bare none (ands 127 none)) }) ≡ verdict 0 0
+join-conjuncts-128 : checkTree (record { label = label (plan K.Join) 1 0 0 0 0; below = node bare none (node bare none (ands 127 none)) }) ≡
+    verdict 0 0
 unfolding checked
 join-conjuncts-128 = refl
 
@@ -54,7 +55,8 @@ conjuncts-129 : checkTree (record { label = label (plan K.Filter) 0 0 0 0 0; bel
 unfolding checked
 conjuncts-129 = refl
 
-join-conjuncts-129 : checkTree (record { label = label (plan K.Join) 1 0 0 0 0; below = node bare none (node bare none (ands 128 none)) }) ≡ verdict 5 0
+join-conjuncts-129 : checkTree (record { label = label (plan K.Join) 1 0 0 0 0; below = node bare none (node bare none (ands 128 none)) }) ≡
+    verdict 5 0
 unfolding checked
 join-conjuncts-129 = refl
 
@@ -71,7 +73,11 @@ unfolding checked
 filters-129-below = refl
 
 -- an And of three operands is not split, however many conjuncts they have: its own record is refused, not the Filter's list
-and-of-three : checkTree (record { label = label (plan K.Filter) 0 0 0 0 0; below = node (label (expr K.Binary) 1 0 0 0 0) (ands 126 (truth (truth none))) (node bare none none) }) ≡ verdict 5 1
+and-of-three : checkTree (record {
+  label = label (plan K.Filter) 0 0 0 0 0;
+  below = node (label (expr K.Binary) 1 0 0 0 0) (ands 126 (truth (truth none)))
+      (node bare none none);
+}) ≡ verdict 5 1
 unfolding checked
 and-of-three = refl
 

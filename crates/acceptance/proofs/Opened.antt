@@ -19,9 +19,12 @@ use Rattle.acceptance.specs.Check.{Verdict, at, bufferOk, badWords, link
 
 -- of a plan: tests 6 and 7
 unfoldable pub planChecked : Plan → Verdict
-unfolding _&_ all any flat orElse unless at schema schema-first type-of types types-first scans scans-all firstFalse marks-in marks-in-all marks-of marks-of-all holders one-field sound sound-plan badName of-type typed-operands first-scanned as-first typed-plan badType checkPlan
+unfolding _&_ all any flat orElse unless at schema schema-first type-of types types-first scans scans-all firstFalse marks-in marks-in-all
+    marks-of marks-of-all holders one-field sound sound-plan badName of-type typed-operands first-scanned as-first typed-plan badType
+    checkPlan
 planChecked p = checkPlan p
 
 unfoldable pub checked : List ℕ → Verdict
-unfolding planChecked word parse lowest among whatOf wordsOk inside fits end one past perhaps isAnd conjuncts exprsIn formOk badForm signed nth exprsOf run plansOf planAt bufferOk badWords linked tooDeep checkTree check
+unfolding planChecked word parse lowest among whatOf wordsOk inside fits end one past perhaps isAnd conjuncts exprsIn formOk badForm signed
+    nth exprsOf run plansOf planAt bufferOk badWords linked tooDeep checkTree check
 checked s = check s

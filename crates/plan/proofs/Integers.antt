@@ -24,7 +24,8 @@ signed-fits : (lo hi : ℕ) → lo ≤ 4294967295 → hi ≤ 4294967295 → Fits
 unfolding signed
 signed-fits lo hi a b = go (ltb hi 2147483648) refl
   where
-    go : (t : Bool) → ltb hi 2147483648 ≡ t → FitsZ (cond t (pos (hi * 4294967296 + lo)) (negsuc ((4294967295 - hi) * 4294967296 + (4294967295 - lo))))
+    go : (t : Bool) → ltb hi 2147483648 ≡ t
+        → FitsZ (cond t (pos (hi * 4294967296 + lo)) (negsuc ((4294967295 - hi) * 4294967296 + (4294967295 - lo))))
     go true e = omega (arith, ltb-true hi 2147483648 e)
     go false e = omega (arith, ltb-false hi 2147483648 e)
 
@@ -52,7 +53,12 @@ expr-fits K.Null l es b h = tt
 expr-fits K.Binary l es b h = (head-fits es h, head-fits (tailE es) (tail-fits es h))
 expr-fits K.Not l es b h = head-fits es h
 expr-fits K.Test l es b h = head-fits es h
-expr-fits K.Between l es b h = (head-fits es h, head-fits (tailE es) (tail-fits es h), head-fits (tailE (tailE es)) (tail-fits (tailE es) (tail-fits es h)))
+expr-fits K.Between l es b h = (
+  head-fits es h,
+  head-fits (tailE es) (tail-fits es h),
+  head-fits (tailE (tailE es))
+      (tail-fits (tailE es) (tail-fits es h)),
+)
 expr-fits K.InList l es b h = (head-fits es h, tail-fits es h)
 expr-fits K.Function l es b h = h
 
@@ -70,7 +76,8 @@ exprs-fit (node l cs ns) w = (go (what l) refl (exprs-fit cs (w .1)), exprs-fit 
 first-fits : (f : Forest) → Worded f → FitsE (headE (exprsOf f))
 first-fits f w = head-fits (exprsOf f) (exprs-fit f w)
 
-module _ {A : Type 0} (P : A → Type 0) (is : Label → Bool) (make : Label → Forest → A) (one : (l : Label) (c : Forest) → Worded c → P (make l c)) where
+module _ {A : Type 0} (P : A → Type 0) (is : Label → Bool) (make : Label → Forest → A)
+    (one : (l : Label) (c : Forest) → Worded c → P (make l c)) where
   run-fits : (f : Forest) → Worded f → Every P (run is make f)
   unfolding run
   run-fits none w = tt
@@ -100,7 +107,8 @@ plan-fits K.Join l cs ps w h =
     let v = worded-rest (rest cs) (worded-rest cs w) in (
       headP-fits ps h,
       headP-fits (tailP ps) (tailP-fits ps h),
-      run-fits (λ (k : Pair). FitsE (k .lhs) × FitsE (k .rhs)) isPair pairOf (λ l c v. (first-fits c v, head-fits (tailE (exprsOf c)) (tail-fits (exprsOf c) (exprs-fit c v)))) (rest (rest cs)) v,
+      run-fits (λ (k : Pair). FitsE (k .lhs) × FitsE (k .rhs)) isPair pairOf
+          (λ l c v. (first-fits c v, head-fits (tailE (exprsOf c)) (tail-fits (exprsOf c) (exprs-fit c v)))) (rest (rest cs)) v,
       perhaps-fits (exprsOf (past isPair (rest (rest cs)))) (exprs-fit (past isPair (rest (rest cs))) (worded-past isPair (rest (rest cs)) v)),
     )
 plan-fits K.SubqueryAlias l cs ps w h = headP-fits ps h

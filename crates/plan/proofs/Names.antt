@@ -54,17 +54,20 @@ module _ {A : Type 0} (d : A) where
   lookD-left (y ∷ s) t [] r w x h = absurd (omega arith)
   lookD-left (y ∷ s) t (v ∷ l) r w x h = go (same y x) h (lookD-left s t l r (omega arith) x)
     where
-      go : (b : Bool) → b || has s x ≡ true → (has s x ≡ true → lookD d (s ++ t) (l ++ r) x ≡ lookD d s l x) → cond b v (lookD d (s ++ t) (l ++ r) x) ≡ cond b v (lookD d s l x)
+      go : (b : Bool) → b || has s x ≡ true → (has s x ≡ true → lookD d (s ++ t) (l ++ r) x ≡ lookD d s l x)
+          → cond b v (lookD d (s ++ t) (l ++ r) x) ≡ cond b v (lookD d s l x)
       go true h k = refl
       go false h k = k h
 
-  pub lookD-right : (s t : List Name) (l r : List A) → length l ≡ length s → (x : Name) → has s x ≡ false → lookD d (s ++ t) (l ++ r) x ≡ lookD d t r x
+  pub lookD-right : (s t : List Name) (l r : List A) → length l ≡ length s → (x : Name) → has s x ≡ false
+      → lookD d (s ++ t) (l ++ r) x ≡ lookD d t r x
   unfolding any
   lookD-right [] t [] r w x h = refl
   lookD-right [] t (v ∷ l) r w x h = absurd (omega arith)
   lookD-right (y ∷ s) t [] r w x h = absurd (omega arith)
   lookD-right (y ∷ s) t (v ∷ l) r w x h = go (same y x) h (lookD-right s t l r (omega arith) x)
     where
-      go : (b : Bool) → b || has s x ≡ false → (has s x ≡ false → lookD d (s ++ t) (l ++ r) x ≡ lookD d t r x) → cond b v (lookD d (s ++ t) (l ++ r) x) ≡ lookD d t r x
+      go : (b : Bool) → b || has s x ≡ false → (has s x ≡ false → lookD d (s ++ t) (l ++ r) x ≡ lookD d t r x)
+          → cond b v (lookD d (s ++ t) (l ++ r) x) ≡ lookD d t r x
       go true h k = cc
       go false h k = k h

@@ -172,10 +172,18 @@ op-is : (p : ℕ) → 1 ≤ p → p ≤ 8 → opNumber (nth and ops (p - 1)) ≡
 op-is p h k = omega (arith, nth-at opNumber and ops 1 (p - 1) (refl, (refl, (refl, (refl, (refl, (refl, (refl, (refl, tt)))))))) (omega arith))
 
 test-is : (p : ℕ) → 1 ≤ p → p ≤ 8 → testNumber (nth isNull tests (p - 1)) ≡ p
-test-is p h k = omega (arith, nth-at testNumber isNull tests 1 (p - 1) (refl, (refl, (refl, (refl, (refl, (refl, (refl, (refl, tt)))))))) (omega arith))
+test-is p h k = omega (
+  arith,
+  nth-at testNumber isNull tests 1 (p - 1) (refl, (refl, (refl, (refl, (refl, (refl, (refl, (refl, tt))))))))
+      (omega arith),
+)
 
 join-is : (p : ℕ) → 1 ≤ p → p ≤ 8 → joinNumber (nth inner joins (p - 1)) ≡ p
-join-is p h k = omega (arith, nth-at joinNumber inner joins 1 (p - 1) (refl, (refl, (refl, (refl, (refl, (refl, (refl, (refl, tt)))))))) (omega arith))
+join-is p h k = omega (
+  arith,
+  nth-at joinNumber inner joins 1 (p - 1) (refl, (refl, (refl, (refl, (refl, (refl, (refl, (refl, tt))))))))
+      (omega arith),
+)
 
 agg-is : (p : ℕ) → 1 ≤ p → p ≤ 3 → aggNumber (nth count aggs (p - 1)) ≡ p
 agg-is p h k = omega (arith, nth-at aggNumber count aggs 1 (p - 1) (refl, (refl, (refl, tt))) (omega arith))
@@ -184,7 +192,8 @@ low-is : (lo hi : ℕ) → lo ≤ 4294967295 → hi ≤ 4294967295 → lowHalf (
 unfolding signed lowHalf
 low-is lo hi a b = go (ltb hi 2147483648) refl
   where
-    go : (t : Bool) → ltb hi 2147483648 ≡ t → lowHalf (cond t (pos (hi * 4294967296 + lo)) (negsuc ((4294967295 - hi) * 4294967296 + (4294967295 - lo)))) ≡ lo
+    go : (t : Bool) → ltb hi 2147483648 ≡ t
+        → lowHalf (cond t (pos (hi * 4294967296 + lo)) (negsuc ((4294967295 - hi) * 4294967296 + (4294967295 - lo)))) ≡ lo
     go true e = omega arith
     go false e = omega arith
 
@@ -192,7 +201,8 @@ high-is : (lo hi : ℕ) → lo ≤ 4294967295 → hi ≤ 4294967295 → highHalf
 unfolding signed highHalf
 high-is lo hi a b = go (ltb hi 2147483648) refl
   where
-    go : (t : Bool) → ltb hi 2147483648 ≡ t → highHalf (cond t (pos (hi * 4294967296 + lo)) (negsuc ((4294967295 - hi) * 4294967296 + (4294967295 - lo)))) ≡ hi
+    go : (t : Bool) → ltb hi 2147483648 ≡ t
+        → highHalf (cond t (pos (hi * 4294967296 + lo)) (negsuc ((4294967295 - hi) * 4294967296 + (4294967295 - lo)))) ≡ hi
     go true e = omega arith
     go false e = omega arith
 
@@ -201,7 +211,8 @@ high-is lo hi a b = go (ltb hi 2147483648) refl
 label-e : (k : K.ExprKind) (l : Label) (es : Exprs) → K.numberE k ≡ l .kind → Bounds (rowE k) l → labelE (exprOf k l es) ≡ l
 unfolding labelE
 label-e K.Column l es e h = label-is l e refl refl (omega arith) (omega arith) (omega arith)
-label-e K.Integer l es e h = label-is l e (omega arith) (omega arith) (omega arith) (low-is (l .lo) (l .hi) (h .lo₁) (h .hi₁)) (high-is (l .lo) (l .hi) (h .lo₁) (h .hi₁))
+label-e K.Integer l es e h = label-is l e (omega arith) (omega arith) (omega arith) (low-is (l .lo) (l .hi) (h .lo₁) (h .hi₁))
+    (high-is (l .lo) (l .hi) (h .lo₁) (h .hi₁))
 label-e K.Boolean l es e h = label-is l e (bit-is (l .p) (h .p₁)) (omega arith) (omega arith) (omega arith) (omega arith)
 label-e K.Null l es e h = label-is l e refl (omega arith) (omega arith) (omega arith) (omega arith)
 label-e K.Binary l es e h = label-is l e (op-is (l .p) (h .p₀) (h .p₁)) (omega arith) (omega arith) (omega arith) (omega arith)
@@ -246,7 +257,8 @@ one-kid none h ih = absurd (false≢true h)
 one-kid (node a x none) h ih = ih
 one-kid (node a x (node b y ns)) h ih = absurd (false≢true (and-r _ _ h))
 
-two-kids : (cs : Forest) → one isExpr (one isExpr end) cs ≡ true → forestE (exprsOf cs) ≡ cs → before (headE (exprsOf cs)) (before (headE (tailE (exprsOf cs))) none) ≡ cs
+two-kids : (cs : Forest) → one isExpr (one isExpr end) cs ≡ true → forestE (exprsOf cs) ≡ cs
+    → before (headE (exprsOf cs)) (before (headE (tailE (exprsOf cs))) none) ≡ cs
 unfolding one end kidsE forestE exprsOf
 two-kids none h ih = absurd (false≢true h)
 two-kids (node a x none) h ih = absurd (false≢true (and-r _ _ h))
@@ -262,7 +274,8 @@ three-kids (node a x (node b y none)) h ih = absurd (false≢true (and-r _ _ (an
 three-kids (node a x (node b y (node c z none))) h ih = ih
 three-kids (node a x (node b y (node c z (node d v ns)))) h ih = absurd (false≢true (and-r _ _ (and-r _ _ (and-r _ _ h))))
 
-some-kids : (cs : Forest) → one isExpr (λ f. one isExpr (λ g. end (past isExpr g)) f) cs ≡ true → forestE (exprsOf cs) ≡ cs → before (headE (exprsOf cs)) (forestE (tailE (exprsOf cs))) ≡ cs
+some-kids : (cs : Forest) → one isExpr (λ f. one isExpr (λ g. end (past isExpr g)) f) cs ≡ true → forestE (exprsOf cs) ≡ cs
+    → before (headE (exprsOf cs)) (forestE (tailE (exprsOf cs))) ≡ cs
 unfolding one kidsE forestE exprsOf
 some-kids none h ih = absurd (false≢true h)
 some-kids (node a x ns) h ih = ih
@@ -313,7 +326,8 @@ unfolding formOk
 form-at l cs w e h = rw e at (and-l _ _ h)
 
 -- the expression of a record, in front of other trees
-expr-node : (l : Label) (cs y : Forest) → isExpr l ≡ true → wordsOk l ≡ true → formOk l cs ≡ true → (Tops isExpr cs → forestE (exprsOf cs) ≡ cs) → before (exprBy (what l) l (exprsOf cs)) y ≡ node l cs y
+expr-node : (l : Label) (cs y : Forest) → isExpr l ≡ true → wordsOk l ≡ true → formOk l cs ≡ true
+    → (Tops isExpr cs → forestE (exprsOf cs) ≡ cs) → before (exprBy (what l) l (exprsOf cs)) y ≡ node l cs y
 expr-node l cs y h w f ih =
     let k = expr-is l h .0 in
     let e : what l ≡ expr k = expr-is l h .1 in
@@ -378,46 +392,56 @@ form-q q l c h f = form-at l c (part q) (part-what q l h) f
 
 module _ (l : Label) (c : Forest) where
   field-label : isField l ≡ true → wordsOk l ≡ true → formOk l c ≡ true → fieldLabel (fieldOf l c) ≡ l
-  field-label h w f = let b = label-q K.FieldPart l h w in label-is l (sym (kind-q K.FieldPart l h)) refl refl refl (bit-is (l .lo) (b .lo₁)) (omega arith)
+  field-label h w f = let b = label-q K.FieldPart l h w in label-is l (sym (kind-q K.FieldPart l h)) refl refl refl (bit-is (l .lo) (b .lo₁))
+      (omega arith)
 
   field-kids : isField l ≡ true → Worded c → Formed c → formOk l c ≡ true → none ≡ c
   field-kids h w o f = sym (leaf c (form-q K.FieldPart l c h f))
 
   entry-label : isEntry l ≡ true → wordsOk l ≡ true → formOk l c ≡ true → entryLabel (entryOf l c) ≡ l
-  entry-label h w f = let b = label-q K.EntryPart l h w in label-is l (sym (kind-q K.EntryPart l h)) refl refl (omega arith) (omega arith) (omega arith)
+  entry-label h w f = let b = label-q K.EntryPart l h w in label-is l (sym (kind-q K.EntryPart l h)) refl refl (omega arith) (omega arith)
+      (omega arith)
 
   entry-kids : isEntry l ≡ true → Worded c → Formed c → formOk l c ≡ true → entryKids (entryOf l c) ≡ c
   entry-kids h w o f = let k = form-q K.EntryPart l c h f in one-kid c k (exprs-whole c w o (tops-one isExpr _ c (tops-end isExpr) k))
 
   pair-label : isPair l ≡ true → wordsOk l ≡ true → formOk l c ≡ true → pairLabel (pairOf l c) ≡ l
-  pair-label h w f = let b = label-q K.PairPart l h w in label-is l (sym (kind-q K.PairPart l h)) (omega arith) (omega arith) (omega arith) (omega arith) (omega arith)
+  pair-label h w f = let b = label-q K.PairPart l h w in label-is l (sym (kind-q K.PairPart l h)) (omega arith) (omega arith) (omega arith)
+      (omega arith) (omega arith)
 
   pair-kids : isPair l ≡ true → Worded c → Formed c → formOk l c ≡ true → pairKids (pairOf l c) ≡ c
-  pair-kids h w o f = let k = form-q K.PairPart l c h f in two-kids c k (exprs-whole c w o (tops-one isExpr _ c (λ g. tops-one isExpr _ g (tops-end isExpr)) k))
+  pair-kids h w o f = let k = form-q K.PairPart l c h f in two-kids c k
+      (exprs-whole c w o (tops-one isExpr _ c (λ g. tops-one isExpr _ g (tops-end isExpr)) k))
 
   key-label : isKey l ≡ true → wordsOk l ≡ true → formOk l c ≡ true → keyLabel (keyOf l c) ≡ l
-  key-label h w f = let b = label-q K.KeyPart l h w in label-is l (sym (kind-q K.KeyPart l h)) (bit-is (l .p) (b .p₁)) (omega arith) (omega arith) (omega arith) (omega arith)
+  key-label h w f = let b = label-q K.KeyPart l h w in label-is l (sym (kind-q K.KeyPart l h)) (bit-is (l .p) (b .p₁)) (omega arith)
+      (omega arith) (omega arith) (omega arith)
 
   key-kids : isKey l ≡ true → Worded c → Formed c → formOk l c ≡ true → keyKids (keyOf l c) ≡ c
   key-kids h w o f = let k = form-q K.KeyPart l c h f in one-kid c k (exprs-whole c w o (tops-one isExpr _ c (tops-end isExpr) k))
 
   agg-label : isAgg l ≡ true → wordsOk l ≡ true → formOk l c ≡ true → aggLabel (aggOf l c) ≡ l
-  agg-label h w f = let b = label-q K.AggPart l h w in label-is l (sym (kind-q K.AggPart l h)) refl refl (agg-is (l .r) (b .r₀) (b .r₁)) (omega arith) (omega arith)
+  agg-label h w f = let b = label-q K.AggPart l h w in label-is l (sym (kind-q K.AggPart l h)) refl refl (agg-is (l .r) (b .r₀) (b .r₁))
+      (omega arith) (omega arith)
 
   agg-kids : isAgg l ≡ true → Worded c → Formed c → formOk l c ≡ true → aggKids (aggOf l c) ≡ c
   agg-kids h w o f = let k = form-q K.AggPart l c h f in one-kid c k (exprs-whole c w o (tops-one isExpr _ c (tops-end isExpr) k))
 
   win-label : isWin l ≡ true → wordsOk l ≡ true → formOk l c ≡ true → winLabel (winOf l c) ≡ l
-  win-label h w f = let b = label-q K.WinPart l h w in label-is l (sym (kind-q K.WinPart l h)) refl refl (agg-is (l .r) (b .r₀) (b .r₁)) (omega arith) (omega arith)
+  win-label h w f = let b = label-q K.WinPart l h w in label-is l (sym (kind-q K.WinPart l h)) refl refl (agg-is (l .r) (b .r₀) (b .r₁))
+      (omega arith) (omega arith)
 
   column-label : isKind (expr K.Column) l ≡ true → wordsOk l ≡ true → formOk l c ≡ true → columnLabel (columnOf l c) ≡ l
-  column-label h w f = let b = bounds (rowE K.Column) l (words-at l (expr K.Column) (column-what l h) w) in label-is l (sym (eqb-true (l .kind) 1 h)) refl refl (omega arith) (omega arith) (omega arith)
+  column-label h w f = let b = bounds (rowE K.Column) l (words-at l (expr K.Column) (column-what l h) w) in label-is l
+      (sym (eqb-true (l .kind) 1 h)) refl refl (omega arith) (omega arith) (omega arith)
 
   column-kids : isKind (expr K.Column) l ≡ true → Worded c → Formed c → formOk l c ≡ true → none ≡ c
   column-kids h w o f = sym (leaf c (form-at l c (expr K.Column) (column-what l h) f))
 
-columns-whole : (f : Forest) → Worded f → Formed f → end (past (isKind (expr K.Column)) f) ≡ true → each columnLabel nothingBelow (run (isKind (expr K.Column)) columnOf f) none ≡ f
-columns-whole f w o h = rw (leaf (past (isKind (expr K.Column)) f) h) at (runs-whole (isKind (expr K.Column)) columnOf columnLabel nothingBelow column-label column-kids f w o)
+columns-whole : (f : Forest) → Worded f → Formed f → end (past (isKind (expr K.Column)) f) ≡ true
+    → each columnLabel nothingBelow (run (isKind (expr K.Column)) columnOf f) none ≡ f
+columns-whole f w o h = rw (leaf (past (isKind (expr K.Column)) f) h) at
+    (runs-whole (isKind (expr K.Column)) columnOf columnLabel nothingBelow column-label column-kids f w o)
 
 win-kids : (l : Label) (c : Forest) → isWin l ≡ true → Worded c → Formed c → formOk l c ≡ true → winKids (winOf l c) ≡ c
 unfolding one exprsOf
@@ -425,7 +449,8 @@ win-kids l c h w o f = go c w o (form-q K.WinPart l c h f)
   where
     go : (c : Forest) → Worded c → Formed c → childrenQ K.WinPart c ≡ true → winKids (winOf l c) ≡ c
     go none w o k = absurd (false≢true k)
-    go (node a x ns) w o k = rw (columns-whole ns (w .2) (o .2) (and-r _ _ k)) (expr-node a x ns (and-l _ _ k) (w .0) (o .0) (exprs-whole x (w .1) (o .1)))
+    go (node a x ns) w o k = rw (columns-whole ns (w .2) (o .2) (and-r _ _ k))
+        (expr-node a x ns (and-l _ _ k) (w .0) (o .0) (exprs-whole x (w .1) (o .1)))
 
 -- ---- plans: the label
 
@@ -436,10 +461,12 @@ fetch-bit p lo h = go (eqb p 1) refl
     go true e = sym (eqb-true p 1 e)
     go false e = omega (arith, eqb-false p 1 e)
 
-fetch-is : (p lo : ℕ) → lo ≤ cond (eqb p 1) (Rattle.plan.specs.Words.any) Rattle.plan.specs.Words.unused .high → fetchOf (cond (eqb p 1) (some lo) O.none) ≡ lo
+fetch-is : (p lo : ℕ) → lo ≤ cond (eqb p 1) (Rattle.plan.specs.Words.any) Rattle.plan.specs.Words.unused .high
+    → fetchOf (cond (eqb p 1) (some lo) O.none) ≡ lo
 fetch-is p lo h = go (eqb p 1) h
   where
-    go : (b : Bool) → lo ≤ cond b (Rattle.plan.specs.Words.any) Rattle.plan.specs.Words.unused .high → fetchOf (cond b (some lo) O.none) ≡ lo
+    go : (b : Bool) → lo ≤ cond b (Rattle.plan.specs.Words.any) Rattle.plan.specs.Words.unused .high
+        → fetchOf (cond b (some lo) O.none) ≡ lo
     go true h = refl
     go false h = omega arith
 
@@ -452,7 +479,8 @@ label-p K.Join l cs ps e h = label-is l e (join-is (l .p) (h .p₀) (h .p₁)) (
 label-p K.SubqueryAlias l cs ps e h = label-is l e refl (omega arith) (omega arith) (omega arith) (omega arith)
 label-p K.Union l cs ps e h = label-is l e (omega arith) (omega arith) (omega arith) (omega arith) (omega arith)
 label-p K.Distinct l cs ps e h = label-is l e (omega arith) (omega arith) (omega arith) (omega arith) (omega arith)
-label-p K.Sort l cs ps e h = label-is l e (fetch-bit (l .p) (l .lo) (h .p₁)) (omega arith) (omega arith) (fetch-is (l .p) (l .lo) (h .lo₁)) (omega arith)
+label-p K.Sort l cs ps e h = label-is l e (fetch-bit (l .p) (l .lo) (h .p₁)) (omega arith) (omega arith) (fetch-is (l .p) (l .lo) (h .lo₁))
+    (omega arith)
 label-p K.Repartition l cs ps e h = label-is l e (omega arith) (omega arith) (omega arith) (omega arith) (omega arith)
 label-p K.Limit l cs ps e h = label-is l e (omega arith) (omega arith) (omega arith) refl refl
 label-p K.Aggregate l cs ps e h = label-is l e (omega arith) (omega arith) (omega arith) (omega arith) (omega arith)
@@ -518,7 +546,8 @@ filter-kids : (f : Forest) → Worded f → Formed f → Rebuilds f → one isEx
     → before (headE (exprsOf f)) (node (labelP (headP (plansOf f))) (kidsP (headP (plansOf f))) none) ≡ f
 unfolding one exprsOf plansOf
 filter-kids none w o r h = absurd (false≢true h)
-filter-kids (node l cs ns) w o r h = rw (expr-is l (and-l _ _ h) .1, one-plan ns (and-r _ _ h) (r .1)) (rw (expr-is l (and-l _ _ h) .1) at (expr-node l cs ns (and-l _ _ h) (w .0) (o .0) (exprs-whole cs (w .1) (o .1))))
+filter-kids (node l cs ns) w o r h = rw (expr-is l (and-l _ _ h) .1, one-plan ns (and-r _ _ h) (r .1))
+    (rw (expr-is l (and-l _ _ h) .1) at (expr-node l cs ns (and-l _ _ h) (w .0) (o .0) (exprs-whole cs (w .1) (o .1))))
 
 -- a run of parts, then one plan
 module _ {A : Type 0} (q : K.PartKind) (make : Label → Forest → A) (lab : A → Label) (kids : A → Forest)
@@ -526,7 +555,8 @@ module _ {A : Type 0} (q : K.PartKind) (make : Label → Forest → A) (lab : A 
     (kids-back : (l : Label) (c : Forest) → isKind (part q) l ≡ true → Worded c → Formed c → formOk l c ≡ true → kids (make l c) ≡ c)
     (f : Forest) (w : Worded f) (o : Formed f) (r : Rebuilds f) (h : one isPlan end (past (isKind (part q)) f) ≡ true) where
   run-plan : each lab kids (run (isKind (part q)) make f) (node (labelP (headP (plansOf f))) (kidsP (headP (plansOf f))) none) ≡ f
-  run-plan = rw (plans-past q f, one-plan (past (isKind (part q)) f) h (rebuilds-past (isKind (part q)) f r)) (runs-whole (isKind (part q)) make lab kids label-back kids-back f w o)
+  run-plan = rw (plans-past q f, one-plan (past (isKind (part q)) f) h (rebuilds-past (isKind (part q)) f r))
+      (runs-whole (isKind (part q)) make lab kids label-back kids-back f w o)
 
 join-kids : (f : Forest) → Worded f → Formed f → Rebuilds f → one isPlan (one isPlan (λ g. perhaps isExpr (past isPair g))) f ≡ true
     → node (labelP (headP (plansOf f))) (kidsP (headP (plansOf f))) (node (labelP (headP (tailP (plansOf f)))) (kidsP (headP (tailP (plansOf f))))
@@ -551,13 +581,19 @@ union-kids (node l cs ns) r t =
     let e : what l ≡ plan k = plan-is l (t .0) .1 in
     rw (e, r .0 k e .label, r .0 k e .below, union-kids ns (r .1) (t .1))
 
-kids-p : (k : K.PlanKind) (l : Label) (cs : Forest) → Worded cs → Formed cs → Rebuilds cs → childrenP k cs ≡ true → kidsP (planFrom k l cs (plansOf cs)) ≡ cs
+kids-p : (k : K.PlanKind) (l : Label) (cs : Forest) → Worded cs → Formed cs → Rebuilds cs → childrenP k cs ≡ true
+    → kidsP (planFrom k l cs (plansOf cs)) ≡ cs
 unfolding kidsP forestP
 kids-p K.TableScan l cs w o r h =
-    rw (each-exprs (exprsOf (past isField cs)), exprs-whole (past isField cs) (worded-past isField cs w) (formed-past isField cs o) (tops-many isExpr (past isField cs) h))
+    rw (
+      each-exprs (exprsOf (past isField cs)),
+      exprs-whole (past isField cs) (worded-past isField cs w) (formed-past isField cs o)
+          (tops-many isExpr (past isField cs) h),
+    )
     (runs-whole isField fieldOf fieldLabel nothingBelow field-label field-kids cs w o)
 kids-p K.Filter l cs w o r h = filter-kids cs w o r h
-kids-p K.Projection l cs w o r h = run-plan K.EntryPart entryOf entryLabel entryKids entry-label entry-kids cs w o r (past-one isEntry (one isPlan end) cs h)
+kids-p K.Projection l cs w o r h = run-plan K.EntryPart entryOf entryLabel entryKids entry-label entry-kids cs w o r
+    (past-one isEntry (one isPlan end) cs h)
 kids-p K.Join l cs w o r h = join-kids cs w o r h
 kids-p K.SubqueryAlias l cs w o r h = one-plan cs h r
 kids-p K.Union l cs w o r h = union-kids cs r (tops-one isPlan _ cs (λ f. tops-one isPlan _ f (tops-many isPlan)) h)
@@ -566,7 +602,11 @@ kids-p K.Sort l cs w o r h = run-plan K.KeyPart keyOf keyLabel keyKids key-label
 kids-p K.Repartition l cs w o r h = one-plan cs h r
 kids-p K.Limit l cs w o r h = one-plan cs h r
 kids-p K.Aggregate l cs w o r h =
-    rw (plans-past K.EntryPart cs, run-plan K.AggPart aggOf aggLabel aggKids agg-label agg-kids (past isEntry cs) (worded-past isEntry cs w) (formed-past isEntry cs o) (rebuilds-past isEntry cs r) (and-l _ _ h))
+    rw (
+      plans-past K.EntryPart cs,
+      run-plan K.AggPart aggOf aggLabel aggKids agg-label agg-kids (past isEntry cs) (worded-past isEntry cs w)
+          (formed-past isEntry cs o) (rebuilds-past isEntry cs r) (and-l _ _ h),
+    )
     (runs-whole isEntry entryOf entryLabel entryKids entry-label entry-kids cs w o)
 kids-p K.Window l cs w o r h = run-plan K.WinPart winOf winLabel winKids win-label win-kids cs w o r (past-one isWin (one isPlan end) cs h)
 

@@ -214,14 +214,16 @@ key-back : (k : Key) → FitsE (k .expr) → keyOf (keyLabel k) (keyKids k) ≡ 
 key-back k h = let d = bit-back (k .desc) in let x = first-back (k .expr) none h in λ i. record { desc = d i; expr = x i }
 
 aggentry-back : (a : AggEntry) → FitsE (a .expr) → aggOf (aggLabel a) (aggKids a) ≡ a
-aggentry-back a h = let n = name-back (a .name) in let g = agg-back (a .fun) in let x = first-back (a .expr) none h in λ i. record { name = n i; fun = g i; expr = x i }
+aggentry-back a h = let n = name-back (a .name) in let g = agg-back (a .fun) in let x = first-back
+    (a .expr) none h in λ i. record { name = n i; fun = g i; expr = x i }
 
 all-fit : {A : Type 0} (xs : List A) → Every (λ _. Unit {0}) xs
 all-fit [] = tt
 all-fit (x ∷ xs) = (tt, all-fit xs)
 
 columns-back : (xs : List Name) → run (isKind (expr K.Column)) columnOf (each columnLabel nothingBelow xs none) ≡ xs
-columns-back xs = run-each (isKind (expr K.Column)) columnOf columnLabel nothingBelow (λ _. Unit {0}) (λ x. refl) (λ x _. name-back x) xs none (all-fit xs) tt
+columns-back xs = run-each (isKind (expr K.Column)) columnOf columnLabel nothingBelow (λ _. Unit {0}) (λ x. refl) (λ x _. name-back x) xs none
+    (all-fit xs) tt
 
 win-back : (w : WinEntry) → FitsE (w .expr) → winOf (winLabel w) (winKids w) ≡ w
 win-back w h =
@@ -265,7 +267,8 @@ fetch-back O.none = refl
 fetch-back (some n) = refl
 
 module _ (p : Plan) where
-  runs-entry : (es : List Entry) → Every (λ (e : Entry). FitsE (e .expr)) es → run isEntry entryOf (each entryLabel entryKids es (node (labelP p) (kidsP p) none)) ≡ es
+  runs-entry : (es : List Entry) → Every (λ (e : Entry). FitsE (e .expr)) es
+      → run isEntry entryOf (each entryLabel entryKids es (node (labelP p) (kidsP p) none)) ≡ es
   runs-entry es h = run-each isEntry entryOf entryLabel entryKids (λ e. FitsE (e .expr)) (λ x. refl) entry-back es _ h (no-part p 49 (omega arith))
 
   aggs-stop : (ags : List AggEntry) → Stops isEntry (each aggLabel aggKids ags (node (labelP p) (kidsP p) none))
@@ -279,16 +282,19 @@ mutual
   pub plan-back : (p : Plan) (ns : Forest) → FitsP p → plansOf (node (labelP p) (kidsP p) ns) ≡ pcons p (plansOf ns)
   plan-back (scan t fs es) ns h =
       rw (
-        run-each isField fieldOf fieldLabel nothingBelow (λ _. Unit {0}) (λ x. refl) field-back fs (each labelE kidsE es none) (all-fit fs) (filters-stop es),
+        run-each isField fieldOf fieldLabel nothingBelow (λ _. Unit {0}) (λ x. refl) field-back fs (each labelE kidsE es none) (all-fit fs)
+            (filters-stop es),
         past-each isField fieldLabel nothingBelow (λ x. refl) fs (each labelE kidsE es none) (filters-stop es),
         filters-back es h,
       )
   plan-back (filter e p) ns h = rw (first-back e (node (labelP p) (kidsP p) none) (h .0), expr-what e .1, plan-back p none (h .1))
-  plan-back (project es p) ns h = rw (runs-entry p es (h .0), plans-each entryLabel entryKids K.EntryPart (λ x. refl) es (node (labelP p) (kidsP p) none), plan-back p none (h .1))
+  plan-back (project es p) ns h = rw
+      (runs-entry p es (h .0), plans-each entryLabel entryKids K.EntryPart (λ x. refl) es (node (labelP p) (kidsP p) none), plan-back p none (h .1))
   plan-back (join k l r on f) ns h =
       rw (
         join-back k,
-        run-each isPair pairOf pairLabel pairKids (λ (k : Pair). FitsE (k .lhs) × FitsE (k .rhs)) (λ x. refl) pair-back on (filterKids f) (h .2) (own-stops f),
+        run-each isPair pairOf pairLabel pairKids (λ (k : Pair). FitsE (k .lhs) × FitsE (k .rhs)) (λ x. refl) pair-back on (filterKids f)
+            (h .2) (own-stops f),
         past-each isPair pairLabel pairKids (λ x. refl) on (filterKids f) (own-stops f),
         own-back f (h .3),
         plan-back l (node (labelP r) (kidsP r) (each pairLabel pairKids on (filterKids f))) (h .0),
@@ -300,7 +306,8 @@ mutual
   plan-back (sort f ks p) ns h =
       rw (
         fetch-back f,
-        run-each isKey keyOf keyLabel keyKids (λ (k : Key). FitsE (k .expr)) (λ x. refl) key-back ks (node (labelP p) (kidsP p) none) (h .0) (no-part p 51 (omega arith)),
+        run-each isKey keyOf keyLabel keyKids (λ (k : Key). FitsE (k .expr)) (λ x. refl) key-back ks (node (labelP p) (kidsP p) none) (h .0)
+            (no-part p 51 (omega arith)),
         plans-each keyLabel keyKids K.KeyPart (λ x. refl) ks (node (labelP p) (kidsP p) none),
         plan-back p none (h .1),
       )
@@ -311,14 +318,16 @@ mutual
       rw (
         run-each isEntry entryOf entryLabel entryKids (λ (e : Entry). FitsE (e .expr)) (λ x. refl) entry-back gs tail (h .0) (aggs-stop p ags),
         past-each isEntry entryLabel entryKids (λ x. refl) gs tail (aggs-stop p ags),
-        run-each isAgg aggOf aggLabel aggKids (λ (a : AggEntry). FitsE (a .expr)) (λ x. refl) aggentry-back ags (node (labelP p) (kidsP p) none) (h .1) (no-part p 52 (omega arith)),
+        run-each isAgg aggOf aggLabel aggKids (λ (a : AggEntry). FitsE (a .expr)) (λ x. refl) aggentry-back ags
+            (node (labelP p) (kidsP p) none) (h .1) (no-part p 52 (omega arith)),
         plans-each entryLabel entryKids K.EntryPart (λ x. refl) gs tail,
         plans-each aggLabel aggKids K.AggPart (λ x. refl) ags (node (labelP p) (kidsP p) none),
         plan-back p none (h .2),
       )
   plan-back (window ws p) ns h =
       rw (
-        run-each isWin winOf winLabel winKids (λ (w : WinEntry). FitsE (w .expr)) (λ x. refl) win-back ws (node (labelP p) (kidsP p) none) (h .0) (no-part p 53 (omega arith)),
+        run-each isWin winOf winLabel winKids (λ (w : WinEntry). FitsE (w .expr)) (λ x. refl) win-back ws (node (labelP p) (kidsP p) none)
+            (h .0) (no-part p 53 (omega arith)),
         plans-each winLabel winKids K.WinPart (λ x. refl) ws (node (labelP p) (kidsP p) none),
         plan-back p none (h .1),
       )

@@ -111,7 +111,13 @@ rest none = none
 rest (node l cs ns) = ns
 
 abbrev pub winOf : Label → Forest → WinEntry
-winOf l cs = record { name = nm (l .p) (l .q); fun = nth count aggs (l .r - 1); expr = headE (exprsOf cs); parts = run (isKind (expr K.Column)) columnOf (rest cs) }
+winOf l cs = record {
+  name = nm (l .p) (l .q);
+  fun = nth count aggs (l .r - 1);
+  expr = headE (exprsOf cs);
+  parts = run
+      (isKind (expr K.Column)) columnOf (rest cs);
+}
 
 abbrev pub headP : Plans → Plan
 headP pnil = scan 0 [] []
@@ -144,7 +150,8 @@ abbrev pub planFrom : PlanKind → Label → Forest → Plans → Plan
 planFrom K.TableScan l cs ps = scan (l .p) (run isField fieldOf cs) (listE (exprsOf (past isField cs)))
 planFrom K.Filter l cs ps = filter (headE (exprsOf cs)) (headP ps)
 planFrom K.Projection l cs ps = project (run isEntry entryOf cs) (headP ps)
-planFrom K.Join l cs ps = join (nth inner joins (l .p - 1)) (headP ps) (headP (tailP ps)) (run isPair pairOf (rest (rest cs))) (perhapsE (exprsOf (past isPair (rest (rest cs)))))
+planFrom K.Join l cs ps = join (nth inner joins (l .p - 1)) (headP ps) (headP (tailP ps)) (run isPair pairOf (rest (rest cs)))
+    (perhapsE (exprsOf (past isPair (rest (rest cs)))))
 planFrom K.SubqueryAlias l cs ps = alias (l .p) (headP ps)
 planFrom K.Union l cs ps = union ps
 planFrom K.Distinct l cs ps = distinct (headP ps)

@@ -56,12 +56,14 @@ module _ (T : Tests) (σ : Name → Expr) (f : (x : Name) → Named T x → Good
     replaced-good (between n a l u) h =
         let k = and-r _ _ h in
         let m = and-r _ _ k in
-        and-intro (and-l _ _ h) (and-intro (replaced-good a (and-l _ _ k)) (and-intro (replaced-good l (and-l _ _ m)) (replaced-good u (and-r _ _ m))))
+        and-intro (and-l _ _ h) (and-intro (replaced-good a (and-l _ _ k))
+        (and-intro (replaced-good l (and-l _ _ m)) (replaced-good u (and-r _ _ m))))
     replaced-good (inlist n a xs) h =
         let k = and-r _ _ h in
         let m = and-r _ _ k in
         and-intro (and-l _ _ h)
-        (and-intro (ap (T .least 1) (replaced-count σ xs) ∙ and-l _ _ k) (and-intro (replaced-good a (and-l _ _ m)) (replaced-good-all xs (and-r _ _ m))))
+        (and-intro (ap (T .least 1) (replaced-count σ xs) ∙ and-l _ _ k)
+        (and-intro (replaced-good a (and-l _ _ m)) (replaced-good-all xs (and-r _ _ m))))
     replaced-good (fn p q r xs) h = and-intro (and-l _ _ h) (replaced-good-all xs (and-r _ _ h))
 
     replaced-good-all : (xs : Exprs) → good-all T xs ≡ true → good-all T (replace-cols-all σ xs) ≡ true

@@ -59,7 +59,8 @@ entry-form e = ap₂ _&_ (form-q-is K.EntryPart (entryLabel e) _ refl ∙ one-ex
 pair-form : (k : Pair) → formOk (pairLabel k) (pairKids k) & sound formOk (pairKids k) ≡ good-pair Runs k
 unfolding whatOf among end sound
 pair-form k =
-    ap₂ _&_ (form-q-is K.PairPart (pairLabel k) _ refl ∙ one-expr _ (k .lhs) _ ∙ one-expr _ (k .rhs) _) (beside _ (form-e (k .lhs) _) (last-e (k .rhs)))
+    ap₂ _&_ (form-q-is K.PairPart (pairLabel k) _ refl ∙ one-expr _ (k .lhs) _ ∙ one-expr _ (k .rhs) _)
+    (beside _ (form-e (k .lhs) _) (last-e (k .rhs)))
 
 key-form : (k : Key) → formOk (keyLabel k) (keyKids k) & sound formOk (keyKids k) ≡ good-key Runs k
 unfolding whatOf among end
@@ -130,7 +131,8 @@ past-plans pnil = refl
 past-plans (pcons p ps) = rw (is-plan p) (past-plans ps)
 
 -- a run of parts and an input
-module _ {A : Type 0} (is : Label → Bool) (l : A → Label) (k : A → Forest) (hit : (x : A) → is (l x) ≡ true) (p : Plan) (stop : is (labelP p) ≡ false) where
+module _ {A : Type 0} (is : Label → Bool) (l : A → Label) (k : A → Forest) (hit : (x : A) → is (l x) ≡ true) (p : Plan)
+    (stop : is (labelP p) ≡ false) where
   run-input : (xs : List A) → many is (one isPlan end) (each l k xs (over p none)) ≡ true
   unfolding end
   run-input xs = ap (one isPlan end) (past-each is l k hit xs (over p none) stop) ∙ one-plan end p none
@@ -196,7 +198,8 @@ children-p (scan t fs es) =
 children-p (filter e p) = one-expr _ e _ ∙ one-plan _ p _
 children-p (project es p) = some-input isEntry entryLabel entryKids (λ e. refl) p (no-part p 49 (omega arith)) es
 children-p (join k l r on f) =
-    one-plan _ l _ ∙ one-plan _ r _ ∙ ap (perhaps isExpr) (past-each isPair pairLabel pairKids (λ k. refl) on (filterKids f) (own-stops f)) ∙ own-child f
+    one-plan _ l _ ∙ one-plan _ r _ ∙ ap (perhaps isExpr) (past-each isPair pairLabel pairKids (λ k. refl) on (filterKids f) (own-stops f))
+    ∙ own-child f
 children-p (alias q p) = one-plan _ p _
 children-p (union ps) = two-inputs ps
 children-p (distinct p) = one-plan _ p _
@@ -205,7 +208,8 @@ children-p (repartition p) = one-plan _ p _
 children-p (limit n k p) = one-plan _ p _
 children-p (aggregate gs ags p) =
     ap (_& not (one isPlan end (each entryLabel entryKids gs (each aggLabel aggKids ags (over p none)))))
-    (ap (many isAgg (one isPlan end)) (past-each isEntry entryLabel entryKids (λ e. refl) gs (each aggLabel aggKids ags (over p none)) (aggs-stop ags p))
+    (ap (many isAgg (one isPlan end))
+    (past-each isEntry entryLabel entryKids (λ e. refl) gs (each aggLabel aggKids ags (over p none)) (aggs-stop ags p))
     ∙ run-input isAgg aggLabel aggKids (λ a. refl) p (no-part p 52 (omega arith)) ags)
     ∙ true-and _ ∙ some-entry gs ags p
 children-p (window ws p) = some-input isWin winLabel winKids (λ w. refl) p (no-part p 53 (omega arith)) ws
@@ -309,7 +313,8 @@ mutual
       (sym (true-and _)) (true-and _)
   form-p (join k l r on f) x =
       whole _ _ _ _ x (form-node-p (join k l r on f))
-      (beside _ (form-p l _) (beside _ (form-p r _) (beside _ (sound-each formOk pairLabel pairKids _ pair-form on _) (own-form f))) ∙ join-shuffled _ _ _ _ _)
+      (beside _ (form-p l _) (beside _ (form-p r _) (beside _ (sound-each formOk pairLabel pairKids _ pair-form on _) (own-form f)))
+      ∙ join-shuffled _ _ _ _ _)
       refl
       (ap (leb (length (split-conjunction? f)) maxList &_) (larger-short (listP l) (listP r) maxList)
       ∙ larger-short (length (split-conjunction? f)) (larger (listP l) (listP r)) maxList)

@@ -106,7 +106,8 @@ module _ (T : Tests) (any-number : (z : ℤ) → T .number z ≡ true) (any-leng
     words-p (repartition p) x = below _ refl (words-p p true ∙ and-true _)
     words-p (limit n k p) x = below _ refl (words-p p true ∙ and-true _)
     words-p (aggregate gs ags p) x =
-        below _ refl (beside _ (run entryLabel entryKids _ entry-words gs _) (beside _ (run aggLabel aggKids _ agg-words ags _) (words-p p true ∙ and-true _))
+        below _ refl (beside _ (run entryLabel entryKids _ entry-words gs _)
+        (beside _ (run aggLabel aggKids _ agg-words ags _) (words-p p true ∙ and-true _))
         ∙ sym (passed (any-length 1 (length gs + length ags))))
     words-p (window ws p) x =
         below _ refl (beside _ (run winLabel winKids _ win-words ws _) (words-p p true ∙ and-true _) ∙ sym (passed (any-length 1 (length ws))))

@@ -87,7 +87,8 @@ module _ (T : Tests) (c : Closed T) where
 
   -- ---- the lists of a join
 
-  module _ (k : Kind) (s t : List Name) (on : List Pair) (P G : List Expr) (i : all (good-pair T) on ≡ true) (h : All (Good T) P) (g : All (Good T) G) where
+  module _ (k : Kind) (s t : List Name) (on : List Pair) (P G : List Expr) (i : all (good-pair T) on ≡ true) (h : All (Good T) P)
+      (g : All (Good T) G) where
     unpushed-good : All (Good T) (unpushed k s t on P G)
     unfolding push-not
     unpushed-good = All-keep _ (All-keep _ h)
@@ -104,7 +105,8 @@ module _ (T : Tests) (c : Closed T) where
 
     -- the clauses out of what moves to no side
     sources-good : (p q : Bool)
-        → All (Good T) (if-list p (keep-predicates k s t on P G ++ join-conditions k s t on P G) ++ if-list q (on-filter-join-conditions k s t on P G))
+        → All (Good T) (if-list p (keep-predicates k s t on P G ++ join-conditions k s t on P G) ++ if-list q
+        (on-filter-join-conditions k s t on P G))
     sources-good p q = All-append (if-good T p (All-append keep-good conditions-good)) (if-good T q on-filter-good)
 
     inferred : All (Good T) (inferred-join-predicates k s t on P G)
@@ -114,7 +116,8 @@ module _ (T : Tests) (c : Closed T) where
     unfolding push-to
     left-good =
         All-append (All-keep _ h)
-        (All-append (All-keep _ inferred) (All-append (All-keep _ g) (clauses-good T c (has s) (sources-good (left-preserved k) (on-left-preserved k)))))
+        (All-append (All-keep _ inferred)
+        (All-append (All-keep _ g) (clauses-good T c (has s) (sources-good (left-preserved k) (on-left-preserved k)))))
 
     right-good : All (Good T) (right-push k s t on P G)
     unfolding push-to push-not
@@ -166,7 +169,8 @@ module _ (T : Tests) (c : Closed T) where
 
       go : (b : Bool)
           → Passes T (choose b (Transformed·no (filter e (project es p)))
-          (Transformed·yes (with-filters (stay (pushable es) e) (project es (with-filters (map (replace-cols (pick es)) (move (pushable es) e)) p)))) .plan)
+          (Transformed·yes (with-filters (stay (pushable es) e)
+          (project es (with-filters (map (replace-cols (pick es)) (move (pushable es) e)) p)))) .plan)
       go true = filter-kept e (project es p) h o
       go false =
           let a = and-r _ _ o in
@@ -242,7 +246,8 @@ module _ (T : Tests) (c : Closed T) where
       and-intro (and-l _ _ o)
       (and-intro (ap (T .least 2) (each-count (schema-first ps) e ps) ∙ and-l _ _ a) (each-kept (schema-first ps) e ps h (and-r _ _ a)))
   rewrite-filter-kept (distinct p) e h o = and-intro (and-l _ _ o) (filter-kept e p h (and-r _ _ o))
-  rewrite-filter-kept (sort none ks p) e h o = let a = and-r _ _ o in and-intro (and-l _ _ o) (and-intro (and-l _ _ a) (filter-kept e p h (and-r _ _ a)))
+  rewrite-filter-kept (sort none ks p) e h o = let a = and-r _ _ o in and-intro (and-l _ _ o)
+      (and-intro (and-l _ _ a) (filter-kept e p h (and-r _ _ a)))
   rewrite-filter-kept (sort (some n) ks p) e h o = filter-kept e (sort (some n) ks p) h o
   rewrite-filter-kept (repartition p) e h o = and-intro (and-l _ _ o) (filter-kept e p h (and-r _ _ o))
   rewrite-filter-kept (limit n k p) e h o = filter-kept e (limit n k p) h o

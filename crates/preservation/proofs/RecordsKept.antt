@@ -80,14 +80,16 @@ module _ (T : Tests) (c : Closed T) where
         let a = and-r _ _ o in
         let b = and-r _ _ a in
         either (eqb n 0) (focus-here (project es p) o)
-        (either _ (focus-inside (project es) (λ q h. and-intro (and-l _ _ o) (and-intro (and-l _ _ a) (and-intro (and-l _ _ b) h))) (focused p _ (and-r _ _ b)))
+        (either _ (focus-inside (project es) (λ q h. and-intro (and-l _ _ o) (and-intro (and-l _ _ a) (and-intro (and-l _ _ b) h)))
+        (focused p _ (and-r _ _ b)))
         not-there)
     focused (join k l r on g) n o =
         let a = and-r _ _ o in
         let b = and-r _ _ a in
         either (eqb n 0) (focus-here (join k l r on g) o)
         (either _
-        (focus-inside (λ q. join k l q on g) (λ q h. and-intro (and-l _ _ o) (and-intro (and-l _ _ a) (and-intro h (and-r _ _ b)))) (focused r _ (and-l _ _ b)))
+        (focus-inside (λ q. join k l q on g) (λ q h. and-intro (and-l _ _ o) (and-intro (and-l _ _ a) (and-intro h (and-r _ _ b))))
+        (focused r _ (and-l _ _ b)))
         (focus-inside (λ q. join k q r on g) (λ q h. and-intro (and-l _ _ o) (and-intro h b)) (focused l _ (and-l _ _ a))))
     focused (alias i p) n o =
         either (eqb n 0) (focus-here (alias i p) o) (focus-inside (alias i) (λ q h. and-intro (and-l _ _ o) h) (focused p _ (and-r _ _ o)))
@@ -109,14 +111,16 @@ module _ (T : Tests) (c : Closed T) where
         let d = and-r _ _ b in
         either (eqb n 0) (focus-here (aggregate gs ags p) o)
         (either _
-        (focus-inside (aggregate gs ags) (λ q h. and-intro (and-l _ _ o) (and-intro (and-l _ _ a) (and-intro (and-l _ _ b) (and-intro (and-l _ _ d) h))))
+        (focus-inside (aggregate gs ags)
+        (λ q h. and-intro (and-l _ _ o) (and-intro (and-l _ _ a) (and-intro (and-l _ _ b) (and-intro (and-l _ _ d) h))))
         (focused p _ (and-r _ _ d)))
         not-there)
     focused (window ws p) n o =
         let a = and-r _ _ o in
         let b = and-r _ _ a in
         either (eqb n 0) (focus-here (window ws p) o)
-        (either _ (focus-inside (window ws) (λ q h. and-intro (and-l _ _ o) (and-intro (and-l _ _ a) (and-intro (and-l _ _ b) h))) (focused p _ (and-r _ _ b)))
+        (either _ (focus-inside (window ws) (λ q h. and-intro (and-l _ _ o) (and-intro (and-l _ _ a) (and-intro (and-l _ _ b) h)))
+        (focused p _ (and-r _ _ b)))
         not-there)
 
     focused-all : (ps : Plans) (n : ℕ) → everywhere-all T ps ≡ true → FocusedAll (countP ps) (focus-all n ps)

@@ -27,7 +27,8 @@ use Rattle.rewrite.specs.Pass.{plans, before-plans, inputs, first-input,
 unfoldable pub opened : ℕ → ℕ → Plan → Answer
 unfolding _&_ choose put when keep all any flat schema schema-first on-cols on-cols-all any-fn any-fn-all is-leafward replace-cols
     replace-cols-all split-conjunction split-conjunction? conjoin conjunction with-filters both-pos both-neg Z-eq sameE unique bound-of
-    rel-of as-literal literalIn literal? as-column make or-item view enter sort-out simplify-predicates needs-reorder reorder-predicates both-or either-and
+    rel-of as-literal literalIn literal? as-column make or-item view enter sort-out simplify-predicates needs-reorder reorder-predicates
+    both-or either-and
     guarded extract-or-clause is-or listed extract-or-clauses-for-join pair-of partner to-partner swap-keys nothing infer-join-predicates
     push-to push-not push-down-all-join pick rewrite-projection rewrite-scan rewrite-aggregate rewrite-window ren renamed filter-each
     simplify-filter merged rewrite-filter rewrite merges-under merges among whatOf labelE kidsE forestE each labelP kidsP forestP depth

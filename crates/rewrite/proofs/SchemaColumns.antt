@@ -72,7 +72,8 @@ unfolding any
 left-columns [] t d x h = refl
 left-columns (y ∷ s) t d x h = go (same y x) refl (stands-for y x) refl h (left-columns s t (and-r (not (any (clash y) (s ++ t))) _ d) x)
   where
-    go : (b : Bool) → same y x ≡ b → (c : Bool) → stands-for y x ≡ c → b || has (s ++ t) x ≡ true → (has (s ++ t) x ≡ true → schema-columns s x ≡ has s x) → c || schema-columns s x ≡ b || has s x
+    go : (b : Bool) → same y x ≡ b → (c : Bool) → stands-for y x ≡ c → b || has (s ++ t) x ≡ true
+        → (has (s ++ t) x ≡ true → schema-columns s x ≡ has s x) → c || schema-columns s x ≡ b || has s x
     go true e true f h ih = refl
     go true e false f h ih = cc (same-stands y x e)
     go false e true f h ih = cc (absurd-not (any (clash y) (s ++ t)) (and-l _ _ d) (any-clash y x (s ++ t) f e h))
@@ -121,10 +122,13 @@ right-columns [] t d x h = left-columns t [] (rw (append-nil t) d) x (rw (append
 right-columns (y ∷ s) t d x h = go (same y x) refl h (right-columns s t (and-r (not (any (clash y) (s ++ t))) _ d) x)
   where
     never : same y x ≡ true → schema-columns t x ≡ true → _≡_ {A = Bool} true false
-    never e k = absurd-not (any (clash y) (s ++ t)) (and-l _ _ d) (any-behind (clash y) s t (any-mono (λ z. stands-for z x) (clash y) (λ z i. stands-clash y x z e i) t k))
+    never e k = absurd-not (any (clash y) (s ++ t)) (and-l _ _ d)
+        (any-behind (clash y) s t (any-mono (λ z. stands-for z x) (clash y) (λ z i. stands-clash y x z e i) t k))
 
-    go : (b : Bool) → same y x ≡ b → b || has (s ++ t) x ≡ true → (has (s ++ t) x ≡ true → schema-columns t x ≡ has t x) → schema-columns t x ≡ has t x
-    go true e h ih = is-false (schema-columns t x) (never e) ∙ sym (is-false (has t x) (λ k. never e (any-mono (λ z. same z x) (λ z. stands-for z x) (λ z i. same-stands z x i) t k)))
+    go : (b : Bool) → same y x ≡ b → b || has (s ++ t) x ≡ true → (has (s ++ t) x ≡ true → schema-columns t x ≡ has t x)
+        → schema-columns t x ≡ has t x
+    go true e h ih = is-false (schema-columns t x) (never e)
+        ∙ sym (is-false (has t x) (λ k. never e (any-mono (λ z. same z x) (λ z. stands-for z x) (λ z i. same-stands z x i) t k)))
     go false e h ih = ih h
 
 -- ---- predicates
@@ -142,7 +146,8 @@ module _ (c a b : Name → Bool) (f : (x : Name) → c x ≡ true → a x ≡ b 
     on-cols-agree (bin o x y) h = ap₂ _&_ (on-cols-agree x (and-l _ _ h)) (on-cols-agree y (and-r _ _ h))
     on-cols-agree (neg x) h = on-cols-agree x h
     on-cols-agree (test t x) h = on-cols-agree x h
-    on-cols-agree (between n x l u) h = ap₂ _&_ (on-cols-agree x (and-l _ _ h)) (ap₂ _&_ (on-cols-agree l (and-l _ _ (and-r _ _ h))) (on-cols-agree u (and-r _ _ (and-r _ _ h))))
+    on-cols-agree (between n x l u) h = ap₂ _&_ (on-cols-agree x (and-l _ _ h))
+        (ap₂ _&_ (on-cols-agree l (and-l _ _ (and-r _ _ h))) (on-cols-agree u (and-r _ _ (and-r _ _ h))))
     on-cols-agree (inlist n x xs) h = ap₂ _&_ (on-cols-agree x (and-l _ _ h)) (on-cols-all-agree xs (and-r _ _ h))
     on-cols-agree (fn p q r xs) h = on-cols-all-agree xs h
 

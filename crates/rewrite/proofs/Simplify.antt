@@ -95,9 +95,11 @@ module _ (W : World) (ρ : Env) where
   bound-true false (below false) x l = rw (lit-eval l) (isT-compare le (ρ x) (lit-val l) ∙ ap₂ _&_ refl (leZ-not (code (ρ x)) (code (lit-val l))))
   bound-true true same-as x l = rw (lit-eval l) (eq-comm (lit-val l) (ρ x))
   bound-true true (above true) x l = rw (lit-eval l) (isT-compare lt (lit-val l) (ρ x) ∙ ap₂ _&_ (comparable-comm (lit-val l) (ρ x)) refl)
-  bound-true true (above false) x l = rw (lit-eval l) (isT-compare le (lit-val l) (ρ x) ∙ ap₂ _&_ (comparable-comm (lit-val l) (ρ x)) (leZ-not (code (lit-val l)) (code (ρ x))))
+  bound-true true (above false) x l = rw (lit-eval l)
+      (isT-compare le (lit-val l) (ρ x) ∙ ap₂ _&_ (comparable-comm (lit-val l) (ρ x)) (leZ-not (code (lit-val l)) (code (ρ x))))
   bound-true true (below true) x l = rw (lit-eval l) (isT-compare gt (lit-val l) (ρ x) ∙ ap₂ _&_ (comparable-comm (lit-val l) (ρ x)) refl)
-  bound-true true (below false) x l = rw (lit-eval l) (isT-compare ge (lit-val l) (ρ x) ∙ ap₂ _&_ (comparable-comm (lit-val l) (ρ x)) (leZ-not (code (ρ x)) (code (lit-val l))))
+  bound-true true (below false) x l = rw (lit-eval l)
+      (isT-compare ge (lit-val l) (ρ x) ∙ ap₂ _&_ (comparable-comm (lit-val l) (ρ x)) (leZ-not (code (ρ x)) (code (lit-val l))))
 
 -- ---- of two bounds on one side, the stronger
 
@@ -106,9 +108,11 @@ abbrev tie : Bool → Bool → Bool → Bool
 tie sw fw sv = sw & (not fw || not sv)
 
 abbrev beats : (ℤ → ℤ → Bool) → Bool → Bool → Value → Bool → Value → Bool
-beats past sw fw w sv v = cond (isN v) (isN w & tie sw fw sv) (cond (isN w) true (past (code v) (code w) || (not (past (code w) (code v)) & tie sw fw sv)))
+beats past sw fw w sv v = cond (isN v) (isN w & tie sw fw sv)
+    (cond (isN w) true (past (code v) (code w) || (not (past (code w) (code v)) & tie sw fw sv)))
 
-module _ (past : ℤ → ℤ → Bool) (asym : (a b : ℤ) → past a b ≡ true → past b a ≡ false) (trans : (a b c : ℤ) → past a b ≡ false → past b c ≡ false → past a c ≡ false) where
+module _ (past : ℤ → ℤ → Bool) (asym : (a b : ℤ) → past a b ≡ true → past b a ≡ false)
+    (trans : (a b c : ℤ) → past a b ≡ false → past b c ≡ false → past a c ≡ false) where
   lt-le : (a b c : ℤ) → past a b ≡ true → past c b ≡ false → past a c ≡ true
   lt-le a b c h k = go (past a c) refl
     where
@@ -135,7 +139,8 @@ module _ (past : ℤ → ℤ → Bool) (asym : (a b : ℤ) → past a b ≡ true
   unfolding _&_
   farther sw fw sv x a b h k = go (past a b) (past b a) refl refl sw fw sv h k
     where
-      go : (m n : Bool) → past a b ≡ m → past b a ≡ n → (sw fw sv : Bool) → m || (not n & tie sw fw sv) ≡ true → bey past sw x b ≡ true → bey past sv x a ≡ true
+      go : (m n : Bool) → past a b ≡ m → past b a ≡ n → (sw fw sv : Bool) → m || (not n & tie sw fw sv) ≡ true → bey past sw x b ≡ true
+          → bey past sv x a ≡ true
       go true n e f true fw true h k = lt-le a b x e (asym b x k)
       go true n e f true fw false h k = not-past a x (lt-le a b x e (asym b x k))
       go true n e f false fw true h k = lt-le a b x e (is-not _ k)
@@ -149,7 +154,8 @@ module _ (past : ℤ → ℤ → Bool) (asym : (a b : ℤ) → past a b ≡ true
   unfolding _&_
   nearer sw fw sv x a b h k = go (past a b) (past b a) refl refl sw fw sv h k
     where
-      go : (m n : Bool) → past a b ≡ m → past b a ≡ n → (sw fw sv : Bool) → m || (not n & tie sw fw sv) ≡ false → bey past sv x a ≡ true → bey past sw x b ≡ true
+      go : (m n : Bool) → past a b ≡ m → past b a ≡ n → (sw fw sv : Bool) → m || (not n & tie sw fw sv) ≡ false → bey past sv x a ≡ true
+          → bey past sw x b ≡ true
       go true n e f sw fw sv h k = cc
       go false true e f true fw true h k = lt-le b a x f (asym a x k)
       go false true e f true fw false h k = lt-le b a x f (is-not _ k)
@@ -184,23 +190,31 @@ module _ (past : ℤ → ℤ → Bool) (asym : (a b : ℤ) → past a b ≡ true
       go false e = refl
 
   -- the bound that takes the other's place implies it, and the other way round
-  wins : (sw fw sv : Bool) (c v w : Value) → alike v w ≡ true → beats past sw fw w sv v ≡ true → comparable c w & bey past sw (code c) (code w) ≡ true → comparable c v & bey past sv (code c) (code v) ≡ true
+  wins : (sw fw sv : Bool) (c v w : Value) → alike v w ≡ true → beats past sw fw w sv v ≡ true
+      → comparable c w & bey past sw (code c) (code w) ≡ true → comparable c v & bey past sv (code c) (code v) ≡ true
   unfolding _&_
   wins sw fw sv c v w a h k = go (isN v) (isN w) a h (met-known sw c w k)
     where
-      go : (m n : Bool) → m || (n || eqb (kindOf v) (kindOf w)) ≡ true → cond m (n & tie sw fw sv) (cond n true (past (code v) (code w) || (not (past (code w) (code v)) & tie sw fw sv))) ≡ true → n ≡ false → comparable c v & bey past sv (code c) (code v) ≡ true
+      go : (m n : Bool) → m || (n || eqb (kindOf v) (kindOf w)) ≡ true
+          → cond m (n & tie sw fw sv) (cond n true (past (code v) (code w) || (not (past (code w) (code v)) & tie sw fw sv))) ≡ true
+          → n ≡ false → comparable c v & bey past sv (code c) (code v) ≡ true
       go true true a h i = cc
       go true false a h i = cc
       go false true a h i = cc
-      go false false a h i = and-intro (ap (λ j. not (isN c) & eqb (kindOf c) j) (eqb-true _ _ a) ∙ and-l _ _ k) (farther sw fw sv (code c) (code v) (code w) h (and-r (comparable c w) _ k))
+      go false false a h i = and-intro (ap (λ j. not (isN c) & eqb (kindOf c) j) (eqb-true _ _ a) ∙ and-l _ _ k)
+          (farther sw fw sv (code c) (code v) (code w) h (and-r (comparable c w) _ k))
 
-  loses : (sw fw sv : Bool) (c v w : Value) → alike v w ≡ true → beats past sw fw w sv v ≡ false → comparable c v & bey past sv (code c) (code v) ≡ true → comparable c w & bey past sw (code c) (code w) ≡ true
+  loses : (sw fw sv : Bool) (c v w : Value) → alike v w ≡ true → beats past sw fw w sv v ≡ false
+      → comparable c v & bey past sv (code c) (code v) ≡ true → comparable c w & bey past sw (code c) (code w) ≡ true
   loses sw fw sv c v w a h k = go (isN v) (isN w) a h (met-known sv c v k)
     where
-      go : (m n : Bool) → m || (n || eqb (kindOf v) (kindOf w)) ≡ true → cond m (n & tie sw fw sv) (cond n true (past (code v) (code w) || (not (past (code w) (code v)) & tie sw fw sv))) ≡ false → m ≡ false → comparable c w & bey past sw (code c) (code w) ≡ true
+      go : (m n : Bool) → m || (n || eqb (kindOf v) (kindOf w)) ≡ true
+          → cond m (n & tie sw fw sv) (cond n true (past (code v) (code w) || (not (past (code w) (code v)) & tie sw fw sv))) ≡ false
+          → m ≡ false → comparable c w & bey past sw (code c) (code w) ≡ true
       go true n a h i = cc
       go false true a h i = cc
-      go false false a h i = and-intro (ap (λ j. not (isN c) & eqb (kindOf c) j) (sym (eqb-true _ _ a)) ∙ and-l _ _ k) (nearer sw fw sv (code c) (code v) (code w) h (and-r _ _ k))
+      go false false a h i = and-intro (ap (λ j. not (isN c) & eqb (kindOf c) j) (sym (eqb-true _ _ a)) ∙ and-l _ _ k)
+          (nearer sw fw sv (code c) (code v) (code w) h (and-r _ _ k))
 
 -- ---- a group: one column's equalities, lower bounds and upper bounds, each in order
 
@@ -213,7 +227,8 @@ iff false false f g = refl
 meet : (ℤ → ℤ → Bool) → Value → Side → Bool
 meet past c d = comparable c (val d) & bey past (d .strict) (code c) (code (val d))
 
-of-kind-alike : (k : ℕ) (v w : Value) → isN v || eqb (kindOf v) k ≡ true → isN w || eqb (kindOf w) k ≡ true → isN v || (isN w || eqb (kindOf v) (kindOf w)) ≡ true
+of-kind-alike : (k : ℕ) (v w : Value) → isN v || eqb (kindOf v) k ≡ true → isN w || eqb (kindOf w) k ≡ true
+    → isN v || (isN w || eqb (kindOf v) (kindOf w)) ≡ true
 of-kind-alike k v w h i = go (isN v) (isN w) h i
   where
     go : (m n : Bool) → m || eqb (kindOf v) k ≡ true → n || eqb (kindOf w) k ≡ true → m || (n || eqb (kindOf v) (kindOf w)) ≡ true
@@ -221,7 +236,8 @@ of-kind-alike k v w h i = go (isN v) (isN w) h i
     go false true h i = refl
     go false false h i = eq-eqb (kindOf v) (kindOf w) (eqb-true (kindOf v) k h ∙ sym (eqb-true (kindOf w) k i))
 
-module _ (past : ℤ → ℤ → Bool) (asym : (a b : ℤ) → past a b ≡ true → past b a ≡ false) (trans : (a b c : ℤ) → past a b ≡ false → past b c ≡ false → past a c ≡ false) where
+module _ (past : ℤ → ℤ → Bool) (asym : (a b : ℤ) → past a b ≡ true → past b a ≡ false)
+    (trans : (a b c : ℤ) → past a b ≡ false → past b c ≡ false → past a c ≡ false) where
   module _ (c : Value) (k : ℕ) where
     stronger-meets : (b d : Side) → of-kind k b ≡ true → of-kind k d ≡ true → meet past c b & meet past c d ≡ meet past c (stronger past b d)
     unfolding meet choose
@@ -232,7 +248,8 @@ module _ (past : ℤ → ℤ → Bool) (asym : (a b : ℤ) → past a b ≡ true
 
         go : (x : Bool) → is-better past b d ≡ x → meet past c b & meet past c d ≡ meet past c (choose x d b)
         go true e = iff _ _ (λ t. and-r _ _ t) (λ t. and-intro (wins past asym trans (d .strict) (d .flipped) (b .strict) c (val b) (val d) a e t) t)
-        go false e = iff _ _ (λ t. and-l _ _ t) (λ t. and-intro t (loses past asym trans (d .strict) (d .flipped) (b .strict) c (val b) (val d) a e t))
+        go false e = iff _ _ (λ t. and-l _ _ t)
+            (λ t. and-intro t (loses past asym trans (d .strict) (d .flipped) (b .strict) c (val b) (val d) a e t))
 
     stronger-kind : (b d : Side) → of-kind k b ≡ true → of-kind k d ≡ true → of-kind k (stronger past b d) ≡ true
     unfolding choose
@@ -242,18 +259,22 @@ module _ (past : ℤ → ℤ → Bool) (asym : (a b : ℤ) → past a b ≡ true
         go true = i
         go false = h
 
-    best-meets : (b : Side) (l : List Side) → of-kind k b ≡ true → all (of-kind k) l ≡ true → meet past c b & all (meet past c) l ≡ meet past c (find-most-restrictive-predicate past b l)
+    best-meets : (b : Side) (l : List Side) → of-kind k b ≡ true → all (of-kind k) l ≡ true
+        → meet past c b & all (meet past c) l ≡ meet past c (find-most-restrictive-predicate past b l)
     unfolding all
     best-meets b [] h i = and-true _
-    best-meets b (d ∷ l) h i = sym (and-assoc _ _ _) ∙ ap (_& all (meet past c) l) (stronger-meets b d h (and-l _ _ i)) ∙ best-meets (stronger past b d) l (stronger-kind b d h (and-l _ _ i)) (and-r _ _ i)
+    best-meets b (d ∷ l) h i = sym (and-assoc _ _ _) ∙ ap (_& all (meet past c) l) (stronger-meets b d h (and-l _ _ i))
+        ∙ best-meets (stronger past b d) l (stronger-kind b d h (and-l _ _ i)) (and-r _ _ i)
 
-module _ (past : ℤ → ℤ → Bool) (asym : (a b : ℤ) → past a b ≡ true → past b a ≡ false) (trans : (a b c : ℤ) → past a b ≡ false → past b c ≡ false → past a c ≡ false) where
+module _ (past : ℤ → ℤ → Bool) (asym : (a b : ℤ) → past a b ≡ true → past b a ≡ false)
+    (trans : (a b c : ℤ) → past a b ≡ false → past b c ≡ false → past a c ≡ false) where
   side-meets : (c : Value) (l : List Side) → all (meet past c) (most-restrictive past l) ≡ all (meet past c) l
   unfolding all choose meet
   side-meets c [] = refl
   side-meets c (b ∷ l) = go (all (of-kind (first-kind (b ∷ l))) (b ∷ l)) refl
     where
-      go : (x : Bool) → all (of-kind (first-kind (b ∷ l))) (b ∷ l) ≡ x → all (meet past c) (choose x (find-most-restrictive-predicate past b l ∷ []) (b ∷ l)) ≡ all (meet past c) (b ∷ l)
+      go : (x : Bool) → all (of-kind (first-kind (b ∷ l))) (b ∷ l) ≡ x
+          → all (meet past c) (choose x (find-most-restrictive-predicate past b l ∷ []) (b ∷ l)) ≡ all (meet past c) (b ∷ l)
       go true e = and-true _ ∙ sym (best-meets past asym trans c (first-kind (b ∷ l)) b l (and-l _ _ e) (and-r _ _ e))
       go false e = refl
 
@@ -279,7 +300,8 @@ abbrev eqs-to : Value → Side → Bool
 eqs-to c d = isT (compare eq c (val d))
 
 -- where the literals agree, each equality says the same
-final-meets : (c : Value) (d : Side) (l : List Side) → all (λ e. sameV (val d) (val e)) l ≡ true → eqs-to c d & all (eqs-to c) l ≡ eqs-to c (final d l)
+final-meets : (c : Value) (d : Side) (l : List Side) → all (λ e. sameV (val d) (val e)) l ≡ true
+    → eqs-to c d & all (eqs-to c) l ≡ eqs-to c (final d l)
 unfolding all
 final-meets c d [] h = and-true _
 final-meets c d (e ∷ l) h =
@@ -291,7 +313,8 @@ final-meets c d (e ∷ l) h =
 agreed : (c : Value) (d : Side) (l : List Side) → eqs-to c d ≡ true → all (eqs-to c) l ≡ true → all (λ e. sameV (val d) (val e)) l ≡ true
 unfolding all
 agreed c d [] h k = refl
-agreed c d (e ∷ l) h k = and-intro (ap (sameV (val d)) (sym (eq-true c (val e) (and-l _ _ k)) ∙ eq-true c (val d) h) ∙ sameV-refl (val d)) (agreed c d l h (and-r _ _ k))
+agreed c d (e ∷ l) h k = and-intro (ap (sameV (val d)) (sym (eq-true c (val e) (and-l _ _ k)) ∙ eq-true c (val d) h) ∙ sameV-refl (val d))
+    (agreed c d l h (and-r _ _ k))
 
 -- ---- what a group says, before and after
 
@@ -300,7 +323,8 @@ module _ (W : World) (ρ : Env) where
   τ e = isT (eval W ρ e)
 
   abbrev group-true : Group → Bool
-  group-true g = all (λ d. τ (eq-expr (g .key) d)) (g .eqs) & (all (λ d. τ (up-expr (g .key) d)) (g .ups) & all (λ d. τ (down-expr (g .key) d)) (g .downs))
+  group-true g = all (λ d. τ (eq-expr (g .key) d)) (g .eqs) &
+      (all (λ d. τ (up-expr (g .key) d)) (g .ups) & all (λ d. τ (down-expr (g .key) d)) (g .downs))
 
   eq-part-true : (x : Name) (l : List Side) → all τ (eq-part x l) ≡ all (λ d. τ (eq-expr x d)) l
   unfolding all choose τ eval
@@ -310,26 +334,32 @@ module _ (W : World) (ρ : Env) where
       says : (e : Side) → τ (eq-expr x e) ≡ eqs-to (ρ x) e
       says e = bound-true W ρ (e .flipped) same-as x (e .lit)
 
-      go : (b : Bool) → all (λ e. sameV (val d) (val e)) l ≡ b → all τ (choose b (eq-expr x (final d l) ∷ []) (bool false ∷ [])) ≡ all (eqs-to (ρ x)) (d ∷ l)
+      go : (b : Bool) → all (λ e. sameV (val d) (val e)) l ≡ b
+          → all τ (choose b (eq-expr x (final d l) ∷ []) (bool false ∷ [])) ≡ all (eqs-to (ρ x)) (d ∷ l)
       go true e = and-true _ ∙ says (final d l) ∙ sym (final-meets (ρ x) d l e)
       go false e = and-true _ ∙ iff false _ (λ t. cc) (λ t. sym e ∙ agreed (ρ x) d l (and-l _ _ t) (and-r _ _ t))
 
   up-part-true : (x : Name) (l : List Side) → all τ (map (up-expr x) (most-restrictive ltZ l)) ≡ all (λ d. τ (up-expr x d)) l
   unfolding τ meet
-  up-part-true x l = all-map _ _ (most-restrictive ltZ l) ∙ all-cong _ _ (all-of says _) ∙ side-meets ltZ ltZ-asym ltZ-trans (ρ x) l ∙ sym (all-cong _ _ (all-of says l))
+  up-part-true x l = all-map _ _ (most-restrictive ltZ l) ∙ all-cong _ _ (all-of says _) ∙ side-meets ltZ ltZ-asym ltZ-trans (ρ x) l
+      ∙ sym (all-cong _ _ (all-of says l))
     where
       says : (d : Side) → τ (up-expr x d) ≡ meet ltZ (ρ x) d
       says d = bound-true W ρ (d .flipped) (above (d .strict)) x (d .lit)
 
   down-part-true : (x : Name) (l : List Side) → all τ (map (down-expr x) (most-restrictive gtZ l)) ≡ all (λ d. τ (down-expr x d)) l
   unfolding τ meet
-  down-part-true x l = all-map _ _ (most-restrictive gtZ l) ∙ all-cong _ _ (all-of says _) ∙ side-meets gtZ (λ a b. ltZ-asym b a) (λ a b c h k. ltZ-trans c b a k h) (ρ x) l ∙ sym (all-cong _ _ (all-of says l))
+  down-part-true x l = all-map _ _ (most-restrictive gtZ l) ∙ all-cong _ _ (all-of says _)
+      ∙ side-meets gtZ (λ a b. ltZ-asym b a) (λ a b c h k. ltZ-trans c b a k h) (ρ x) l ∙ sym (all-cong _ _ (all-of says l))
     where
       says : (d : Side) → τ (down-expr x d) ≡ meet gtZ (ρ x) d
       says d = bound-true W ρ (d .flipped) (below (d .strict)) x (d .lit)
 
 group-exprs-true : (W : World) (ρ : Env) (g : Group) → all (τ W ρ) (simplify-column-predicates g) ≡ group-true W ρ g
-group-exprs-true W ρ g = all-append _ (eq-part (g .key) (g .eqs)) _ ∙ ap₂ _&_ (eq-part-true W ρ (g .key) (g .eqs)) (all-append _ (map (up-expr (g .key)) (most-restrictive ltZ (g .ups))) _ ∙ ap₂ _&_ (up-part-true W ρ (g .key) (g .ups)) (down-part-true W ρ (g .key) (g .downs)))
+group-exprs-true W ρ g = all-append _ (eq-part (g .key) (g .eqs)) _
+    ∙ ap₂ _&_ (eq-part-true W ρ (g .key) (g .eqs))
+    (all-append _ (map (up-expr (g .key)) (most-restrictive ltZ (g .ups))) _
+    ∙ ap₂ _&_ (up-part-true W ρ (g .key) (g .ups)) (down-part-true W ρ (g .key) (g .downs)))
 
 -- ---- which conjuncts are bounds
 
@@ -389,14 +419,16 @@ as-name-ok (between n a l u) = tt
 as-name-ok (inlist n a xs) = tt
 as-name-ok (fn p q r xs) = tt
 
-make-left : (o : Cmp) (a b : Expr) (r : Option Rel) (x : Option Name) (l : Option ValueRecord) → IsRel false o r → IsName a x → IsLit b l → Seen (bin (cmp o) a b) (make false r x l)
+make-left : (o : Cmp) (a b : Expr) (r : Option Rel) (x : Option Name) (l : Option ValueRecord) → IsRel false o r → IsName a x → IsLit b l
+    → Seen (bin (cmp o) a b) (make false r x l)
 unfolding IsRel IsName IsLit Seen make bound-of
 make-left o a b none x l h i j = tt
 make-left o a b (some r) none l h i j = tt
 make-left o a b (some r) (some x) none h i j = tt
 make-left o a b (some r) (some x) (some l) h i j = rw (h, i, j)
 
-make-right : (o : Cmp) (a b : Expr) (r : Option Rel) (x : Option Name) (l : Option ValueRecord) → IsRel true o r → IsName b x → IsLit a l → Seen (bin (cmp o) a b) (make true r x l)
+make-right : (o : Cmp) (a b : Expr) (r : Option Rel) (x : Option Name) (l : Option ValueRecord) → IsRel true o r → IsName b x → IsLit a l
+    → Seen (bin (cmp o) a b) (make true r x l)
 unfolding IsRel IsName IsLit Seen make bound-of
 make-right o a b none x l h i j = tt
 make-right o a b (some r) none l h i j = tt
@@ -410,7 +442,9 @@ or-seen e (some i) p h k = h
 
 seen : (e : Expr) → Seen e (view e)
 unfolding view Seen
-seen (bin (cmp o) a b) = or-seen (bin (cmp o) a b) (make false (rel-of false o) (as-column a) (as-literal b)) (make true (rel-of true o) (as-column b) (as-literal a)) (make-left o a b _ _ _ (rel-of-ok false o) (as-name-ok a) (as-lit-ok b)) (make-right o a b _ _ _ (rel-of-ok true o) (as-name-ok b) (as-lit-ok a))
+seen (bin (cmp o) a b) = or-seen (bin (cmp o) a b) (make false (rel-of false o) (as-column a) (as-literal b))
+    (make true (rel-of true o) (as-column b) (as-literal a)) (make-left o a b _ _ _ (rel-of-ok false o) (as-name-ok a) (as-lit-ok b))
+    (make-right o a b _ _ _ (rel-of-ok true o) (as-name-ok b) (as-lit-ok a))
 seen (bin and a b) = tt
 seen (bin or a b) = tt
 seen (col x) = tt
@@ -426,7 +460,8 @@ seen (fn p q r xs) = tt
 -- ---- the groups, columns ascending
 
 module _ (W : World) (ρ : Env) where
-  place-true : (r : Rel) (l : ValueRecord) (f : Bool) (g : Group) → group-true W ρ (place r l f g) ≡ τ W ρ (bound-of f r (g .key) l) & group-true W ρ g
+  place-true : (r : Rel) (l : ValueRecord) (f : Bool) (g : Group)
+      → group-true W ρ (place r l f g) ≡ τ W ρ (bound-of f r (g .key) l) & group-true W ρ g
   unfolding all
   place-true same-as l f g = and-assoc _ _ _
   place-true (above s) l f g = ap (_&_ _) (and-assoc _ _ _) ∙ and-left-comm _ _ _
@@ -441,8 +476,13 @@ module _ (W : World) (ρ : Env) where
   enter-true i [] = ap (_& true) (fresh-true i)
   enter-true i (g ∷ gs) = go (same (g .key) (i .key)) refl (name-under (i .key) (g .key)) (enter-true i gs)
     where
-      go : (b : Bool) → same (g .key) (i .key) ≡ b → (c : Bool) → all (group-true W ρ) (enter i gs) ≡ τ W ρ (item-expr i) & all (group-true W ρ) gs → all (group-true W ρ) (choose b (put-in i g ∷ gs) (choose c (fresh i ∷ g ∷ gs) (g ∷ enter i gs))) ≡ τ W ρ (item-expr i) & (group-true W ρ g & all (group-true W ρ) gs)
-      go true e c k = ap (_& all (group-true W ρ) gs) (place-true (i .rel) (i .lit) (i .flipped) g ∙ ap (λ x. τ W ρ (bound-of (i .flipped) (i .rel) x (i .lit)) & group-true W ρ g) (same-eq (g .key) (i .key) e)) ∙ and-assoc _ _ _
+      go : (b : Bool) → same (g .key) (i .key) ≡ b → (c : Bool)
+          → all (group-true W ρ) (enter i gs) ≡ τ W ρ (item-expr i) & all (group-true W ρ) gs
+          → all (group-true W ρ) (choose b (put-in i g ∷ gs) (choose c (fresh i ∷ g ∷ gs) (g ∷ enter i gs))) ≡ τ W ρ (item-expr i) &
+          (group-true W ρ g & all (group-true W ρ) gs)
+      go true e c k = ap (_& all (group-true W ρ) gs)
+          (place-true (i .rel) (i .lit) (i .flipped) g
+          ∙ ap (λ x. τ W ρ (bound-of (i .flipped) (i .rel) x (i .lit)) & group-true W ρ g) (same-eq (g .key) (i .key) e)) ∙ and-assoc _ _ _
       go false e true k = ap (_& (group-true W ρ g & all (group-true W ρ) gs)) (fresh-true i)
       go false e false k = ap (group-true W ρ g &_) k ∙ and-left-comm _ _ _
 
@@ -451,9 +491,12 @@ module _ (W : World) (ρ : Env) where
   sorted-true [] = and-true true
   sorted-true (e ∷ es) = go (view e) (seen e) ∙ ap (τ W ρ e &_) (sorted-true es)
     where
-      go : (o : Option Item) → Seen e o → all (τ W ρ) (add e o (sort-out es) .others) & all (group-true W ρ) (add e o (sort-out es) .groups) ≡ τ W ρ e & (all (τ W ρ) (sort-out es .others) & all (group-true W ρ) (sort-out es .groups))
+      go : (o : Option Item) → Seen e o
+          → all (τ W ρ) (add e o (sort-out es) .others) & all (group-true W ρ) (add e o (sort-out es) .groups) ≡ τ W ρ e &
+          (all (τ W ρ) (sort-out es .others) & all (group-true W ρ) (sort-out es .groups))
       go none h = and-assoc _ _ _
-      go (some i) h = ap (all (τ W ρ) (sort-out es .others) &_) (enter-true i (sort-out es .groups)) ∙ and-left-comm _ _ _ ∙ ap (λ x. τ W ρ x & (all (τ W ρ) (sort-out es .others) & all (group-true W ρ) (sort-out es .groups))) h
+      go (some i) h = ap (all (τ W ρ) (sort-out es .others) &_) (enter-true i (sort-out es .groups)) ∙ and-left-comm _ _ _
+          ∙ ap (λ x. τ W ρ x & (all (τ W ρ) (sort-out es .others) & all (group-true W ρ) (sort-out es .groups))) h
 
   flat-true : (gs : List Group) → all (τ W ρ) (flat simplify-column-predicates gs) ≡ all (group-true W ρ) gs
   unfolding all flat
@@ -514,8 +557,10 @@ module _ (P : Expr → Type 0) (Q : Name → ValueRecord → Type 0) (false-P : 
 
   group-in : (g : Group) → InGroup g → All P (simplify-column-predicates g)
   group-in g h = All-append (eq-part-in (g .key) (h .eqs-in)) (All-append
-      (All-mapped (up-expr (g .key)) (All-map (λ (d : Side) k. to-P (d .flipped) (above (d .strict)) (g .key) (d .lit) k) (most-in ltZ (g .key) (h .ups-in))))
-      (All-mapped (down-expr (g .key)) (All-map (λ (d : Side) k. to-P (d .flipped) (below (d .strict)) (g .key) (d .lit) k) (most-in gtZ (g .key) (h .downs-in)))))
+      (All-mapped (up-expr (g .key)) (All-map (λ (d : Side) k. to-P (d .flipped) (above (d .strict)) (g .key) (d .lit) k)
+      (most-in ltZ (g .key) (h .ups-in))))
+      (All-mapped (down-expr (g .key))
+      (All-map (λ (d : Side) k. to-P (d .flipped) (below (d .strict)) (g .key) (d .lit) k) (most-in gtZ (g .key) (h .downs-in)))))
 
   place-in : (r : Rel) (l : ValueRecord) (f : Bool) (g : Group) → Q (g .key) l → InGroup g → InGroup (place r l f g)
   place-in same-as l f g k h = record { eqs-in = acons k (h .eqs-in); ups-in = h .ups-in; downs-in = h .downs-in }
@@ -530,7 +575,8 @@ module _ (P : Expr → Type 0) (Q : Name → ValueRecord → Type 0) (false-P : 
   enter-in i h anil = acons (fresh-in i h) anil
   enter-in i h (acons {x = g} {xs = gs} k ks) = go (same (g .key) (i .key)) refl (name-under (i .key) (g .key)) (enter-in i h ks)
     where
-      go : (b : Bool) → same (g .key) (i .key) ≡ b → (d : Bool) → All InGroup (enter i gs) → All InGroup (choose b (put-in i g ∷ gs) (choose d (fresh i ∷ g ∷ gs) (g ∷ enter i gs)))
+      go : (b : Bool) → same (g .key) (i .key) ≡ b → (d : Bool) → All InGroup (enter i gs)
+          → All InGroup (choose b (put-in i g ∷ gs) (choose d (fresh i ∷ g ∷ gs) (g ∷ enter i gs)))
       go true e d m = acons (place-in (i .rel) (i .lit) (i .flipped) g (subst (λ x. Q x (i .lit)) (sym (same-eq (g .key) (i .key) e)) h) k) ks
       go false e true m = acons (fresh-in i h) (acons k ks)
       go false e false m = acons k m
@@ -546,7 +592,11 @@ module _ (P : Expr → Type 0) (Q : Name → ValueRecord → Type 0) (false-P : 
     where
       go : (o : Option Item) → Seen e o → InSorted (sort-out es) → InSorted (add e o (sort-out es))
       go none q k = record { others-in = acons h (k .others-in); groups-in = k .groups-in }
-      go (some i) q k = record { others-in = k .others-in; groups-in = enter-in i (to-Q (i .flipped) (i .rel) (i .key) (i .lit) (subst P (sym q) h)) (k .groups-in) }
+      go (some i) q k = record {
+        others-in = k .others-in;
+        groups-in = enter-in i
+            (to-Q (i .flipped) (i .rel) (i .key) (i .lit) (subst P (sym q) h)) (k .groups-in);
+      }
 
   pub simplified-in : {es : List Expr} → All P es → All P (simplify-predicates es)
   unfolding simplify-predicates
@@ -566,4 +616,5 @@ module _ (c : Name → Bool) where
 
   pub simplified-over : {es : List Expr} → All (λ e. on-cols c e ≡ true) es → All (λ e. on-cols c e ≡ true) (simplify-predicates es)
   unfolding on-cols
-  simplified-over h = simplified-in (λ e. on-cols c e ≡ true) (λ x l. c x ≡ true) refl (λ f r x l k. bound-cols f r x l ∙ k) (λ f r x l k. sym (bound-cols f r x l) ∙ k) h
+  simplified-over h = simplified-in (λ e. on-cols c e ≡ true) (λ x l. c x ≡ true) refl (λ f r x l k. bound-cols f r x l ∙ k)
+      (λ f r x l k. sym (bound-cols f r x l) ∙ k) h

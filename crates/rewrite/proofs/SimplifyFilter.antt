@@ -58,7 +58,8 @@ module _ (e : Expr) where
   simplify-filter-true W s r = go (not (eqb (length (split-conjunction e)) (length (new .predicates))) || new .changed)
     where
       go : (b : Bool) → sat? W s (choose b (conjunction (new .predicates)) (some e)) r ≡ sat W s e r
-      go true = sat?-conj W s (new .predicates) r ∙ reorder-true (λ x. sat W s x r) (simplify-predicates (split-conjunction e)) ∙ simplified-true W (look s r) (split-conjunction e) ∙ all-split W (look s r) e
+      go true = sat?-conj W s (new .predicates) r ∙ reorder-true (λ x. sat W s x r) (simplify-predicates (split-conjunction e))
+          ∙ simplified-true W (look s r) (split-conjunction e) ∙ all-split W (look s r) e
       go false = refl
 
   pub simplify-filter-reads : (s : List Name) → reads s e ≡ true → reads? s (simplify-filter e) ≡ true

@@ -95,7 +95,8 @@ cases =
     ∷ flag-no (filter (both (f 0) (over c (n 1))) t) (filter (both (over c (n 1)) (f 0)) t)
     ∷ flag-no (filter (both (f 1) (over c (n 1))) t) (filter (both (f 1) (over c (n 1))) t)
     -- K7 (l.a=1 AND r.b=2) OR (l.a=3 AND r.b=4) over Inner: left gains l.a=1 OR l.a=3
-    ∷ flag-yes (filter ors (join inner l r [] none)) (join inner (filter (bin or (is la (n 1)) (is la (n 3))) l) (filter (bin or (is rb (n 2)) (is rb (n 4))) r) [] (some ors))
+    ∷ flag-yes (filter ors (join inner l r [] none))
+    (join inner (filter (bin or (is la (n 1)) (is la (n 3))) l) (filter (bin or (is rb (n 2)) (is rb (n 4))) r) [] (some ors))
     -- K8 l.a=1 OR r.b=2: no clause
     ∷ flag-yes (filter (bin or (is la (n 1)) (is rb (n 2))) (join inner l r [] none)) (join inner l r [] (some (bin or (is la (n 1)) (is rb (n 2)))))
     -- K9 Inner l.k=r.k under l.k>5: right gains r.k>5

@@ -60,14 +60,17 @@ module _ (c : Name → Bool) (τ υ : Types) (f : (x : Name) → c x ≡ true �
     well-cong (num z) h = refl
     well-cong (bool b) h = refl
     well-cong (nul t) h = refl
-    well-cong (bin o a b) h = ap₂ _&_ (ap₂ (operands o) (type-cong a (and-l _ _ h)) (type-cong b (and-r _ _ h))) (ap₂ _&_ (well-cong a (and-l _ _ h)) (well-cong b (and-r _ _ h)))
+    well-cong (bin o a b) h = ap₂ _&_ (ap₂ (operands o) (type-cong a (and-l _ _ h)) (type-cong b (and-r _ _ h)))
+        (ap₂ _&_ (well-cong a (and-l _ _ h)) (well-cong b (and-r _ _ h)))
     well-cong (neg a) h = ap₂ _&_ (ap (λ t. eqb t 2) (type-cong a h)) (well-cong a h)
     well-cong (test t a) h = ap₂ _&_ (ap (λ u. any-type t || eqb u 2) (type-cong a h)) (well-cong a h)
     well-cong (between n a l u) h =
         let hl = and-l _ _ (and-r _ _ h) in
         let hu = and-r _ _ (and-r _ _ h) in
-        ap₂ _&_ (ap₂ _&_ (ap₂ eqb (type-cong a (and-l _ _ h)) (type-cong l hl)) (ap₂ eqb (type-cong a (and-l _ _ h)) (type-cong u hu))) (ap₂ _&_ (well-cong a (and-l _ _ h)) (ap₂ _&_ (well-cong l hl) (well-cong u hu)))
-    well-cong (inlist n a xs) h = ap₂ _&_ (of-type-cong _ _ (type-cong a (and-l _ _ h)) xs (and-r _ _ h)) (ap₂ _&_ (well-cong a (and-l _ _ h)) (well-all-cong xs (and-r _ _ h)))
+        ap₂ _&_ (ap₂ _&_ (ap₂ eqb (type-cong a (and-l _ _ h)) (type-cong l hl)) (ap₂ eqb (type-cong a (and-l _ _ h)) (type-cong u hu)))
+        (ap₂ _&_ (well-cong a (and-l _ _ h)) (ap₂ _&_ (well-cong l hl) (well-cong u hu)))
+    well-cong (inlist n a xs) h = ap₂ _&_ (of-type-cong _ _ (type-cong a (and-l _ _ h)) xs (and-r _ _ h))
+        (ap₂ _&_ (well-cong a (and-l _ _ h)) (well-all-cong xs (and-r _ _ h)))
     well-cong (fn p q r xs) h = well-all-cong xs h
 
     well-all-cong : (xs : Exprs) → on-cols-all c xs ≡ true → well-all τ xs ≡ well-all υ xs
@@ -83,7 +86,8 @@ module _ (c : Name → Bool) (τ υ : Types) (f : (x : Name) → c x ≡ true �
 
 -- ---- columns replaced by expressions of their types
 
-module _ (c : Name → Bool) (τ υ : Types) (σ : Name → Expr) (f : (x : Name) → c x ≡ true → type-of υ (σ x) ≡ τ x) (g : (x : Name) → c x ≡ true → well υ (σ x) ≡ true) where
+module _ (c : Name → Bool) (τ υ : Types) (σ : Name → Expr) (f : (x : Name) → c x ≡ true → type-of υ (σ x) ≡ τ x)
+    (g : (x : Name) → c x ≡ true → well υ (σ x) ≡ true) where
   type-sub : (e : Expr) → on-cols c e ≡ true → type-of υ (replace-cols σ e) ≡ type-of τ e
   unfolding type-of on-cols replace-cols
   type-sub (col x) h = f x h
@@ -110,14 +114,17 @@ module _ (c : Name → Bool) (τ υ : Types) (σ : Name → Expr) (f : (x : Name
     well-sub (num z) h = refl
     well-sub (bool b) h = refl
     well-sub (nul t) h = refl
-    well-sub (bin o a b) h = ap₂ _&_ (ap₂ (operands o) (type-sub a (and-l _ _ h)) (type-sub b (and-r _ _ h))) (ap₂ _&_ (well-sub a (and-l _ _ h)) (well-sub b (and-r _ _ h)))
+    well-sub (bin o a b) h = ap₂ _&_ (ap₂ (operands o) (type-sub a (and-l _ _ h)) (type-sub b (and-r _ _ h)))
+        (ap₂ _&_ (well-sub a (and-l _ _ h)) (well-sub b (and-r _ _ h)))
     well-sub (neg a) h = ap₂ _&_ (ap (λ t. eqb t 2) (type-sub a h)) (well-sub a h)
     well-sub (test t a) h = ap₂ _&_ (ap (λ u. any-type t || eqb u 2) (type-sub a h)) (well-sub a h)
     well-sub (between n a l u) h =
         let hl = and-l _ _ (and-r _ _ h) in
         let hu = and-r _ _ (and-r _ _ h) in
-        ap₂ _&_ (ap₂ _&_ (ap₂ eqb (type-sub a (and-l _ _ h)) (type-sub l hl)) (ap₂ eqb (type-sub a (and-l _ _ h)) (type-sub u hu))) (ap₂ _&_ (well-sub a (and-l _ _ h)) (ap₂ _&_ (well-sub l hl) (well-sub u hu)))
-    well-sub (inlist n a xs) h = ap₂ _&_ (of-type-sub _ _ (type-sub a (and-l _ _ h)) xs (and-r _ _ h)) (ap₂ _&_ (well-sub a (and-l _ _ h)) (well-all-sub xs (and-r _ _ h)))
+        ap₂ _&_ (ap₂ _&_ (ap₂ eqb (type-sub a (and-l _ _ h)) (type-sub l hl)) (ap₂ eqb (type-sub a (and-l _ _ h)) (type-sub u hu)))
+        (ap₂ _&_ (well-sub a (and-l _ _ h)) (ap₂ _&_ (well-sub l hl) (well-sub u hu)))
+    well-sub (inlist n a xs) h = ap₂ _&_ (of-type-sub _ _ (type-sub a (and-l _ _ h)) xs (and-r _ _ h))
+        (ap₂ _&_ (well-sub a (and-l _ _ h)) (well-all-sub xs (and-r _ _ h)))
     well-sub (fn p q r xs) h = well-all-sub xs h
 
     well-all-sub : (xs : Exprs) → on-cols-all c xs ≡ true → well-all υ (replace-cols-all σ xs) ≡ well-all τ xs
@@ -138,7 +145,8 @@ module _ (τ : Types) where
   unfolding split-conjunction boolean type-of well
   bools-split (bin and a b) h =
       let w = and-r _ _ h in
-      All-append (bools-split a (and-intro (and-l _ _ (and-l _ _ w)) (and-l _ _ (and-r _ _ w)))) (bools-split b (and-intro (and-r _ _ (and-l _ _ w)) (and-r _ _ (and-r _ _ w))))
+      All-append (bools-split a (and-intro (and-l _ _ (and-l _ _ w)) (and-l _ _ (and-r _ _ w))))
+      (bools-split b (and-intro (and-r _ _ (and-l _ _ w)) (and-r _ _ (and-r _ _ w))))
   bools-split (bin or a b) h = acons h anil
   bools-split (bin (cmp o) a b) h = acons h anil
   bools-split (col x) h = acons h anil
@@ -184,7 +192,8 @@ module _ (τ : Types) where
   bound-boolean : (f : Bool) (r : Rel) (x : Name) (l : ValueRecord) → eqb (τ x) (type-of τ (literalIs l)) ≡ true → boolean τ (bound-of f r x l) ≡ true
   unfolding bound-of boolean type-of well
   bound-boolean false r x l h = and-intro refl (and-intro h (and-intro refl (lit-well l)))
-  bound-boolean true r x l h = and-intro refl (and-intro (eq-eqb (type-of τ (literalIs l)) (τ x) (sym (eqb-true (τ x) (type-of τ (literalIs l)) h))) (and-intro (lit-well l) refl))
+  bound-boolean true r x l h = and-intro refl
+      (and-intro (eq-eqb (type-of τ (literalIs l)) (τ x) (sym (eqb-true (τ x) (type-of τ (literalIs l)) h))) (and-intro (lit-well l) refl))
 
   boolean-bound : (f : Bool) (r : Rel) (x : Name) (l : ValueRecord) → boolean τ (bound-of f r x l) ≡ true → eqb (τ x) (type-of τ (literalIs l)) ≡ true
   unfolding bound-of boolean type-of well
@@ -197,9 +206,12 @@ module _ (τ : Types) where
 
   pub simplify-filter-boolean : (e : Expr) → boolean τ e ≡ true → boolean? τ (simplify-filter e) ≡ true
   unfolding simplify-filter choose
-  simplify-filter-boolean e h = go (not (eqb (length (split-conjunction e)) (length (reorder-predicates (simplify-predicates (split-conjunction e)) .predicates))) || reorder-predicates (simplify-predicates (split-conjunction e)) .changed)
+  simplify-filter-boolean e h = go
+      (not (eqb (length (split-conjunction e)) (length (reorder-predicates (simplify-predicates (split-conjunction e)) .predicates))) ||
+      reorder-predicates (simplify-predicates (split-conjunction e)) .changed)
     where
-      go : (b : Bool) → boolean? τ (choose b (conjunction (reorder-predicates (simplify-predicates (split-conjunction e)) .predicates)) (some e)) ≡ true
+      go : (b : Bool) → boolean? τ (choose b (conjunction (reorder-predicates (simplify-predicates (split-conjunction e)) .predicates))
+          (some e)) ≡ true
       go true = conjunction-boolean (reorder-all (bools-simplified (bools-split e h)))
       go false = h
 
@@ -228,8 +240,12 @@ module _ (τ : Types) where
 
   extract-boolean : (c : Name → Bool) (e : Expr) → boolean τ e ≡ true → BoolOr (extract-or-clause c e)
   unfolding extract-or-clause boolean type-of well
-  extract-boolean c (bin and a b) h = let w = and-r _ _ h in either-boolean (extract-boolean c a (and-intro (and-l _ _ (and-l _ _ w)) (and-l _ _ (and-r _ _ w)))) (extract-boolean c b (and-intro (and-r _ _ (and-l _ _ w)) (and-r _ _ (and-r _ _ w))))
-  extract-boolean c (bin or a b) h = let w = and-r _ _ h in both-boolean (extract-boolean c a (and-intro (and-l _ _ (and-l _ _ w)) (and-l _ _ (and-r _ _ w)))) (extract-boolean c b (and-intro (and-r _ _ (and-l _ _ w)) (and-r _ _ (and-r _ _ w))))
+  extract-boolean c (bin and a b) h = let w = and-r _ _ h in either-boolean
+      (extract-boolean c a (and-intro (and-l _ _ (and-l _ _ w)) (and-l _ _ (and-r _ _ w))))
+      (extract-boolean c b (and-intro (and-r _ _ (and-l _ _ w)) (and-r _ _ (and-r _ _ w))))
+  extract-boolean c (bin or a b) h = let w = and-r _ _ h in both-boolean
+      (extract-boolean c a (and-intro (and-l _ _ (and-l _ _ w)) (and-l _ _ (and-r _ _ w))))
+      (extract-boolean c b (and-intro (and-r _ _ (and-l _ _ w)) (and-r _ _ (and-r _ _ w))))
   extract-boolean c (bin (cmp o) a b) h = guarded-boolean (on-cols c (bin (cmp o) a b)) (bin (cmp o) a b) h
   extract-boolean c (col x) h = guarded-boolean (on-cols c (col x)) (col x) h
   extract-boolean c (num z) h = guarded-boolean (on-cols c (num z)) (num z) h
@@ -266,7 +282,8 @@ module _ (τ : Types) where
   Agrees x none = Unit {0}
   Agrees x (some y) = τ x ≡ τ y
 
-  pick-agrees : (x y z : Name) (rest : Option Name) → τ y ≡ τ z → Agrees x rest → (b c : Bool) → same y x ≡ b → same z x ≡ c → Agrees x (cond b (some z) (cond c (some y) rest))
+  pick-agrees : (x y z : Name) (rest : Option Name) → τ y ≡ τ z → Agrees x rest → (b c : Bool) → same y x ≡ b → same z x ≡ c
+      → Agrees x (cond b (some z) (cond c (some y) rest))
   unfolding Agrees
   pick-agrees x y z rest e k true c p q = ap τ (sym (same-eq y x p)) ∙ e
   pick-agrees x y z rest e k false true p q = ap τ (sym (same-eq z x q)) ∙ sym e
@@ -293,9 +310,12 @@ module _ (τ : Types) where
   to-partner-well x none = refl
   to-partner-well x (some y) = refl
 
-  pub bools-inferred : (c : Name → Bool) {on : List Pair} {es : List Expr} → All (λ (k : Pair). Linked (as-column (k .lhs)) (as-column (k .rhs))) on → All (λ e. on-cols c e ≡ true) es → Bools τ es → Bools τ (infer-join-predicates on es)
+  pub bools-inferred : (c : Name → Bool) {on : List Pair} {es : List Expr}
+      → All (λ (k : Pair). Linked (as-column (k .lhs)) (as-column (k .rhs))) on → All (λ e. on-cols c e ≡ true) es → Bools τ es
+      → Bools τ (infer-join-predicates on es)
   unfolding infer-join-predicates swap-keys
-  bools-inferred c {on} h i k = bools-sub c τ τ (swap-keys on) (λ x t. to-partner-type x _ (partner-agrees h x)) (λ x t. to-partner-well x (partner on x)) (All-keep _ i) (All-keep _ k)
+  bools-inferred c {on} h i k = bools-sub c τ τ (swap-keys on) (λ x t. to-partner-type x _ (partner-agrees h x))
+      (λ x t. to-partner-well x (partner on x)) (All-keep _ i) (All-keep _ k)
 
   pub bools-if : (b : Bool) {es : List Expr} → Bools τ es → Bools τ (if-list b es)
   bools-if true h = h
@@ -303,20 +323,25 @@ module _ (τ : Types) where
 
 -- ---- the types of entries
 
-pub pick-type : (υ : Types) (es : List Entry) (x : Name) → has (names es) x ≡ true → type-of υ (pick es x) ≡ lookD 0 (names es) (map (λ (e : Entry). type-of υ (e .expr)) es) x
+pub pick-type : (υ : Types) (es : List Entry) (x : Name) → has (names es) x ≡ true
+    → type-of υ (pick es x) ≡ lookD 0 (names es) (map (λ (e : Entry). type-of υ (e .expr)) es) x
 unfolding pick any
 pick-type υ [] x h = cc
 pick-type υ (e ∷ es) x h = go (same (e .name) x) h (pick-type υ es x)
   where
-    go : (b : Bool) → b || has (names es) x ≡ true → (has (names es) x ≡ true → type-of υ (pick es x) ≡ lookD 0 (names es) (map (λ (e : Entry). type-of υ (e .expr)) es) x) → type-of υ (cond b (e .expr) (pick es x)) ≡ cond b (type-of υ (e .expr)) (lookD 0 (names es) (map (λ (e : Entry). type-of υ (e .expr)) es) x)
+    go : (b : Bool) → b || has (names es) x ≡ true
+        → (has (names es) x ≡ true → type-of υ (pick es x) ≡ lookD 0 (names es) (map (λ (e : Entry). type-of υ (e .expr)) es) x)
+        → type-of υ (cond b (e .expr) (pick es x)) ≡ cond b (type-of υ (e .expr)) (lookD 0 (names es) (map (λ (e : Entry). type-of υ (e .expr)) es) x)
     go true h k = refl
     go false h k = k h
 
-pub pick-well : (υ : Types) (es : List Entry) → all (λ (e : Entry). well υ (e .expr)) es ≡ true → (x : Name) → has (names es) x ≡ true → well υ (pick es x) ≡ true
+pub pick-well : (υ : Types) (es : List Entry) → all (λ (e : Entry). well υ (e .expr)) es ≡ true → (x : Name) → has (names es) x ≡ true
+    → well υ (pick es x) ≡ true
 unfolding pick any all
 pick-well υ [] w x h = cc
 pick-well υ (e ∷ es) w x h = go (same (e .name) x) h (pick-well υ es (and-r _ _ w) x)
   where
-    go : (b : Bool) → b || has (names es) x ≡ true → (has (names es) x ≡ true → well υ (pick es x) ≡ true) → well υ (cond b (e .expr) (pick es x)) ≡ true
+    go : (b : Bool) → b || has (names es) x ≡ true → (has (names es) x ≡ true → well υ (pick es x) ≡ true)
+        → well υ (cond b (e .expr) (pick es x)) ≡ true
     go true h k = and-l _ _ w
     go false h k = k h
