@@ -137,12 +137,12 @@ whole-image t s h len k =
     let d : drop (32 * size (alone t)) s ≡ [] = drop-of-length-le s {i = 32 * size (alone t)} (omega arith) in
     simp (append-nil) at (rw d at e)
 
-record Buffer (s : List ℕ) : Type 0 where
-  len : length s ≡ 32 * (length s / 32)
-  one : 1 ≤ length s / 32
-  most : length s / 32 ≤ maxRecords
+pub record Buffer (s : List ℕ) : Type 0 where
+  pub len : length s ≡ 32 * (length s / 32)
+  pub one : 1 ≤ length s / 32
+  pub most : length s / 32 ≤ maxRecords
 
-buffer-of : (s : List ℕ) → bufferOk s ≡ true → Buffer s
+pub buffer-of : (s : List ℕ) → bufferOk s ≡ true → Buffer s
 unfolding bufferOk
 buffer-of s h =
     let a = eqb-false (length s) 0 (not-true _ (and-l _ _ h)) in

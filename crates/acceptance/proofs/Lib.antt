@@ -9,3 +9,4 @@ pub mod Opened
 pub mod TypesMarks
 pub mod TypesRule
 pub mod WellFormed
+pub mod Places

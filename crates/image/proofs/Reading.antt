@@ -55,7 +55,7 @@ when-cases P true f g = f refl
 when-cases P false f g = g refl
 
 -- the next unread record is no earlier, and there is one at most
-abbrev Within : ℕ → ℕ → Parsed → Type 0
+abbrev pub Within : ℕ → ℕ → Parsed → Type 0
 Within n i (good f j) = (i ≤ j) × (j ≤ n)
 Within n i (bad r) = Unit {0}
 

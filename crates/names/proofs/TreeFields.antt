@@ -11,11 +11,15 @@ use Rattle.image.specs.Lowest.{alone}
 use Rattle.plan.specs.Kinds as K
 use Rattle.plan.specs.Kinds.{part, plan, what, whatOf, among}
 use Rattle.plan.specs.Schema.{lookD, schema, schema-first, sides}
-use Rattle.plan.specs.Syntax.{Name, nm, Expr, col, num, bool, nul, bin, neg, test, between, inlist, fn, Field, Entry, Key, AggEntry, WinEntry, Kind, inner, left, right, full, leftSemi, rightSemi, leftAnti, rightAnti, Plan, scan, filter, project, join, alias, union, distinct, sort, repartition, limit, aggregate, window, Plans, pnil, pcons}
-use Rattle.plan.specs.Trees.{joinNumber, labelE, kidsE, before, each, nothingBelow, fieldLabel, entryLabel, entryKids, pairLabel, pairKids, keyLabel, keyKids, aggLabel, aggKids, winLabel, winKids, filterKids, labelP, kidsP, forestP, planTree}
+use Rattle.plan.specs.Syntax.{Name, nm, Expr, col, num, bool, nul, bin, neg, test, between, inlist, fn, Field, Entry, Key, AggEntry}
+use Rattle.plan.specs.Syntax.{WinEntry, Kind, inner, left, right, full, leftSemi, rightSemi, leftAnti, rightAnti, Plan, scan, filter}
+use Rattle.plan.specs.Syntax.{project, join, alias, union, distinct, sort, repartition, limit, aggregate, window, Plans, pnil, pcons}
+use Rattle.plan.specs.Trees.{joinNumber, labelE, kidsE, before, each, nothingBelow, fieldLabel, entryLabel, entryKids, pairLabel, pairKids}
+use Rattle.plan.specs.Trees.{keyLabel, keyKids, aggLabel, aggKids, winLabel, winKids, filterKids, labelP, kidsP, forestP, planTree}
 use Rattle.plan.specs.Types.{type-of, types, types-first, side-types, field-types, both-types}
 use Rattle.plan.proofs.Written.{name-back, expr-what}
-use Rattle.names.specs.Fields.{Fld, fld, Schema, typeIn, typeOf, typeFirst, made, madeQ, requalify, joinFields, inputs, namesIn, first, second}
+use Rattle.names.specs.Fields.{Fld, fld, Schema, typeIn, typeOf, typeFirst, made, madeQ, requalify, joinFields, inputs, namesIn}
+use Rattle.names.specs.Fields.{first, second}
 use Rattle.plan.specs.Schema as S
 use Rattle.names.specs.Rules.{typesIn}
 

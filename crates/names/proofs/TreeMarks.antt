@@ -10,13 +10,19 @@ use Rattle.image.specs.Lowest.{lowest, firstFalse, alone}
 use Rattle.image.proofs.Lowest.{marks, lowest-is}
 use Rattle.plan.specs.Kinds.{whatOf, among}
 use Rattle.plan.specs.Lists.{flat}
-use Rattle.plan.specs.Syntax.{Name, Expr, col, num, bool, nul, bin, neg, test, between, inlist, fn, Exprs, enil, econs, Field, Entry, Pair, Key, AggEntry, WinEntry, Plan, scan, filter, project, join, alias, union, distinct, sort, repartition, limit, aggregate, window, Plans, pnil, pcons}
-use Rattle.plan.specs.Trees.{columnLabel, labelE, kidsE, forestE, before, each, nothingBelow, fieldLabel, entryLabel, entryKids, pairLabel, pairKids, keyLabel, keyKids, aggLabel, aggKids, winLabel, winKids, filterKids, labelP, kidsP, forestP, planTree}
+use Rattle.plan.specs.Syntax.{Name, Expr, col, num, bool, nul, bin, neg, test, between, inlist, fn, Exprs, enil, econs, Field, Entry, Pair}
+use Rattle.plan.specs.Syntax.{Key, AggEntry, WinEntry, Plan, scan, filter, project, join, alias, union, distinct, sort, repartition, limit}
+use Rattle.plan.specs.Syntax.{aggregate, window, Plans, pnil, pcons}
+use Rattle.plan.specs.Trees.{columnLabel, labelE, kidsE, forestE, before, each, nothingBelow, fieldLabel, entryLabel, entryKids, pairLabel}
+use Rattle.plan.specs.Trees.{pairKids, keyLabel, keyKids, aggLabel, aggKids, winLabel, winKids, filterKids, labelP, kidsP, forestP}
+use Rattle.plan.specs.Trees.{planTree}
 use Rattle.plan.proofs.Written.{expr-what}
-use Rattle.acceptance.specs.Marks.{marks-in, marks-in-all, marks-in?, Rules, entry-marks, pair-marks, key-marks, agg-marks, win-marks, marks-of, marks-of-all}
+use Rattle.acceptance.specs.Marks.{marks-in, marks-in-all, marks-in?, Rules, entry-marks, pair-marks, key-marks, agg-marks, win-marks}
+use Rattle.acceptance.specs.Marks.{marks-of, marks-of-all}
 use Rattle.names.specs.Fields.{first, second}
 use Rattle.names.specs.Rules.{Scope, over, hand}
-use Rattle.names.proofs.TreeFields.{stand, fields, inputs-expr, inputs-entries, inputs-keys, inputs-aggs, inputs-wins, inputs-plan, made-fields}
+use Rattle.names.proofs.TreeFields.{stand, fields, inputs-expr, inputs-entries, inputs-keys, inputs-aggs, inputs-wins, inputs-plan}
+use Rattle.names.proofs.TreeFields.{made-fields}
 
 -- ---- what is handed down
 

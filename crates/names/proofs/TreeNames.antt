@@ -8,7 +8,8 @@ use Rattle.plan.specs.Kinds.{whatOf, among}
 use Rattle.plan.specs.Lists.{_&_}
 use Rattle.plan.proofs.Lists.{and-true}
 use Rattle.plan.specs.Schema.{schema}
-use Rattle.plan.specs.Syntax.{Expr, col, num, bool, nul, bin, neg, test, between, inlist, fn, Pair, Kind, Plan, scan, filter, project, join, alias, union, distinct, sort, repartition, limit, aggregate, window}
+use Rattle.plan.specs.Syntax.{Expr, col, num, bool, nul, bin, neg, test, between, inlist, fn, Pair, Kind, Plan, scan, filter, project, join}
+use Rattle.plan.specs.Syntax.{alias, union, distinct, sort, repartition, limit, aggregate, window}
 use Rattle.plan.specs.Trees.{labelE, kidsE, each, pairLabel, pairKids, filterKids, labelP, kidsP, planTree}
 use Rattle.plan.proofs.Written.{name-back}
 use Rattle.acceptance.specs.Names.{one-field, sound, sound-plan, name-rules, badName}

@@ -13,8 +13,12 @@ use Rattle.image.specs.Lowest.{alone}
 use Rattle.plan.specs.Kinds as K
 use Rattle.plan.specs.Kinds.{plan, isKind}
 use Rattle.plan.specs.Lists.{_&_}
-use Rattle.plan.specs.Syntax.{Name, Expr, col, num, bool, nul, bin, neg, test, between, inlist, fn, Exprs, enil, econs, Field, Entry, Pair, WinEntry, Plan, scan, filter, project, join, alias, union, distinct, sort, repartition, limit, aggregate, window, Plans, pnil, pcons}
-use Rattle.plan.specs.Trees.{columnLabel, labelE, kidsE, forestE, before, each, nothingBelow, fieldLabel, entryLabel, entryKids, pairLabel, pairKids, keyLabel, keyKids, aggLabel, aggKids, winLabel, winKids, filterKids, labelP, kidsP, forestP, planTree}
+use Rattle.plan.specs.Syntax.{Name, Expr, col, num, bool, nul, bin, neg, test, between, inlist, fn, Exprs, enil, econs, Field, Entry, Pair}
+use Rattle.plan.specs.Syntax.{WinEntry, Plan, scan, filter, project, join, alias, union, distinct, sort, repartition, limit, aggregate}
+use Rattle.plan.specs.Syntax.{window, Plans, pnil, pcons}
+use Rattle.plan.specs.Trees.{columnLabel, labelE, kidsE, forestE, before, each, nothingBelow, fieldLabel, entryLabel, entryKids, pairLabel}
+use Rattle.plan.specs.Trees.{pairKids, keyLabel, keyKids, aggLabel, aggKids, winLabel, winKids, filterKids, labelP, kidsP, forestP}
+use Rattle.plan.specs.Trees.{planTree}
 use Rattle.plan.specs.Types.{Scanned, scans, scans-all}
 use Rattle.plan.proofs.Written.{no-part-e}
 use Rattle.acceptance.specs.Types.{first-scanned}

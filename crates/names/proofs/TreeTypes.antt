@@ -14,15 +14,22 @@ use Rattle.plan.specs.Kinds as K
 use Rattle.plan.specs.Kinds.{part, what, whatOf, among}
 use Rattle.plan.specs.Lists.{_&_, put, all}
 use Rattle.plan.proofs.Lists.{and-true, true-and, and-intro}
-use Rattle.plan.specs.Syntax.{Op, and, or, cmp, eq, ne, lt, le, gt, ge, Test, isNull, isNotNull, isTrue, isFalse, isUnknown, isNotTrue, isNotFalse, isNotUnknown, Expr, col, num, bool, nul, bin, neg, test, between, inlist, fn, Exprs, enil, econs, Pair, Agg, count, min, max, AggEntry, WinEntry, Plan, scan, filter, project, join, alias, union, distinct, sort, repartition, limit, aggregate, window, Plans, pnil, pcons}
-use Rattle.plan.specs.Trees.{opNumber, testNumber, aggNumber, columnLabel, labelE, kidsE, forestE, before, each, nothingBelow, fieldLabel, pairLabel, pairKids, aggLabel, aggKids, winLabel, winKids, filterKids, labelP, kidsP, planTree}
+use Rattle.plan.specs.Syntax.{Op, and, or, cmp, eq, ne, lt, le, gt, ge, Test, isNull, isNotNull, isTrue, isFalse, isUnknown, isNotTrue}
+use Rattle.plan.specs.Syntax.{isNotFalse, isNotUnknown, Expr, col, num, bool, nul, bin, neg, test, between, inlist, fn, Exprs, enil, econs}
+use Rattle.plan.specs.Syntax.{Pair, Agg, count, min, max, AggEntry, WinEntry, Plan, scan, filter, project, join, alias, union, distinct}
+use Rattle.plan.specs.Syntax.{sort, repartition, limit, aggregate, window, Plans, pnil, pcons}
+use Rattle.plan.specs.Trees.{opNumber, testNumber, aggNumber, columnLabel, labelE, kidsE, forestE, before, each, nothingBelow, fieldLabel}
+use Rattle.plan.specs.Trees.{pairLabel, pairKids, aggLabel, aggKids, winLabel, winKids, filterKids, labelP, kidsP, planTree}
 use Rattle.plan.specs.Types.{type-of, types, types-first, field-types, both-types, Scanned, scans}
 use Rattle.plan.proofs.Written.{expr-what}
 use Rattle.acceptance.specs.Types as A
-use Rattle.acceptance.specs.Types.{operands, any-type, of-type, typed-operands, is-boolean, is-boolean?, takes-type, same-types, first-scanned, as-first, typed-plan, type-rules, badType}
+use Rattle.acceptance.specs.Types.{operands, any-type, of-type, typed-operands, is-boolean, is-boolean?, takes-type, same-types}
+use Rattle.acceptance.specs.Types.{first-scanned, as-first, typed-plan, type-rules, badType}
 use Rattle.names.specs.Fields.{Schema, typeIn, first}
-use Rattle.names.specs.Rules.{Scope, over, seen, hand, typesOf, booleans, alike, typesIn, united, scanTypes, typeOkBy, typeOk, badTypes}
-use Rattle.names.proofs.TreeFields.{stand, plan-what, type-label, fields, fields-all, inputs-plans, fields-types, fields-typed, both-typed, scan-types}
+use Rattle.names.specs.Rules.{Scope, over, seen, hand, typesOf, booleans, alike, typesIn, united, scanTypes, typeOkBy, typeOk}
+use Rattle.names.specs.Rules.{badTypes}
+use Rattle.names.proofs.TreeFields.{stand, plan-what, type-label, fields, fields-all, inputs-plans, fields-types, fields-typed}
+use Rattle.names.proofs.TreeFields.{both-typed, scan-types}
 use Rattle.names.proofs.TreeMarks.{Agrees, over-one, over-both, below, hand-plan, tree-lowest}
 use Rattle.names.proofs.TreeScans.{tree-scans}
 

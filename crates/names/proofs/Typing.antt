@@ -14,7 +14,8 @@ use Rattle.plan.specs.Schema.{same}
 use Rattle.plan.specs.Kinds as K
 use Rattle.plan.specs.Kinds.{What, expr, plan, part, unknown, what, whatOf, exprW}
 use Rattle.plan.specs.Syntax.{Name, nm}
-use Rattle.names.specs.Fields.{Schema, nameOf, made, madeBy, inputs, fieldsP, requalify, joinFields, typeIn, typeOf, typeBy, typeFirst, first}
+use Rattle.names.specs.Fields.{Schema, nameOf, made, madeBy, inputs, fieldsP, requalify, joinFields, typeIn, typeOf, typeBy}
+use Rattle.names.specs.Fields.{typeFirst, first}
 use Rattle.plan.proofs.Rebuilt.{kind-w, kind-e}
 use Rattle.image.proofs.Walking.{turn, ended}
 use Rattle.names.proofs.KindRanges.{expr-kind}
