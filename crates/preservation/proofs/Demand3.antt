@@ -25,7 +25,7 @@ use Rattle.preservation.proofs.Granted.{Granted, granted-keeps}
 
 -- ---- a list of steps
 
-preserved-self : (s : List ℕ) → Image s → NoVolatile (planIn s) → Preserved s s
+pub preserved-self : (s : List ℕ) → Image s → NoVolatile (planIn s) → Preserved s s
 preserved-self s h v = record { image = h; not-volatile = v; fitting = λ W f. f; same-rows = λ W f. refl }
 
 preserved-trans : {s t u : List ℕ} → Preserved s t → Preserved t u → Preserved s u
@@ -53,7 +53,7 @@ data Left (p : Plan) : Answer → Type 0 where
 
 -- the numbers of refusals are 8 and 11 at a record
 module _ (n : ℕ) where
-  numbered : (o : Option Focus) (k r : ℕ) → rewrite-in n o ≡ refused k r → 0 < k
+  pub numbered : (o : Option Focus) (k r : ℕ) → rewrite-in n o ≡ refused k r → 0 < k
   unfolding rewrite-in choose
   numbered none k r e = let i : 8 ≡ k = cc in omega arith
   numbered (some c) k r e = either (result-fits c) _ _ e
@@ -83,7 +83,7 @@ in-room room {p} (new {f = f} {q = q} g) = go (leb (recordBytes * sizeP q) room)
 -- ---- a call on bytes
 
 -- an image that a granted call leaves
-preserved-granted : (s : List ℕ) (q : Plan) → Granted q (planIn s) → Preserved s (imageOf q)
+pub preserved-granted : (s : List ℕ) (q : Plan) → Granted q (planIn s) → Preserved s (imageOf q)
 preserved-granted s q g =
     let e : planIn (imageOf q) ≡ q = plan-in-image q (g .well) in
     record {
@@ -102,7 +102,7 @@ unfolding left-by rewritten no-rewrite choose
 left-preserves s room h v (new {q = q} g) = rw (without-zeros room q) (preserved-granted s q g)
 left-preserves s room h v (same {k = k} pos) = rw (ne-eqb k 0 (λ e. omega arith)) (preserved-self s h v)
 
-accepted-is : (s : List ℕ) → Image s → isAccepted s ≡ true
+pub accepted-is : (s : List ℕ) → Image s → isAccepted s ≡ true
 unfolding isAccepted
 accepted-is s h = rw (h .accepted)
 

@@ -29,7 +29,7 @@ pub record Granted (q p : Plan) : Type 0 where
   pub not-volatile : NoVolatile q
 
 -- the rules that the row theorem asks of a plan
-well-ok : (p : Plan) → WellFormed p → ok p ≡ true
+pub well-ok : (p : Plan) → WellFormed p → ok p ≡ true
 unfolding types-ok
 well-ok p w = names-typed-ok p (names-iff p .0 (w .names)) (and-l _ _ (types-iff p .0 (w .types)))
 

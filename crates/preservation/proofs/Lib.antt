@@ -16,3 +16,4 @@ pub mod Kept
 pub mod VolatileTest
 pub mod Granted
 pub mod Demand3
+pub mod Passes

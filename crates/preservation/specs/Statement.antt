@@ -11,7 +11,7 @@ use Rattle.plan.specs.Lists.{choose}
 use Rattle.meaning.specs.Meaning.{World, Row, rows}
 use Rattle.meaning.specs.Tables.{TablesFit, FunctionsFit}
 use Rattle.acceptance.specs.Check.{verdict, check}
-use Rattle.rewrite.specs.OnBytes.{planIn, Rewritten, rewrite-bytes}
+use Rattle.rewrite.specs.OnBytes.{planIn, Rewritten, rewrite-bytes, Passed, pass-bytes}
 use Rattle.preservation.specs.Volatile.{NoVolatile}
 
 -- ---- a list of steps
@@ -76,3 +76,12 @@ calls (c ∷ cs) = call c ∷ calls cs
 -- far, which is a list of calls too.
 abbrev pub Demand3 : Type 0
 Demand3 = (cs : List Call) (s : List ℕ) → Image s → NoVolatile (planIn s) → Preserved s (after (calls cs) s)
+
+-- ---- a pass is such a step too
+
+unfoldable pub left-by-pass : List ℕ → Passed → List ℕ
+left-by-pass s r = choose (eqb (r .number) 0) (take (recordBytes * r .records) (r .output)) s
+
+-- a pass with a budget and an output length
+unfoldable pub pass-through : ℕ → ℕ → Step
+pass-through budget room s = left-by-pass s (pass-bytes s budget room)
