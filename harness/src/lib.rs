@@ -1,6 +1,8 @@
 //! What proofs cannot cover, tested: the boundary to C, and that the definitions are the right ones.
 
 pub mod checker;
+pub mod damage;
+pub mod edges;
 #[cfg(feature = "library")]
 pub mod ffi;
 pub mod image;
