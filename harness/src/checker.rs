@@ -445,3 +445,76 @@ fn sound(schema: &[Field]) -> bool {
     let parted = |(place, field): (usize, &Field)| schema[..place].iter().all(|earlier| apart(earlier, field));
     schema.len() <= limits::FIELDS && schema.iter().enumerate().all(parted)
 }
+
+#[cfg(test)]
+mod tests {
+    use super::*;
+    use crate::image::Tree;
+
+    /// Filter t.c > 5 over table 1 with c marked, t and c both 1.
+    fn worked_example() -> Tree {
+        filter(binary(GT, column(1, 1), integer(5)), scan(1, vec![field(1, 1, OF_INTEGER, true)]))
+    }
+
+    #[test]
+    fn the_worked_example_stands_as_the_scope_writes_it() {
+        let words: Vec<[u32; 8]> = worked_example().records().iter().map(Record::words).collect();
+        let expected = [
+            [33, 0, 0, 0, 0, 0, 1, 0],
+            [5, 7, 0, 0, 0, 0, 2, 4],
+            [1, 1, 1, 0, 0, 0, 0, 3],
+            [2, 0, 0, 0, 5, 0, 0, 0],
+            [32, 1, 0, 0, 0, 0, 5, 0],
+            [48, 1, 1, 1, 1, 0, 0, 0],
+        ];
+        assert_eq!(words, expected);
+        assert_eq!(check(&worked_example().image()), Verdict::ACCEPTED);
+    }
+
+    /// What the pass makes of the worked example is accepted as well.
+    #[test]
+    fn the_worked_example_after_the_pass_is_accepted() {
+        let predicate = binary(GT, column(1, 1), integer(5));
+        let pushed = scan(1, vec![field(1, 1, OF_INTEGER, true), predicate]);
+        assert_eq!(check(&pushed.image()), Verdict::ACCEPTED);
+    }
+
+    /// Every word of every record of the worked example, set to a word that no record takes there.
+    #[test]
+    fn each_wrong_word_is_2_and_each_wrong_link_3_at_its_record() {
+        let good = worked_example().records();
+        for at in 0..good.len() {
+            for place in 0..8 {
+                let mut words = good[at].words();
+                words[place] = u32::MAX;
+                let mut records = good.clone();
+                records[at] = Record::of_words(words);
+                let free =
+                    matches!((good[at].label.kind, place), (COLUMN | FIELD, 1 | 2) | (INTEGER, 4 | 5) | (SCAN, 1));
+                let number = if place < image::FIRST { 2 } else { 3 };
+                let verdict = check(&image::write(&records));
+                assert!(free || verdict == refusal(number, at), "word {place} of record {at}: {verdict}");
+                assert!(!free || verdict.number != 2, "word {place} of record {at}: {verdict}");
+            }
+        }
+    }
+
+    /// Of several tests met the lowest number counts, then the lowest record.
+    #[test]
+    fn lower_numbers_come_first() {
+        let named_6 = || filter(test(1, column(9, 9)), scan(1, vec![]));
+        let typed_7 = || filter(integer(1), named_6());
+        let formed_5 = || filter(typed_7(), typed_7());
+        assert_eq!(check(&named_6().image()), refusal(6, 2));
+        assert_eq!(check(&typed_7().image()), refusal(6, 4));
+        assert_eq!(check(&formed_5().image()), refusal(5, 0));
+        let mut unlinked = formed_5().image();
+        let end = unlinked.len();
+        unlinked[end - 1] = 1;
+        assert_eq!(check(&unlinked).number, 3);
+        unlinked[4] = 1;
+        assert_eq!(check(&unlinked), refusal(2, 0));
+        unlinked.push(0);
+        assert_eq!(check(&unlinked), refusal(1, 0));
+    }
+}
