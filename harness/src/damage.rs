@@ -258,6 +258,9 @@ fn change_name(random: &mut Random, plan: &mut Tree) {
     let stranger = Label { kind: COLUMN, p: random.below(6) as u32, q: random.within(1, 8) as u32, ..Label::default() };
     let other = if others.is_empty() || random.chance(30) { stranger } else { *random.pick(&others) };
     let choice = random.below(4);
+    if random.chance(15) {
+        return exchange_keys(random, plan);
+    }
     let node = some_node(random, plan, is_named);
     match choice {
         _ if node.label.kind == ALIAS => node.label.p = other.p.max(1),
@@ -265,6 +268,20 @@ fn change_name(random: &mut Random, plan: &mut Tree) {
         1 => node.label.q = other.q,
         2 => node.label.p = 0,
         _ => (node.label.p, node.label.q) = (other.p, other.q),
+    }
+}
+
+/// A key pair's expressions change places, or one of them stands in both.
+fn exchange_keys(random: &mut Random, plan: &mut Tree) {
+    let exchange = random.chance(50);
+    let place = random.below(2);
+    let node = some_node(random, plan, |label| label.kind == KEY_PAIR);
+    if node.label.kind != KEY_PAIR || node.children.len() != 2 {
+        return;
+    }
+    match exchange {
+        true => node.children.swap(0, 1),
+        false => node.children[place] = node.children[1 - place].clone(),
     }
 }
 

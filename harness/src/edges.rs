@@ -210,15 +210,21 @@ fn lists() -> Vec<Edge> {
     edges
 }
 
-/// An And without exactly two expressions below it counts as one conjunct, and is named itself.
+/// Ands without exactly two expressions below them.
+fn ands_that_do_not_split() -> [(&'static str, Tree); 4] {
+    let of = |children: Vec<Tree>| Tree { children, ..and(boolean(true), boolean(true)) };
+    [
+        ("an And of three", of(trues(3))),
+        ("an And of one", of(trues(1))),
+        ("an And of none", of(vec![])),
+        ("an And with a plan", of(vec![boolean(true), scan(1, vec![])])),
+    ]
+}
+
+/// Such an And counts as one conjunct, and is named itself.
 fn broken_ands() -> Vec<Edge> {
-    let three = Tree { children: trues(3), ..and(boolean(true), boolean(true)) };
-    let one = Tree { children: trues(1), ..three.clone() };
-    let none = Tree { children: vec![], ..three.clone() };
-    let with_plan = and(boolean(true), scan(1, vec![]));
-    let named = ["an And of three", "an And of one", "an And of none", "an And with a plan"];
     let mut edges = Vec::new();
-    for (name, broken) in named.into_iter().zip([three, one, none, with_plan]) {
+    for (name, broken) in ands_that_do_not_split() {
         for length in [LIST, LIST + 1] {
             let conjuncts = [trues(length - 1), vec![broken.clone()]].concat();
             let plan = filter(conjunction(conjuncts, Nesting::Left), scan(1, vec![]));
@@ -404,13 +410,20 @@ fn near_list(random: &mut Random) -> Tree {
     let length = random.within(LIST - 2, LIST + 2);
     let input = accepted(random, 10);
     let mut draw = Draw::new(random, 400);
-    let conjuncts = (0..length).map(|_| not(draw.expr(&input.fields, OF_BOOLEAN, 1))).collect();
+    let mut conjuncts: Vec<Tree> = (0..length).map(|_| not(draw.expr(&input.fields, OF_BOOLEAN, 1))).collect();
+    if random.chance(20) {
+        conjuncts[random.below(length)] = random.pick(&ands_that_do_not_split()).1.clone();
+    }
     let nesting = *random.pick(&[Nesting::Left, Nesting::Right, Nesting::Balanced]);
     match random.below(3) {
         0 => filter(conjunction(conjuncts, nesting), input.plan),
         1 => {
             let which = random.within(1, 8) as u32;
             join(which, vec![input.plan, scan(9, vec![]), conjunction(conjuncts, nesting)])
+        }
+        _ if input.plan.label.kind == SCAN => {
+            let fields = input.plan.children.into_iter().filter(|part| part.label.kind == FIELD);
+            scan(1, fields.chain(conjuncts).collect())
         }
         _ => scan(1, trues(length)),
     }

@@ -3,7 +3,6 @@
 pub mod checker;
 pub mod damage;
 pub mod edges;
-#[cfg(feature = "library")]
 pub mod ffi;
 pub mod image;
 pub mod kinds;

@@ -4,24 +4,10 @@
 use harness::checker::{check, Verdict};
 use harness::damage::{case, Case};
 use harness::edges::edges;
+use harness::ffi;
 use harness::image::to_hex;
 use std::process::ExitCode;
 use std::time::Instant;
-
-#[cfg(feature = "library")]
-const COMPARED: &str = "the checker and the exported check";
-#[cfg(not(feature = "library"))]
-const COMPARED: &str = "the checker alone (built without the feature library)";
-
-#[cfg(feature = "library")]
-fn exported(image: &[u8]) -> Option<Verdict> {
-    Some(harness::ffi::check(image))
-}
-
-#[cfg(not(feature = "library"))]
-fn exported(_image: &[u8]) -> Option<Verdict> {
-    None
-}
 
 struct Options {
     cases: u64,
@@ -33,7 +19,11 @@ fn main() -> ExitCode {
         eprintln!("usage: check_images [--cases N] [--seed S]");
         return ExitCode::FAILURE;
     };
-    println!("running {COMPARED}: seed {}, {} images", options.seed, options.cases);
+    let compared = match ffi::LINKED {
+        true => "the checker and the exported check",
+        false => "the checker alone (built without the feature library)",
+    };
+    println!("running {compared}: seed {}, {} images", options.seed, options.cases);
     match edges_agree().and_then(|()| cases_agree(&options)) {
         Ok(()) => ExitCode::SUCCESS,
         Err(difference) => {
@@ -91,7 +81,7 @@ fn cases_agree(options: &Options) -> Result<(), String> {
 /// The verdict, if both checks give the same.
 fn compared(name: &str, image: &[u8]) -> Result<Verdict, String> {
     let verdict = check(image);
-    match exported(image) {
+    match ffi::check(image) {
         Some(other) if other != verdict => Err(format!(
             "{name} differs: checker {verdict}, exported check {other}, image of {} bytes:\n{}",
             image.len(),
