@@ -205,6 +205,9 @@ fn lower_a_node(random: &mut Random, plan: &mut Tree) {
 
 /// Children dropped, doubled, exchanged, added, replaced, or the parent's kind changed.
 fn change_children(random: &mut Random, plan: &mut Tree) {
+    if random.chance(15) {
+        return starve(random, plan);
+    }
     let stray = stray_tree(random);
     let choice = random.below(7);
     let root = random.chance(5);
@@ -221,6 +224,20 @@ fn change_children(random: &mut Random, plan: &mut Tree) {
         4 => node.label = stray.label,
         5 => *node = stray,
         _ => node.children.insert(random.below(children + 1), stray),
+    }
+}
+
+/// A node that must have some children of a sort keeps one of them, or none.
+fn starve(random: &mut Random, plan: &mut Tree) {
+    let kept = random.below(2);
+    let kind = *random.pick(&[IN_LIST, UNION, AGGREGATE, PROJECTION, WINDOW, FILTER, JOIN, BINARY]);
+    let node = some_node(random, plan, |label| label.kind == kind);
+    let inputs_last = [AGGREGATE, PROJECTION, WINDOW].contains(&node.label.kind);
+    if inputs_last && !node.children.is_empty() {
+        let parts = node.children.len() - 1;
+        node.children.drain(kept.min(parts)..parts);
+    } else {
+        node.children.truncate(kept);
     }
 }
 

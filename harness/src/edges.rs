@@ -408,25 +408,33 @@ fn near_depth(random: &mut Random) -> Tree {
 /// 126 to 130 drawn predicates, in one of the three lists.
 fn near_list(random: &mut Random) -> Tree {
     let length = random.within(LIST - 2, LIST + 2);
-    let input = accepted(random, 10);
+    let which = random.below(3);
+    let input = accepted(random, if which == 2 { 1 } else { 10 });
     let mut draw = Draw::new(random, 400);
     let mut conjuncts: Vec<Tree> = (0..length).map(|_| not(draw.expr(&input.fields, OF_BOOLEAN, 1))).collect();
+    if which == 2 {
+        return of_filters(random, input.plan, conjuncts);
+    }
     if random.chance(20) {
         conjuncts[random.below(length)] = random.pick(&ands_that_do_not_split()).1.clone();
     }
     let nesting = *random.pick(&[Nesting::Left, Nesting::Right, Nesting::Balanced]);
-    match random.below(3) {
-        0 => filter(conjunction(conjuncts, nesting), input.plan),
-        1 => {
-            let which = random.within(1, 8) as u32;
-            join(which, vec![input.plan, scan(9, vec![]), conjunction(conjuncts, nesting)])
-        }
-        _ if input.plan.label.kind == SCAN => {
-            let fields = input.plan.children.into_iter().filter(|part| part.label.kind == FIELD);
-            scan(1, fields.chain(conjuncts).collect())
-        }
-        _ => scan(1, trues(length)),
+    let predicate = conjunction(conjuncts, nesting);
+    match which {
+        0 => filter(predicate, input.plan),
+        _ => join(random.within(1, 8) as u32, vec![input.plan, scan(9, vec![]), predicate]),
     }
+}
+
+/// The scan with these filters for its own, some of them an And, which a scan does not split.
+fn of_filters(random: &mut Random, mut table: Tree, mut filters: Vec<Tree>) -> Tree {
+    for _ in 0..random.below(3) {
+        let at = random.below(filters.len());
+        filters[at] = and(filters[at].clone(), boolean(true));
+    }
+    table.children.retain(|part| part.label.kind == FIELD);
+    table.children.extend(filters);
+    table
 }
 
 /// A plan or a join of 62 to 66 fields.
