@@ -3,7 +3,7 @@
 
 use crate::checker::check;
 use crate::edges::{near, of_records, set_word};
-use crate::image::{Label, Tree, FIRST, NEXT, RECORD_BYTES};
+use crate::image::{self, Label, Tree, FIRST, NEXT, RECORD_BYTES};
 use crate::kinds::*;
 use crate::limits::{DEPTH, RECORDS};
 use crate::random::{accepted, size, Draw, Random};
@@ -112,14 +112,15 @@ fn telling_word(random: &mut Random) -> u32 {
 }
 
 /// Any word but a link.
-fn change_word(random: &mut Random, image: &mut Vec<u8>) {
-    let at = random.below(records_in(image));
+fn change_word(random: &mut Random, image: &mut [u8]) {
+    let kinds: Vec<u32> = image::read(image).iter().map(|record| record.label.kind).collect();
+    let at = evenly(random, &kinds, |_| true);
     let place = random.below(FIRST);
     let word = telling_word(random);
     set_word(image, at, place, word);
 }
 
-fn change_link(random: &mut Random, image: &mut Vec<u8>) {
+fn change_link(random: &mut Random, image: &mut [u8]) {
     let records = records_in(image);
     let at = if random.chance(10) { 0 } else { random.below(records) };
     let place = random.within(FIRST, NEXT);
@@ -148,7 +149,7 @@ fn add_record(random: &mut Random, image: &mut Vec<u8>) {
     image.splice(RECORD_BYTES * at..RECORD_BYTES * at, record);
 }
 
-fn exchange_records(random: &mut Random, image: &mut Vec<u8>) {
+fn exchange_records(random: &mut Random, image: &mut [u8]) {
     let (one, other) = (random.below(records_in(image)), random.below(records_in(image)));
     for byte in 0..RECORD_BYTES {
         image.swap(RECORD_BYTES * one + byte, RECORD_BYTES * other + byte);
@@ -181,17 +182,29 @@ fn damage_tree(random: &mut Random, plan: &mut Tree) {
 }
 
 /// A node of the plan that `wanted` asks for, or any.
-fn some_node<'t>(random: &mut Random, plan: &'t mut Tree, wanted: impl Fn(&Label) -> bool) -> &'t mut Tree {
-    let nodes = plan.parent_first();
-    let fitting: Vec<usize> = (0..nodes.len()).filter(|&at| wanted(&nodes[at].1.label)).collect();
-    let at = if fitting.is_empty() { random.below(nodes.len()) } else { *random.pick(&fitting) };
+fn some_node<'t>(random: &mut Random, plan: &'t mut Tree, wanted: impl Fn(u32) -> bool) -> &'t mut Tree {
+    let kinds: Vec<u32> = plan.parent_first().iter().map(|(_, tree)| tree.label.kind).collect();
+    let at = evenly(random, &kinds, wanted);
     plan.node_mut(at).expect("the number is one of its nodes")
+}
+
+/// The place of a wanted kind, or of any. The kind is drawn first, so that rare ones come as often as common ones.
+fn evenly(random: &mut Random, kinds: &[u32], wanted: impl Fn(u32) -> bool) -> usize {
+    let mut met: Vec<u32> = kinds.iter().copied().filter(|&kind| wanted(kind)).collect();
+    met.sort_unstable();
+    met.dedup();
+    if met.is_empty() {
+        return random.below(kinds.len());
+    }
+    let kind = *random.pick(&met);
+    let places: Vec<usize> = (0..kinds.len()).filter(|&at| kinds[at] == kind).collect();
+    *random.pick(&places)
 }
 
 /// One of the wanted nodes goes so deep that it, or something below it, passes the limit or just does not.
 fn lower_a_node(random: &mut Random, plan: &mut Tree) {
     let steps = random.within(DEPTH - 12, DEPTH + 4);
-    let node = some_node(random, plan, |label| is_plan(label.kind) || is_expr(label.kind));
+    let node = some_node(random, plan, |kind| is_plan(kind) || is_expr(kind));
     let mut lowered = node.clone();
     let expression = is_expr(lowered.label.kind);
     for _ in 0..steps {
@@ -211,7 +224,7 @@ fn change_children(random: &mut Random, plan: &mut Tree) {
     let stray = stray_tree(random);
     let choice = random.below(7);
     let root = random.chance(5);
-    let node = if root { &mut *plan } else { some_node(random, plan, |label| label.kind != FIELD) };
+    let node = if root { &mut *plan } else { some_node(random, plan, |kind| kind != FIELD) };
     let children = node.children.len();
     match choice {
         0 if children > 0 => drop(node.children.remove(random.below(children))),
@@ -231,7 +244,7 @@ fn change_children(random: &mut Random, plan: &mut Tree) {
 fn starve(random: &mut Random, plan: &mut Tree) {
     let kept = random.below(2);
     let kind = *random.pick(&[IN_LIST, UNION, AGGREGATE, PROJECTION, WINDOW, FILTER, JOIN, BINARY]);
-    let node = some_node(random, plan, |label| label.kind == kind);
+    let node = some_node(random, plan, |other| other == kind);
     let inputs_last = [AGGREGATE, PROJECTION, WINDOW].contains(&node.label.kind);
     if inputs_last && !node.children.is_empty() {
         let parts = node.children.len() - 1;
@@ -260,8 +273,8 @@ fn stray_tree(random: &mut Random) -> Tree {
     }
 }
 
-fn is_named(label: &Label) -> bool {
-    matches!(label.kind, COLUMN | ALIAS | FIELD | ENTRY | AGGREGATE_ENTRY | WINDOW_ENTRY)
+fn is_named(kind: u32) -> bool {
+    matches!(kind, COLUMN | ALIAS | FIELD | ENTRY | AGGREGATE_ENTRY | WINDOW_ENTRY)
 }
 
 /// The qualifier or name of a reference, a field, an entry or an alias becomes another's, or one that none has.
@@ -270,7 +283,7 @@ fn change_name(random: &mut Random, plan: &mut Tree) {
         .parent_first()
         .iter()
         .map(|(_, tree)| tree.label)
-        .filter(|label| is_named(label) && label.q != 0)
+        .filter(|label| is_named(label.kind) && label.q != 0)
         .collect();
     let stranger = Label { kind: COLUMN, p: random.below(6) as u32, q: random.within(1, 8) as u32, ..Label::default() };
     let other = if others.is_empty() || random.chance(30) { stranger } else { *random.pick(&others) };
@@ -292,7 +305,7 @@ fn change_name(random: &mut Random, plan: &mut Tree) {
 fn exchange_keys(random: &mut Random, plan: &mut Tree) {
     let exchange = random.chance(50);
     let place = random.below(2);
-    let node = some_node(random, plan, |label| label.kind == KEY_PAIR);
+    let node = some_node(random, plan, |kind| kind == KEY_PAIR);
     if node.label.kind != KEY_PAIR || node.children.len() != 2 {
         return;
     }
@@ -302,9 +315,9 @@ fn exchange_keys(random: &mut Random, plan: &mut Tree) {
     }
 }
 
-fn is_typed(label: &Label) -> bool {
+fn is_typed(kind: u32) -> bool {
     let kinds = [COLUMN, INTEGER, BOOLEAN, NULL, BINARY, TEST, FUNCTION, SCAN, UNION, FIELD];
-    kinds.contains(&label.kind) || label.kind >= AGGREGATE_ENTRY
+    kinds.contains(&kind) || kind >= AGGREGATE_ENTRY
 }
 
 /// Whatever settles a type becomes another: a literal, a field's or a function's type, an operator, a table's number.
