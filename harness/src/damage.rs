@@ -288,8 +288,10 @@ fn change_name(random: &mut Random, plan: &mut Tree) {
     let stranger = Label { kind: COLUMN, p: random.below(6) as u32, q: random.within(1, 8) as u32, ..Label::default() };
     let other = if others.is_empty() || random.chance(30) { stranger } else { *random.pick(&others) };
     let choice = random.below(4);
-    if random.chance(15) {
-        return exchange_keys(random, plan);
+    match random.below(20) {
+        0..=2 => return exchange_keys(random, plan),
+        3 | 4 => return refer_to_itself(random, plan),
+        _ => {}
     }
     let node = some_node(random, plan, is_named);
     match choice {
@@ -312,6 +314,17 @@ fn exchange_keys(random: &mut Random, plan: &mut Tree) {
     match exchange {
         true => node.children.swap(0, 1),
         false => node.children[place] = node.children[1 - place].clone(),
+    }
+}
+
+/// An entry's last expression becomes a reference to what the entry makes.
+fn refer_to_itself(random: &mut Random, plan: &mut Tree) {
+    let kinds = [ENTRY, AGGREGATE_ENTRY, WINDOW_ENTRY];
+    let node = some_node(random, plan, |kind| kinds.contains(&kind));
+    if kinds.contains(&node.label.kind) {
+        let last = node.children.len().max(1) - 1;
+        node.children.truncate(last);
+        node.children.push(column(node.label.p, node.label.q));
     }
 }
 
