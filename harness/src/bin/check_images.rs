@@ -1,4 +1,4 @@
-//! Runs edges, random and damaged images through the harness's checker and, with the feature `library`, through the
+//! Runs edges, sweeps, random and damaged images through the harness's checker and, with the feature `library`, through the
 //! exported check, and compares number and record. Options: --cases N --seed S.
 
 use harness::checker::{check, Verdict};
@@ -6,6 +6,7 @@ use harness::damage::{case, Case};
 use harness::edges::edges;
 use harness::ffi;
 use harness::image::to_hex;
+use harness::sweeps::sweeps;
 use std::process::ExitCode;
 use std::time::Instant;
 
@@ -24,7 +25,7 @@ fn main() -> ExitCode {
         false => "the checker alone (built without the feature library)",
     };
     println!("running {compared}: seed {}, {} images", options.seed, options.cases);
-    match edges_agree().and_then(|()| cases_agree(&options)) {
+    match edges_agree().and_then(|()| sweeps_agree()).and_then(|()| cases_agree(&options)) {
         Ok(()) => ExitCode::SUCCESS,
         Err(difference) => {
             println!("{difference}");
@@ -57,6 +58,17 @@ fn edges_agree() -> Result<(), String> {
         }
     }
     println!("edges: {} as expected", edges.len());
+    Ok(())
+}
+
+fn sweeps_agree() -> Result<(), String> {
+    for (name, images) in sweeps() {
+        let mut counts = [0u64; 8];
+        for image in &images {
+            counts[compared(name, image)?.number as usize] += 1;
+        }
+        println!("sweep of {name}: {} images, by number {counts:?}", images.len());
+    }
     Ok(())
 }
 
