@@ -64,11 +64,11 @@ fn agrees(sort: &Sort, text: &str) -> bool {
     compared > 0 && differ == 0
 }
 
-fn same<T: PartialEq + std::fmt::Display>(stored: T, ours: T) -> Result<(), String> {
-    if stored == ours {
+fn same<T: PartialEq + std::fmt::Display>(whose: &str, stored: T, answer: T) -> Result<(), String> {
+    if stored == answer {
         Ok(())
     } else {
-        Err(format!("stored {stored}, here {ours}"))
+        Err(format!("stored {stored}, {whose} {answer}"))
     }
 }
 
@@ -81,7 +81,7 @@ fn verdict_of_image(statement: &str) -> Option<Result<(), String>> {
     let stored = Verdict { number: number.parse().ok()?, record: record.parse().ok()? };
     let image = image::of_hex(count.parse().ok()?, digits)?;
     let exported = ffi::check(&image).unwrap_or(stored);
-    Some(same(stored, check(&image)).and_then(|()| same(stored, exported)))
+    Some(same("checker", stored, check(&image)).and_then(|()| same("exported check", stored, exported)))
 }
 
 /// `(plan) ≡ (w .. ∷ [])`. An image of a plan meets none of the tests 1 to 5.
@@ -99,5 +99,5 @@ fn records_of_plan(statement: &str) -> Option<Result<(), String>> {
 fn number_of_plan(statement: &str) -> Option<Result<(), String>> {
     let (plan, number) = statement.split_once(" ≡ ")?;
     let stored: u32 = number.trim().parse().ok()?;
-    Some(same(stored, check(&plan_of(plan)?.image()).number))
+    Some(same("checker", stored, check(&plan_of(plan)?.image()).number))
 }
