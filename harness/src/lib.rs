@@ -1,0 +1,19 @@
+//! What proofs cannot cover, tested: the boundary to C, and that the definitions are the right ones.
+
+pub mod checker;
+pub mod damage;
+pub mod edges;
+pub mod ffi;
+pub mod image;
+pub mod kinds;
+pub mod random;
+pub mod sweeps;
+pub mod terms;
+
+/// The limits of an image. Every other file takes them from here.
+pub mod limits {
+    pub const RECORDS: usize = 2048;
+    pub const DEPTH: usize = 256;
+    pub const FIELDS: usize = 64;
+    pub const LIST: usize = 128;
+}
