@@ -9,18 +9,39 @@ use harness::terms::{plan_of, records_of};
 use std::path::{Path, PathBuf};
 use std::process::ExitCode;
 
-/// How a sort of statement begins after its name, and how it is compared.
+/// Where the cases of a sort stand, and how one is compared.
 struct Sort {
     what: &'static str,
-    begins: &'static str,
+    cases: fn(&str) -> Vec<String>,
     compare: fn(&str) -> Option<Result<(), String>>,
 }
 
 const SORTS: [Sort; 3] = [
-    Sort { what: "verdicts of images", begins: " : check (bytes ", compare: verdict_of_image },
-    Sort { what: "records of plans", begins: " : image ", compare: records_of_plan },
-    Sort { what: "numbers of plans", begins: " : judged ", compare: number_of_plan },
+    Sort { what: "verdicts of images", cases: image_statements, compare: verdict_of_image },
+    Sort { what: "records of plans", cases: drawings, compare: records_of_plan },
+    Sort { what: "numbers of plans", cases: judgings, compare: number_of_plan },
 ];
+
+/// The statements about the bytes of an image, a line each.
+fn image_statements(text: &str) -> Vec<String> {
+    text.lines().filter_map(|line| line.split_once(" : check (bytes ")).map(|(_, rest)| rest.to_string()).collect()
+}
+
+fn drawings(text: &str) -> Vec<String> {
+    rows(text, "drawings = drawing ", " ∷ drawing ", " ∷ [] images-agree")
+}
+
+fn judgings(text: &str) -> Vec<String> {
+    rows(text, "plans = judging ", " ∷ judging ", " ∷ [] verdicts-agree")
+}
+
+/// The rows of a table, whatever its line breaks.
+fn rows(text: &str, begin: &str, between: &str, end: &str) -> Vec<String> {
+    let words: Vec<&str> = text.split_whitespace().collect();
+    let flat = words.join(" ");
+    let table = flat.split_once(begin).and_then(|(_, rest)| rest.split_once(end));
+    table.map_or_else(Vec::new, |(table, _)| table.split(between).map(str::to_string).collect())
+}
 
 fn main() -> ExitCode {
     let folder = std::env::args().nth(1).map_or_else(default_folder, PathBuf::from);
@@ -46,22 +67,19 @@ fn files(folder: &Path) -> Vec<PathBuf> {
     files
 }
 
-/// Compares all statements of a sort, at least one, and prints how many there were and which differ. The definition
-/// that a sort is written with has such a line too, with an arrow.
+/// Compares all cases of a sort, at least one, and prints how many there were and which differ.
 fn agrees(sort: &Sort, text: &str) -> bool {
-    let mut compared = 0;
+    let cases = (sort.cases)(text);
     let mut differ = 0;
-    for line in text.lines().filter(|line| !line.contains('→')) {
-        let Some((name, statement)) = line.split_once(sort.begins) else { continue };
-        compared += 1;
-        let outcome = (sort.compare)(statement).unwrap_or_else(|| Err("cannot be read".to_string()));
+    for (place, case) in cases.iter().enumerate() {
+        let outcome = (sort.compare)(case).unwrap_or_else(|| Err("cannot be read".to_string()));
         if let Err(difference) = outcome {
             differ += 1;
-            println!("{name}: {difference}");
+            println!("{} {place}: {difference}", sort.what);
         }
     }
-    println!("{}: {compared} compared, {differ} differ", sort.what);
-    compared > 0 && differ == 0
+    println!("{}: {} compared, {differ} differ", sort.what, cases.len());
+    !cases.is_empty() && differ == 0
 }
 
 fn same<T: PartialEq + std::fmt::Display>(whose: &str, stored: T, answer: T) -> Result<(), String> {
@@ -84,9 +102,9 @@ fn verdict_of_image(statement: &str) -> Option<Result<(), String>> {
     Some(same("checker", stored, check(&image)).and_then(|()| same("exported check", stored, exported)))
 }
 
-/// `(plan) ≡ (w .. ∷ [])`. An image of a plan meets none of the tests 1 to 5.
-fn records_of_plan(statement: &str) -> Option<Result<(), String>> {
-    let (plan, records) = statement.split_once(" ≡ ")?;
+/// `(plan) (w .. ∷ [])`. An image of a plan meets none of the tests 1 to 5.
+fn records_of_plan(case: &str) -> Option<Result<(), String>> {
+    let (plan, records) = case.split_at(case.rfind(" (w ")?);
     let (plan, records) = (plan_of(plan)?, records_of(records)?);
     let number = check(&image::write(&records)).number;
     if plan.records() != records {
@@ -95,9 +113,9 @@ fn records_of_plan(statement: &str) -> Option<Result<(), String>> {
     Some(if (1..=5).contains(&number) { Err(format!("is refused with {number}")) } else { Ok(()) })
 }
 
-/// `(plan) ≡ 7`
-fn number_of_plan(statement: &str) -> Option<Result<(), String>> {
-    let (plan, number) = statement.split_once(" ≡ ")?;
+/// `7 (plan)`
+fn number_of_plan(case: &str) -> Option<Result<(), String>> {
+    let (number, plan) = case.split_once(' ')?;
     let stored: u32 = number.trim().parse().ok()?;
     Some(same("checker", stored, check(&plan_of(plan)?.image()).number))
 }
