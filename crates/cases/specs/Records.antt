@@ -1,6 +1,8 @@
 -- Plans, each with the records of its image.
 use mathlib.Core.Path.{_≡_, refl}
 use mathlib.Core.Bool.{true, false}
+use Prim.Native.Nat.{ℕ}
+use lib.ListN.{take, drop}
 use mathlib.Core.List.{[], _∷_}
 use mathlib.Core.Option.{none, some}
 use lib.IntN.{negsuc}
@@ -1921,6 +1923,34 @@ drawings =
     (w 33 0 0 0 0 0 1 0 ∷ w 3 0 0 0 0 0 0 2 ∷ w 32 4 0 0 0 0 3 0 ∷ w 48 2 1 1 1 0 0 0 ∷ [])
     ∷ []
 
-images-agree : map (λ (d : Drawing). image (d .given)) drawings ≡ map (λ (d : Drawing). d .records) drawings
+-- thirty at a time, which takes less memory than all at once
+abbrev Agree : ℕ → Type 0
+Agree k = let some = take 30 (drop k drawings) in map (λ (d : Drawing). image (d .given)) some ≡ map (λ (d : Drawing). d .records) some
+
+images-agree : Agree 0
 unfolding image
 images-agree = refl
+
+from-thirty : Agree 30
+unfolding image
+from-thirty = refl
+
+from-sixty : Agree 60
+unfolding image
+from-sixty = refl
+
+from-ninety : Agree 90
+unfolding image
+from-ninety = refl
+
+from-hundred-twenty : Agree 120
+unfolding image
+from-hundred-twenty = refl
+
+from-hundred-fifty : Agree 150
+unfolding image
+from-hundred-fifty = refl
+
+-- and these are all
+none-left : drop 180 drawings ≡ []
+none-left = refl

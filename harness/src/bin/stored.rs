@@ -28,7 +28,7 @@ fn image_statements(text: &str) -> Vec<String> {
 }
 
 fn drawings(text: &str) -> Vec<String> {
-    rows(text, "drawings = drawing ", " ∷ drawing ", " ∷ [] images-agree")
+    rows(text, "drawings = drawing ", " ∷ drawing ", " ∷ [] -- thirty at a time")
 }
 
 fn judgings(text: &str) -> Vec<String> {
