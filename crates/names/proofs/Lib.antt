@@ -2,4 +2,6 @@
 pub mod Counting
 pub mod KindRanges
 pub mod Scoping
+pub mod Singling
+pub mod Telling
 pub mod Typing

@@ -1,3 +1,4 @@
 // Names and types, asked of the records of an image.
 pub mod fields;
+pub mod schemas;
 pub mod scopes;
