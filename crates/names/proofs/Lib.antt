@@ -1,6 +1,8 @@
 -- Laws of names and types on records.
 pub mod Counting
+pub mod Finding
 pub mod KindRanges
+pub mod NameRule
 pub mod Scoping
 pub mod Singling
 pub mod Telling
