@@ -16,7 +16,7 @@ use Rattle.names.specs.Fields.{Schema, nameOf, made, madeBy, inputs, inp
 use Rattle.plan.proofs.Rebuilt.{kind-p, kind-w}
 use Rattle.image.proofs.Stepping.{Step}
 use Rattle.names.proofs.KindRanges.{plan-kind}
-use Rattle.names.specs.Count.{hits, hit, counted, input, makes, role, roleP, own, below}
+use Rattle.names.specs.Count.{hits, hit, near, counted, input, makes, role, roleP, own, below}
 
 module _ (h : Name → Bool) where
   pub counted-++ : (s t : Schema) → counted h (s ++ t) ≡ counted h s + counted h t
@@ -101,14 +101,18 @@ module _ (f : Forest) (l : Label) (cs ns : Forest) (is : f ≡ node l cs ns) whe
   unfolding inputs
   inputs-plan z = let k = plan-of (what l) z in (k .0, k .1, ap inputs is ∙ ap (λ (w : What). inputsBy w l cs (inputs cs) (inputs ns)) (k .1))
 
--- below an alias one asks by the name alone, || for none
+-- below an alias one asks by the name alone, or for none
 pub renamed-one : (mode p q n r m : ℕ) → hit mode q n p m ≡ hit (below 3 p mode q) q n r m
-renamed-one mode p q n r m = go (eqb mode 0) refl (eqb p q)
+renamed-one mode p q n r m = go (eqb mode 0) refl (eqb p q) (eqb mode 3) refl (near q p)
   where
-    go : (a : Bool) → eqb mode 0 ≡ a → (b : Bool) → cond a (b && eqb m n) (cond (eqb mode 1) (eqb m n) (eqb mode 2)) ≡ hit (cond a (cond b 1 3) mode) q n r m
-    go true e true = refl
-    go true e false = refl
-    go false e b = rw e
+    go : (a : Bool) → eqb mode 0 ≡ a → (b c : Bool) → eqb mode 3 ≡ c → (d : Bool)
+        → cond a (b && eqb m n) (cond (eqb mode 1) (eqb m n) (cond c (d && eqb m n) (eqb mode 2)))
+        ≡ hit (cond a (cond b 1 4) (cond c (cond d 1 4) mode)) q n r m
+    go true e true c g d = refl
+    go true e false c g d = refl
+    go false e b true g true = rw (eqb-true mode 3 g)
+    go false e b true g false = rw (eqb-true mode 3 g)
+    go false e b false g d = rw (e, g)
 
 pub renamed : (mode p q n : ℕ) (s : Schema) → counted (hits mode q n) (map (requalify p) s) ≡ counted (hits (below 3 p mode q) q n) s
 unfolding counted requalify

@@ -33,11 +33,11 @@ decided false true true f g = g refl
 decided false true false f g = refl
 decided false false y f g = refl
 
-left-of : (x y : Bool) → (x && y) ≡ true → x ≡ true
+pub left-of : (x y : Bool) → (x && y) ≡ true → x ≡ true
 left-of true y h = refl
 left-of false y h = h
 
-right-of : (x y : Bool) → (x && y) ≡ true → y ≡ true
+pub right-of : (x y : Bool) → (x && y) ≡ true → y ≡ true
 right-of true y h = h
 right-of false y h = cc
 

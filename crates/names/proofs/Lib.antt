@@ -5,6 +5,10 @@ pub mod TreeNames
 pub mod TreeScans
 pub mod TreeTypes
 pub mod Counting
+pub mod Finding
 pub mod KindRanges
+pub mod NameRule
 pub mod Scoping
+pub mod Singling
+pub mod Telling
 pub mod Typing

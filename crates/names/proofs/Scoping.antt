@@ -173,6 +173,22 @@ module _ {f : Forest} {s : List ℕ} {b at : ℕ} {part : List ℕ} {v : Node} (
       ∙ ap (λ (x : ℕ). (scopeOf (firstSort x n) g, scopeOf (restSort x n) g)) (sym (w .kind))
       ∙ ap (λ (x : ℕ). (scopeOf x g, scopeOf (restSort (v .kind) n) g)) (sym h) ∙ ap (λ (x : ℕ). (scopeOf i g, scopeOf x g)) (sym k)
 
+-- the root stands over nothing
+pub hand-root : (l : Label) (cs : Forest) {r : ℕ} → r ≡ sortW (what l) → hand (over [] []) l cs ≡ (scopeOf r cs, scopeOf r cs)
+unfolding hand
+hand-root l cs e = rw e (go (what l))
+  where
+    go : (w : What) → handBy w (over [] []) cs ≡ (scopeOf (sortW w) cs, scopeOf (sortW w) cs)
+    go (expr k) = refl
+    go unknown = refl
+    go (part K.FieldPart) = refl
+    go (part K.EntryPart) = refl
+    go (part K.PairPart) = refl
+    go (part K.KeyPart) = refl
+    go (part K.AggPart) = refl
+    go (part K.WinPart) = refl
+    go (plan k) = rw (hand-p k cs) refl
+
 -- ---- types in a scope
 
 pub type-one : (q n : ℕ) (s : Schema) → typed (hits 0 q n) s ≡ typeIn (s ++ []) (nm q n)

@@ -1,5 +1,6 @@
--- Fields of a schema counted by a question: 0 those with the qualifier and the name, 1 those with the name, 2 all, else none.
-use mathlib.Core.Bool.{Bool, true, false, cond, _&&_}
+-- Fields of a schema counted by a question: 0 those with the qualifier and the name, 1 those with the name, 2 all, 3 those that clash with it,
+-- else none.
+use mathlib.Core.Bool.{Bool, true, false, cond, _&&_, _||_}
 use mathlib.Core.List.{List, [], _∷_}
 use Prim.Native.Nat.{ℕ, zero, suc, _+_}
 use lib.Dec.{eqb, leb}
@@ -9,8 +10,12 @@ use Rattle.plan.specs.Kinds.{WinPart}
 use Rattle.plan.specs.Syntax.{Name, nm}
 use Rattle.names.specs.Fields.{Schema}
 
+-- the qualifiers q and r do not tell two fields of one name apart
+abbrev pub near : ℕ → ℕ → Bool
+near q r = (eqb r q || eqb r 0) || eqb q 0
+
 abbrev pub hit : ℕ → ℕ → ℕ → ℕ → ℕ → Bool
-hit mode q n r m = cond (eqb mode 0) (eqb r q && eqb m n) (cond (eqb mode 1) (eqb m n) (eqb mode 2))
+hit mode q n r m = cond (eqb mode 0) (eqb r q && eqb m n) (cond (eqb mode 1) (eqb m n) (cond (eqb mode 3) (near q r && eqb m n) (eqb mode 2)))
 
 abbrev pub hits : ℕ → ℕ → ℕ → Name → Bool
 hits mode q n (nm r m) = hit mode q n r m
@@ -65,6 +70,6 @@ role unknown = 0
 abbrev pub own : ℕ → ℕ → ℕ
 own k p = cond (eqb k 2) (cond (leb p 4) 0 (cond (eqb p 5) 0 (cond (eqb p 7) 0 1))) 0
 
--- the question that is put to it
+-- the question that is put to it: an alias has one qualifier for all
 abbrev pub below : ℕ → ℕ → ℕ → ℕ → ℕ
-below k p mode q = cond (eqb k 3) (cond (eqb mode 0) (cond (eqb p q) 1 3) mode) mode
+below k p mode q = cond (eqb k 3) (cond (eqb mode 0) (cond (eqb p q) 1 4) (cond (eqb mode 3) (cond (near q p) 1 4) mode)) mode

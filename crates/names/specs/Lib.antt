@@ -2,4 +2,5 @@ pub mod Count
 pub mod Fields
 pub mod Rules
 pub mod Scopes
+pub mod Singles
 pub mod Typed

@@ -7,9 +7,17 @@ ghost use lib.ListN.{length};
 ghost use Rattle.image.specs.Tree.{Forest, Linked, labelAt};
 ghost use Rattle.names.specs.Fields.{Schema, made, inputs, typeOf};
 ghost use Rattle.image.specs.Places.{Chained};
+ghost use Rattle.names.specs.Count as Count;
 ghost use Rattle.names.specs.Count.{hit, hits, counted, input, makes, role, own, below};
 ghost use Rattle.names.specs.Typed.{sourceType, plainType, typed, who};
 ghost use Rattle.plan.specs.Kinds.{whatOf};
+
+// Whether the qualifiers do not tell two fields of one name apart: they are the same, or one is none.
+fn near(q: usize, r: usize) -> bool
+    ensures { λ b. ⌜ b ≡ Count.near q r ⌝ }
+{
+    (r == q) | (r == 0) | (q == 0)
+}
 
 // Whether the question asks for the field with the qualifier r and the name m.
 fn is_hit(mode: usize, q: usize, n: usize, r: usize, m: usize) -> bool
@@ -21,10 +29,14 @@ fn is_hit(mode: usize, q: usize, n: usize, r: usize, m: usize) -> bool
     if mode == 1 {
         return m == n;
     }
+    if mode == 3 {
+        return near(q, r) & (m == n);
+    }
     mode == 2
 }
 
-fn makes_one(kind: usize) -> bool
+// Whether a part makes a field.
+pub fn makes_one(kind: usize) -> bool
     ensures { λ b. ⌜ b ≡ makes (whatOf kind) ⌝ }
 {
     if kind == 48 {
@@ -39,7 +51,9 @@ fn makes_one(kind: usize) -> bool
     kind == 53
 }
 
-fn role_of(kind: usize) -> usize
+// Where a plan has its fields from: 1 its parts, 2 its inputs as a join, 3 its input renamed, 4 its input and its parts, 5 its first input;
+// 0 for a record that is no plan.
+pub fn role_of(kind: usize) -> usize
     ensures { λ r. ⌜ r ≡ role (whatOf kind) ⌝ }
 {
     if kind == 32 {
@@ -66,7 +80,8 @@ fn role_of(kind: usize) -> usize
     0
 }
 
-fn own_input(role: usize, p: usize) -> usize
+// The input that is asked: for semi and anti joins their own, else the first.
+pub fn own_input(role: usize, p: usize) -> usize
     ensures { λ r. ⌜ r ≡ own role p ⌝ }
 {
     if role == 2 {
@@ -84,6 +99,7 @@ fn own_input(role: usize, p: usize) -> usize
     0
 }
 
+// The question that is put to the input: an alias has one qualifier for all its fields.
 fn question(role: usize, p: usize, mode: usize, q: usize) -> usize
     ensures { λ r. ⌜ r ≡ below role p mode q ⌝ }
 {
@@ -92,7 +108,13 @@ fn question(role: usize, p: usize, mode: usize, q: usize) -> usize
             if p == q {
                 return 1;
             }
-            return 3;
+            return 4;
+        }
+        if mode == 3 {
+            if near(q, p) {
+                return 1;
+            }
+            return 4;
         }
         return mode;
     }
@@ -173,6 +195,7 @@ pub struct Source {
     pub n: usize,
 }
 
+// The type of an expression that is no column.
 fn plain_type(kind: usize, p: usize, r: usize) -> usize
     ensures { λ t. ⌜ t ≡ plainType (whatOf kind) p r ⌝ }
 {

@@ -1,0 +1,280 @@
+-- A schema is sound just if each field clashes with one field of it, itself, and there are not too many: what the code asks of a plan's children
+-- is the rule of the plan.
+-- Assumes nothing.
+use mathlib.Core.Path.{_≡_, refl, sym, ap, _∙_}
+use mathlib.Core.Bool.{Bool, true, false, cond, not, _&&_, _||_}
+use mathlib.Core.List.{List, [], _∷_, _++_, map}
+use Prim.Native.Nat.{ℕ, suc, _+_, _≤_}
+use native.Mathlib.Omega.{arith}
+use lib.Dec.{eqb, leb}
+use lib.ListN.{length, length-append}
+use borrow.Author.Tests.{eq-eqb, ne-eqb, le-leb, leb-true, eqb-true, eqb-false}
+use Rattle.image.specs.Limits.{maxFields}
+use Rattle.image.specs.Tree.{Label, Forest, none, node}
+use Rattle.plan.specs.Lists.{_&_, any}
+use Rattle.plan.proofs.Lists.{and-l, and-r, and-intro, true-and, and-false}
+use Rattle.plan.specs.Kinds as K
+use Rattle.plan.specs.Kinds.{What, expr, plan, part, unknown, what}
+use Rattle.plan.specs.Syntax.{Name, nm}
+use Rattle.acceptance.specs.Names.{clash, distinct-names, sound}
+use Rattle.names.specs.Count.{counted, hits, near, input, roleP}
+use Rattle.names.specs.Fields.{Fld, Schema, nameOf, made, madeBy, inputs, requalify, joinFields, namesIn, first, second}
+use Rattle.names.specs.Rules.{nameP}
+use Rattle.names.specs.Singles.{allOf, called, single, ownOf, ownSort, ownMode, apart}
+use Rattle.names.proofs.Counting.{renamed, input-0, input-1}
+use Rattle.names.proofs.Scoping.{all-of}
+
+-- ---- tests of all names
+
+-- the names of two schemas, one after the other
+pub allOf-++ : (h : Name → Bool) (s t : Schema) → allOf h (s ++ t) ≡ allOf h s & allOf h t
+unfolding allOf _&_
+allOf-++ h [] t = refl
+allOf-++ h (f ∷ s) t = go (h (f .name)) (allOf-++ h s t)
+  where
+    go : (b : Bool) → allOf h (s ++ t) ≡ allOf h s & allOf h t → b & allOf h (s ++ t) ≡ (b & allOf h s) & allOf h t
+    go true e = e
+    go false e = refl
+
+-- tests that agree
+pub allOf-cong : (h k : Name → Bool) → ((x : Name) → h x ≡ k x) → (s : Schema) → allOf h s ≡ allOf k s
+unfolding allOf
+allOf-cong h k e [] = refl
+allOf-cong h k e (f ∷ s) = rw (e (f .name), allOf-cong h k e s) refl
+
+counted-cong : (h k : Name → Bool) → ((x : Name) → h x ≡ k x) → (s : Schema) → counted h s ≡ counted k s
+unfolding counted
+counted-cong h k e [] = refl
+counted-cong h k e (f ∷ s) = rw (e (f .name), counted-cong h k e s) refl
+
+-- an alias calls all by one qualifier
+pub allOf-renamed : (h : Name → Bool) (p : ℕ) (s : Schema) → allOf h (map (requalify p) s) ≡ allOf (λ x. h (called true p x)) s
+unfolding allOf requalify
+allOf-renamed h p [] = refl
+allOf-renamed h p (f ∷ s) = step (f .name) (allOf-renamed h p s)
+  where
+    step : (x : Name) → allOf h (map (requalify p) s) ≡ allOf (λ x. h (called true p x)) s
+        → allOf h (map (requalify p) (record { name = x; ty = f .ty } ∷ s)) ≡ h (called true p x) & allOf (λ x. h (called true p x)) s
+    step (nm r m) e = rw e refl
+
+-- ---- clashes
+
+eqb-sym : (a b : ℕ) → eqb a b ≡ eqb b a
+eqb-sym a b = go (eqb b a) refl
+  where
+    go : (x : Bool) → eqb b a ≡ x → eqb a b ≡ x
+    go true e = eq-eqb a b (sym (eqb-true b a e))
+    go false e = ne-eqb a b (λ q. eqb-false b a e (sym q))
+
+clash-sym : (x y : Name) → clash x y ≡ clash y x
+unfolding _&_
+clash-sym (nm q n) (nm r m) = rw (eqb-sym n m, eqb-sym q r) (ap (λ (b : Bool). eqb m n & b) (swap (eqb r q) (eqb q 0) (eqb r 0)))
+  where
+    swap : (a b c : Bool) → (a || (b || c)) ≡ (a || (c || b))
+    swap true b c = refl
+    swap false true true = refl
+    swap false true false = refl
+    swap false false true = refl
+    swap false false false = refl
+
+clash-self : (x : Name) → clash x x ≡ true
+unfolding _&_
+clash-self (nm q n) = rw (eq-eqb n n refl, eq-eqb q q refl)
+
+-- the question for clashes
+asks-clash : (q n : ℕ) (x : Name) → hits 3 q n x ≡ clash (nm q n) x
+unfolding _&_
+asks-clash q n (nm r m) = rw (eqb-sym m n, eqb-sym r q) (go (eqb q r) (eqb r 0) (eqb q 0) (eqb n m))
+  where
+    go : (a b c d : Bool) → (((a || b) || c) && d) ≡ (d & (a || (c || b)))
+    go true b c true = refl
+    go true b c false = refl
+    go false true true true = refl
+    go false true true false = refl
+    go false true false true = refl
+    go false true false false = refl
+    go false false true true = refl
+    go false false true false = refl
+    go false false false true = refl
+    go false false false false = refl
+
+-- the name clashes with one field
+abbrev once : Schema → Name → Bool
+once s x = eqb (counted (clash x) s) 1
+
+none-any : (x : Name) (s : Schema) → not (any (clash x) (namesIn s)) ≡ eqb (counted (clash x) s + 1) 1
+unfolding any counted namesIn
+none-any x [] = refl
+none-any x (f ∷ s) = go (clash x (f .name)) (none-any x s)
+  where
+    go : (b : Bool) → not (any (clash x) (namesIn s)) ≡ eqb (counted (clash x) s + 1) 1
+        → not (b || any (clash x) (namesIn s)) ≡ eqb (cond b (counted (clash x) s + 1) (counted (clash x) s) + 1) 1
+    go true e = sym (ne-eqb (counted (clash x) s + 1 + 1) 1 (λ q. omega arith))
+    go false e = e
+
+same-all : (f : Fld) (t s : Schema) → any (clash (f .name)) (namesIn s) ≡ false → allOf (once (f ∷ t)) s ≡ allOf (once t) s
+unfolding any allOf counted namesIn _&_
+same-all f t [] e = refl
+same-all f t (g ∷ s) e = go (clash (f .name) (g .name)) refl (λ h. same-all f t s h) e
+  where
+    go : (b : Bool) → clash (f .name) (g .name) ≡ b → (any (clash (f .name)) (namesIn s) ≡ false → allOf (once (f ∷ t)) s ≡ allOf (once t) s)
+        → (b || any (clash (f .name)) (namesIn s)) ≡ false → (once (f ∷ t) (g .name) & allOf (once (f ∷ t)) s) ≡ (once t (g .name) & allOf (once t) s)
+    go true q r h = let z : _≡_ {A = ℕ} 0 1 = cc in absurd (omega arith)
+    go false q r h = rw (clash-sym (g .name) (f .name), q, r h) refl
+
+distinct-once : (s : Schema) → distinct-names (namesIn s) ≡ allOf (once s) s
+unfolding allOf counted namesIn _&_
+distinct-once [] = refl
+distinct-once (f ∷ s) = go (any (clash (f .name)) (namesIn s)) refl (distinct-once s)
+  where
+    go : (b : Bool) → any (clash (f .name)) (namesIn s) ≡ b → distinct-names (namesIn s) ≡ allOf (once s) s
+        → (not b & distinct-names (namesIn s)) ≡ (eqb (cond (clash (f .name) (f .name)) (counted (clash (f .name)) s + 1) (counted (clash (f .name)) s)) 1 & allOf (once (f ∷ s)) s)
+    go true e r = rw (clash-self (f .name), ← none-any (f .name) s, e)
+    go false e r = rw (clash-self (f .name), ← none-any (f .name) s, e) (r ∙ sym (same-all f s s e))
+
+distinct-single : (s : Schema) → distinct-names (namesIn s) ≡ allOf (single s 3) s
+distinct-single s = distinct-once s ∙ allOf-cong (once s) (single s 3) agree s
+  where
+    agree : (x : Name) → once s x ≡ single s 3 x
+    agree (nm q n) = ap (λ (k : ℕ). eqb k 1) (sym (counted-cong (hits 3 q n) (clash (nm q n)) (asks-clash q n) s))
+
+-- ---- sound schemas
+
+length-names : (s : Schema) → length (namesIn s) ≡ length s
+unfolding namesIn
+length-names [] = refl
+length-names (f ∷ s) = ap suc (length-names s)
+
+pub sound-apart : (s : Schema) → sound (namesIn s) ≡ apart 3 s
+unfolding sound
+sound-apart s = rw (distinct-single s, length-names s) refl
+
+-- below an alias two fields clash if they share the name
+pub renamed-apart : (p : ℕ) (s : Schema) → sound (namesIn (map (requalify p) s)) ≡ apart 1 s
+unfolding sound
+renamed-apart p s =
+    let t : Schema = map (requalify p) s in
+    rw (distinct-single t, length-names t, length-renamed s, allOf-renamed (single t 3) p s, allOf-cong (λ x. single t 3 (called true p x)) (single s 1) agree s) refl
+  where
+    length-renamed : (s : Schema) → length (map (requalify p) s) ≡ length s
+    length-renamed [] = refl
+    length-renamed (f ∷ s) = ap suc (length-renamed s)
+
+    by-name : (m r : ℕ) (x : Name) → hits 1 p m x ≡ hits 1 r m x
+    by-name m r (nm q n) = refl
+
+    near-self : near p p ≡ true
+    near-self = rw (eq-eqb p p refl)
+
+    agree : (x : Name) → single (map (requalify p) s) 3 (called true p x) ≡ single s 1 x
+    agree (nm r m) =
+        ap (λ (k : ℕ). eqb k 1)
+        (renamed 3 p p m s
+        ∙ ap (λ (b : Bool). counted (hits (cond b 1 4) p m) s) near-self
+        ∙ counted-cong (hits 1 p m) (hits 1 r m) (by-name m r) s)
+
+-- the names that parts make do not depend on what they stand over
+names-made : (c d : Schema) (f : Forest) → namesIn (made c f) ≡ namesIn (made d f)
+unfolding namesIn made
+names-made c d none = refl
+names-made c d (node l cs ns) = go (what l) (names-made c d ns)
+  where
+    go : (w : What) → namesIn (made c ns) ≡ namesIn (made d ns) → namesIn (madeBy w c l cs (made c ns)) ≡ namesIn (madeBy w d l cs (made d ns))
+    go (expr k) e = e
+    go (plan k) e = e
+    go unknown e = e
+    go (part K.FieldPart) e = ap (λ (xs : List Name). nameOf l ∷ xs) e
+    go (part K.EntryPart) e = ap (λ (xs : List Name). nameOf l ∷ xs) e
+    go (part K.PairPart) e = e
+    go (part K.KeyPart) e = e
+    go (part K.AggPart) e = ap (λ (xs : List Name). nameOf l ∷ xs) e
+    go (part K.WinPart) e = ap (λ (xs : List Name). nameOf l ∷ xs) e
+
+names-++ : (s t : Schema) → namesIn (s ++ t) ≡ namesIn s ++ namesIn t
+unfolding namesIn
+names-++ [] t = refl
+names-++ (f ∷ s) t = ap (λ (xs : List Name). f .name ∷ xs) (names-++ s t)
+
+-- ---- both inputs of a join together
+
+any-left : (x : Name) (a b : List Name) → not (any (clash x) (a ++ b)) ≡ true → not (any (clash x) a) ≡ true
+unfolding any
+any-left x [] b h = refl
+any-left x (y ∷ a) b h = go (clash x y) (λ k. any-left x a b k) h
+  where
+    go : (c : Bool) → (not (any (clash x) (a ++ b)) ≡ true → not (any (clash x) a) ≡ true)
+        → not (c || any (clash x) (a ++ b)) ≡ true → not (c || any (clash x) a) ≡ true
+    go true r k = k
+    go false r k = r k
+
+distinct-left : (a b : List Name) → distinct-names (a ++ b) ≡ true → distinct-names a ≡ true
+distinct-left [] b h = refl
+distinct-left (x ∷ a) b h = and-intro (any-left x a b (and-l _ _ h)) (distinct-left a b (and-r _ _ h))
+
+distinct-right : (a b : List Name) → distinct-names (a ++ b) ≡ true → distinct-names b ≡ true
+distinct-right [] b h = h
+distinct-right (x ∷ a) b h = distinct-right a b (and-r _ _ h)
+
+-- where two schemas together are sound, each of them is
+module _ (a b : List Name) (h : sound (a ++ b) ≡ true) where
+  few : length a + length b ≤ maxFields
+  unfolding sound
+  few = omega (arith, leb-true (length (a ++ b)) maxFields (and-r (distinct-names (a ++ b)) (leb (length (a ++ b)) maxFields) h), length-append a b)
+
+  sound-left : sound a ≡ true
+  unfolding sound
+  sound-left = and-intro (distinct-left a b (and-l _ _ h)) (le-leb (length a) maxFields (omega (arith, few)))
+
+  sound-right : sound b ≡ true
+  unfolding sound
+  sound-right = and-intro (distinct-right a b (and-l _ _ h)) (le-leb (length b) maxFields (omega (arith, few)))
+
+-- so a join's own schema is sound if both inputs together are
+join-sound : (p : ℕ) (s t : Schema) → sound (namesIn (joinFields p s t)) & sound (namesIn (s ++ t)) ≡ sound (namesIn (s ++ t))
+unfolding joinFields
+join-sound p s t = go (sound (namesIn (s ++ t))) refl
+  where
+    side : (a b : Bool) → sound (namesIn (s ++ t)) ≡ true → sound (namesIn (cond a (s ++ t) (cond b s t))) ≡ true
+    side true b e = e
+    side false true e = sound-left (namesIn s) (namesIn t) (rw names-++ at e)
+    side false false e = sound-right (namesIn s) (namesIn t) (rw names-++ at e)
+
+    go : (z : Bool) → sound (namesIn (s ++ t)) ≡ z → sound (namesIn (joinFields p s t)) & z ≡ z
+    go true e = rw (side (leb p 4) (eqb p 5 || eqb p 7) e) (true-and true)
+    go false e = and-false _
+
+-- ---- the rule of a plan
+
+-- what stands alone in a scope
+apart-alone : (mode : ℕ) (s : Schema) → apart mode s ≡ apart mode (s ++ [])
+apart-alone mode s = ap (apart mode) (sym (all-of s))
+
+sound-alone : (s t : Schema) → s ≡ t → sound (namesIn s) ≡ apart 3 (t ++ [])
+sound-alone s t e = ap (λ (u : Schema). sound (namesIn u)) e ∙ sound-apart t ∙ apart-alone 3 t
+
+sound-made : (c : Schema) (f : Forest) → sound (namesIn (made c f)) ≡ apart 3 (made [] f ++ [])
+sound-made c f = ap sound (names-made c [] f) ∙ sound-alone (made [] f) (made [] f) refl
+
+-- the rule of a plan is that the schema which the code reads off its children is told apart
+pub rule-by-role : (k : K.PlanKind) (l : Label) (cs : Forest)
+    → nameP k l cs (inputs cs) ≡ apart (ownMode (roleP k)) (ownOf (ownSort (roleP k)) cs)
+rule-by-role K.TableScan l cs = sound-made [] cs
+rule-by-role K.Filter l cs = sound-alone _ _ (input-0 (inputs cs))
+rule-by-role K.Projection l cs = sound-made (first [] (inputs cs)) cs
+rule-by-role K.Join l cs =
+    join-sound (l .p) (first [] (inputs cs)) (second [] (inputs cs))
+    ∙ rw (input-0 (inputs cs), input-1 (inputs cs)) (sound-apart (input 0 (inputs cs) ++ input 1 (inputs cs)))
+rule-by-role K.SubqueryAlias l cs = renamed-apart (l .p) (first [] (inputs cs)) ∙ rw (input-0 (inputs cs)) (apart-alone 1 (input 0 (inputs cs)))
+rule-by-role K.Union l cs = sound-alone _ _ (input-0 (inputs cs))
+rule-by-role K.Distinct l cs = sound-alone _ _ (input-0 (inputs cs))
+rule-by-role K.Sort l cs = sound-alone _ _ (input-0 (inputs cs))
+rule-by-role K.Repartition l cs = sound-alone _ _ (input-0 (inputs cs))
+rule-by-role K.Limit l cs = sound-alone _ _ (input-0 (inputs cs))
+rule-by-role K.Aggregate l cs = sound-made (first [] (inputs cs)) cs
+rule-by-role K.Window l cs =
+    ap sound (names-++ s (made s cs) ∙ ap (λ (xs : List Name). namesIn s ++ xs) (names-made s [] cs) ∙ sym (names-++ s (made [] cs)))
+    ∙ sound-apart (s ++ made [] cs)
+    ∙ ap (λ (u : Schema). apart 3 (u ++ made [] cs)) (input-0 (inputs cs))
+  where
+    s : Schema
+    s = first [] (inputs cs)
