@@ -1,0 +1,4 @@
+pub mod Bools
+pub mod Numbers
+pub mod Rows
+pub mod Roots

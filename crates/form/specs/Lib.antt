@@ -1,0 +1,3 @@
+pub mod Linking
+pub mod Rows
+pub mod Sorts

@@ -1,0 +1,5 @@
+// The check of an image up to its form: tests 1 to 5.
+pub mod buffer;
+pub mod kinds;
+pub mod linking;
+pub mod words;
