@@ -1,4 +1,6 @@
+pub mod Along
 pub mod Bools
 pub mod Numbers
-pub mod Rows
 pub mod Roots
+pub mod Rows
+pub mod Search

@@ -1,3 +1,5 @@
+pub mod Deep
 pub mod Linking
+pub mod Rooted
 pub mod Rows
 pub mod Sorts

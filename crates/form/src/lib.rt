@@ -1,5 +1,6 @@
 // The check of an image up to its form: tests 1 to 5.
 pub mod buffer;
+pub mod depth;
 pub mod kinds;
 pub mod linking;
 pub mod words;
