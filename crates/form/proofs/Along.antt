@@ -1,4 +1,5 @@
 -- A loop along a chain of siblings, `let mut at = first; while at != 0 { .. at = v.next; }`.
+--     within, whole, step-at     the record that a link leads to
 --     Along      its invariant: what is left of the chain, and what holds of the whole and of what is left
 --     along-start, along-step, along-end     before it, in it, after it
 -- Assumes nothing.
@@ -6,11 +7,29 @@ use mathlib.Core.Path.{_≡_, subst}
 use mathlib.Core.List.{List}
 use Prim.Native.Nat.{ℕ, _-_, _*_, _≤_}
 use native.Mathlib.Omega.{arith}
-use lib.ListN.{drop}
+use lib.ListN.{length, drop, length-drop}
 use Rattle.image.specs.Tree.{Forest, none, node, Linked, Node, nodeOf}
 use Rattle.image.specs.Places.{Chained}
-use Rattle.image.proofs.Walking.{left, ended, Turn, turn}
+use Rattle.image.proofs.Walking.{left, ended, turn}
 use Rattle.image.proofs.Stepping.{Step, step}
+
+-- ---- a link that is not 0, in a chain: what a look at its record asks for, and gives
+
+module _ {s : List ℕ} {b at : ℕ} (k : Chained s b at) (nz : at ≡ 0 → ⊥) where
+  -- the record is within the bytes
+  pub within : (b ≤ at) × (32 * (at - b) ≤ length s)
+  within = let u = turn (k .forest) (k .linked) nz in (omega (arith, u .past), omega (arith, u .fits))
+
+  -- `part` begins at the record, and v is what was looked at
+  module _ {part : List ℕ} (e : part ≡ drop (32 * (at - b)) s) where
+    -- the record is whole
+    pub whole : 32 ≤ length part
+    whole = let u = turn (k .forest) (k .linked) nz in rw (e, length-drop) (omega (arith, u .fits))
+
+    pub step-at : {v : Node} → v ≡ nodeOf part → Step (k .forest) s b at part v
+    step-at g = step (k .forest) (k .linked) nz e g
+
+-- ---- the loop
 
 -- of the forest f the trees `rest` are still to come
 pub record Rest (P : Forest → Forest → Type 0) (f : Forest) (s : List ℕ) (b at : ℕ) : Type 0 where
@@ -35,17 +54,12 @@ along-end {P} {s} {b} {from} {at} k z f h =
     let r = k .still f h in
     subst (P f) (ended (r .rest) s b at (r .linked) z) (r .so-far)
 
--- in the loop there is a record at `at`, within the bytes
-pub turn-at : {P : Forest → Forest → Type 0} {s : List ℕ} {b from at : ℕ} (k : Along P s b from at) → (at ≡ 0 → ⊥)
-    → Turn (k .chained .forest) s b at
-turn-at k nz = turn (k .chained .forest) (k .chained .linked) nz
-
--- `part` begins at that record, and v is what was looked at
+-- in the loop: `part` begins at record `at`, and v is what was looked at
 module _ {P : Forest → Forest → Type 0} {s : List ℕ} {b from at : ℕ} {part : List ℕ} {v : Node}
     (k : Along P s b from at) (nz : at ≡ 0 → ⊥) (e : part ≡ drop (32 * (at - b)) s) (g : v ≡ nodeOf part) where
   -- the record
   pub here : Step (k .chained .forest) s b at part v
-  here = step (k .chained .forest) (k .chained .linked) nz e g
+  here = step-at (k .chained) nz e g
 
   -- the record as it stands in each forest that is linked there
   pub here-in : (f : Forest) (h : Linked f s b from) → Step (k .still f h .rest) s b at part v

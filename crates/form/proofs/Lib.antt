@@ -1,6 +1,7 @@
 pub mod Along
 pub mod Bools
 pub mod Numbers
+pub mod Patterned
 pub mod Roots
 pub mod Rows
 pub mod Search

@@ -1,5 +1,6 @@
 pub mod Deep
 pub mod Linking
+pub mod Patterns
 pub mod Rooted
 pub mod Rows
 pub mod Sorts

@@ -8,7 +8,7 @@ use Rattle.form.specs.declared.kinds.Sort.{Sort}
 use Rattle.form.specs.declared.kinds.Sort.the-variants.{Expression, Plan, Kind}
 
 -- a record with this number for its kind is of the sort
-abbrev pub sortOf : Sort → ℕ → Bool
+unfoldable pub sortOf : Sort → ℕ → Bool
 sortOf Expression n = exprW (whatOf n)
 sortOf Plan n = planW (whatOf n)
 sortOf (Kind k) n = eqb n k

@@ -1,6 +1,8 @@
 // The check of an image up to its form: tests 1 to 5.
 pub mod buffer;
+pub mod children;
 pub mod depth;
 pub mod kinds;
 pub mod linking;
+pub mod patterns;
 pub mod words;

@@ -3,14 +3,13 @@
 use mathlib.Core.Path.{refl}
 use mathlib.Core.Bool.{Bool}
 use lib.Dec.{leb}
-use lib.ListN.{length-drop}
 use native.Mathlib.Omega.{arith}
 use borrow.Author.Needs.{needs}
 use borrow.Author.Tests.{le-leb, lt-leb}
 use Rattle.image.specs.Tree.{Label, Forest}
 use Rattle.image.specs.Limits.{maxDepth}
 use Rattle.image.proofs.Walking.{left}
-use Rattle.form.proofs.Along.{turn-at, here}
+use Rattle.form.proofs.Along.{within, whole, here}
 use Rattle.form.proofs.Search.{Sought, search-start, search-here, search-below, search-on, search-end}
 use Prim.Native.Nat.{ℕ, _+_, _<_}
 use borrow.Fn.Kinds.{In}
@@ -60,9 +59,8 @@ pub +too-deep-spec : {M : Type 1} → statement M
     too-deep-μ-loop
     (λ c. search-start rule deeper _ (c .before .pre .1 .0))
     (λ c. search-here rule deeper _ (c .before .before .loop .inv) (c .before .loop-test .taken) refl refl (λ f w. lt-leb _ 256 (c .if1 .taken)))
-    (λ c κs. let u = turn-at (c .before .before .loop .inv) (c .before .loop-test .taken) in omega (arith, u .past, u .fits))
-    (λ c κs. let u = turn-at (c .before .before .before .loop .inv) (c .before .before .loop-test .taken) in
-    rw (c .from-record .ensures, length-drop) (omega (arith, u .past, u .fits)))
+    (λ c κs. within (c .before .before .loop .inv .chained) (c .before .loop-test .taken))
+    (λ c κs. whole (c .before .before .before .loop .inv .chained) (c .before .before .loop-test .taken) (c .from-record .ensures))
     (λ c. omega arith)
     (λ c κs. let k = c .before .before .before .before .loop .inv in
     let w = here k (c .before .before .before .loop-test .taken) (c .before .from-record .ensures) (c .look .ensures) in
