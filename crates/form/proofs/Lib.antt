@@ -1,5 +1,6 @@
 pub mod Along
 pub mod Bools
+pub mod Counts
 pub mod Numbers
 pub mod Patterned
 pub mod Roots
