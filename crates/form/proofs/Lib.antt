@@ -3,6 +3,8 @@ pub mod Bools
 pub mod Counts
 pub mod Numbers
 pub mod Patterned
+pub mod Rooting
 pub mod Roots
 pub mod Rows
 pub mod Search
+pub mod Stages
