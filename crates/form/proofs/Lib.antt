@@ -7,4 +7,5 @@ pub mod Rooting
 pub mod Roots
 pub mod Rows
 pub mod Search
+pub mod Sound
 pub mod Stages

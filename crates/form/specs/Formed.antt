@@ -6,7 +6,8 @@ use lib.ListN.{length}
 use Rattle.image.specs.Tree.{Tree}
 use Rattle.image.specs.Lowest.{Found, nothing, found}
 use Rattle.plan.specs.Form.{badForm}
-use Rattle.acceptance.specs.Check.{bufferOk, badWords, Links, tree, broken, linked, tooDeep, Verdict, verdict}
+use Rattle.plan.specs.Read.{planAt}
+use Rattle.acceptance.specs.Check.{bufferOk, badWords, Links, tree, broken, linked, tooDeep, Verdict, verdict, checkPlan}
 use Rattle.form.specs.declared.checked.Formed.{Formed}
 use Rattle.form.specs.declared.checked.Formed.the-variants.{Buffer, Record, Link, Depth, Form, Whole}
 
@@ -34,3 +35,8 @@ numbered (Link r) v = verdict 3 r
 numbered (Depth r) v = verdict 4 r
 numbered (Form r) v = verdict 5 r
 numbered Whole v = v
+
+-- what is left of the check: names and types
+abbrev pub later : Links → Verdict
+later (tree t) = checkPlan (planAt t)
+later (broken r) = verdict 3 r

@@ -28,7 +28,8 @@ pub fn read(s: &[u8], n: usize) -> Linking
     match children {
         Walk::Bad(r) => Linking::Broken(r),
         Walk::Next(j) => {
-            if word_at(s, NEXT_LINK) != 0 {
+            let next = word_at(s, NEXT_LINK);
+            if next != 0 {
                 return Linking::Broken(0);
             }
             if j != n {
