@@ -1,0 +1,11 @@
+pub mod Along
+pub mod Bools
+pub mod Counts
+pub mod Numbers
+pub mod Patterned
+pub mod Rooting
+pub mod Roots
+pub mod Rows
+pub mod Search
+pub mod Sound
+pub mod Stages
