@@ -1,0 +1,2 @@
+-- Laws of types on records.
+pub mod Demanding

@@ -1,0 +1,2 @@
+// Types (test 7), asked of the records of an image.
+pub mod operands;
