@@ -16,9 +16,9 @@ use Rattle.plan.specs.Kinds as K
 use Rattle.plan.specs.Kinds.{What, expr, plan, part, unknown, what, whatOf}
 use Rattle.plan.specs.Syntax.{Name, nm}
 use Rattle.acceptance.specs.Types.{same-types}
-use Rattle.names.specs.Fields.{Fld, Schema, made, madeBy, inputs, fieldsP, requalify, joinFields, first}
+use Rattle.names.specs.Fields.{Fld, Schema, made, madeBy, inputs, fieldsP, requalify, joinFields}
 use Rattle.names.specs.Rules.{typesIn, united}
-use Rattle.names.specs.Count.{hits, counted, input, makes, role, roleP, own}
+use Rattle.names.specs.Count.{hits, counted, input, makes, role, roleP}
 use Rattle.names.specs.Typed.{typed}
 use Rattle.names.proofs.Counting.{input-0, input-1, base, of-plan, here, inputs-part}
 use Rattle.types.specs.ByPlace.{tyAt, spotAt, spotOf}

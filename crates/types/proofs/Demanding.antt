@@ -1,18 +1,18 @@
 -- Laws of what a record asks of the types of its own expressions.
 -- Assumes nothing.
 use mathlib.Core.Path.{_≡_, refl, sym, ap, subst, _∙_}
-use mathlib.Core.Bool.{Bool, true, false, cond, _||_}
+use mathlib.Core.Bool.{Bool, true, false}
 use mathlib.Core.List.{List, [], _∷_}
 use Prim.Native.Nat.{ℕ, _-_, _*_}
 use native.Mathlib.Omega.{arith}
-use lib.Dec.{eqb, leb}
+use lib.Dec.{eqb}
 use lib.ListN.{drop}
 use borrow.Author.Tests.{eq-eqb, ne-eqb}
-use Rattle.image.specs.Tree.{Label, Forest, none, node, Linked, labelAt, Node, At}
+use Rattle.image.specs.Tree.{Forest, none, node, Linked, labelAt, Node, At}
 use Rattle.image.proofs.Stepping.{Step}
 use Rattle.plan.specs.Lists.{_&_, put, all}
 use Rattle.plan.specs.Kinds as K
-use Rattle.plan.specs.Kinds.{What, expr, plan, part, unknown, what, whatOf, exprW}
+use Rattle.plan.specs.Kinds.{What, expr, plan, part, unknown, whatOf, exprW}
 use Rattle.plan.proofs.Rebuilt.{kind-e, kind-p, kind-w}
 use Rattle.names.specs.Fields.{Schema, first, typeOf}
 use Rattle.names.specs.Rules.{Scope, seen, typesOf, alike}

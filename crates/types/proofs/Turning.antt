@@ -8,7 +8,6 @@ use native.Mathlib.Omega.{arith}
 use Rattle.image.specs.Tree.{Label, Forest, none, node, size, link, Tree, Node}
 use Rattle.image.specs.Lowest.{Found, nothing, found, orElse, unless, lowest, alone}
 use Rattle.image.specs.Places.{placeOf}
-use Rattle.image.specs.declared.places.Place.{Place}
 use Rattle.image.specs.declared.places.Place.the-variants.{At, Nowhere}
 use Rattle.image.proofs.Lowest.{lowest-link, lowest-none}
 use Rattle.image.proofs.Stepping.{Step}

@@ -1,5 +1,5 @@
 use mathlib.Core.Path.{refl, _∙_}
-use borrow.Author.Tests.{eq-eqb, ne-eqb, le-leb, lt-leb}
+use borrow.Author.Tests.{le-leb, lt-leb}
 use borrow.Author.Needs.{needs}
 use Rattle.plan.specs.Kinds.{whatOf, among}
 use Rattle.types.proofs.Demanding.{demand-last}

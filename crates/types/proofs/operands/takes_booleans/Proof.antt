@@ -1,5 +1,5 @@
 use mathlib.Core.Path.{refl}
-use borrow.Author.Tests.{eq-eqb, ne-eqb}
+use borrow.Author.Tests.{ne-eqb}
 use Rattle.types.proofs.operands.takes_booleans.Statement.{statement}
 use Rattle.types.proofs.operands.takes_booleans.Tie as tie
 

@@ -1,11 +1,9 @@
-use mathlib.Core.Path.{sym, ap, _∙_}
+use mathlib.Core.Path.{_∙_}
 use native.Mathlib.Omega.{arith}
 use lib.ListN.{length-drop}
 use Prim.Native.Nat.{ℕ, _<_}
 use Rattle.image.proofs.Walking.{turn, ended, left}
 use Rattle.image.proofs.Stepping.{step}
-use Rattle.names.specs.Count.{input}
-use Rattle.names.specs.Fields.{Schema, inputs}
 use Rattle.types.proofs.ByPlacing.{all-none, all-not, all-more, all-skip}
 use borrow.Author.Tests.{not-true, not-false}
 use borrow.Fn.Kinds.{In}

@@ -1,10 +1,9 @@
-use mathlib.Core.Path.{sym, ap, _∙_}
+use mathlib.Core.Path.{sym, _∙_}
 use native.Mathlib.Omega.{arith}
 use lib.ListN.{length-drop}
 use Prim.Native.Nat.{ℕ, _<_}
 use Rattle.image.proofs.Walking.{turn, ended, left}
 use Rattle.image.proofs.Stepping.{step}
-use Rattle.names.proofs.Typing.{source-known}
 use Rattle.types.proofs.ByPlacing.{first-at, at-none, made-more, made-skip}
 use borrow.Fn.Kinds.{In}
 use borrow.Fn.PlainCycle.{Measures, is, falls, and}

@@ -1,7 +1,6 @@
 use mathlib.Core.Path.{_≡_, sym, _∙_}
 use Prim.Native.Nat.{ℕ, _<_, _-_}
 use native.Mathlib.Omega.{arith}
-use borrow.Author.Needs.{needs}
 use Rattle.image.specs.Tree.{Forest, Linked}
 use Rattle.types.specs.ByPlace.{tyAt, schemaOf}
 use Rattle.types.proofs.ByPlacing.{other-width, other-type, same-all, one-more}
