@@ -1,0 +1,3 @@
+pub mod ByPlace
+pub mod Demands
+pub mod Standing
