@@ -1,0 +1,57 @@
+// The check of an image: the tests 1 to 7, in their order.
+use form::checked::Formed;
+use form::checked::checked_form;
+use image::places::Place;
+use names::naming::bad_names;
+use types::walk::bad_types;
+ghost use mathlib.Core.Path.{_≡_};
+ghost use Prim.Native.Nat.{_/_};
+ghost use lib.ListN.{length};
+ghost use Rattle.acceptance.specs.Check as Check;
+ghost use Rattle.acceptance.specs.Check.{linked};
+ghost use Rattle.form.specs.Formed.{later};
+ghost use Rattle.form.proofs.Sound.{Sound};
+ghost use Rattle.check.specs.Answer.{verdictOf};
+
+// The first test that an image meets, and the record at which it does.
+pub enum Checked {
+    Accepted,
+    Buffer,
+    Record(usize),
+    Link(usize),
+    Depth(usize),
+    Form(usize),
+    Name(usize),
+    Type(usize),
+}
+
+// Names and types of an image that meets none of the tests 1 to 5.
+fn checked_plan(s: &[u8]) -> Checked
+    requires { ⌜ Sound (now s) ⌝ }
+    ensures { λ r. ⌜ verdictOf r ≡ later (linked (now (s .entry)) (length (now (s .entry)) / 32)) ⌝ }
+{
+    let name = bad_names(s);
+    if let Place::At(r) = name {
+        return Checked::Name(r);
+    }
+    let ty = bad_types(s);
+    if let Place::At(r) = ty {
+        return Checked::Type(r);
+    }
+    Checked::Accepted
+}
+
+// Every byte slice gets its number and its record.
+pub fn check(s: &[u8]) -> Checked
+    ensures { λ r. ⌜ verdictOf r ≡ Check.check (now (s .entry)) ⌝ }
+{
+    let formed = checked_form(s);
+    match formed {
+        Formed::Buffer => Checked::Buffer,
+        Formed::Record(r) => Checked::Record(r),
+        Formed::Link(r) => Checked::Link(r),
+        Formed::Depth(r) => Checked::Depth(r),
+        Formed::Form(r) => Checked::Form(r),
+        Formed::Whole => checked_plan(s),
+    }
+}
