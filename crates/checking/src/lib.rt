@@ -11,7 +11,7 @@ ghost use Rattle.acceptance.specs.Check as Check;
 ghost use Rattle.acceptance.specs.Check.{linked};
 ghost use Rattle.form.specs.Formed.{later};
 ghost use Rattle.form.proofs.Sound.{Sound};
-ghost use Rattle.check.specs.Answer.{verdictOf};
+ghost use Rattle.checking.specs.Answer.{verdictOf};
 
 // The first test that an image meets, and the record at which it does.
 pub enum Checked {
@@ -21,8 +21,8 @@ pub enum Checked {
     Link(usize),
     Depth(usize),
     Form(usize),
-    Name(usize),
-    Type(usize),
+    Names(usize),
+    Types(usize),
 }
 
 // Names and types of an image that meets none of the tests 1 to 5.
@@ -32,11 +32,11 @@ fn checked_plan(s: &[u8]) -> Checked
 {
     let name = bad_names(s);
     if let Place::At(r) = name {
-        return Checked::Name(r);
+        return Checked::Names(r);
     }
     let ty = bad_types(s);
     if let Place::At(r) = ty {
-        return Checked::Type(r);
+        return Checked::Types(r);
     }
     Checked::Accepted
 }

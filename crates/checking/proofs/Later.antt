@@ -13,9 +13,10 @@ use Rattle.plan.specs.Read.{planAt}
 use Rattle.plan.proofs.PlanOf.{planTree-whole}
 use Rattle.acceptance.specs.Names.{badName}
 use Rattle.acceptance.specs.Types.{badType}
-use Rattle.acceptance.specs.Check.{linked, Verdict, verdict, at, checkPlan}
-use Rattle.form.specs.Formed.{later}
-use Rattle.form.proofs.Sound.{Sound}
+use Rattle.acceptance.specs.Check.{linked, Verdict, verdict, at, checkPlan, check}
+use Rattle.form.specs.Formed.{formed, numbered, later}
+use Rattle.form.specs.declared.checked.Formed.{Formed}
+use Rattle.form.proofs.Sound.{Sound, check-is}
 use Rattle.names.specs.Rules.{badNames, badTypes}
 use Rattle.names.proofs.TreeNames.{tree-names}
 use Rattle.names.proofs.TreeTypes.{tree-types}
@@ -63,3 +64,7 @@ module _ {s : List ℕ} (w : Sound s) where
         go : (f : Found) → badTypes (w .tree) ≡ f → Nowhere ≡ placeOf f → verdict 0 0 ≡ at 7 (badTypes (w .tree)) (verdict 0 0)
         go nothing e h = rw e
         go (found q) e h = let z : _≡_ {A = ℕ} 0 1 = cc in absurd (omega arith)
+
+-- the answer for the tests 1 to 5 is the check's
+pub told : (s : List ℕ) {r : Formed} (k : Formed) → r ≡ formed s → r ≡ k → numbered k (later (linked s (length s / 32))) ≡ check s
+told s k e g = sym (check-is s ∙ ap (λ (x : Formed). numbered x (later (linked s (length s / 32)))) (sym e ∙ g))

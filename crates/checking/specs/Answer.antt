@@ -1,7 +1,7 @@
 -- The number and the record of each case of the check's answer.
 use Rattle.acceptance.specs.Check.{Verdict, verdict}
-use Rattle.check.specs.declared.Checked.{Checked}
-use Rattle.check.specs.declared.Checked.the-variants.{Accepted, Buffer, Record, Link, Depth, Form, Name, Type}
+use Rattle.checking.specs.declared.Checked.{Checked}
+use Rattle.checking.specs.declared.Checked.the-variants.{Accepted, Buffer, Record, Link, Depth, Form, Names, Types}
 
 abbrev pub verdictOf : Checked → Verdict
 verdictOf Accepted = verdict 0 0
@@ -10,5 +10,5 @@ verdictOf (Record r) = verdict 2 r
 verdictOf (Link r) = verdict 3 r
 verdictOf (Depth r) = verdict 4 r
 verdictOf (Form r) = verdict 5 r
-verdictOf (Name r) = verdict 6 r
-verdictOf (Type r) = verdict 7 r
+verdictOf (Names r) = verdict 6 r
+verdictOf (Types r) = verdict 7 r
