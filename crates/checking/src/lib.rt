@@ -55,3 +55,35 @@ pub fn check(s: &[u8]) -> Checked
         Formed::Whole => checked_plan(s),
     }
 }
+
+// Document 01's number of an answer.
+pub fn number_of(answer: Checked) -> u32
+    ensures { λ r. ⌜ r ≡ verdictOf answer .number ⌝ }
+{
+    match answer {
+        Checked::Accepted => 0,
+        Checked::Buffer => 1,
+        Checked::Record(_) => 2,
+        Checked::Link(_) => 3,
+        Checked::Depth(_) => 4,
+        Checked::Form(_) => 5,
+        Checked::Names(_) => 6,
+        Checked::Types(_) => 7,
+    }
+}
+
+// The record that an answer names.
+pub fn place_of(answer: Checked) -> usize
+    ensures { λ r. ⌜ r ≡ verdictOf answer .place ⌝ }
+{
+    match answer {
+        Checked::Accepted => 0,
+        Checked::Buffer => 0,
+        Checked::Record(r) => r,
+        Checked::Link(r) => r,
+        Checked::Depth(r) => r,
+        Checked::Form(r) => r,
+        Checked::Names(r) => r,
+        Checked::Types(r) => r,
+    }
+}
