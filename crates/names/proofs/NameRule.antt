@@ -1,7 +1,7 @@
 -- The rule of names of one record, as the code asks it: a reference's by its scope, a plan's by its role and its children.
 -- Assumes nothing.
 use mathlib.Core.Path.{_≡_, refl, sym, ap, subst, _∙_}
-use mathlib.Core.Bool.{true, false}
+use mathlib.Core.Bool.{Bool, true, false}
 use mathlib.Core.List.{List}
 use Prim.Native.Nat.{ℕ}
 use native.Mathlib.Omega.{arith}
@@ -18,10 +18,8 @@ use Rattle.names.specs.Count.{counted, hits, input, role, roleP}
 use Rattle.names.specs.Fields.{Schema, nameOf, inputs, inputsBy, fieldsP, namesIn}
 use Rattle.names.specs.Rules.{Scope, seen, nameOk, nameBy, nameP}
 use Rattle.names.specs.Scopes.{sortW}
-use Rattle.names.specs.Singles.{ownOf, ownSort, ownMode, apart}
 use Rattle.names.proofs.Counting.{skip-part}
 use Rattle.names.proofs.Scoping.{counted-name}
-use Rattle.names.proofs.Singling.{rule-by-role}
 use Rattle.names.proofs.Telling.{from-first}
 
 -- false is never true
@@ -90,10 +88,8 @@ module _ (c : Scope) (l : Label) (cs : Forest) where
     role-is = R ∙ ap role (kind .1)
 
     -- a plan
-    pub rule-plan : apart (ownMode r) (ownOf (ownSort r) cs) ≡ nameOk c l cs
-    rule-plan =
-        ap (λ (n : ℕ). apart (ownMode n) (ownOf (ownSort n) cs)) role-is
-        ∙ sym (rule-by-role (kind .0) l cs) ∙ sym (rule-at (kind .0) (kind .1))
+    pub rule-plan : {b : Bool} → ((k : K.PlanKind) → r ≡ roleP k → b ≡ nameP k l cs (inputs cs)) → b ≡ nameOk c l cs
+    rule-plan e = e (kind .0) role-is ∙ sym (rule-at (kind .0) (kind .1))
 
     -- the rule of a plan that is no join is that its schema is sound
     own-rule : (k : K.PlanKind) → (roleP k ≡ 2 → ⊥) → nameP k l cs (inputs cs) ≡ sound (namesIn (fieldsP k l cs (inputs cs)))

@@ -255,26 +255,30 @@ sound-alone s t e = ap (λ (u : Schema). sound (namesIn u)) e ∙ sound-apart t 
 sound-made : (c : Schema) (f : Forest) → sound (namesIn (made c f)) ≡ apart 3 (made [] f ++ [])
 sound-made c f = ap sound (names-made c [] f) ∙ sound-alone (made [] f) (made [] f) refl
 
--- the rule of a plan is that the schema which the code reads off its children is told apart
-pub rule-by-role : (k : K.PlanKind) (l : Label) (cs : Forest)
+by-kind : (k : K.PlanKind) (l : Label) (cs : Forest)
     → nameP k l cs (inputs cs) ≡ apart (ownMode (roleP k)) (ownOf (ownSort (roleP k)) cs)
-rule-by-role K.TableScan l cs = sound-made [] cs
-rule-by-role K.Filter l cs = sound-alone _ _ (input-0 (inputs cs))
-rule-by-role K.Projection l cs = sound-made (first [] (inputs cs)) cs
-rule-by-role K.Join l cs =
+by-kind K.TableScan l cs = sound-made [] cs
+by-kind K.Filter l cs = sound-alone _ _ (input-0 (inputs cs))
+by-kind K.Projection l cs = sound-made (first [] (inputs cs)) cs
+by-kind K.Join l cs =
     join-sound (l .p) (first [] (inputs cs)) (second [] (inputs cs))
     ∙ rw (input-0 (inputs cs), input-1 (inputs cs)) (sound-apart (input 0 (inputs cs) ++ input 1 (inputs cs)))
-rule-by-role K.SubqueryAlias l cs = renamed-apart (l .p) (first [] (inputs cs)) ∙ rw (input-0 (inputs cs)) (apart-alone 1 (input 0 (inputs cs)))
-rule-by-role K.Union l cs = sound-alone _ _ (input-0 (inputs cs))
-rule-by-role K.Distinct l cs = sound-alone _ _ (input-0 (inputs cs))
-rule-by-role K.Sort l cs = sound-alone _ _ (input-0 (inputs cs))
-rule-by-role K.Repartition l cs = sound-alone _ _ (input-0 (inputs cs))
-rule-by-role K.Limit l cs = sound-alone _ _ (input-0 (inputs cs))
-rule-by-role K.Aggregate l cs = sound-made (first [] (inputs cs)) cs
-rule-by-role K.Window l cs =
+by-kind K.SubqueryAlias l cs = renamed-apart (l .p) (first [] (inputs cs)) ∙ rw (input-0 (inputs cs)) (apart-alone 1 (input 0 (inputs cs)))
+by-kind K.Union l cs = sound-alone _ _ (input-0 (inputs cs))
+by-kind K.Distinct l cs = sound-alone _ _ (input-0 (inputs cs))
+by-kind K.Sort l cs = sound-alone _ _ (input-0 (inputs cs))
+by-kind K.Repartition l cs = sound-alone _ _ (input-0 (inputs cs))
+by-kind K.Limit l cs = sound-alone _ _ (input-0 (inputs cs))
+by-kind K.Aggregate l cs = sound-made (first [] (inputs cs)) cs
+by-kind K.Window l cs =
     ap sound (names-++ s (made s cs) ∙ ap (λ (xs : List Name). namesIn s ++ xs) (names-made s [] cs) ∙ sym (names-++ s (made [] cs)))
     ∙ sound-apart (s ++ made [] cs)
     ∙ ap (λ (u : Schema). apart 3 (u ++ made [] cs)) (input-0 (inputs cs))
   where
     s : Schema
     s = first [] (inputs cs)
+
+-- the rule of a plan is that the schema which the code reads off its children is told apart
+pub rule-by-role : {r : ℕ} (k : K.PlanKind) (l : Label) (cs : Forest) → r ≡ roleP k
+    → apart (ownMode r) (ownOf (ownSort r) cs) ≡ nameP k l cs (inputs cs)
+rule-by-role k l cs e = ap (λ (n : ℕ). apart (ownMode n) (ownOf (ownSort n) cs)) e ∙ sym (by-kind k l cs)
