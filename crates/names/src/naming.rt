@@ -64,7 +64,9 @@ pub fn bad_name(
     known: bool,
 ) -> Place
     requires { ⌜ Chained (now s) base at × Chained (now g) gb ga ⌝ }
-    ensures { λ r. ⌜ ((f e : Forest) → Linked f (now (s .entry)) base at → Linked e (now (g .entry)) gb ga → (known ≡ true → sound (namesIn (input 0 (inputs f))) ≡ true) → r ≡ placeOf (lowest nameOk hand (scopeOf here e) (scopeOf after e) at f)) ⌝ }
+    ensures { λ r. ⌜ ((f e : Forest) → Linked f (now (s .entry)) base at → Linked e (now (g .entry)) gb ga
+        → (known ≡ true → sound (namesIn (input 0 (inputs f))) ≡ true)
+        → r ≡ placeOf (lowest nameOk hand (scopeOf here e) (scopeOf after e) at f)) ⌝ }
 {
     if at == 0 {
         return Place::Nowhere;

@@ -20,4 +20,4 @@ name-ok-spec =
     rule-known (scopeOf (c .before .before .before .before .before .before .args .here) e) l cs _ (c .before .before .before .before .before .before .pre .2 ∙ ap (λ (n : ℕ). role (whatOf n)) hk) (c .before .if2 .left)
     (eqb-false _ 2 (not-true _ (right-of (c .before .before .before .before .before .before .args .known) (not (eqb (c .before .before .before .before .before .before .args .role) 2)) (c .if3 .taken)))) (known (left-of (c .before .before .before .before .before .before .args .known) (not (eqb (c .before .before .before .before .before .before .args .role) 2)) (c .if3 .taken)))) (λ c κs. search needs) (λ c l cs e hk hp hq h g known.
     rule-plan (scopeOf (c .before .before .before .before .before .before .before .args .here) e) l cs _ (c .before .before .before .before .before .before .before .pre .2 ∙ ap (λ (n : ℕ). role (whatOf n)) hk) (c .before .before .if2 .left)
-      (λ k r. c .is-sound .ensures k l cs r h)))
+    (λ k r. c .is-sound .ensures k l cs r h)))

@@ -14,8 +14,8 @@ is-sound-spec =
     (λ c κs. search needs)
     (λ c κs. search needs)
     (λ c k l f e h.
-      rw (← rule-by-role k l f e, ← c .before .before .own-sort .ensures)
-      (too-many _ _ (c .before .held-by .ensures f h) (c .if1 .taken)))
+    rw (← rule-by-role k l f e, ← c .before .before .own-sort .ensures)
+    (too-many _ _ (c .before .held-by .ensures f h) (c .if1 .taken)))
     (λ c κs. search needs)
     (λ c κs. search needs)
     (λ c k l f e h.
