@@ -33,7 +33,8 @@ module _ (c : Scope) (l : Label) (cs : Forest) where
   rule-column e = ap (λ (n : ℕ). nameBy (whatOf n) c l cs) (sym e)
 
   -- by the fields that are counted in its scope
-  pub rule-held : {kind p q k : ℕ} → kind ≡ l .kind → p ≡ l .p → q ≡ l .q → kind ≡ 1 → k ≡ counted (hits 0 p q) (seen c) → eqb k 1 ≡ nameOk c l cs
+  pub rule-held : {kind p q k : ℕ} → kind ≡ l .kind → p ≡ l .p → q ≡ l .q → kind ≡ 1 → k ≡ counted (hits 0 p q) (seen c)
+      → eqb k 1 ≡ nameOk c l cs
   rule-held {kind} {p} {q} {k} hk hp hq one e =
       let same : nm p q ≡ nameOf l = rw (hp, hq) in
       ap (λ (n : ℕ). eqb n 1) (e ∙ counted-name p q (seen c) ∙ ap (holders (namesIn (seen c))) same) ∙ rule-column (sym hk ∙ one)
@@ -159,7 +160,8 @@ sort-of-plan (plan K.Limit) e = absurd (omega arith)
 sort-of-plan (plan K.Aggregate) e = absurd (omega arith)
 sort-of-plan (plan K.Window) e = absurd (omega arith)
 
-module _ {f : Forest} {s : List ℕ} {b at : ℕ} {part : List ℕ} {v : Node} (w : Step f s b at part v) (known : sound (namesIn (input 0 (inputs f))) ≡ true) where
+module _ {f : Forest} {s : List ℕ} {b at : ℕ} {part : List ℕ} {v : Node} (w : Step f s b at part v)
+    (known : sound (namesIn (input 0 (inputs f))) ≡ true) where
   -- the record's own schema, where it is a plan
   pub sound-first : sound (namesIn (input 0 (inputs (node (w .label) (w .below) none)))) ≡ true
   unfolding sound namesIn input inputs _&_

@@ -1,10 +1,13 @@
--- Fields of a schema counted by a question: 0 those with the qualifier and the name, 1 those with the name, 2 all, 3 those that clash with it,
+-- Fields of a schema counted by a question: 0 those with the qualifier and the name, 1 those with the name, 2 all, 3 those that clash with
+-- it,
 -- else none.
 use mathlib.Core.Bool.{Bool, true, false, cond, _&&_, _||_}
 use mathlib.Core.List.{List, [], _∷_}
 use Prim.Native.Nat.{ℕ, zero, suc, _+_}
 use lib.Dec.{eqb, leb}
-use Rattle.plan.specs.Kinds.{What, expr, plan, part, unknown, PlanKind, TableScan, Filter, Projection, Join, SubqueryAlias, Union, Distinct, Sort, Repartition, Limit, Aggregate, Window, PartKind, FieldPart, EntryPart, PairPart, KeyPart, AggPart, WinPart}
+use Rattle.plan.specs.Kinds.{What, expr, plan, part, unknown, PlanKind, TableScan, Filter, Projection, Join, SubqueryAlias, Union}
+use Rattle.plan.specs.Kinds.{Distinct, Sort, Repartition, Limit, Aggregate, Window, PartKind, FieldPart, EntryPart, PairPart, KeyPart}
+use Rattle.plan.specs.Kinds.{AggPart, WinPart}
 use Rattle.plan.specs.Syntax.{Name, nm}
 use Rattle.names.specs.Fields.{Schema}
 
@@ -13,7 +16,8 @@ abbrev pub near : ℕ → ℕ → Bool
 near q r = (eqb r q || eqb r 0) || eqb q 0
 
 abbrev pub hit : ℕ → ℕ → ℕ → ℕ → ℕ → Bool
-hit mode q n r m = cond (eqb mode 0) (eqb r q && eqb m n) (cond (eqb mode 1) (eqb m n) (cond (eqb mode 3) (near q r && eqb m n) (eqb mode 2)))
+hit mode q n r m =
+    cond (eqb mode 0) (eqb r q && eqb m n) (cond (eqb mode 1) (eqb m n) (cond (eqb mode 3) (near q r && eqb m n) (eqb mode 2)))
 
 abbrev pub hits : ℕ → ℕ → ℕ → Name → Bool
 hits mode q n (nm r m) = hit mode q n r m
@@ -43,7 +47,8 @@ makes (plan k) = false
 makes (part k) = makesQ k
 makes unknown = false
 
--- where a plan has its fields from: 1 its parts, 2 its inputs as a join, 3 its input renamed, 4 its input and its parts, 5 its first input; 0 no plan
+-- where a plan has its fields from: 1 its parts, 2 its inputs as a join, 3 its input renamed, 4 its input and its parts, 5 its first input;
+-- 0 no plan
 abbrev pub roleP : PlanKind → ℕ
 roleP TableScan = 1
 roleP Filter = 5

@@ -5,13 +5,17 @@ use mathlib.Core.List.{[]}
 use Prim.Native.Nat.{ℕ}
 use lib.Dec.{eqb}
 use Rattle.image.specs.Tree.{Forest}
-use Rattle.plan.specs.Kinds.{What, expr, plan, part, unknown, PlanKind, TableScan, Filter, Projection, Join, SubqueryAlias, Union, Distinct, Sort, Repartition, Limit, Aggregate, Window}
+use Rattle.plan.specs.Kinds.{What, expr, plan, part, unknown, PlanKind, TableScan, Filter, Projection, Join, SubqueryAlias, Union}
+use Rattle.plan.specs.Kinds.{Distinct, Sort, Repartition, Limit, Aggregate, Window}
 use Rattle.names.specs.Fields.{made, inputs}
 use Rattle.names.specs.Rules.{Scope, over}
 use Rattle.names.specs.Count.{input}
 
 abbrev pub scopeOf : ℕ → Forest → Scope
-scopeOf n f = cond (eqb n 1) (over (input 0 (inputs f)) []) (cond (eqb n 2) (over (input 0 (inputs f)) (input 1 (inputs f))) (cond (eqb n 3) (over (made [] f) []) (cond (eqb n 4) (over (input 1 (inputs f)) []) (over [] []))))
+scopeOf n f =
+    cond (eqb n 1) (over (input 0 (inputs f)) [])
+    (cond (eqb n 2) (over (input 0 (inputs f)) (input 1 (inputs f)))
+    (cond (eqb n 3) (over (made [] f) []) (cond (eqb n 4) (over (input 1 (inputs f)) []) (over [] []))))
 
 -- what a plan hands to its children; 9 for no plan
 abbrev pub sortP : PlanKind → ℕ

@@ -3,7 +3,8 @@ use mathlib.Core.Bool.{Bool, cond}
 use mathlib.Core.List.{[], _∷_}
 use Prim.Native.Nat.{ℕ}
 use lib.Dec.{eqb, leb}
-use Rattle.plan.specs.Kinds.{What, expr, plan, part, unknown, ExprKind, Column, Integer, Boolean, Null, Binary, Not, Test, Between, InList, Function}
+use Rattle.plan.specs.Kinds.{What, expr, plan, part, unknown, ExprKind, Column, Integer, Boolean, Null, Binary, Not, Test, Between, InList}
+use Rattle.plan.specs.Kinds.{Function}
 use Rattle.plan.specs.Syntax.{Name, nm}
 use Rattle.names.specs.Fields.{Schema, typeIn}
 use Rattle.names.specs.Count.{own}

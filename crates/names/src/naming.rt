@@ -31,15 +31,18 @@ fn name_ok(
     role: usize,
     known: bool,
     g: &[u8],
-    base: usize,
+    gb: usize,
     ga: usize,
     here: usize,
 ) -> bool
-    requires { ⌜ Chained (now part) at (v .first) × Chained (now g) base ga × (role ≡ Count.role (whatOf (v .kind))) ⌝ }
-    ensures { λ b. ⌜ ((l : Label) (cs e : Forest) → v .kind ≡ l .kind → v .p ≡ l .p → v .q ≡ l .q → Linked cs (now (part .entry)) at (v .first) → Linked e (now (g .entry)) base ga → (known ≡ true → sound (namesIn (input 0 (inputs (node l cs none)))) ≡ true) → b ≡ nameOk (scopeOf here e) l cs) ⌝ }
+    requires { ⌜ Chained (now part) at (v .first) × Chained (now g) gb ga × (role ≡ Count.role (whatOf (v .kind))) ⌝ }
+    ensures { λ b. ⌜ ((l : Label) (cs e : Forest) → v .kind ≡ l .kind → v .p ≡ l .p → v .q ≡ l .q
+        → Linked cs (now (part .entry)) at (v .first) → Linked e (now (g .entry)) gb ga
+        → (known ≡ true → sound (namesIn (input 0 (inputs (node l cs none)))) ≡ true)
+        → b ≡ nameOk (scopeOf here e) l cs) ⌝ }
 {
     if v.kind == 1 {
-        return held_in(g, base, ga, here, 0, v.p, v.q) == 1;
+        return held_in(g, gb, ga, here, 0, v.p, v.q) == 1;
     }
     if role == 0 {
         return true;

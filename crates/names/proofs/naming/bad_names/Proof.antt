@@ -32,19 +32,32 @@ bad-names-spec =
     (λ c κs. search needs)
     (λ c κs. search needs)
     (λ c κs.
-    let w = rooted (c .before .before .before .pre .0) (c .before .before .before .pre .1) (c .before .look .ensures) in
-    (record { forest = c .before .before .before .pre .0 .below; linked = w .first }, record { forest = none; linked = refl }, c .role-of .ensures))
+    let w = rooted (c .before .before .before .pre .0) (c .before .before .before .pre .1) (c .before .look .ensures) in (
+      record { forest = c .before .before .before .pre .0 .below; linked = w .first },
+      record { forest = none; linked = refl },
+      c .role-of .ensures,
+    ))
     (λ c t h.
     let w = rooted t h (c .before .before .before .look .ensures) in
-    root-here nameOk hand nothing-seen nothing-seen t (sym (c .before .name-ok .ensures (t .label) (t .below) none (w .kind) (w .p) (w .q) (w .first) refl never) ∙ not-true _ (c .if1 .taken)))
+    root-here nameOk hand nothing-seen nothing-seen t
+    (sym (c .before .name-ok .ensures (t .label) (t .below) none (w .kind) (w .p) (w .q) (w .first) refl never)
+    ∙ not-true _ (c .if1 .taken)))
     (λ c κs. search needs)
     (λ c κs.
-    let w = rooted (c .before .before .before .before .before .before .pre .0) (c .before .before .before .before .before .before .pre .1) (c .before .before .before .before .look .ensures) in
-    (record { forest = c .before .before .before .before .before .before .pre .0 .below; linked = w .first }, record { forest = c .before .before .before .before .before .before .pre .0 .below; linked = w .first }))
+    let w = rooted (c .before .before .before .before .before .before .pre .0) (c .before .before .before .before .before .before .pre .1)
+    (c .before .before .before .before .look .ensures) in (
+      record { forest = c .before .before .before .before .before .before .pre .0 .below; linked = w .first },
+      record { forest = c .before .before .before .before .before .before .pre .0 .below; linked = w .first },
+    ))
     (λ c t h.
     let w = rooted t h (c .before .before .before .before .before .look .ensures) in
-    let ok : nameOk nothing-seen (t .label) (t .below) ≡ true = sym (c .before .before .before .name-ok .ensures (t .label) (t .below) none (w .kind) (w .p) (w .q) (w .first) refl never) ∙ not-false _ (c .before .before .if1 .left) in
+    let ok : nameOk nothing-seen (t .label) (t .below)
+    ≡ true =
+    sym (c .before .before .before .name-ok .ensures (t .label) (t .below) none (w .kind) (w .p) (w .q) (w .first) refl never)
+    ∙ not-false _ (c .before .before .if1 .left) in
     c .bad-name .ensures (t .below) (t .below) (w .first) (w .first)
-    (λ x. sound-below nothing-seen (t .label) (t .below) _ (c .before .before .before .before .role-of .ensures ∙ ap (λ (n : ℕ). role (whatOf n)) (w .kind)) (λ y. five y (eqb-true _ 5 x)) (eqb-true _ 5 x) ok)
+    (λ x. sound-below nothing-seen (t .label) (t .below) _
+    (c .before .before .before .before .role-of .ensures ∙ ap (λ (n : ℕ). role (whatOf n)) (w .kind)) (λ y. five y (eqb-true _ 5 x))
+    (eqb-true _ 5 x) ok)
     ∙ root-below nameOk hand nothing-seen nothing-seen t _ _ _ (w .first-number)
     (hand-root (t .label) (t .below) (c .before .sort-of .ensures ∙ ap (λ (n : ℕ). sortW (whatOf n)) (w .kind))) ok))
