@@ -1,5 +1,4 @@
--- Fields of a schema counted by a question: 0 those with the qualifier and the name, 1 those with the name, 2 all, 3 those that clash with
--- it,
+-- Fields of a schema counted by a question: 0 those with the qualifier and the name, 1 those with the name, 2 all, 3 those that clash,
 -- else none.
 use mathlib.Core.Bool.{Bool, true, false, cond, _&&_, _||_}
 use mathlib.Core.List.{List, [], _∷_}
@@ -15,13 +14,16 @@ use Rattle.names.specs.Fields.{Schema}
 abbrev pub near : ℕ → ℕ → Bool
 near q r = (eqb r q || eqb r 0) || eqb q 0
 
+-- the question finds the field with the qualifier r and the name m
 abbrev pub hit : ℕ → ℕ → ℕ → ℕ → ℕ → Bool
 hit mode q n r m =
     cond (eqb mode 0) (eqb r q && eqb m n) (cond (eqb mode 1) (eqb m n) (cond (eqb mode 3) (near q r && eqb m n) (eqb mode 2)))
 
+-- the same of a name
 abbrev pub hits : ℕ → ℕ → ℕ → Name → Bool
 hits mode q n (nm r m) = hit mode q n r m
 
+-- how many fields it finds
 unfoldable pub counted : (Name → Bool) → Schema → ℕ
 counted h [] = 0
 counted h (f ∷ s) = cond (h (f .name)) (counted h s + 1) (counted h s)

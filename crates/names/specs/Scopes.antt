@@ -11,6 +11,7 @@ use Rattle.names.specs.Fields.{made, inputs}
 use Rattle.names.specs.Rules.{Scope, over}
 use Rattle.names.specs.Count.{input}
 
+-- the scope with this number
 abbrev pub scopeOf : ℕ → Forest → Scope
 scopeOf n f =
     cond (eqb n 1) (over (input 0 (inputs f)) [])
@@ -38,9 +39,10 @@ sortW (plan k) = sortP k
 sortW (part k) = 9
 sortW unknown = 9
 
--- what a record that is no plan hands to its first child, and to the others
+-- what a record that is no plan hands to its first child
 abbrev pub firstSort : ℕ → ℕ → ℕ
 firstSort k n = cond (eqb k 50) (cond (eqb n 2) 1 n) n
 
+-- and to the others
 abbrev pub restSort : ℕ → ℕ → ℕ
 restSort k n = cond (eqb k 50) (cond (eqb n 2) 4 0) n
