@@ -5,7 +5,7 @@
 use mathlib.Core.Path.{_≡_, refl, sym, ap, _∙_}
 use mathlib.Core.Bool.{Bool, true, false, cond, not, _&&_, _||_}
 use mathlib.Core.List.{List, [], _∷_, _++_, map}
-use Prim.Native.Nat.{ℕ, suc, _+_, _≤_}
+use Prim.Native.Nat.{ℕ, suc, _+_, _≤_, _<_}
 use native.Mathlib.Omega.{arith}
 use lib.Dec.{eqb, leb}
 use lib.ListN.{length, length-append}
@@ -272,6 +272,66 @@ join-sound p s t = go (sound (namesIn (s ++ t))) refl
     go : (z : Bool) → sound (namesIn (s ++ t)) ≡ z → sound (namesIn (joinFields p s t)) & z ≡ z
     go true e = rw (side (leb p 4) (eqb p 5 || eqb p 7) e) (true-and true)
     go false e = and-false _
+
+-- ---- below an alias
+
+-- the names as an alias calls them
+names-renamed : (p : ℕ) (s : Schema) → namesIn (map (requalify p) s) ≡ map (called true p) (namesIn s)
+unfolding namesIn requalify
+names-renamed p [] = refl
+names-renamed p (f ∷ s) = step (f .name) (names-renamed p s)
+  where
+    step : (x : Name) → namesIn (map (requalify p) s) ≡ map (called true p) (namesIn s)
+        → namesIn (map (requalify p) (record { name = x; ty = f .ty } ∷ s)) ≡ called true p x ∷ map (called true p) (namesIn s)
+    step (nm r m) e = rw e refl
+
+-- what clashes below clashes above
+clash-renamed : (p : ℕ) (x y : Name) → clash x y ≡ true → clash (called true p x) (called true p y) ≡ true
+clash-renamed p (nm q n) (nm r m) e = and-intro (and-l _ _ e) (rw (eq-eqb p p refl) refl)
+
+any-renamed : (p : ℕ) (x : Name) (a : List Name) → not (any (clash (called true p x)) (map (called true p) a)) ≡ true
+    → not (any (clash x) a) ≡ true
+unfolding any
+any-renamed p x [] h = refl
+any-renamed p x (y ∷ a) h =
+    go (clash x y) (clash (called true p x) (called true p y)) (clash-renamed p x y) (λ k. any-renamed p x a k) h
+  where
+    go : (c d : Bool) → (c ≡ true → d ≡ true)
+        → (not (any (clash (called true p x)) (map (called true p) a)) ≡ true → not (any (clash x) a) ≡ true)
+        → not (d || any (clash (called true p x)) (map (called true p) a)) ≡ true → not (c || any (clash x) a) ≡ true
+    go false false f r k = r k
+    go false true f r k = let z : _≡_ {A = ℕ} 0 1 = cc in absurd (omega arith)
+    go true true f r k = k
+    go true false f r k = let e : false ≡ true = f refl in let z : _≡_ {A = ℕ} 0 1 = cc in absurd (omega arith)
+
+distinct-renamed : (p : ℕ) (a : List Name) → distinct-names (map (called true p) a) ≡ true → distinct-names a ≡ true
+distinct-renamed p [] h = refl
+distinct-renamed p (x ∷ a) h = and-intro (any-renamed p x a (and-l _ _ h)) (distinct-renamed p a (and-r _ _ h))
+
+length-map : (p : ℕ) (a : List Name) → length (map (called true p) a) ≡ length a
+length-map p [] = refl
+length-map p (x ∷ a) = ap suc (length-map p a)
+
+-- where an alias is sound, its input is
+sound-renamed : (p : ℕ) (a : List Name) → sound (map (called true p) a) ≡ true → sound a ≡ true
+unfolding sound
+sound-renamed p a h = and-intro (distinct-renamed p a (and-l _ _ h)) (rw length-map at (and-r _ _ h))
+
+-- where a plan keeps the rule its first input is sound, unless its parts make all its fields
+pub input-sound : (k : K.PlanKind) (l : Label) (cs : Forest) (ins : List Schema) → 1 < roleP k → nameP k l cs ins ≡ true
+    → sound (namesIn (first [] ins)) ≡ true
+input-sound K.TableScan l cs ins e h = absurd (omega arith)
+input-sound K.Filter l cs ins e h = h
+input-sound K.Projection l cs ins e h = absurd (omega arith)
+input-sound K.Join l cs ins e h = sound-left (namesIn (first [] ins)) (namesIn (second [] ins)) (rw names-++ at (and-r _ _ h))
+input-sound K.SubqueryAlias l cs ins e h = sound-renamed (l .p) (namesIn (first [] ins)) (rw names-renamed at h)
+input-sound K.Union l cs ins e h = h
+input-sound K.Distinct l cs ins e h = h
+input-sound K.Sort l cs ins e h = h
+input-sound K.Repartition l cs ins e h = h
+input-sound K.Limit l cs ins e h = h
+input-sound K.Aggregate l cs ins e h = absurd (omega arith)
+input-sound K.Window l cs ins e h = sound-left (namesIn (first [] ins)) (namesIn (made (first [] ins) cs)) (rw names-++ at h)
 
 -- ---- the rule of a plan
 

@@ -5,7 +5,7 @@ use Prim.Native.Nat.{ℕ, _<_}
 use native.Mathlib.Omega.{arith}
 use lib.ListN.{length-drop}
 use borrow.Author.Needs.{needs}
-use borrow.Author.Tests.{eqb-true, not-true, not-false}
+use borrow.Author.Tests.{ltb-true, not-true, not-false}
 use Rattle.image.proofs.Walking.{turn, ended, left}
 use Rattle.image.proofs.Stepping.{step}
 use Rattle.plan.specs.Kinds.{whatOf}
@@ -194,7 +194,7 @@ pub +bad-name-spec : {M : Type 1} → statement M
     (sym (c .before .under .given .1) ∙ c .before .before .before .bad-name3 .ensures (w .below) (w .below) (w .first) (w .first)
     (λ x. sound-below here (w .label) (w .below) _
     (c .before .before .before .before .before .before .before .before .role-of .ensures ∙ ap (λ (n : ℕ). role (whatOf n)) (w .kind))
-    (c .before .before .before .before .before .if3 .left) (eqb-true _ 5 x) ok)))
+    (c .before .before .before .before .before .if3 .left) (ltb-true 1 _ x) ok)))
     (λ c f e h g k.
     let w = step f h (c .before .before .before .before .before .before .before .before .before .before .before .if1 .left)
     (c .before .before .before .before .before .before .before .before .before .before .from-record .ensures)
@@ -218,4 +218,4 @@ pub +bad-name-spec : {M : Type 1} → statement M
     (sym (c .before .enum-told2 .given .1) ∙ c .before .before .before .bad-name3 .ensures (w .below) (w .below) (w .first) (w .first)
     (λ x. sound-below here (w .label) (w .below) _
     (c .before .before .before .before .before .before .before .before .role-of .ensures ∙ ap (λ (n : ℕ). role (whatOf n)) (w .kind))
-    (c .before .before .before .before .before .if3 .left) (eqb-true _ 5 x) ok)))
+    (c .before .before .before .before .before .if3 .left) (ltb-true 1 _ x) ok)))
