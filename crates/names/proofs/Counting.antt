@@ -19,6 +19,7 @@ use Rattle.names.proofs.KindRanges.{plan-kind}
 use Rattle.names.specs.Count.{hits, hit, near, counted, input, makes, role, roleP, own, below}
 
 module _ (h : Name → Bool) where
+  -- of two schemas, one after the other
   pub counted-++ : (s t : Schema) → counted h (s ++ t) ≡ counted h s + counted h t
   unfolding counted
   counted-++ [] t = omega arith
@@ -29,6 +30,7 @@ module _ (h : Name → Bool) where
       go true e = omega arith
       go false e = e
 
+  -- no more than there are
   pub counted-le : (s : Schema) → counted h s ≤ length s
   unfolding counted
   counted-le [] = omega arith
@@ -40,10 +42,12 @@ module _ (h : Name → Bool) where
 
   -- ---- the parts
 
+  -- no part makes no field
   pub made-none : (c : Schema) (f : Forest) → f ≡ none → counted h (made c f) ≡ 0
   unfolding counted made
   made-none c f e = rw e
 
+  -- the field that one part makes
   pub one-made : (c : Schema) (l : Label) (cs : Forest) (rest : Schema) (w : What)
       → counted h (madeBy w c l cs rest) ≡ cond (makes w && h (nameOf l)) (counted h rest + 1) (counted h rest)
   unfolding counted
@@ -57,19 +61,24 @@ module _ (h : Name → Bool) where
   one-made c l cs rest (plan k) = refl
   one-made c l cs rest unknown = refl
 
-  pub made-node : (c : Schema) (f : Forest) (l : Label) (cs ns : Forest) (b : Bool) → f ≡ node l cs ns → (makes (what l) && h (nameOf l)) ≡ b
+  -- the same for a forest of parts
+  pub made-node : (c : Schema) (f : Forest) (l : Label) (cs ns : Forest) (b : Bool) → f ≡ node l cs ns
+      → (makes (what l) && h (nameOf l)) ≡ b
       → counted h (made c f) ≡ cond b (counted h (made c ns) + 1) (counted h (made c ns))
   unfolding made
   made-node c f l cs ns b e m =
-      ap (λ (g : Forest). counted h (made c g)) e ∙ one-made c l cs (made c ns) (what l) ∙ ap (λ (b : Bool). cond b (counted h (made c ns) + 1) (counted h (made c ns))) m
+      ap (λ (g : Forest). counted h (made c g)) e ∙ one-made c l cs (made c ns) (what l)
+      ∙ ap (λ (b : Bool). cond b (counted h (made c ns) + 1) (counted h (made c ns))) m
 
 -- ---- the inputs
 
+-- no plan has no field
 pub held-none : (h : Name → Bool) (k : ℕ) (f : Forest) → f ≡ none → counted h (input k (inputs f)) ≡ 0
 unfolding input inputs counted
 held-none h k f e = rw e
 
 module _ (f : Forest) (l : Label) (cs ns : Forest) (is : f ≡ node l cs ns) where
+  -- a record that is no plan is passed over
   pub inputs-part : role (what l) ≡ 0 → inputs f ≡ inputs ns
   unfolding inputs
   inputs-part e = rw is (go (what l) e)
@@ -91,15 +100,18 @@ module _ (f : Forest) (l : Label) (cs ns : Forest) (is : f ≡ node l cs ns) whe
       go (plan K.Aggregate) z = absurd (omega arith)
       go (plan K.Window) z = absurd (omega arith)
 
+  -- a record with a role is a plan
   plan-of : (w : What) → (role w ≡ 0 → ⊥) → (k : K.PlanKind) × (w ≡ plan k)
   plan-of (expr k) z = absurd (z refl)
   plan-of (part k) z = absurd (z refl)
   plan-of unknown z = absurd (z refl)
   plan-of (plan k) z = (k, refl)
 
+  -- a plan's schema stands in front
   pub inputs-plan : (role (what l) ≡ 0 → ⊥) → (k : K.PlanKind) × (what l ≡ plan k) × (inputs f ≡ fieldsP k l cs (inputs cs) ∷ inputs ns)
   unfolding inputs
-  inputs-plan z = let k = plan-of (what l) z in (k .0, k .1, ap inputs is ∙ ap (λ (w : What). inputsBy w l cs (inputs cs) (inputs ns)) (k .1))
+  inputs-plan z =
+      let k = plan-of (what l) z in (k .0, k .1, ap inputs is ∙ ap (λ (w : What). inputsBy w l cs (inputs cs) (inputs ns)) (k .1))
 
 -- below an alias one asks by the name alone, or for none
 pub renamed-one : (mode p q n r m : ℕ) → hit mode q n p m ≡ hit (below 3 p mode q) q n r m
@@ -114,13 +126,15 @@ renamed-one mode p q n r m = go (eqb mode 0) refl (eqb p q) (eqb mode 3) refl (n
     go false e b true g false = rw (eqb-true mode 3 g)
     go false e b false g d = rw (e, g)
 
+-- so an alias changes the question
 pub renamed : (mode p q n : ℕ) (s : Schema) → counted (hits mode q n) (map (requalify p) s) ≡ counted (hits (below 3 p mode q) q n) s
 unfolding counted requalify
 renamed mode p q n [] = refl
 renamed mode p q n (f ∷ s) = step (f .name) (renamed mode p q n s)
   where
     step : (x : Name) → counted (hits mode q n) (map (requalify p) s) ≡ counted (hits (below 3 p mode q) q n) s
-        → counted (hits mode q n) (map (requalify p) (record { name = x; ty = f .ty } ∷ s)) ≡ counted (hits (below 3 p mode q) q n) (record { name = x; ty = f .ty } ∷ s)
+        → counted (hits mode q n) (map (requalify p) (record { name = x; ty = f .ty } ∷ s))
+        ≡ counted (hits (below 3 p mode q) q n) (record { name = x; ty = f .ty } ∷ s)
     step (nm r m) e = rw (renamed-one mode p q n r m, e)
 
 -- the fields by role
@@ -151,6 +165,7 @@ module _ (l : Label) (cs : Forest) (ins : List Schema) where
   base K.Aggregate = first [] ins
   base K.Window = first [] ins
 
+  -- role 1: the fields are those of the parts
   pub from-parts : (k : K.PlanKind) → roleP k ≡ 1 → fieldsP k l cs ins ≡ made (base k) cs
   from-parts K.TableScan e = refl
   from-parts K.Filter e = absurd (omega arith)
@@ -165,6 +180,7 @@ module _ (l : Label) (cs : Forest) (ins : List Schema) where
   from-parts K.Aggregate e = refl
   from-parts K.Window e = absurd (omega arith)
 
+  -- role 2: a join that gives both sides
   pub from-both : (k : K.PlanKind) → roleP k ≡ 2 → l .p ≤ 4 → fieldsP k l cs ins ≡ input 0 ins ++ input 1 ins
   unfolding joinFields
   from-both K.TableScan e p = absurd (omega arith)
@@ -180,11 +196,13 @@ module _ (l : Label) (cs : Forest) (ins : List Schema) where
   from-both K.Aggregate e p = absurd (omega arith)
   from-both K.Window e p = absurd (omega arith)
 
+  -- the side of a semi or anti join
   side : (a b : Bool) → cond (a || b) (input 0 ins) (input 1 ins) ≡ input (cond a 0 (cond b 0 1)) ins
   side true b = refl
   side false true = refl
   side false false = refl
 
+  -- role 2: a join that gives one side
   pub from-side : (k : K.PlanKind) → roleP k ≡ 2 → 4 < l .p → fieldsP k l cs ins ≡ input (own 2 (l .p)) ins
   unfolding joinFields
   from-side K.TableScan e p = absurd (omega arith)
@@ -200,6 +218,7 @@ module _ (l : Label) (cs : Forest) (ins : List Schema) where
   from-side K.Aggregate e p = absurd (omega arith)
   from-side K.Window e p = absurd (omega arith)
 
+  -- role 4: the input's fields, and those of the parts
   pub from-input-and-parts : (k : K.PlanKind) → roleP k ≡ 4 → fieldsP k l cs ins ≡ input 0 ins ++ made (base k) cs
   from-input-and-parts K.TableScan e = absurd (omega arith)
   from-input-and-parts K.Filter e = absurd (omega arith)
@@ -214,6 +233,7 @@ module _ (l : Label) (cs : Forest) (ins : List Schema) where
   from-input-and-parts K.Aggregate e = absurd (omega arith)
   from-input-and-parts K.Window e = rw (input-0 ins)
 
+  -- roles 3 and 5: the input's, by the question for it
   pub from-input : (k : K.PlanKind) (mode q n : ℕ) → (roleP k ≡ 1 → ⊥) → (roleP k ≡ 2 → ⊥) → (roleP k ≡ 4 → ⊥)
       → counted (hits mode q n) (fieldsP k l cs ins) ≡ counted (hits (below (roleP k) (l .p) mode q) q n) (input 0 ins)
   from-input K.TableScan mode q n a b d = absurd (a refl)
@@ -231,6 +251,7 @@ module _ (l : Label) (cs : Forest) (ins : List Schema) where
 
 -- ---- no more fields than records
 
+-- the fields of all schemas together
 unfoldable pub total : List Schema → ℕ
 total [] = 0
 total (s ∷ ss) = length s + total ss
@@ -260,7 +281,9 @@ length-join p a b = go (leb p 4) (eqb p 5 || eqb p 7)
     go false true = omega arith
     go false false = omega arith
 
-length-fields : (k : K.PlanKind) (l : Label) (cs : Forest) (ins : List Schema) → length (fieldsP k l cs ins) ≤ total ins + length (made (base l cs ins k) cs)
+-- a plan has no more fields than its inputs and its parts
+length-fields : (k : K.PlanKind) (l : Label) (cs : Forest) (ins : List Schema)
+    → length (fieldsP k l cs ins) ≤ total ins + length (made (base l cs ins k) cs)
 length-fields K.TableScan l cs ins = omega arith
 length-fields K.Filter l cs ins = omega (arith, total-two ins)
 length-fields K.Projection l cs ins = omega arith
@@ -274,6 +297,7 @@ length-fields K.Limit l cs ins = omega (arith, total-two ins)
 length-fields K.Aggregate l cs ins = omega arith
 length-fields K.Window l cs ins = omega (arith, total-two ins, length-append (first [] ins) (made (first [] ins) cs))
 
+-- all plans and parts of a forest have no more fields than it has records
 pub enough : (f : Forest) (c : Schema) → total (inputs f) + length (made c f) ≤ size f
 unfolding inputs made total
 enough none c = omega arith
@@ -291,26 +315,34 @@ enough (node l cs ns) c = go (what l) (enough ns c) (λ d. enough cs d)
     go (part K.WinPart) e g = omega arith
     go unknown e g = omega arith
 
+-- and the records stand in the bytes
 size-le : (f : Forest) (s : List ℕ) (b : ℕ) → Stands f s b → 32 * size f ≤ length s
 size-le none s b h = omega arith
-size-le (node l cs ns) s b h = omega (arith, h .head .room, size-le ns (drop (32 * suc (size cs)) s) (b + 1 + size cs) (h .after), length-drop (32 * suc (size cs)) s)
+size-le (node l cs ns) s b h =
+    omega (arith, h .head .room, size-le ns (drop (32 * suc (size cs)) s) (b + 1 + size cs) (h .after), length-drop (32 * suc (size cs)) s)
 
 linked-size : (f : Forest) (s : List ℕ) (b at : ℕ) → Linked f s b at → 32 * size f ≤ length s
 linked-size none s b at h = omega arith
-linked-size (node l cs ns) s b at h = omega (arith, size-le (node l cs ns) (drop (32 * (at - b)) s) at (h .1), length-drop (32 * (at - b)) s)
+linked-size (node l cs ns) s b at h =
+    omega (arith, size-le (node l cs ns) (drop (32 * (at - b)) s) at (h .1), length-drop (32 * (at - b)) s)
 
 -- a count is small
-pub few-made : (h : Name → Bool) {r : ℕ} (f : Forest) (c : Schema) (s : List ℕ) (b at : ℕ) → Linked f s b at → r ≡ counted h (made c f) → 32 * r ≤ length s
+pub few-made : (h : Name → Bool) {r : ℕ} (f : Forest) (c : Schema) (s : List ℕ) (b at : ℕ) → Linked f s b at → r ≡ counted h (made c f)
+    → 32 * r ≤ length s
 few-made h {r} f c s b at k e = omega (arith, counted-le h (made c f), enough f c, linked-size f s b at k)
 
-pub few-held : (h : Name → Bool) {r : ℕ} (i : ℕ) (f : Forest) (s : List ℕ) (b at : ℕ) → Linked f s b at → r ≡ counted h (input i (inputs f)) → 32 * r ≤ length s
-few-held h {r} i f s b at k e = omega (arith, counted-le h (input i (inputs f)), total-input i (inputs f), enough f [], linked-size f s b at k)
+-- the same for a plan's fields
+pub few-held : (h : Name → Bool) {r : ℕ} (i : ℕ) (f : Forest) (s : List ℕ) (b at : ℕ) → Linked f s b at
+    → r ≡ counted h (input i (inputs f)) → 32 * r ≤ length s
+few-held h {r} i f s b at k e =
+    omega (arith, counted-le h (input i (inputs f)), total-input i (inputs f), enough f [], linked-size f s b at k)
 
 -- ---- the code's tables
 
 abbrev pub of-kind : ℕ → Label
 of-kind k = record { kind = k; p = 0; q = 0; r = 0; lo = 0; hi = 0 }
 
+-- the last of the parts that make a field
 pub makes-last : (n : ℕ) → (n ≡ 48 → ⊥) → (n ≡ 49 → ⊥) → (n ≡ 52 → ⊥) → eqb n 53 ≡ makes (whatOf n)
 unfolding whatOf K.among
 makes-last n a b c = go (eqb n 53) refl
@@ -351,15 +383,21 @@ module _ (n : ℕ) (a : n ≡ 32 → ⊥) (b : n ≡ 34 → ⊥) (c : n ≡ 42 �
   pub role-last : (x : Bool) → (leb 32 n && leb n 43) ≡ x → cond x 5 0 ≡ role (whatOf n)
   role-last x e = rw (← (plan-kind n ∙ e)) (role-rest (whatOf n) refl)
 
-pub made-step : {f : Forest} {s : List ℕ} {b at : ℕ} {part : List ℕ} {v : Node} (w : Step f s b at part v) (mode q n : ℕ) (d : Schema) {x y : Bool} (z : Bool)
+-- the part that a walk stands at
+pub made-step : {f : Forest} {s : List ℕ} {b at : ℕ} {part : List ℕ} {v : Node} (w : Step f s b at part v) (mode q n : ℕ)
+    (d : Schema) {x y : Bool} (z : Bool)
     → x ≡ makes (whatOf (v .kind)) → y ≡ hit mode q n (v .p) (v .q) → (x && y) ≡ z
-    → counted (hits mode q n) (made d f) ≡ cond z (counted (hits mode q n) (made d (w .after)) + 1) (counted (hits mode q n) (made d (w .after)))
+    → counted (hits mode q n) (made d f)
+    ≡ cond z (counted (hits mode q n) (made d (w .after)) + 1) (counted (hits mode q n) (made d (w .after)))
 made-step {f} {v = v} w mode q n d {x} {y} z e g m =
     let e2 : x ≡ makes (what (w .label)) = e ∙ ap (λ (k : ℕ). makes (whatOf k)) (w .kind) in
-    let g2 : y ≡ hit mode q n (w .label .p) (w .label .q) = g ∙ ap (λ (k : ℕ). hit mode q n k (v .q)) (w .p) ∙ ap (λ (k : ℕ). hit mode q n (w .label .p) k) (w .q) in
-    made-node (hits mode q n) d f (w .label) (w .below) (w .after) z (w .is) (ap (λ (a : Bool). a && hit mode q n (w .label .p) (w .label .q)) (sym e2) ∙ ap (λ (a : Bool). x && a) (sym g2) ∙ m)
+    let g2 : y ≡ hit mode q n (w .label .p) (w .label .q) = g ∙ ap (λ (k : ℕ). hit mode q n k (v .q)) (w .p)
+    ∙ ap (λ (k : ℕ). hit mode q n (w .label .p) k) (w .q) in
+    made-node (hits mode q n) d f (w .label) (w .below) (w .after) z (w .is)
+    (ap (λ (a : Bool). a && hit mode q n (w .label .p) (w .label .q)) (sym e2) ∙ ap (λ (a : Bool). x && a) (sym g2) ∙ m)
 
-asked-plain : (r p mode q n : ℕ) (ins : List Schema) → r ≡ 4 → counted (hits mode q n) (input 0 ins) ≡ counted (hits (below r p mode q) q n) (input (own r p) ins)
+asked-plain : (r p mode q n : ℕ) (ins : List Schema) → r ≡ 4
+    → counted (hits mode q n) (input 0 ins) ≡ counted (hits (below r p mode q) q n) (input (own r p) ins)
 asked-plain r p mode q n ins e = rw e refl
 
 asked-rest : (r t p u mode q n : ℕ) (ins : List Schema) → r ≡ t → p ≡ u → (r ≡ 2 → ⊥)
@@ -368,50 +406,77 @@ asked-rest r t p u mode q n ins e g b = rw (← e, ← g, ne-eqb r 2 b) refl
 
 -- ---- what a plan has, by its role, as the code goes
 
-module _ {f : Forest} {s : List ℕ} {b at : ℕ} {part : List ℕ} {v : Node} (w : Step f s b at part v) (r : ℕ) (R : r ≡ role (whatOf (v .kind))) where
+module _ {f : Forest} {s : List ℕ} {b at : ℕ} {part : List ℕ} {v : Node} (w : Step f s b at part v) (r : ℕ)
+    (R : r ≡ role (whatOf (v .kind))) where
+  -- a record that is no plan
   pub skip-part : r ≡ 0 → (k : ℕ) → input k (inputs f) ≡ input k (inputs (w .after))
-  skip-part z k = ap (input k) (inputs-part f (w .label) (w .below) (w .after) (w .is) (sym (ap (λ (n : ℕ). role (whatOf n)) (w .kind)) ∙ sym R ∙ z))
+  skip-part z k =
+      ap (input k) (inputs-part f (w .label) (w .below) (w .after) (w .is) (sym (ap (λ (n : ℕ). role (whatOf n)) (w .kind)) ∙ sym R ∙ z))
 
-  pub of-plan : (r ≡ 0 → ⊥) → (k : K.PlanKind) × (r ≡ roleP k) × (inputs f ≡ fieldsP k (w .label) (w .below) (inputs (w .below)) ∷ inputs (w .after)) × (v .kind ≡ K.numberP k)
+  -- the kind of the plan, and the schemas from it on
+  pub of-plan : (r ≡ 0 → ⊥)
+      → (k : K.PlanKind) × (r ≡ roleP k) × (inputs f ≡ fieldsP k (w .label) (w .below) (inputs (w .below)) ∷ inputs (w .after)) ×
+      (v .kind ≡ K.numberP k)
   of-plan z =
       let e : r ≡ role (what (w .label)) = R ∙ ap (λ (n : ℕ). role (whatOf n)) (w .kind) in
       let k = inputs-plan f (w .label) (w .below) (w .after) (w .is) (λ q. z (e ∙ q)) in
       (k .0, e ∙ ap role (k .1), k .2, w .kind ∙ kind-p (w .label) (k .0) (k .1))
 
+  -- a plan that is not the one asked for
   pub skip-plan : (r ≡ 0 → ⊥) → (k : ℕ) → (k ≡ 0 → ⊥) → input k (inputs f) ≡ input (k - 1) (inputs (w .after))
   unfolding input
   skip-plan z zero nz = absurd (nz refl)
   skip-plan z (suc k) nz = let e : suc k - 1 ≡ k = omega arith in ap (input (suc k)) (of-plan z .2) ∙ rw e
 
   module _ (k : ℕ) (zero-k : k ≡ 0) where
+    -- the plan that is asked for
     pub here : (z : r ≡ 0 → ⊥) → input k (inputs f) ≡ fieldsP (of-plan z .0) (w .label) (w .below) (inputs (w .below))
     unfolding input
     here z = rw zero-k (ap (input 0) (of-plan z .2))
 
+    -- its fields are made by its parts
     pub has-parts : r ≡ 1 → (c : Schema) × (input k (inputs f) ≡ made c (w .below))
     has-parts e =
-        let z : r ≡ 0 → ⊥ = λ q. omega arith in
-        (base (w .label) (w .below) (inputs (w .below)) (of-plan z .0), here z ∙ from-parts (w .label) (w .below) (inputs (w .below)) (of-plan z .0) (sym (of-plan z .1) ∙ e))
+        let z : r ≡ 0 → ⊥ = λ q. omega arith in (
+          base (w .label) (w .below) (inputs (w .below)) (of-plan z .0),
+          here z
+              ∙ from-parts (w .label) (w .below) (inputs (w .below)) (of-plan z .0) (sym (of-plan z .1) ∙ e),
+        )
 
     module _ (mode q n : ℕ) where
       -- what its input is asked
       abbrev pub asked : ℕ
       asked = counted (hits (below r (v .p) mode q) q n) (input (own r (v .p)) (inputs (w .below)))
 
-      pub has-both : r ≡ 2 → v .p ≤ 4 → counted (hits mode q n) (input k (inputs f)) ≡ asked + counted (hits mode q n) (input 1 (inputs (w .below)))
+      -- those of both inputs
+      pub has-both : r ≡ 2 → v .p ≤ 4
+          → counted (hits mode q n) (input k (inputs f)) ≡ asked + counted (hits mode q n) (input 1 (inputs (w .below)))
       has-both e p =
           let z : r ≡ 0 → ⊥ = λ q. omega arith in
           let o = of-plan z in
-          rw (here z, from-both (w .label) (w .below) (inputs (w .below)) (o .0) (sym (o .1) ∙ e) (subst (λ (x : ℕ). x ≤ 4) (w .p) p), e, le-leb (v .p) 4 p)
+          rw (
+            here z,
+            from-both (w .label) (w .below) (inputs (w .below)) (o .0) (sym (o .1) ∙ e) (subst (λ (x : ℕ). x ≤ 4) (w .p) p),
+            e,
+            le-leb (v .p) 4 p,
+          )
           (counted-++ (hits mode q n) (input 0 (inputs (w .below))) (input 1 (inputs (w .below))))
 
+      -- those of one input of a join
       pub has-side : r ≡ 2 → 4 < v .p → counted (hits mode q n) (input k (inputs f)) ≡ asked
       has-side e p =
           let z : r ≡ 0 → ⊥ = λ q. omega arith in
           let o = of-plan z in
-          rw (here z, from-side (w .label) (w .below) (inputs (w .below)) (o .0) (sym (o .1) ∙ e) (subst (λ (x : ℕ). 4 < x) (w .p) p), e, w .p) refl
+          rw (
+            here z,
+            from-side (w .label) (w .below) (inputs (w .below)) (o .0) (sym (o .1) ∙ e) (subst (λ (x : ℕ). 4 < x) (w .p) p),
+            e,
+            w .p,
+          ) refl
 
-      pub has-more : r ≡ 4 → (c : Schema) × (counted (hits mode q n) (input k (inputs f)) ≡ asked + counted (hits mode q n) (made c (w .below)))
+      -- those of its input and its parts
+      pub has-more : r ≡ 4
+          → (c : Schema) × (counted (hits mode q n) (input k (inputs f)) ≡ asked + counted (hits mode q n) (made c (w .below)))
       has-more e =
           let z : r ≡ 0 → ⊥ = λ q. omega arith in
           let o = of-plan z in
@@ -422,6 +487,7 @@ module _ {f : Forest} {s : List ℕ} {b at : ℕ} {part : List ℕ} {v : Node} (
                 ∙ ap (λ (x : ℕ). x + counted (hits mode q n) (made c (w .below))) (asked-plain r (v .p) mode q n (inputs (w .below)) e),
           )
 
+      -- those of its input
       pub has-input : (r ≡ 0 → ⊥) → (r ≡ 1 → ⊥) → (r ≡ 2 → ⊥) → (r ≡ 4 → ⊥) → counted (hits mode q n) (input k (inputs f)) ≡ asked
       has-input z a b d =
           let o = of-plan z in

@@ -55,7 +55,8 @@ module _ {C : Type 0} (rule : C → Label → Forest → Bool) (hand : C → Lab
           → Place.At r ≡ placeOf (lowest rule hand c after at f)
       unfolding orElse unless
       place-below r e g =
-          let z : lowest rule hand c after at f ≡ found r = turned ∙ rw (e, was-found (lowest rule hand x y (v .first) (w .below)) r (sym g)) in
+          let z : lowest rule hand c after at f ≡ found r = turned
+          ∙ rw (e, was-found (lowest rule hand x y (v .first) (w .below)) r (sym g)) in
           sym (ap placeOf z)
 
       -- it holds of the record and of all below: the walk goes on
@@ -71,7 +72,8 @@ module _ {C : Type 0} (rule : C → Label → Forest → Bool) (hand : C → Lab
     pub place-here : rule c (w .label) (w .below) ≡ false → Place.At at ≡ placeOf (lowest rule hand c after at f)
     unfolding orElse unless
     place-here e =
-        let z : lowest rule hand c after at f ≡ found at = turned (hand c (w .label) (w .below) .0) (hand c (w .label) (w .below) .1) refl ∙ rw e in
+        let z : lowest rule hand c after at f ≡ found at = turned (hand c (w .label) (w .below) .0) (hand c (w .label) (w .below) .1) refl
+        ∙ rw e in
         sym (ap placeOf z)
 
   -- the root
@@ -80,12 +82,15 @@ module _ {C : Type 0} (rule : C → Label → Forest → Bool) (hand : C → Lab
     unfolding lowest orElse unless
     root-here e = rw e
 
-    pub root-below : (x y : C) (first : ℕ) → first ≡ link 1 (t .below) → hand c (t .label) (t .below) ≡ (x, y) → rule c (t .label) (t .below) ≡ true
+    pub root-below : (x y : C) (first : ℕ) → first ≡ link 1 (t .below) → hand c (t .label) (t .below) ≡ (x, y)
+        → rule c (t .label) (t .below) ≡ true
         → placeOf (lowest rule hand x y first (t .below)) ≡ placeOf (lowest rule hand c after 0 (alone t))
     unfolding orElse unless lowest
     root-below x y first g h e =
         let z : lowest rule hand c after 0 (alone t) ≡ lowest rule hand x y first (t .below)
-        = lowest-at c after 0 first 0 (t .label) (t .below) none x y g refl h ∙ rw (e, or-nothing (lowest rule hand x y first (t .below))) in
+        =
+        lowest-at c after 0 first 0 (t .label) (t .below) none x y g refl h
+        ∙ rw (e, or-nothing (lowest rule hand x y first (t .below))) in
         sym (ap placeOf z)
 
 -- the root looked at: its label's words, and its children

@@ -18,6 +18,7 @@ abbrev allFrom : (ℕ → Bool) → ℕ → ℕ → Bool
 allFrom test a zero = true
 allFrom test a (suc n) = test a & allFrom test (suc a) n
 
+-- what the test of all numbers says of one
 at-each : (test : ℕ → Bool) (n a k : ℕ) → allFrom test a n ≡ true → a ≤ k → k < a + n → test k ≡ true
 at-each test zero a k h l m = absurd (omega arith)
 at-each test (suc n) a k h l m = go (leb (suc a) k) refl (λ q. at-each test n (suc a) k (and-r _ _ h) q (omega arith))
@@ -33,14 +34,17 @@ decided false true true f g = g refl
 decided false true false f g = refl
 decided false false y f g = refl
 
+-- both hold, so the first does
 pub left-of : (x y : Bool) → (x && y) ≡ true → x ≡ true
 left-of true y h = refl
 left-of false y h = h
 
+-- and the second
 pub right-of : (x y : Bool) → (x && y) ≡ true → y ≡ true
 right-of true y h = h
 right-of false y h = cc
 
+-- the numbers of expressions, and of plans
 small-e : (k : K.ExprKind) → (leb 1 (K.numberE k) && leb (K.numberE k) 10) ≡ true
 small-e K.Column = refl
 small-e K.Integer = refl
@@ -67,23 +71,28 @@ small-p K.Limit = refl
 small-p K.Aggregate = refl
 small-p K.Window = refl
 
+-- an expression is a record with such a number
 pub expr-range : (l : Label) → isExpr l ≡ (leb 1 (l .kind) && leb (l .kind) 10)
 unfolding whatOf among _&_
 expr-range l =
     decided (isExpr l) (leb 1 (l .kind)) (leb (l .kind) 10)
     (λ h. let k = expr-is l h in rw (kind-e l (k .0) (k .1)) (small-e (k .0)))
-    (λ h. at-each (λ n. exprW (whatOf n)) 10 1 (l .kind) refl (leb-true 1 (l .kind) (left-of (leb 1 (l .kind)) (leb (l .kind) 10) h)) (omega (arith, leb-true (l .kind) 10 (right-of (leb 1 (l .kind)) (leb (l .kind) 10) h))))
+    (λ h. at-each (λ n. exprW (whatOf n)) 10 1 (l .kind) refl (leb-true 1 (l .kind) (left-of (leb 1 (l .kind)) (leb (l .kind) 10) h))
+    (omega (arith, leb-true (l .kind) 10 (right-of (leb 1 (l .kind)) (leb (l .kind) 10) h))))
 
+-- and so is a plan
 pub plan-range : (l : Label) → isPlan l ≡ (leb 32 (l .kind) && leb (l .kind) 43)
 unfolding whatOf among _&_
 plan-range l =
     decided (isPlan l) (leb 32 (l .kind)) (leb (l .kind) 43)
     (λ h. let k = plan-is l h in rw (kind-p l (k .0) (k .1)) (small-p (k .0)))
-    (λ h. at-each (λ n. planW (whatOf n)) 12 32 (l .kind) refl (leb-true 32 (l .kind) (left-of (leb 32 (l .kind)) (leb (l .kind) 43) h)) (omega (arith, leb-true (l .kind) 43 (right-of (leb 32 (l .kind)) (leb (l .kind) 43) h))))
+    (λ h. at-each (λ n. planW (whatOf n)) 12 32 (l .kind) refl (leb-true 32 (l .kind) (left-of (leb 32 (l .kind)) (leb (l .kind) 43) h))
+    (omega (arith, leb-true (l .kind) 43 (right-of (leb 32 (l .kind)) (leb (l .kind) 43) h))))
 
 abbrev of-kind : ℕ → Label
 of-kind k = record { kind = k; p = 0; q = 0; r = 0; lo = 0; hi = 0 }
 
+-- the same of the number alone
 pub expr-kind : (k : ℕ) → exprW (whatOf k) ≡ (leb 1 k && leb k 10)
 expr-kind k = expr-range (of-kind k)
 

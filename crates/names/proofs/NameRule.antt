@@ -1,11 +1,12 @@
 -- The rule of names of one record, as the code asks it: a reference's by its scope, a plan's by its role and its children.
 -- Assumes nothing.
 use mathlib.Core.Path.{_≡_, refl, sym, ap, subst, _∙_}
-use mathlib.Core.Bool.{true, false}
-use mathlib.Core.List.{List}
-use Prim.Native.Nat.{ℕ}
+use mathlib.Core.Bool.{Bool, true, false, not, _||_}
+use mathlib.Core.List.{List, [], _++_}
+use Prim.Native.Nat.{ℕ, _≤_, _<_}
 use native.Mathlib.Omega.{arith}
-use lib.Dec.{eqb}
+use lib.Dec.{eqb, leb}
+use borrow.Author.Tests.{eq-eqb, le-leb, leb-true}
 use Rattle.image.specs.Tree.{Label, Forest, none, node, Node}
 use Rattle.image.proofs.Stepping.{Step}
 use Rattle.plan.specs.Lists.{_&_}
@@ -15,18 +16,28 @@ use Rattle.plan.specs.Syntax.{nm}
 use Rattle.plan.proofs.Rebuilt.{kind-e}
 use Rattle.acceptance.specs.Names.{holders, sound}
 use Rattle.names.specs.Count.{counted, hits, input, role, roleP}
-use Rattle.names.specs.Fields.{Schema, nameOf, inputs, inputsBy, fieldsP, namesIn}
+use Rattle.names.specs.Fields.{Schema, nameOf, inputs, inputsBy, fieldsP, namesIn, joinFields, first, second}
 use Rattle.names.specs.Rules.{Scope, seen, nameOk, nameBy, nameP}
 use Rattle.names.specs.Scopes.{sortW}
-use Rattle.names.specs.Singles.{ownOf, ownSort, ownMode, apart}
-use Rattle.names.proofs.Counting.{skip-part}
+use Rattle.names.proofs.Counting.{skip-part, input-0}
 use Rattle.names.proofs.Scoping.{counted-name}
-use Rattle.names.proofs.Singling.{rule-by-role}
-use Rattle.names.proofs.Telling.{from-first}
+use Rattle.names.proofs.Singling.{input-sound}
 
 -- false is never true
 pub never : {A : Type 0} → false ≡ true → A
 never e = let z : _≡_ {A = ℕ} 0 1 = cc in absurd (omega arith)
+
+and-same : (a : Bool) → a & a ≡ a
+unfolding _&_
+and-same true = refl
+and-same false = refl
+
+-- what the code tests before it takes a plan as known
+pub both-sides : {r p q : ℕ} → p ≡ q → (not (eqb r 2) || leb p 4) ≡ true → r ≡ 2 → q ≤ 4
+both-sides {r} {p} {q} e h two = go (leb p 4) refl (rw (eq-eqb r 2 two) at h)
+  where
+    go : (b : Bool) → leb p 4 ≡ b → b ≡ true → q ≤ 4
+    go b g k = subst (λ (n : ℕ). n ≤ 4) e (leb-true p 4 (g ∙ k))
 
 module _ (c : Scope) (l : Label) (cs : Forest) where
   -- a reference
@@ -35,7 +46,8 @@ module _ (c : Scope) (l : Label) (cs : Forest) where
   rule-column e = ap (λ (n : ℕ). nameBy (whatOf n) c l cs) (sym e)
 
   -- by the fields that are counted in its scope
-  pub rule-held : {kind p q k : ℕ} → kind ≡ l .kind → p ≡ l .p → q ≡ l .q → kind ≡ 1 → k ≡ counted (hits 0 p q) (seen c) → eqb k 1 ≡ nameOk c l cs
+  pub rule-held : {kind p q k : ℕ} → kind ≡ l .kind → p ≡ l .p → q ≡ l .q → kind ≡ 1 → k ≡ counted (hits 0 p q) (seen c)
+      → eqb k 1 ≡ nameOk c l cs
   rule-held {kind} {p} {q} {k} hk hp hq one e =
       let same : nm p q ≡ nameOf l = rw (hp, hq) in
       ap (λ (n : ℕ). eqb n 1) (e ∙ counted-name p q (seen c) ∙ ap (holders (namesIn (seen c))) same) ∙ rule-column (sym hk ∙ one)
@@ -90,17 +102,16 @@ module _ (c : Scope) (l : Label) (cs : Forest) where
     role-is = R ∙ ap role (kind .1)
 
     -- a plan
-    pub rule-plan : apart (ownMode r) (ownOf (ownSort r) cs) ≡ nameOk c l cs
-    rule-plan =
-        ap (λ (n : ℕ). apart (ownMode n) (ownOf (ownSort n) cs)) role-is
-        ∙ sym (rule-by-role (kind .0) l cs) ∙ sym (rule-at (kind .0) (kind .1))
+    pub rule-plan : {b : Bool} → ((k : K.PlanKind) → r ≡ roleP k → b ≡ nameP k l cs (inputs cs)) → b ≡ nameOk c l cs
+    rule-plan e = e (kind .0) role-is ∙ sym (rule-at (kind .0) (kind .1))
 
-    -- the rule of a plan that is no join is that its schema is sound
-    own-rule : (k : K.PlanKind) → (roleP k ≡ 2 → ⊥) → nameP k l cs (inputs cs) ≡ sound (namesIn (fieldsP k l cs (inputs cs)))
+    -- the rule of a plan that is no semi or anti join is that its schema is sound
+    own-rule : (k : K.PlanKind) → (roleP k ≡ 2 → l .p ≤ 4) → nameP k l cs (inputs cs) ≡ sound (namesIn (fieldsP k l cs (inputs cs)))
+    unfolding joinFields
     own-rule K.TableScan e = refl
     own-rule K.Filter e = refl
     own-rule K.Projection e = refl
-    own-rule K.Join e = absurd (e refl)
+    own-rule K.Join e = rw (le-leb (l .p) 4 (e refl)) (and-same (sound (namesIn (first [] (inputs cs) ++ second [] (inputs cs)))))
     own-rule K.SubqueryAlias e = refl
     own-rule K.Union e = refl
     own-rule K.Distinct e = refl
@@ -110,20 +121,18 @@ module _ (c : Scope) (l : Label) (cs : Forest) where
     own-rule K.Aggregate e = refl
     own-rule K.Window e = refl
 
-    own-sound : (r ≡ 2 → ⊥) → nameOk c l cs ≡ sound (namesIn (fieldsP (kind .0) l cs (inputs cs)))
-    own-sound e = rule-at (kind .0) (kind .1) ∙ own-rule (kind .0) (λ q. e (role-is ∙ q))
-
     -- a plan that is known to be sound
-    pub rule-known : (r ≡ 2 → ⊥) → sound (namesIn (input 0 (inputs (node l cs none)))) ≡ true → true ≡ nameOk c l cs
+    pub rule-known : (r ≡ 2 → l .p ≤ 4) → sound (namesIn (input 0 (inputs (node l cs none)))) ≡ true → true ≡ nameOk c l cs
     unfolding input inputs
     rule-known e g =
-        sym (own-sound e ∙ ap (λ (w : What). sound (namesIn (input 0 (inputsBy w l cs (inputs cs) (inputs none))))) (sym (kind .1)) ∙ g)
+        sym (rule-at (kind .0) (kind .1) ∙ own-rule (kind .0) (λ q. e (role-is ∙ q))
+        ∙ ap (λ (w : What). sound (namesIn (input 0 (inputsBy w l cs (inputs cs) (inputs none))))) (sym (kind .1)) ∙ g)
 
-    -- its first input is sound where it has the same schema
-    pub sound-below : r ≡ 5 → nameOk c l cs ≡ true → sound (namesIn (input 0 (inputs cs))) ≡ true
+    -- its first input is sound, unless its parts make all its fields
+    pub sound-below : 1 < r → nameOk c l cs ≡ true → sound (namesIn (input 0 (inputs cs))) ≡ true
     sound-below e g =
-        ap (λ (s : Schema). sound (namesIn s)) (sym (from-first l cs (inputs cs) (kind .0) (omega (arith, role-is))))
-        ∙ sym (own-sound (λ q. omega arith)) ∙ g
+        subst (λ (s : Schema). sound (namesIn s) ≡ true) (input-0 (inputs cs))
+        (input-sound (kind .0) l cs (inputs cs) (subst (λ (n : ℕ). 1 < n) role-is e) (sym (rule-at (kind .0) (kind .1)) ∙ g))
 
 -- ---- what is known below and after a record
 
@@ -163,7 +172,8 @@ sort-of-plan (plan K.Limit) e = absurd (omega arith)
 sort-of-plan (plan K.Aggregate) e = absurd (omega arith)
 sort-of-plan (plan K.Window) e = absurd (omega arith)
 
-module _ {f : Forest} {s : List ℕ} {b at : ℕ} {part : List ℕ} {v : Node} (w : Step f s b at part v) (known : sound (namesIn (input 0 (inputs f))) ≡ true) where
+module _ {f : Forest} {s : List ℕ} {b at : ℕ} {part : List ℕ} {v : Node} (w : Step f s b at part v)
+    (known : sound (namesIn (input 0 (inputs f))) ≡ true) where
   -- the record's own schema, where it is a plan
   pub sound-first : sound (namesIn (input 0 (inputs (node (w .label) (w .below) none)))) ≡ true
   unfolding sound namesIn input inputs _&_

@@ -39,7 +39,8 @@ counted-name q n (f ∷ s) = step (f .name) (counted-name q n s)
     and false b x = refl
 
     step : (x : Name) → counted (hits 0 q n) s ≡ holders (namesIn s) (nm q n)
-        → cond (hits 0 q n x) (counted (hits 0 q n) s + 1) (counted (hits 0 q n) s) ≡ cond (same x (nm q n)) (suc (holders (namesIn s) (nm q n))) (holders (namesIn s) (nm q n))
+        → cond (hits 0 q n x) (counted (hits 0 q n) s + 1) (counted (hits 0 q n) s)
+        ≡ cond (same x (nm q n)) (suc (holders (namesIn s) (nm q n))) (holders (namesIn s) (nm q n))
     step (nm r m) e = rw e (and (eqb r q) (eqb m n) (holders (namesIn s) (nm q n)))
 
 -- a schema with nothing beside it
@@ -47,12 +48,15 @@ pub all-of : (s : Schema) → s ++ [] ≡ s
 all-of [] = refl
 all-of (f ∷ s) = ap (λ (t : Schema). f ∷ t) (all-of s)
 
+-- both inputs
 pub held-two : (h : Name → Bool) (s t : Schema) → counted h s + counted h t ≡ counted h (s ++ t)
 held-two h s t = sym (counted-++ h s t)
 
+-- one schema
 pub held-one : (h : Name → Bool) (s : Schema) → counted h s ≡ counted h (s ++ [])
 held-one h s = ap (counted h) (sym (all-of s))
 
+-- none
 pub held-nothing : (h : Name → Bool) → 0 ≡ counted h []
 unfolding counted
 held-nothing h = refl
@@ -77,11 +81,13 @@ module _ (n : ℕ) (a : n ≡ 32 → ⊥) (b : n ≡ 35 → ⊥) (d : n ≡ 37 �
   sort-rest (plan K.Aggregate) e = refl
   sort-rest (plan K.Window) e = refl
 
+  -- what is left of the kinds of plans hands down the first input
   pub sort-last : (x : Bool) → (leb 32 n && leb n 43) ≡ x → cond x 1 9 ≡ sortW (whatOf n)
   sort-last x e = rw (← (plan-kind n ∙ e)) (sort-rest (whatOf n) refl)
 
 -- ---- what is handed down
 
+-- a plan's scope by its number
 hand-p : (k : K.PlanKind) (cs : Forest) → handP k cs (inputs cs) ≡ scopeOf (sortP k) cs
 hand-p K.TableScan cs = refl
 hand-p K.Filter cs = rw (input-0 (inputs cs)) refl
@@ -96,30 +102,36 @@ hand-p K.Limit cs = rw (input-0 (inputs cs)) refl
 hand-p K.Aggregate cs = rw (input-0 (inputs cs)) refl
 hand-p K.Window cs = rw (input-0 (inputs cs)) refl
 
+-- a key pair's first child: the left input
 pair-first : (n : ℕ) (g : Forest) → over (scopeOf n g .left) [] ≡ scopeOf (cond (eqb n 2) 1 n) g
 pair-first n g = go (eqb n 1) refl (eqb n 2) refl (eqb n 3) refl (eqb n 4) refl
   where
-    go : (a : Bool) → eqb n 1 ≡ a → (b : Bool) → eqb n 2 ≡ b → (c : Bool) → eqb n 3 ≡ c → (d : Bool) → eqb n 4 ≡ d → over (scopeOf n g .left) [] ≡ scopeOf (cond b 1 n) g
+    go : (a : Bool) → eqb n 1 ≡ a → (b : Bool) → eqb n 2 ≡ b → (c : Bool) → eqb n 3 ≡ c → (d : Bool) → eqb n 4 ≡ d
+        → over (scopeOf n g .left) [] ≡ scopeOf (cond b 1 n) g
     go true ea b eb c ec d ed = rw (← eb, eqb-true n 1 ea) refl
     go false ea true eb c ec d ed = rw (eqb-true n 2 eb) refl
     go false ea false eb true ec d ed = rw (eqb-true n 3 ec) refl
     go false ea false eb false ec true ed = rw (eqb-true n 4 ed) refl
     go false ea false eb false ec false ed = rw (ea, eb, ec, ed) refl
 
+-- its other children: the right input
 pair-rest : (n : ℕ) (g : Forest) → over (scopeOf n g .right) [] ≡ scopeOf (cond (eqb n 2) 4 0) g
 pair-rest n g = go (eqb n 1) refl (eqb n 2) refl (eqb n 3) refl (eqb n 4) refl
   where
-    go : (a : Bool) → eqb n 1 ≡ a → (b : Bool) → eqb n 2 ≡ b → (c : Bool) → eqb n 3 ≡ c → (d : Bool) → eqb n 4 ≡ d → over (scopeOf n g .right) [] ≡ scopeOf (cond b 4 0) g
+    go : (a : Bool) → eqb n 1 ≡ a → (b : Bool) → eqb n 2 ≡ b → (c : Bool) → eqb n 3 ≡ c → (d : Bool) → eqb n 4 ≡ d
+        → over (scopeOf n g .right) [] ≡ scopeOf (cond b 4 0) g
     go true ea b eb c ec d ed = rw (← eb, eqb-true n 1 ea) refl
     go false ea true eb c ec d ed = rw (eqb-true n 2 eb) refl
     go false ea false eb true ec d ed = rw (eqb-true n 3 ec) refl
     go false ea false eb false ec true ed = rw (eqb-true n 4 ed) refl
     go false ea false eb false ec false ed = rw (ea, eb, ec, ed) refl
 
+-- 50 is a key pair
 no-pair : whatOf 50 ≡ unknown → ⊥
 unfolding whatOf K.among
 no-pair k = let z : _≡_ {A = ℕ} 0 1 = cc in omega arith
 
+-- a record that is no plan hands on the scope that it has, but for key pairs
 hand-q : (n : ℕ) (g : Forest) (l : Label) (cs : Forest) (w : What) → what l ≡ w → sortW w ≡ 9
     → handBy w (scopeOf n g) cs ≡ (scopeOf (firstSort (l .kind) n) g, scopeOf (restSort (l .kind) n) g)
 hand-q n g l cs (part K.PairPart) e z = rw (kind-w l K.PairPart e, ← pair-first n g, ← pair-rest n g) refl
@@ -154,7 +166,8 @@ hand-q n g l cs unknown e z = rw (ne-eqb (l .kind) 50 (λ q. let k : whatOf 50 �
 
 module _ {f : Forest} {s : List ℕ} {b at : ℕ} {part : List ℕ} {v : Node} (w : Step f s b at part v) where
   -- a plan hands its own scope to all its children
-  pub hand-plan : (c : Scope) (r : ℕ) → r ≡ sortW (whatOf (v .kind)) → (r ≡ 9 → ⊥) → hand c (w .label) (w .below) ≡ (scopeOf r (w .below), scopeOf r (w .below))
+  pub hand-plan : (c : Scope) (r : ℕ) → r ≡ sortW (whatOf (v .kind)) → (r ≡ 9 → ⊥)
+      → hand c (w .label) (w .below) ≡ (scopeOf r (w .below), scopeOf r (w .below))
   unfolding hand
   hand-plan c r e z = go (what (w .label)) (e ∙ ap (λ (k : ℕ). sortW (whatOf k)) (w .kind))
     where
@@ -191,18 +204,29 @@ hand-root l cs e = rw e (go (what l))
 
 -- ---- types in a scope
 
+-- a name's type in one schema
 pub type-one : (q n : ℕ) (s : Schema) → typed (hits 0 q n) s ≡ typeIn (s ++ []) (nm q n)
 type-one q n s = typed-name q n s ∙ ap (λ (t : Schema). typeIn t (nm q n)) (sym (all-of s))
 
-type-two : (q n : ℕ) (s t : Schema) → cond (eqb (counted (hits 0 q n) s) 0) (typed (hits 0 q n) t) (typed (hits 0 q n) s) ≡ typeIn (s ++ t) (nm q n)
+-- in two: that of the first which has it
+type-two : (q n : ℕ) (s t : Schema)
+    → cond (eqb (counted (hits 0 q n) s) 0) (typed (hits 0 q n) t) (typed (hits 0 q n) s) ≡ typeIn (s ++ t) (nm q n)
 type-two q n s t = sym (typed-++ (hits 0 q n) s t) ∙ typed-name q n (s ++ t)
 
+-- it is not in the left one
 pub type-right : (q n : ℕ) (s t : Schema) {k : ℕ} → k ≡ counted (hits 0 q n) s → k ≡ 0 → typed (hits 0 q n) t ≡ typeIn (s ++ t) (nm q n)
-type-right q n s t e z = ap (λ (b : Bool). cond b (typed (hits 0 q n) t) (typed (hits 0 q n) s)) (sym (eq-eqb (counted (hits 0 q n) s) 0 (sym e ∙ z))) ∙ type-two q n s t
+type-right q n s t e z =
+    ap (λ (b : Bool). cond b (typed (hits 0 q n) t) (typed (hits 0 q n) s)) (sym (eq-eqb (counted (hits 0 q n) s) 0 (sym e ∙ z)))
+    ∙ type-two q n s t
 
-pub type-left : (q n : ℕ) (s t : Schema) {k : ℕ} → k ≡ counted (hits 0 q n) s → (k ≡ 0 → ⊥) → typed (hits 0 q n) s ≡ typeIn (s ++ t) (nm q n)
-type-left q n s t e z = ap (λ (b : Bool). cond b (typed (hits 0 q n) t) (typed (hits 0 q n) s)) (sym (ne-eqb (counted (hits 0 q n) s) 0 (λ x. z (e ∙ x)))) ∙ type-two q n s t
+-- it is
+pub type-left : (q n : ℕ) (s t : Schema) {k : ℕ} → k ≡ counted (hits 0 q n) s → (k ≡ 0 → ⊥)
+    → typed (hits 0 q n) s ≡ typeIn (s ++ t) (nm q n)
+type-left q n s t e z =
+    ap (λ (b : Bool). cond b (typed (hits 0 q n) t) (typed (hits 0 q n) s)) (sym (ne-eqb (counted (hits 0 q n) s) 0 (λ x. z (e ∙ x))))
+    ∙ type-two q n s t
 
+-- no field has no type
 pub type-nothing : (x : Name) → 0 ≡ typeIn [] x
 unfolding typeIn
 type-nothing x = refl

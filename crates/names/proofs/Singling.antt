@@ -1,10 +1,11 @@
--- A schema is sound just if each field clashes with one field of it, itself, and there are not too many: what the code asks of a plan's children
+-- A schema is sound just if each field clashes with one field of it, itself, and there are not too many: what the code asks of a plan's
+-- children
 -- is the rule of the plan.
 -- Assumes nothing.
 use mathlib.Core.Path.{_≡_, refl, sym, ap, _∙_}
 use mathlib.Core.Bool.{Bool, true, false, cond, not, _&&_, _||_}
 use mathlib.Core.List.{List, [], _∷_, _++_, map}
-use Prim.Native.Nat.{ℕ, suc, _+_, _≤_}
+use Prim.Native.Nat.{ℕ, suc, _+_, _≤_, _<_}
 use native.Mathlib.Omega.{arith}
 use lib.Dec.{eqb, leb}
 use lib.ListN.{length, length-append}
@@ -42,6 +43,7 @@ unfolding allOf
 allOf-cong h k e [] = refl
 allOf-cong h k e (f ∷ s) = rw (e (f .name), allOf-cong h k e s) refl
 
+-- and counts by questions that agree
 counted-cong : (h k : Name → Bool) → ((x : Name) → h x ≡ k x) → (s : Schema) → counted h s ≡ counted k s
 unfolding counted
 counted-cong h k e [] = refl
@@ -66,6 +68,7 @@ eqb-sym a b = go (eqb b a) refl
     go true e = eq-eqb a b (sym (eqb-true b a e))
     go false e = ne-eqb a b (λ q. eqb-false b a e (sym q))
 
+-- a clash is mutual
 clash-sym : (x y : Name) → clash x y ≡ clash y x
 unfolding _&_
 clash-sym (nm q n) (nm r m) = rw (eqb-sym n m, eqb-sym q r) (ap (λ (b : Bool). eqb m n & b) (swap (eqb r q) (eqb q 0) (eqb r 0)))
@@ -77,6 +80,7 @@ clash-sym (nm q n) (nm r m) = rw (eqb-sym n m, eqb-sym q r) (ap (λ (b : Bool). 
     swap false false true = refl
     swap false false false = refl
 
+-- a name clashes with itself
 clash-self : (x : Name) → clash x x ≡ true
 unfolding _&_
 clash-self (nm q n) = rw (eq-eqb n n refl, eq-eqb q q refl)
@@ -102,6 +106,7 @@ asks-clash q n (nm r m) = rw (eqb-sym m n, eqb-sym r q) (go (eqb q r) (eqb r 0) 
 abbrev once : Schema → Name → Bool
 once s x = eqb (counted (clash x) s) 1
 
+-- no field of the rest clashes
 none-any : (x : Name) (s : Schema) → not (any (clash x) (namesIn s)) ≡ eqb (counted (clash x) s + 1) 1
 unfolding any counted namesIn
 none-any x [] = refl
@@ -112,26 +117,33 @@ none-any x (f ∷ s) = go (clash x (f .name)) (none-any x s)
     go true e = sym (ne-eqb (counted (clash x) s + 1 + 1) 1 (λ q. omega arith))
     go false e = e
 
+-- then it counts for none of the rest
 same-all : (f : Fld) (t s : Schema) → any (clash (f .name)) (namesIn s) ≡ false → allOf (once (f ∷ t)) s ≡ allOf (once t) s
 unfolding any allOf counted namesIn _&_
 same-all f t [] e = refl
 same-all f t (g ∷ s) e = go (clash (f .name) (g .name)) refl (λ h. same-all f t s h) e
   where
-    go : (b : Bool) → clash (f .name) (g .name) ≡ b → (any (clash (f .name)) (namesIn s) ≡ false → allOf (once (f ∷ t)) s ≡ allOf (once t) s)
-        → (b || any (clash (f .name)) (namesIn s)) ≡ false → (once (f ∷ t) (g .name) & allOf (once (f ∷ t)) s) ≡ (once t (g .name) & allOf (once t) s)
+    go : (b : Bool) → clash (f .name) (g .name) ≡ b
+        → (any (clash (f .name)) (namesIn s) ≡ false → allOf (once (f ∷ t)) s ≡ allOf (once t) s)
+        → (b || any (clash (f .name)) (namesIn s)) ≡ false
+        → (once (f ∷ t) (g .name) & allOf (once (f ∷ t)) s) ≡ (once t (g .name) & allOf (once t) s)
     go true q r h = let z : _≡_ {A = ℕ} 0 1 = cc in absurd (omega arith)
     go false q r h = rw (clash-sym (g .name) (f .name), q, r h) refl
 
+-- no two fields clash if each clashes with one
 distinct-once : (s : Schema) → distinct-names (namesIn s) ≡ allOf (once s) s
 unfolding allOf counted namesIn _&_
 distinct-once [] = refl
 distinct-once (f ∷ s) = go (any (clash (f .name)) (namesIn s)) refl (distinct-once s)
   where
     go : (b : Bool) → any (clash (f .name)) (namesIn s) ≡ b → distinct-names (namesIn s) ≡ allOf (once s) s
-        → (not b & distinct-names (namesIn s)) ≡ (eqb (cond (clash (f .name) (f .name)) (counted (clash (f .name)) s + 1) (counted (clash (f .name)) s)) 1 & allOf (once (f ∷ s)) s)
+        → (not b & distinct-names (namesIn s))
+        ≡ (eqb (cond (clash (f .name) (f .name)) (counted (clash (f .name)) s + 1) (counted (clash (f .name)) s)) 1 & allOf
+        (once (f ∷ s)) s)
     go true e r = rw (clash-self (f .name), ← none-any (f .name) s, e)
     go false e r = rw (clash-self (f .name), ← none-any (f .name) s, e) (r ∙ sym (same-all f s s e))
 
+-- and that is what the question for clashes finds
 distinct-single : (s : Schema) → distinct-names (namesIn s) ≡ allOf (single s 3) s
 distinct-single s = distinct-once s ∙ allOf-cong (once s) (single s 3) agree s
   where
@@ -140,11 +152,13 @@ distinct-single s = distinct-once s ∙ allOf-cong (once s) (single s 3) agree s
 
 -- ---- sound schemas
 
+-- as many names as fields
 length-names : (s : Schema) → length (namesIn s) ≡ length s
 unfolding namesIn
 length-names [] = refl
 length-names (f ∷ s) = ap suc (length-names s)
 
+-- a schema is sound if the question tells its fields apart
 pub sound-apart : (s : Schema) → sound (namesIn s) ≡ apart 3 s
 unfolding sound
 sound-apart s = rw (distinct-single s, length-names s) refl
@@ -154,7 +168,13 @@ pub renamed-apart : (p : ℕ) (s : Schema) → sound (namesIn (map (requalify p)
 unfolding sound
 renamed-apart p s =
     let t : Schema = map (requalify p) s in
-    rw (distinct-single t, length-names t, length-renamed s, allOf-renamed (single t 3) p s, allOf-cong (λ x. single t 3 (called true p x)) (single s 1) agree s) refl
+    rw (
+      distinct-single t,
+      length-names t,
+      length-renamed s,
+      allOf-renamed (single t 3) p s,
+      allOf-cong (λ x. single t 3 (called true p x)) (single s 1) agree s,
+    ) refl
   where
     length-renamed : (s : Schema) → length (map (requalify p) s) ≡ length s
     length-renamed [] = refl
@@ -179,7 +199,8 @@ unfolding namesIn made
 names-made c d none = refl
 names-made c d (node l cs ns) = go (what l) (names-made c d ns)
   where
-    go : (w : What) → namesIn (made c ns) ≡ namesIn (made d ns) → namesIn (madeBy w c l cs (made c ns)) ≡ namesIn (madeBy w d l cs (made d ns))
+    go : (w : What) → namesIn (made c ns) ≡ namesIn (made d ns)
+        → namesIn (madeBy w c l cs (made c ns)) ≡ namesIn (madeBy w d l cs (made d ns))
     go (expr k) e = e
     go (plan k) e = e
     go unknown e = e
@@ -190,6 +211,7 @@ names-made c d (node l cs ns) = go (what l) (names-made c d ns)
     go (part K.AggPart) e = ap (λ (xs : List Name). nameOf l ∷ xs) e
     go (part K.WinPart) e = ap (λ (xs : List Name). nameOf l ∷ xs) e
 
+-- the names of two schemas
 names-++ : (s t : Schema) → namesIn (s ++ t) ≡ namesIn s ++ namesIn t
 unfolding namesIn
 names-++ [] t = refl
@@ -197,6 +219,7 @@ names-++ (f ∷ s) t = ap (λ (xs : List Name). f .name ∷ xs) (names-++ s t)
 
 -- ---- both inputs of a join together
 
+-- where none of all clashes, none of the first does
 any-left : (x : Name) (a b : List Name) → not (any (clash x) (a ++ b)) ≡ true → not (any (clash x) a) ≡ true
 unfolding any
 any-left x [] b h = refl
@@ -207,10 +230,12 @@ any-left x (y ∷ a) b h = go (clash x y) (λ k. any-left x a b k) h
     go true r k = k
     go false r k = r k
 
+-- so the first names are distinct
 distinct-left : (a b : List Name) → distinct-names (a ++ b) ≡ true → distinct-names a ≡ true
 distinct-left [] b h = refl
 distinct-left (x ∷ a) b h = and-intro (any-left x a b (and-l _ _ h)) (distinct-left a b (and-r _ _ h))
 
+-- and the others
 distinct-right : (a b : List Name) → distinct-names (a ++ b) ≡ true → distinct-names b ≡ true
 distinct-right [] b h = h
 distinct-right (x ∷ a) b h = distinct-right a b (and-r _ _ h)
@@ -219,7 +244,12 @@ distinct-right (x ∷ a) b h = distinct-right a b (and-r _ _ h)
 module _ (a b : List Name) (h : sound (a ++ b) ≡ true) where
   few : length a + length b ≤ maxFields
   unfolding sound
-  few = omega (arith, leb-true (length (a ++ b)) maxFields (and-r (distinct-names (a ++ b)) (leb (length (a ++ b)) maxFields) h), length-append a b)
+  few =
+      omega (
+        arith,
+        leb-true (length (a ++ b)) maxFields (and-r (distinct-names (a ++ b)) (leb (length (a ++ b)) maxFields) h),
+        length-append a b,
+      )
 
   sound-left : sound a ≡ true
   unfolding sound
@@ -243,38 +273,105 @@ join-sound p s t = go (sound (namesIn (s ++ t))) refl
     go true e = rw (side (leb p 4) (eqb p 5 || eqb p 7) e) (true-and true)
     go false e = and-false _
 
+-- ---- below an alias
+
+-- the names as an alias calls them
+names-renamed : (p : ℕ) (s : Schema) → namesIn (map (requalify p) s) ≡ map (called true p) (namesIn s)
+unfolding namesIn requalify
+names-renamed p [] = refl
+names-renamed p (f ∷ s) = step (f .name) (names-renamed p s)
+  where
+    step : (x : Name) → namesIn (map (requalify p) s) ≡ map (called true p) (namesIn s)
+        → namesIn (map (requalify p) (record { name = x; ty = f .ty } ∷ s)) ≡ called true p x ∷ map (called true p) (namesIn s)
+    step (nm r m) e = rw e refl
+
+-- what clashes below clashes above
+clash-renamed : (p : ℕ) (x y : Name) → clash x y ≡ true → clash (called true p x) (called true p y) ≡ true
+clash-renamed p (nm q n) (nm r m) e = and-intro (and-l _ _ e) (rw (eq-eqb p p refl) refl)
+
+any-renamed : (p : ℕ) (x : Name) (a : List Name) → not (any (clash (called true p x)) (map (called true p) a)) ≡ true
+    → not (any (clash x) a) ≡ true
+unfolding any
+any-renamed p x [] h = refl
+any-renamed p x (y ∷ a) h =
+    go (clash x y) (clash (called true p x) (called true p y)) (clash-renamed p x y) (λ k. any-renamed p x a k) h
+  where
+    go : (c d : Bool) → (c ≡ true → d ≡ true)
+        → (not (any (clash (called true p x)) (map (called true p) a)) ≡ true → not (any (clash x) a) ≡ true)
+        → not (d || any (clash (called true p x)) (map (called true p) a)) ≡ true → not (c || any (clash x) a) ≡ true
+    go false false f r k = r k
+    go false true f r k = let z : _≡_ {A = ℕ} 0 1 = cc in absurd (omega arith)
+    go true true f r k = k
+    go true false f r k = let e : false ≡ true = f refl in let z : _≡_ {A = ℕ} 0 1 = cc in absurd (omega arith)
+
+distinct-renamed : (p : ℕ) (a : List Name) → distinct-names (map (called true p) a) ≡ true → distinct-names a ≡ true
+distinct-renamed p [] h = refl
+distinct-renamed p (x ∷ a) h = and-intro (any-renamed p x a (and-l _ _ h)) (distinct-renamed p a (and-r _ _ h))
+
+length-map : (p : ℕ) (a : List Name) → length (map (called true p) a) ≡ length a
+length-map p [] = refl
+length-map p (x ∷ a) = ap suc (length-map p a)
+
+-- where an alias is sound, its input is
+sound-renamed : (p : ℕ) (a : List Name) → sound (map (called true p) a) ≡ true → sound a ≡ true
+unfolding sound
+sound-renamed p a h = and-intro (distinct-renamed p a (and-l _ _ h)) (rw length-map at (and-r _ _ h))
+
+-- where a plan keeps the rule its first input is sound, unless its parts make all its fields
+pub input-sound : (k : K.PlanKind) (l : Label) (cs : Forest) (ins : List Schema) → 1 < roleP k → nameP k l cs ins ≡ true
+    → sound (namesIn (first [] ins)) ≡ true
+input-sound K.TableScan l cs ins e h = absurd (omega arith)
+input-sound K.Filter l cs ins e h = h
+input-sound K.Projection l cs ins e h = absurd (omega arith)
+input-sound K.Join l cs ins e h = sound-left (namesIn (first [] ins)) (namesIn (second [] ins)) (rw names-++ at (and-r _ _ h))
+input-sound K.SubqueryAlias l cs ins e h = sound-renamed (l .p) (namesIn (first [] ins)) (rw names-renamed at h)
+input-sound K.Union l cs ins e h = h
+input-sound K.Distinct l cs ins e h = h
+input-sound K.Sort l cs ins e h = h
+input-sound K.Repartition l cs ins e h = h
+input-sound K.Limit l cs ins e h = h
+input-sound K.Aggregate l cs ins e h = absurd (omega arith)
+input-sound K.Window l cs ins e h = sound-left (namesIn (first [] ins)) (namesIn (made (first [] ins) cs)) (rw names-++ at h)
+
 -- ---- the rule of a plan
 
 -- what stands alone in a scope
 apart-alone : (mode : ℕ) (s : Schema) → apart mode s ≡ apart mode (s ++ [])
 apart-alone mode s = ap (apart mode) (sym (all-of s))
 
+-- a schema that stands alone
 sound-alone : (s t : Schema) → s ≡ t → sound (namesIn s) ≡ apart 3 (t ++ [])
 sound-alone s t e = ap (λ (u : Schema). sound (namesIn u)) e ∙ sound-apart t ∙ apart-alone 3 t
 
+-- one that the parts make
 sound-made : (c : Schema) (f : Forest) → sound (namesIn (made c f)) ≡ apart 3 (made [] f ++ [])
 sound-made c f = ap sound (names-made c [] f) ∙ sound-alone (made [] f) (made [] f) refl
 
--- the rule of a plan is that the schema which the code reads off its children is told apart
-pub rule-by-role : (k : K.PlanKind) (l : Label) (cs : Forest)
+-- by the kind of the plan
+by-kind : (k : K.PlanKind) (l : Label) (cs : Forest)
     → nameP k l cs (inputs cs) ≡ apart (ownMode (roleP k)) (ownOf (ownSort (roleP k)) cs)
-rule-by-role K.TableScan l cs = sound-made [] cs
-rule-by-role K.Filter l cs = sound-alone _ _ (input-0 (inputs cs))
-rule-by-role K.Projection l cs = sound-made (first [] (inputs cs)) cs
-rule-by-role K.Join l cs =
+by-kind K.TableScan l cs = sound-made [] cs
+by-kind K.Filter l cs = sound-alone _ _ (input-0 (inputs cs))
+by-kind K.Projection l cs = sound-made (first [] (inputs cs)) cs
+by-kind K.Join l cs =
     join-sound (l .p) (first [] (inputs cs)) (second [] (inputs cs))
     ∙ rw (input-0 (inputs cs), input-1 (inputs cs)) (sound-apart (input 0 (inputs cs) ++ input 1 (inputs cs)))
-rule-by-role K.SubqueryAlias l cs = renamed-apart (l .p) (first [] (inputs cs)) ∙ rw (input-0 (inputs cs)) (apart-alone 1 (input 0 (inputs cs)))
-rule-by-role K.Union l cs = sound-alone _ _ (input-0 (inputs cs))
-rule-by-role K.Distinct l cs = sound-alone _ _ (input-0 (inputs cs))
-rule-by-role K.Sort l cs = sound-alone _ _ (input-0 (inputs cs))
-rule-by-role K.Repartition l cs = sound-alone _ _ (input-0 (inputs cs))
-rule-by-role K.Limit l cs = sound-alone _ _ (input-0 (inputs cs))
-rule-by-role K.Aggregate l cs = sound-made (first [] (inputs cs)) cs
-rule-by-role K.Window l cs =
+by-kind K.SubqueryAlias l cs = renamed-apart (l .p) (first [] (inputs cs)) ∙ rw (input-0 (inputs cs)) (apart-alone 1 (input 0 (inputs cs)))
+by-kind K.Union l cs = sound-alone _ _ (input-0 (inputs cs))
+by-kind K.Distinct l cs = sound-alone _ _ (input-0 (inputs cs))
+by-kind K.Sort l cs = sound-alone _ _ (input-0 (inputs cs))
+by-kind K.Repartition l cs = sound-alone _ _ (input-0 (inputs cs))
+by-kind K.Limit l cs = sound-alone _ _ (input-0 (inputs cs))
+by-kind K.Aggregate l cs = sound-made (first [] (inputs cs)) cs
+by-kind K.Window l cs =
     ap sound (names-++ s (made s cs) ∙ ap (λ (xs : List Name). namesIn s ++ xs) (names-made s [] cs) ∙ sym (names-++ s (made [] cs)))
     ∙ sound-apart (s ++ made [] cs)
     ∙ ap (λ (u : Schema). apart 3 (u ++ made [] cs)) (input-0 (inputs cs))
   where
     s : Schema
     s = first [] (inputs cs)
+
+-- the rule of a plan is that the schema which the code reads off its children is told apart
+pub rule-by-role : {r : ℕ} (k : K.PlanKind) (l : Label) (cs : Forest) → r ≡ roleP k
+    → apart (ownMode r) (ownOf (ownSort r) cs) ≡ nameP k l cs (inputs cs)
+rule-by-role k l cs e = ap (λ (n : ℕ). apart (ownMode n) (ownOf (ownSort n) cs)) e ∙ sym (by-kind k l cs)

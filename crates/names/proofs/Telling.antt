@@ -59,7 +59,8 @@ module _ (h : Name → Bool) where
 
     -- a part that makes none
     pub made-other : x ≡ false → allOf h (made c (w .after)) ≡ allOf h (made c f)
-    made-other z = sym (made-by ∙ ap (λ (k : Bool). cond k (h (nm (v .p) (v .q)) & allOf h (made c (w .after))) (allOf h (made c (w .after)))) z)
+    made-other z =
+        sym (made-by ∙ ap (λ (k : Bool). cond k (h (nm (v .p) (v .q)) & allOf h (made c (w .after))) (allOf h (made c (w .after)))) z)
 
     -- a part whose field fails
     pub made-fails : x ≡ true → h (nm (v .p) (v .q)) ≡ false → false ≡ allOf h (made c f)
@@ -117,7 +118,8 @@ own-two : (r p q : ℕ) → r ≡ 2 → p ≡ q → own 2 q ≡ own r p
 own-two r p q e g = rw (e, g) refl
 
 -- the schema of a plan, by its role, as the code goes
-module _ {f : Forest} {s : List ℕ} {b at : ℕ} {part : List ℕ} {v : Node} (w : Step f s b at part v) (r : ℕ) (R : r ≡ role (whatOf (v .kind))) (k : ℕ) (zero-k : k ≡ 0) where
+module _ {f : Forest} {s : List ℕ} {b at : ℕ} {part : List ℕ} {v : Node} (w : Step f s b at part v) (r : ℕ)
+    (R : r ≡ role (whatOf (v .kind))) (k : ℕ) (zero-k : k ≡ 0) where
   -- the schemas of its inputs
   abbrev ins : List Schema
   ins = inputs (w .below)
@@ -162,13 +164,15 @@ module _ {f : Forest} {s : List ℕ} {b at : ℕ} {part : List ℕ} {v : Node} (
 
   module _ (h : Name → Bool) where
     -- where the input that is asked fails, the plan does
-    pub held-fails : (r ≡ 0 → ⊥) → (r ≡ 1 → ⊥) → (r ≡ 3 → ⊥) → allOf h (input (own r (v .p)) ins) ≡ false → false ≡ allOf h (input k (inputs f))
+    pub held-fails : (r ≡ 0 → ⊥) → (r ≡ 1 → ⊥) → (r ≡ 3 → ⊥) → allOf h (input (own r (v .p)) ins) ≡ false
+        → false ≡ allOf h (input k (inputs f))
     unfolding _&_
     held-fails z a d y = sym (go (eqb r 2) refl (leb (v .p) 4) refl (eqb r 4) refl)
       where
         go : (i : Bool) → eqb r 2 ≡ i → (j : Bool) → leb (v .p) 4 ≡ j → (n : Bool) → eqb r 4 ≡ n → allOf h (input k (inputs f)) ≡ false
         go true e true p n g =
-            ap (allOf h) (fields-both (eqb-true r 2 e) (leb-true (v .p) 4 p)) ∙ allOf-++ h (input (own r (v .p)) ins) (input 1 ins) ∙ rw y refl
+            ap (allOf h) (fields-both (eqb-true r 2 e) (leb-true (v .p) 4 p)) ∙ allOf-++ h (input (own r (v .p)) ins) (input 1 ins)
+            ∙ rw y refl
         go true e false p n g = ap (allOf h) (fields-side (eqb-true r 2 e) (leb-false (v .p) 4 p)) ∙ y
         go false e j p true g =
             let c = fields-more (eqb-true r 4 g) in
@@ -184,7 +188,8 @@ module _ {f : Forest} {s : List ℕ} {b at : ℕ} {part : List ℕ} {v : Node} (
     held-side e p y = sym (ap (allOf h) (fields-side e p) ∙ y)
 
     -- a window with its parts
-    pub held-more : r ≡ 4 → allOf h (input (own r (v .p)) ins) ≡ true → (c : Schema) × (allOf h (made c (w .below)) ≡ allOf h (input k (inputs f)))
+    pub held-more : r ≡ 4 → allOf h (input (own r (v .p)) ins) ≡ true
+        → (c : Schema) × (allOf h (made c (w .below)) ≡ allOf h (input k (inputs f)))
     unfolding _&_
     held-more e y =
         let c = fields-more e in
@@ -254,7 +259,8 @@ unfolding counted
 counted-all q n [] = refl
 counted-all q n (f ∷ s) = step (f .name) (counted-all q n s)
   where
-    step : (x : Name) → counted (hits 2 q n) s ≡ length s → cond (hits 2 q n x) (counted (hits 2 q n) s + 1) (counted (hits 2 q n) s) ≡ suc (length s)
+    step : (x : Name) → counted (hits 2 q n) s ≡ length s
+        → cond (hits 2 q n x) (counted (hits 2 q n) s + 1) (counted (hits 2 q n) s) ≡ suc (length s)
     step (nm r m) e = rw e (omega arith)
 
 module _ (mode : ℕ) (s : Schema) {k : ℕ} (e : k ≡ counted (hits 2 0 0) s) where

@@ -1,12 +1,10 @@
--- Fields of a schema counted by a question: 0 those with the qualifier and the name, 1 those with the name, 2 all, 3 those that clash with it,
+-- Fields of a schema counted by a question: 0 those with the qualifier and the name, 1 those with the name, 2 all, 3 those that clash,
 -- else none.
 use mathlib.Core.Bool.{Bool, true, false, cond, _&&_, _||_}
 use mathlib.Core.List.{List, [], _∷_}
 use Prim.Native.Nat.{ℕ, zero, suc, _+_}
 use lib.Dec.{eqb, leb}
-use Rattle.plan.specs.Kinds.{What, expr, plan, part, unknown, PlanKind, TableScan, Filter, Projection, Join, SubqueryAlias, Union, Distinct}
-use Rattle.plan.specs.Kinds.{Sort, Repartition, Limit, Aggregate, Window, PartKind, FieldPart, EntryPart, PairPart, KeyPart, AggPart}
-use Rattle.plan.specs.Kinds.{WinPart}
+use Rattle.plan.specs.Kinds.{What, expr, plan, part, unknown, PlanKind, TableScan, Filter, Projection, Join, SubqueryAlias, Union, Distinct, Sort, Repartition, Limit, Aggregate, Window, PartKind, FieldPart, EntryPart, PairPart, KeyPart, AggPart, WinPart}
 use Rattle.plan.specs.Syntax.{Name, nm}
 use Rattle.names.specs.Fields.{Schema}
 
@@ -14,12 +12,16 @@ use Rattle.names.specs.Fields.{Schema}
 abbrev pub near : ℕ → ℕ → Bool
 near q r = (eqb r q || eqb r 0) || eqb q 0
 
+-- the question finds the field with the qualifier r and the name m
 abbrev pub hit : ℕ → ℕ → ℕ → ℕ → ℕ → Bool
-hit mode q n r m = cond (eqb mode 0) (eqb r q && eqb m n) (cond (eqb mode 1) (eqb m n) (cond (eqb mode 3) (near q r && eqb m n) (eqb mode 2)))
+hit mode q n r m =
+    cond (eqb mode 0) (eqb r q && eqb m n) (cond (eqb mode 1) (eqb m n) (cond (eqb mode 3) (near q r && eqb m n) (eqb mode 2)))
 
+-- the same of a name
 abbrev pub hits : ℕ → ℕ → ℕ → Name → Bool
 hits mode q n (nm r m) = hit mode q n r m
 
+-- how many fields it finds
 unfoldable pub counted : (Name → Bool) → Schema → ℕ
 counted h [] = 0
 counted h (f ∷ s) = cond (h (f .name)) (counted h s + 1) (counted h s)
@@ -45,7 +47,8 @@ makes (plan k) = false
 makes (part k) = makesQ k
 makes unknown = false
 
--- where a plan has its fields from: 1 its parts, 2 its inputs as a join, 3 its input renamed, 4 its input and its parts, 5 its first input; 0 no plan
+-- where a plan has its fields from: 1 its parts, 2 its inputs as a join, 3 its input renamed, 4 its input and its parts, 5 its first input;
+-- 0 no plan
 abbrev pub roleP : PlanKind → ℕ
 roleP TableScan = 1
 roleP Filter = 5

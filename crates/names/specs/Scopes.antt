@@ -5,14 +5,17 @@ use mathlib.Core.List.{[]}
 use Prim.Native.Nat.{ℕ}
 use lib.Dec.{eqb}
 use Rattle.image.specs.Tree.{Forest}
-use Rattle.plan.specs.Kinds.{What, expr, plan, part, unknown, PlanKind, TableScan, Filter, Projection, Join, SubqueryAlias, Union, Distinct}
-use Rattle.plan.specs.Kinds.{Sort, Repartition, Limit, Aggregate, Window}
+use Rattle.plan.specs.Kinds.{What, expr, plan, part, unknown, PlanKind, TableScan, Filter, Projection, Join, SubqueryAlias, Union, Distinct, Sort, Repartition, Limit, Aggregate, Window}
 use Rattle.names.specs.Fields.{made, inputs}
 use Rattle.names.specs.Rules.{Scope, over}
 use Rattle.names.specs.Count.{input}
 
+-- the scope with this number
 abbrev pub scopeOf : ℕ → Forest → Scope
-scopeOf n f = cond (eqb n 1) (over (input 0 (inputs f)) []) (cond (eqb n 2) (over (input 0 (inputs f)) (input 1 (inputs f))) (cond (eqb n 3) (over (made [] f) []) (cond (eqb n 4) (over (input 1 (inputs f)) []) (over [] []))))
+scopeOf n f =
+    cond (eqb n 1) (over (input 0 (inputs f)) [])
+    (cond (eqb n 2) (over (input 0 (inputs f)) (input 1 (inputs f)))
+    (cond (eqb n 3) (over (made [] f) []) (cond (eqb n 4) (over (input 1 (inputs f)) []) (over [] []))))
 
 -- what a plan hands to its children; 9 for no plan
 abbrev pub sortP : PlanKind → ℕ
@@ -35,9 +38,10 @@ sortW (plan k) = sortP k
 sortW (part k) = 9
 sortW unknown = 9
 
--- what a record that is no plan hands to its first child, and to the others
+-- what a record that is no plan hands to its first child
 abbrev pub firstSort : ℕ → ℕ → ℕ
 firstSort k n = cond (eqb k 50) (cond (eqb n 2) 1 n) n
 
+-- and to the others
 abbrev pub restSort : ℕ → ℕ → ℕ
 restSort k n = cond (eqb k 50) (cond (eqb n 2) 4 0) n

@@ -30,7 +30,8 @@ single s mode (nm r m) = eqb (counted (hits mode r m) s) 1
 abbrev pub lone : Schema → ℕ → Bool → ℕ → Name → Bool
 lone s mode renamed to x = single s mode (called renamed to x)
 
--- The names of a plan's schema, of its children: those that a scope has, or for 5 those of the first input and then those that the parts make.
+-- The names of a plan's schema, of its children: those that a scope has, or for 5 those of the first input and then those that the parts
+-- make.
 abbrev pub ownOf : ℕ → Forest → Schema
 ownOf n f = cond (eqb n 5) (input 0 (inputs f) ++ made [] f) (seen (scopeOf n f))
 

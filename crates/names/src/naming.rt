@@ -23,7 +23,7 @@ ghost use Rattle.names.specs.Rules.{nameOk, hand, badNames};
 ghost use Rattle.names.specs.Scopes.{scopeOf};
 
 // Whether the record keeps the rule: `part` begins there, v is what was looked at, the scope of the slice g and the number `here` is what it
-// stands over. A plan that is known to be sound is not tested again, but a join's two inputs are.
+// stands over. A plan that is known to be sound is not tested again, but the two inputs of a semi or anti join are.
 fn name_ok(
     part: &[u8],
     at: usize,
@@ -31,27 +31,30 @@ fn name_ok(
     role: usize,
     known: bool,
     g: &[u8],
-    base: usize,
+    gb: usize,
     ga: usize,
     here: usize,
 ) -> bool
-    requires { ⌜ Chained (now part) at (v .first) × Chained (now g) base ga × (role ≡ Count.role (whatOf (v .kind))) ⌝ }
-    ensures { λ b. ⌜ ((l : Label) (cs e : Forest) → v .kind ≡ l .kind → v .p ≡ l .p → v .q ≡ l .q → Linked cs (now (part .entry)) at (v .first) → Linked e (now (g .entry)) base ga → (known ≡ true → sound (namesIn (input 0 (inputs (node l cs none)))) ≡ true) → b ≡ nameOk (scopeOf here e) l cs) ⌝ }
+    requires { ⌜ Chained (now part) at (v .first) × Chained (now g) gb ga × (role ≡ Count.role (whatOf (v .kind))) ⌝ }
+    ensures { λ b. ⌜ ((l : Label) (cs e : Forest) → v .kind ≡ l .kind → v .p ≡ l .p → v .q ≡ l .q
+        → Linked cs (now (part .entry)) at (v .first) → Linked e (now (g .entry)) gb ga
+        → (known ≡ true → sound (namesIn (input 0 (inputs (node l cs none)))) ≡ true)
+        → b ≡ nameOk (scopeOf here e) l cs) ⌝ }
 {
     if v.kind == 1 {
-        return held_in(g, base, ga, here, 0, v.p, v.q) == 1;
+        return held_in(g, gb, ga, here, 0, v.p, v.q) == 1;
     }
     if role == 0 {
         return true;
     }
-    if known & (role != 2) {
+    if known & ((role != 2) | (v.p <= 4)) {
         return true;
     }
     is_sound(part, at, v.first, role)
 }
 
 // The lowest record that breaks the rule, of the trees from record `at` on: the first stands over the scope `here`, the others over `after`.
-// `known`: the first plan among them has the schema of its parent, which is sound.
+// `known`: the first plan among them is sound, since its fields are among those of its parent, which is.
 pub fn bad_name(
     s: &[u8],
     base: usize,
@@ -64,7 +67,9 @@ pub fn bad_name(
     known: bool,
 ) -> Place
     requires { ⌜ Chained (now s) base at × Chained (now g) gb ga ⌝ }
-    ensures { λ r. ⌜ ((f e : Forest) → Linked f (now (s .entry)) base at → Linked e (now (g .entry)) gb ga → (known ≡ true → sound (namesIn (input 0 (inputs f))) ≡ true) → r ≡ placeOf (lowest nameOk hand (scopeOf here e) (scopeOf after e) at f)) ⌝ }
+    ensures { λ r. ⌜ ((f e : Forest) → Linked f (now (s .entry)) base at → Linked e (now (g .entry)) gb ga
+        → (known ≡ true → sound (namesIn (input 0 (inputs f))) ≡ true)
+        → r ≡ placeOf (lowest nameOk hand (scopeOf here e) (scopeOf after e) at f)) ⌝ }
 {
     if at == 0 {
         return Place::Nowhere;
@@ -93,7 +98,7 @@ pub fn bad_name(
         }
     } else {
         let sort = sort_of(v.kind);
-        let under = bad_name(part, at, v.first, part, at, v.first, sort, sort, role == 5);
+        let under = bad_name(part, at, v.first, part, at, v.first, sort, sort, 1 < role);
         match under {
             Place::At(r) => Place::At(r),
             Place::Nowhere => bad_name(s, base, v.next, g, gb, ga, after, after, false),
@@ -112,5 +117,5 @@ pub fn bad_names(s: &[u8]) -> Place
         return Place::At(0);
     }
     let sort = sort_of(v.kind);
-    bad_name(s, 0, v.first, s, 0, v.first, sort, sort, role == 5)
+    bad_name(s, 0, v.first, s, 0, v.first, sort, sort, 1 < role)
 }

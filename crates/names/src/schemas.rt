@@ -10,12 +10,14 @@ use image::records::from_record;
 use image::records::look;
 ghost use mathlib.Core.Path.{_≡_};
 ghost use mathlib.Core.Bool.{cond};
-ghost use Rattle.image.specs.Tree.{Forest, Linked};
+ghost use Rattle.image.specs.Tree.{Label, Forest, Linked};
+ghost use Rattle.plan.specs.Kinds.{PlanKind};
 ghost use Rattle.image.specs.Places.{Chained};
 ghost use Rattle.plan.specs.Syntax.{nm};
 ghost use Rattle.names.specs.Fields.{Schema, made, inputs};
-ghost use Rattle.names.specs.Count.{counted, hits, input};
-ghost use Rattle.names.specs.Singles.{allOf, single, lone, ownOf, ownSort, ownMode, apart};
+ghost use Rattle.names.specs.Count.{counted, hits, input, roleP};
+ghost use Rattle.names.specs.Rules.{nameP};
+ghost use Rattle.names.specs.Singles.{allOf, single, lone, ownOf, ownSort, ownMode};
 
 // The schema whose fields are told apart: the children of its plan, which of their fields it has, and the question that tells them.
 pub struct Whole {
@@ -57,7 +59,8 @@ fn qualifier(renamed: bool, to: usize, p: usize) -> usize
 // Whether each field that the parts from record `at` on make is told apart.
 fn all_made(g: &[u8], w: Whole, s: &[u8], base: usize, at: usize, renamed: bool, to: usize) -> bool
     requires { ⌜ Chained (now g) (w .base) (w .at) × Chained (now s) base at ⌝ }
-    ensures { λ b. ⌜ ((e f : Forest) (c : Schema) → Linked e (now (g .entry)) (w .base) (w .at) → Linked f (now (s .entry)) base at → b ≡ allOf (lone (ownOf (w .sort) e) (w .mode) renamed to) (made c f)) ⌝ }
+    ensures { λ b. ⌜ ((e f : Forest) (c : Schema) → Linked e (now (g .entry)) (w .base) (w .at) → Linked f (now (s .entry)) base at
+        → b ≡ allOf (lone (ownOf (w .sort) e) (w .mode) renamed to) (made c f)) ⌝ }
 {
     if at == 0 {
         return true;
@@ -85,7 +88,8 @@ fn all_held(
     to: usize,
 ) -> bool
     requires { ⌜ Chained (now g) (w .base) (w .at) × Chained (now s) base at ⌝ }
-    ensures { λ b. ⌜ ((e f : Forest) → Linked e (now (g .entry)) (w .base) (w .at) → Linked f (now (s .entry)) base at → b ≡ allOf (lone (ownOf (w .sort) e) (w .mode) renamed to) (input skip (inputs f))) ⌝ }
+    ensures { λ b. ⌜ ((e f : Forest) → Linked e (now (g .entry)) (w .base) (w .at) → Linked f (now (s .entry)) base at
+        → b ≡ allOf (lone (ownOf (w .sort) e) (w .mode) renamed to) (input skip (inputs f))) ⌝ }
 {
     if at == 0 {
         return true;
@@ -132,7 +136,8 @@ fn all_held(
 // Whether each field of the schema is told apart.
 fn all_single(g: &[u8], w: Whole) -> bool
     requires { ⌜ Chained (now g) (w .base) (w .at) ⌝ }
-    ensures { λ b. ⌜ ((e : Forest) → Linked e (now (g .entry)) (w .base) (w .at) → b ≡ allOf (single (ownOf (w .sort) e) (w .mode)) (ownOf (w .sort) e)) ⌝ }
+    ensures { λ b. ⌜ ((e : Forest) → Linked e (now (g .entry)) (w .base) (w .at)
+        → b ≡ allOf (single (ownOf (w .sort) e) (w .mode)) (ownOf (w .sort) e)) ⌝ }
 {
     let base = w.base;
     let at = w.at;
@@ -187,10 +192,11 @@ fn own_mode(role: usize) -> usize
     3
 }
 
-// Whether the schema of a plan of this role, whose children are from record `at` on, is sound; for a join both inputs together.
+// Whether the schema of a plan of this role, whose children are from record `at` on, is sound, and for a join both inputs together.
 pub fn is_sound(g: &[u8], base: usize, at: usize, role: usize) -> bool
     requires { ⌜ Chained (now g) base at ⌝ }
-    ensures { λ b. ⌜ ((f : Forest) → Linked f (now (g .entry)) base at → b ≡ apart (ownMode role) (ownOf (ownSort role) f)) ⌝ }
+    ensures { λ b. ⌜ ((k : PlanKind) (l : Label) (cs : Forest) → role ≡ roleP k → Linked cs (now (g .entry)) base at
+        → b ≡ nameP k l cs (inputs cs)) ⌝ }
 {
     let sort = own_sort(role);
     if MAX_FIELDS < held_by(g, base, at, sort, 2, 0, 0) {

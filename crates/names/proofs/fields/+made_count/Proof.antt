@@ -1,4 +1,4 @@
--- `names::made_count` meets its contract. The measure is how many bytes are left.
+-- `fields::made_count` meets its contract. The measure is how many bytes are left.
 use mathlib.Core.Path.{sym, ap, _∙_}
 use mathlib.Core.Bool.{true, false}
 use mathlib.Core.List.{[]}
@@ -48,12 +48,22 @@ pub +made-count-spec : {M : Type 1} → statement M
     made-count.Post
     (λ c f d h. sym (made-none _ d f (ended f _ _ _ h (c .if1 .taken))))
     (λ c κs. let p = c .before .before .pre .1 in let u = turn (p .forest) (p .linked) (c .if1 .left) in omega arith)
-    (λ c κs. let p = c .before .before .before .pre .1 in let u = turn (p .forest) (p .linked) (c .before .if1 .left) in rw (c .from-record .ensures, length-drop) (omega arith))
-    (λ c κs. let p = c .before .before .before .before .pre .1 in let w = step (p .forest) (p .linked) (c .before .before .if1 .left) (c .before .from-record .ensures) (c .look .ensures) in (omega (arith, w .less), record { forest = w .after; linked = w .next }))
+    (λ c κs. let p = c .before .before .before .pre .1 in
+    let u = turn (p .forest) (p .linked) (c .before .if1 .left) in rw (c .from-record .ensures, length-drop) (omega arith))
+    (λ c κs. let p = c .before .before .before .before .pre .1 in
+    let w = step (p .forest) (p .linked) (c .before .before .if1 .left) (c .before .from-record .ensures) (c .look .ensures) in
+    (omega (arith, w .less), record { forest = w .after; linked = w .next }))
     (λ c κs. tt)
     (λ c κs. tt)
-    (λ c. let p = c .before .before .before .before .before .before .before .before .pre .1 in let w = step (p .forest) (p .linked) (c .before .before .before .before .before .before .if1 .left) (c .before .before .before .before .before .from-record .ensures) (c .before .before .before .before .look .ensures) in omega (arith, few-made _ (w .after) [] _ _ _ (w .next) (c .before .before .before .made-count .ensures (w .after) [] (w .next))))
-    (λ c f d h. let w = step f h (c .before .before .before .before .before .before .if1 .left) (c .before .before .before .before .before .from-record .ensures) (c .before .before .before .before .look .ensures) in ap (λ (x : ℕ). x + 1) (c .before .before .before .made-count .ensures (w .after) d (w .next))
+    (λ c. let p = c .before .before .before .before .before .before .before .before .pre .1 in
+    let w = step (p .forest) (p .linked) (c .before .before .before .before .before .before .if1 .left)
+    (c .before .before .before .before .before .from-record .ensures) (c .before .before .before .before .look .ensures) in
+    omega (arith, few-made _ (w .after) [] _ _ _ (w .next) (c .before .before .before .made-count .ensures (w .after) [] (w .next))))
+    (λ c f d h. let w = step f h (c .before .before .before .before .before .before .if1 .left)
+    (c .before .before .before .before .before .from-record .ensures) (c .before .before .before .before .look .ensures) in
+    ap (λ (x : ℕ). x + 1) (c .before .before .before .made-count .ensures (w .after) d (w .next))
     ∙ sym (made-step w _ _ _ d true (c .before .before .makes-one .ensures) (c .before .is-hit .ensures) (c .if2 .taken)))
-    (λ c f d h. let w = step f h (c .before .before .before .before .before .before .if1 .left) (c .before .before .before .before .before .from-record .ensures) (c .before .before .before .before .look .ensures) in c .before .before .before .made-count .ensures (w .after) d (w .next)
+    (λ c f d h. let w = step f h (c .before .before .before .before .before .before .if1 .left)
+    (c .before .before .before .before .before .from-record .ensures) (c .before .before .before .before .look .ensures) in
+    c .before .before .before .made-count .ensures (w .after) d (w .next)
     ∙ sym (made-step w _ _ _ d false (c .before .before .makes-one .ensures) (c .before .is-hit .ensures) (c .if2 .left)))

@@ -1,4 +1,4 @@
--- `names::made_type` meets its contract. The measure is how many bytes are left.
+-- `fields::made_type` meets its contract. The measure is how many bytes are left.
 use mathlib.Core.Path.{sym, _∙_}
 use mathlib.Core.Bool.{true, false}
 use native.Mathlib.Omega.{arith}
@@ -49,14 +49,58 @@ pub +made-type-spec : {M : Type 1} → statement M
     made-type.Post
     (λ c f d h. sym (typed-made-none _ d f (ended f _ _ _ h (c .if1 .taken))))
     (λ c κs. let p = c .before .before .pre .1 in let u = turn (p .forest) (p .linked) (c .if1 .left) in omega arith)
-    (λ c κs. let p = c .before .before .before .pre .1 in let u = turn (p .forest) (p .linked) (c .before .if1 .left) in rw (c .from-record .ensures, length-drop) (omega arith))
+    (λ c κs. let p = c .before .before .before .pre .1 in
+    let u = turn (p .forest) (p .linked) (c .before .if1 .left) in rw (c .from-record .ensures, length-drop) (omega arith))
     (λ c κs. tt)
     (λ c κs. tt)
-    (λ c f d h. let w = step f h (c .before .before .before .before .before .before .before .if1 .left) (c .before .before .before .before .before .before .from-record .ensures) (c .before .before .before .before .before .look .ensures) in of-field w d (c .if3 .taken) ∙ sym (typed-step w _ _ _ d true (c .before .before .before .before .makes-one .ensures) (c .before .before .before .is-hit .ensures) (c .before .before .if2 .taken)))
-    (λ c f d h. let w = step f h (c .before .before .before .before .before .before .before .before .before .before .before .if1 .left) (c .before .before .before .before .before .before .before .before .before .before .from-record .ensures) (c .before .before .before .before .before .before .before .before .before .look .ensures) in of-no-entry w d (c .before .before .if4 .taken) (c .if5 .taken) ∙ sym (typed-step w _ _ _ d true (c .before .before .before .before .before .before .before .before .makes-one .ensures) (c .before .before .before .before .before .before .before .is-hit .ensures) (c .before .before .before .before .before .before .if2 .taken)))
-    (λ c κs. let p = c .before .before .before .before .before .before .before .before .before .before .before .before .before .pre .1 in let w = step (p .forest) (p .linked) (c .before .before .before .before .before .before .before .before .before .before .before .if1 .left) (c .before .before .before .before .before .before .before .before .before .before .from-record .ensures) (c .before .before .before .before .before .before .before .before .before .look .ensures) in let u = turn (w .below) (w .first) (c .if5 .left) in omega arith)
-    (λ c κs. let p = c .before .before .before .before .before .before .before .before .before .before .before .before .before .before .pre .1 in let w = step (p .forest) (p .linked) (c .before .before .before .before .before .before .before .before .before .before .before .before .if1 .left) (c .before .before .before .before .before .before .before .before .before .before .before .from-record .ensures) (c .before .before .before .before .before .before .before .before .before .before .look .ensures) in let u = turn (w .below) (w .first) (c .before .if5 .left) in rw (c .from-record2 .ensures, length-drop) (omega arith))
-    (λ c f d h. let w = step f h (c .before .before .before .before .before .before .before .before .before .before .before .before .before .if1 .left) (c .before .before .before .before .before .before .before .before .before .before .before .before .from-record .ensures) (c .before .before .before .before .before .before .before .before .before .before .before .look .ensures) in of-an-entry w d (c .before .before .before .before .if4 .taken) (c .before .before .if5 .left) (c .before .from-record2 .ensures) (c .source-of .ensures d) ∙ sym (typed-step w _ _ _ d true (c .before .before .before .before .before .before .before .before .before .before .makes-one .ensures) (c .before .before .before .before .before .before .before .before .before .is-hit .ensures) (c .before .before .before .before .before .before .before .before .if2 .taken)))
-    (λ c f d h. let w = step f h (c .before .before .before .before .before .before .before .before .before .if1 .left) (c .before .before .before .before .before .before .before .before .from-record .ensures) (c .before .before .before .before .before .before .before .look .ensures) in of-other w d (c .before .before .before .before .before .is-hit .result) (c .before .before .before .before .before .before .makes-one .ensures) (c .before .before .before .before .if2 .taken) (c .before .before .if3 .left) (c .if4 .left) ∙ sym (typed-step w _ _ _ d true (c .before .before .before .before .before .before .makes-one .ensures) (c .before .before .before .before .before .is-hit .ensures) (c .before .before .before .before .if2 .taken)))
-    (λ c κs. let p = c .before .before .before .before .before .before .before .pre .1 in let w = step (p .forest) (p .linked) (c .before .before .before .before .before .if1 .left) (c .before .before .before .before .from-record .ensures) (c .before .before .before .look .ensures) in (omega (arith, w .less), record { forest = w .after; linked = w .next }))
-    (λ c f d h. let w = step f h (c .before .before .before .before .before .before .if1 .left) (c .before .before .before .before .before .from-record .ensures) (c .before .before .before .before .look .ensures) in c .made-type .ensures (w .after) d (w .next) ∙ sym (typed-step w _ _ _ d false (c .before .before .before .makes-one .ensures) (c .before .before .is-hit .ensures) (c .before .if2 .left)))
+    (λ c f d h. let w = step f h (c .before .before .before .before .before .before .before .if1 .left)
+    (c .before .before .before .before .before .before .from-record .ensures) (c .before .before .before .before .before .look .ensures) in
+    of-field w d (c .if3 .taken)
+    ∙ sym (typed-step w _ _ _ d true (c .before .before .before .before .makes-one .ensures) (c .before .before .before .is-hit .ensures)
+    (c .before .before .if2 .taken)))
+    (λ c f d h. let w = step f h (c .before .before .before .before .before .before .before .before .before .before .before .if1 .left)
+    (c .before .before .before .before .before .before .before .before .before .before .from-record .ensures)
+    (c .before .before .before .before .before .before .before .before .before .look .ensures) in
+    of-no-entry w d (c .before .before .if4 .taken) (c .if5 .taken)
+    ∙ sym (typed-step w _ _ _ d true (c .before .before .before .before .before .before .before .before .makes-one .ensures)
+    (c .before .before .before .before .before .before .before .is-hit .ensures)
+    (c .before .before .before .before .before .before .if2 .taken)))
+    (λ c κs. let p = c .before .before .before .before .before .before .before .before .before .before .before .before .before .pre .1 in
+    let w = step (p .forest) (p .linked)
+    (c .before .before .before .before .before .before .before .before .before .before .before .if1 .left)
+    (c .before .before .before .before .before .before .before .before .before .before .from-record .ensures)
+    (c .before .before .before .before .before .before .before .before .before .look .ensures) in
+    let u = turn (w .below) (w .first) (c .if5 .left) in omega arith)
+    (λ c κs. let p = c .before .before .before .before .before .before .before .before .before .before .before .before .before .before .pre .1 in
+    let w = step (p .forest) (p .linked)
+    (c .before .before .before .before .before .before .before .before .before .before .before .before .if1 .left)
+    (c .before .before .before .before .before .before .before .before .before .before .before .from-record .ensures)
+    (c .before .before .before .before .before .before .before .before .before .before .look .ensures) in
+    let u = turn (w .below) (w .first) (c .before .if5 .left) in rw (c .from-record2 .ensures, length-drop) (omega arith))
+    (λ c f d h. let w = step f h
+    (c .before .before .before .before .before .before .before .before .before .before .before .before .before .if1 .left)
+    (c .before .before .before .before .before .before .before .before .before .before .before .before .from-record .ensures)
+    (c .before .before .before .before .before .before .before .before .before .before .before .look .ensures) in
+    of-an-entry w d (c .before .before .before .before .if4 .taken) (c .before .before .if5 .left) (c .before .from-record2 .ensures)
+    (c .source-of .ensures d)
+    ∙ sym (typed-step w _ _ _ d true
+    (c .before .before .before .before .before .before .before .before .before .before .makes-one .ensures)
+    (c .before .before .before .before .before .before .before .before .before .is-hit .ensures)
+    (c .before .before .before .before .before .before .before .before .if2 .taken)))
+    (λ c f d h. let w = step f h (c .before .before .before .before .before .before .before .before .before .if1 .left)
+    (c .before .before .before .before .before .before .before .before .from-record .ensures)
+    (c .before .before .before .before .before .before .before .look .ensures) in
+    of-other w d (c .before .before .before .before .before .is-hit .result)
+    (c .before .before .before .before .before .before .makes-one .ensures) (c .before .before .before .before .if2 .taken)
+    (c .before .before .if3 .left) (c .if4 .left)
+    ∙ sym (typed-step w _ _ _ d true (c .before .before .before .before .before .before .makes-one .ensures)
+    (c .before .before .before .before .before .is-hit .ensures) (c .before .before .before .before .if2 .taken)))
+    (λ c κs. let p = c .before .before .before .before .before .before .before .pre .1 in
+    let w = step (p .forest) (p .linked) (c .before .before .before .before .before .if1 .left)
+    (c .before .before .before .before .from-record .ensures) (c .before .before .before .look .ensures) in
+    (omega (arith, w .less), record { forest = w .after; linked = w .next }))
+    (λ c f d h. let w = step f h (c .before .before .before .before .before .before .if1 .left)
+    (c .before .before .before .before .before .from-record .ensures) (c .before .before .before .before .look .ensures) in
+    c .made-type .ensures (w .after) d (w .next)
+    ∙ sym (typed-step w _ _ _ d false (c .before .before .before .makes-one .ensures) (c .before .before .is-hit .ensures)
+    (c .before .if2 .left)))

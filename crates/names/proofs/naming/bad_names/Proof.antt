@@ -2,9 +2,9 @@
 use mathlib.Core.Path.{_≡_, refl, sym, ap, _∙_}
 use mathlib.Core.Bool.{true}
 use mathlib.Core.List.{[]}
-use Prim.Native.Nat.{ℕ}
+use Prim.Native.Nat.{ℕ, _<_}
 use native.Mathlib.Omega.{arith}
-use borrow.Author.Tests.{eqb-true, not-true, not-false}
+use borrow.Author.Tests.{ltb-true, not-true, not-false}
 use Rattle.image.specs.Tree.{none}
 use Rattle.plan.specs.Kinds.{whatOf}
 use Rattle.names.specs.Count.{role}
@@ -21,8 +21,8 @@ use Rattle.names.proofs.naming.bad_names.Tie as tie
 abbrev nothing-seen : Scope
 nothing-seen = over [] []
 
-five : {r : ℕ} → r ≡ 0 → r ≡ 5 → ⊥
-five e g = omega arith
+a-plan : {r : ℕ} → r ≡ 0 → 1 < r → ⊥
+a-plan e g = omega arith
 
 pub bad-names-spec : {M : Type 1} → statement M
 unfolding badNames
@@ -32,19 +32,32 @@ bad-names-spec =
     (λ c κs. search needs)
     (λ c κs. search needs)
     (λ c κs.
-    let w = rooted (c .before .before .before .pre .0) (c .before .before .before .pre .1) (c .before .look .ensures) in
-    (record { forest = c .before .before .before .pre .0 .below; linked = w .first }, record { forest = none; linked = refl }, c .role-of .ensures))
+    let w = rooted (c .before .before .before .pre .0) (c .before .before .before .pre .1) (c .before .look .ensures) in (
+      record { forest = c .before .before .before .pre .0 .below; linked = w .first },
+      record { forest = none; linked = refl },
+      c .role-of .ensures,
+    ))
     (λ c t h.
     let w = rooted t h (c .before .before .before .look .ensures) in
-    root-here nameOk hand nothing-seen nothing-seen t (sym (c .before .name-ok .ensures (t .label) (t .below) none (w .kind) (w .p) (w .q) (w .first) refl never) ∙ not-true _ (c .if1 .taken)))
+    root-here nameOk hand nothing-seen nothing-seen t
+    (sym (c .before .name-ok .ensures (t .label) (t .below) none (w .kind) (w .p) (w .q) (w .first) refl never)
+    ∙ not-true _ (c .if1 .taken)))
     (λ c κs. search needs)
     (λ c κs.
-    let w = rooted (c .before .before .before .before .before .before .pre .0) (c .before .before .before .before .before .before .pre .1) (c .before .before .before .before .look .ensures) in
-    (record { forest = c .before .before .before .before .before .before .pre .0 .below; linked = w .first }, record { forest = c .before .before .before .before .before .before .pre .0 .below; linked = w .first }))
+    let w = rooted (c .before .before .before .before .before .before .pre .0) (c .before .before .before .before .before .before .pre .1)
+    (c .before .before .before .before .look .ensures) in (
+      record { forest = c .before .before .before .before .before .before .pre .0 .below; linked = w .first },
+      record { forest = c .before .before .before .before .before .before .pre .0 .below; linked = w .first },
+    ))
     (λ c t h.
     let w = rooted t h (c .before .before .before .before .before .look .ensures) in
-    let ok : nameOk nothing-seen (t .label) (t .below) ≡ true = sym (c .before .before .before .name-ok .ensures (t .label) (t .below) none (w .kind) (w .p) (w .q) (w .first) refl never) ∙ not-false _ (c .before .before .if1 .left) in
+    let ok : nameOk nothing-seen (t .label) (t .below)
+    ≡ true =
+    sym (c .before .before .before .name-ok .ensures (t .label) (t .below) none (w .kind) (w .p) (w .q) (w .first) refl never)
+    ∙ not-false _ (c .before .before .if1 .left) in
     c .bad-name .ensures (t .below) (t .below) (w .first) (w .first)
-    (λ x. sound-below nothing-seen (t .label) (t .below) _ (c .before .before .before .before .role-of .ensures ∙ ap (λ (n : ℕ). role (whatOf n)) (w .kind)) (λ y. five y (eqb-true _ 5 x)) (eqb-true _ 5 x) ok)
+    (λ x. sound-below nothing-seen (t .label) (t .below) _
+    (c .before .before .before .before .role-of .ensures ∙ ap (λ (n : ℕ). role (whatOf n)) (w .kind)) (λ y. a-plan y (ltb-true 1 _ x))
+    (ltb-true 1 _ x) ok)
     ∙ root-below nameOk hand nothing-seen nothing-seen t _ _ _ (w .first-number)
     (hand-root (t .label) (t .below) (c .before .sort-of .ensures ∙ ap (λ (n : ℕ). sortW (whatOf n)) (w .kind))) ok))

@@ -1,3 +1,4 @@
+-- `schemas::all_held` meets its contract. The measure is how many bytes are left.
 use mathlib.Core.Path.{sym, ap, _∙_}
 use Prim.Native.Nat.{ℕ, _<_}
 use native.Mathlib.Omega.{arith}
@@ -60,69 +61,145 @@ pub +all-held-spec : {M : Type 1} → statement M
     (λ c κs. tt)
     (λ c κs.
     let p = c .before .before .before .before .before .before .before .pre .1 .1 in
-    let w = step (p .forest) (p .linked) (c .before .before .before .before .if1 .left) (c .before .before .before .from-record .ensures) (c .before .before .look .ensures) in
-    (omega (arith, w .less), (c .before .before .before .before .before .before .before .pre .1 .0, record { forest = w .after; linked = w .next })))
+    let w = step (p .forest) (p .linked) (c .before .before .before .before .if1 .left) (c .before .before .before .from-record .ensures)
+    (c .before .before .look .ensures) in (
+      omega (arith, w .less),
+      (c .before .before .before .before .before .before .before .pre .1 .0, record { forest = w .after; linked = w .next }),
+    ))
     (λ c e f g h.
-    let w = step f h (c .before .before .before .before .before .if1 .left) (c .before .before .before .before .from-record .ensures) (c .before .before .before .look .ensures) in
-    c .all-held .ensures e (w .after) g (w .next) ∙ ap (allOf _) (sym (skip-part w _ (c .before .before .role-of .ensures) (c .before .if2 .taken) _)))
+    let w = step f h (c .before .before .before .before .before .if1 .left) (c .before .before .before .before .from-record .ensures)
+    (c .before .before .before .look .ensures) in
+    c .all-held .ensures e (w .after) g (w .next)
+    ∙ ap (allOf _) (sym (skip-part w _ (c .before .before .role-of .ensures) (c .before .if2 .taken) _)))
     (λ c. omega arith)
     (λ c κs.
     let p = c .before .before .before .before .before .before .before .before .pre .1 .1 in
-    let w = step (p .forest) (p .linked) (c .before .before .before .before .before .if1 .left) (c .before .before .before .before .from-record .ensures) (c .before .before .before .look .ensures) in
-    (omega (arith, w .less), (c .before .before .before .before .before .before .before .before .pre .1 .0, record { forest = w .after; linked = w .next })))
+    let w = step (p .forest) (p .linked) (c .before .before .before .before .before .if1 .left)
+    (c .before .before .before .before .from-record .ensures) (c .before .before .before .look .ensures) in (
+      omega (arith, w .less),
+      (c .before .before .before .before .before .before .before .before .pre .1 .0, record { forest = w .after; linked = w .next }),
+    ))
     (λ c e f g h.
-    let w = step f h (c .before .before .before .before .before .before .if1 .left) (c .before .before .before .before .before .from-record .ensures) (c .before .before .before .before .look .ensures) in
+    let w = step f h (c .before .before .before .before .before .before .if1 .left)
+    (c .before .before .before .before .before .from-record .ensures) (c .before .before .before .before .look .ensures) in
     c .all-held2 .ensures e (w .after) g (w .next)
-    ∙ ap (allOf _) (sym (skip-plan w _ (c .before .before .before .role-of .ensures) (c .before .before .if2 .left) _ (c .before .if3 .taken))))
+    ∙ ap (allOf _) (sym (skip-plan w _ (c .before .before .before .role-of .ensures) (c .before .before .if2 .left) _
+    (c .before .if3 .taken))))
     (λ c κs.
     let p = c .before .before .before .before .before .before .before .before .before .pre .1 .1 in
-    let w = step (p .forest) (p .linked) (c .before .before .before .before .before .before .if1 .left) (c .before .before .before .before .before .from-record .ensures) (c .before .before .before .before .look .ensures) in
+    let w = step (p .forest) (p .linked) (c .before .before .before .before .before .before .if1 .left)
+    (c .before .before .before .before .before .from-record .ensures) (c .before .before .before .before .look .ensures) in
     (c .before .before .before .before .before .before .before .before .before .pre .1 .0, record { forest = w .below; linked = w .first }))
     (λ c e f g h.
-    let w = step f h (c .before .before .before .before .before .before .before .if1 .left) (c .before .before .before .before .before .before .from-record .ensures) (c .before .before .before .before .before .look .ensures) in
+    let w = step f h (c .before .before .before .before .before .before .before .if1 .left)
+    (c .before .before .before .before .before .before .from-record .ensures) (c .before .before .before .before .before .look .ensures) in
     let d = has-parts w _ (c .before .before .before .before .role-of .ensures) _ (c .before .before .if3 .left) (c .before .if4 .taken) in
     c .all-made .ensures e (w .below) (d .0) g (w .first) ∙ ap (allOf _) (sym (d .1)))
     (λ c κs. tt)
     (λ c κs.
     let p = c .before .before .before .before .before .before .before .before .before .before .before .pre .1 .1 in
-    let w = step (p .forest) (p .linked) (c .before .before .before .before .before .before .before .before .if1 .left) (c .before .before .before .before .before .before .before .from-record .ensures) (c .before .before .before .before .before .before .look .ensures) in
-    (omega (arith, w .down), (c .before .before .before .before .before .before .before .before .before .before .before .pre .1 .0, record { forest = w .below; linked = w .first })))
+    let w = step (p .forest) (p .linked) (c .before .before .before .before .before .before .before .before .if1 .left)
+    (c .before .before .before .before .before .before .before .from-record .ensures)
+    (c .before .before .before .before .before .before .look .ensures) in (
+      omega (arith, w .down),
+      (
+        c .before .before .before .before .before .before .before .before .before .before .before .pre .1 .0,
+        record { forest = w .below; linked = w .first },
+      ),
+    ))
     (λ c e f g h.
-    let w = step f h (c .before .before .before .before .before .before .before .before .before .if1 .left) (c .before .before .before .before .before .before .before .before .from-record .ensures) (c .before .before .before .before .before .before .before .look .ensures) in
+    let w = step f h (c .before .before .before .before .before .before .before .before .before .if1 .left)
+    (c .before .before .before .before .before .before .before .before .from-record .ensures)
+    (c .before .before .before .before .before .before .before .look .ensures) in
     (rw (c .before .qualifier .ensures) at (c .all-held3 .ensures e (w .below) g (w .first)))
-    ∙ held-renamed w _ (c .before .before .before .before .before .before .role-of .ensures) _ (c .before .before .before .before .if3 .left) _ _ _ _ (c .before .before .if5 .taken))
+    ∙ held-renamed w _ (c .before .before .before .before .before .before .role-of .ensures) _
+    (c .before .before .before .before .if3 .left) _ _ _ _ (c .before .before .if5 .taken))
     (λ c κs. tt)
     (λ c κs.
     let p = c .before .before .before .before .before .before .before .before .before .before .before .pre .1 .1 in
-    let w = step (p .forest) (p .linked) (c .before .before .before .before .before .before .before .before .if1 .left) (c .before .before .before .before .before .before .before .from-record .ensures) (c .before .before .before .before .before .before .look .ensures) in
-    (omega (arith, w .down), (c .before .before .before .before .before .before .before .before .before .before .before .pre .1 .0, record { forest = w .below; linked = w .first })))
+    let w = step (p .forest) (p .linked) (c .before .before .before .before .before .before .before .before .if1 .left)
+    (c .before .before .before .before .before .before .before .from-record .ensures)
+    (c .before .before .before .before .before .before .look .ensures) in (
+      omega (arith, w .down),
+      (
+        c .before .before .before .before .before .before .before .before .before .before .before .pre .1 .0,
+        record { forest = w .below; linked = w .first },
+      ),
+    ))
     (λ c e f g h.
-    let w = step f h (c .before .before .before .before .before .before .before .before .before .before .if1 .left) (c .before .before .before .before .before .before .before .before .before .from-record .ensures) (c .before .before .before .before .before .before .before .before .look .ensures) in
-    held-fails w _ (c .before .before .before .before .before .before .before .role-of .ensures) _ (c .before .before .before .before .before .if3 .left) _ (c .before .before .before .before .before .before .if2 .left) (c .before .before .before .before .if4 .left) (c .before .before .before .if5 .left)
-    (sym (rw (c .before .before .own-input .ensures) at (c .before .all-held4 .ensures e (w .below) g (w .first))) ∙ not-true _ (c .if6 .taken)))
+    let w = step f h (c .before .before .before .before .before .before .before .before .before .before .if1 .left)
+    (c .before .before .before .before .before .before .before .before .before .from-record .ensures)
+    (c .before .before .before .before .before .before .before .before .look .ensures) in
+    held-fails w _ (c .before .before .before .before .before .before .before .role-of .ensures) _
+    (c .before .before .before .before .before .if3 .left) _ (c .before .before .before .before .before .before .if2 .left)
+    (c .before .before .before .before .if4 .left) (c .before .before .before .if5 .left)
+    (sym (rw (c .before .before .own-input .ensures) at (c .before .all-held4 .ensures e (w .below) g (w .first)))
+    ∙ not-true _ (c .if6 .taken)))
     (λ c κs.
     let p = c .before .before .before .before .before .before .before .before .before .before .before .before .before .before .before .before .pre .1 .1 in
-    let w = step (p .forest) (p .linked) (c .before .before .before .before .before .before .before .before .before .before .before .before .before .if1 .left) (c .before .before .before .before .before .before .before .before .before .before .before .before .from-record .ensures) (c .before .before .before .before .before .before .before .before .before .before .before .look .ensures) in
-    (omega (arith, w .down), (c .before .before .before .before .before .before .before .before .before .before .before .before .before .before .before .before .pre .1 .0, record { forest = w .below; linked = w .first })))
+    let w = step (p .forest) (p .linked)
+    (c .before .before .before .before .before .before .before .before .before .before .before .before .before .if1 .left)
+    (c .before .before .before .before .before .before .before .before .before .before .before .before .from-record .ensures)
+    (c .before .before .before .before .before .before .before .before .before .before .before .look .ensures) in (
+      omega (arith, w .down),
+      (
+        c .before .before .before .before .before .before .before .before .before .before .before .before .before .before .before .before .pre .1 .0,
+        record { forest = w .below; linked = w .first },
+      ),
+    ))
     (λ c e f g h.
-    let w = step f h (c .before .before .before .before .before .before .before .before .before .before .before .before .before .before .if1 .left) (c .before .before .before .before .before .before .before .before .before .before .before .before .before .from-record .ensures) (c .before .before .before .before .before .before .before .before .before .before .before .before .look .ensures) in
+    let w = step f h
+    (c .before .before .before .before .before .before .before .before .before .before .before .before .before .before .if1 .left)
+    (c .before .before .before .before .before .before .before .before .before .before .before .before .before .from-record .ensures)
+    (c .before .before .before .before .before .before .before .before .before .before .before .before .look .ensures) in
     c .all-held5 .ensures e (w .below) g (w .first)
-    ∙ held-both w _ (c .before .before .before .before .before .before .before .before .before .before .before .role-of .ensures) _ (c .before .before .before .before .before .before .before .before .before .if3 .left) _ (c .before .before .before .if7 .taken) (c .before .if8 .taken)
-    (sym (rw (c .before .before .before .before .before .before .own-input .ensures) at (c .before .before .before .before .before .all-held4 .ensures e (w .below) g (w .first))) ∙ not-false _ (c .before .before .before .before .if6 .left)))
+    ∙ held-both w _ (c .before .before .before .before .before .before .before .before .before .before .before .role-of .ensures) _
+    (c .before .before .before .before .before .before .before .before .before .if3 .left) _ (c .before .before .before .if7 .taken)
+    (c .before .if8 .taken)
+    (sym (rw (c .before .before .before .before .before .before .own-input .ensures) at
+    (c .before .before .before .before .before .all-held4 .ensures e (w .below) g (w .first)))
+    ∙ not-false _ (c .before .before .before .before .if6 .left)))
     (λ c e f g h.
-    let w = step f h (c .before .before .before .before .before .before .before .before .before .before .before .before .before .if1 .left) (c .before .before .before .before .before .before .before .before .before .before .before .before .from-record .ensures) (c .before .before .before .before .before .before .before .before .before .before .before .look .ensures) in
-    held-side w _ (c .before .before .before .before .before .before .before .before .before .before .role-of .ensures) _ (c .before .before .before .before .before .before .before .before .if3 .left) _ (c .before .before .if7 .taken) (omega arith)
-    (sym (rw (c .before .before .before .before .before .own-input .ensures) at (c .before .before .before .before .all-held4 .ensures e (w .below) g (w .first))) ∙ not-false _ (c .before .before .before .if6 .left)))
+    let w = step f h (c .before .before .before .before .before .before .before .before .before .before .before .before .before .if1 .left)
+    (c .before .before .before .before .before .before .before .before .before .before .before .before .from-record .ensures)
+    (c .before .before .before .before .before .before .before .before .before .before .before .look .ensures) in
+    held-side w _ (c .before .before .before .before .before .before .before .before .before .before .role-of .ensures) _
+    (c .before .before .before .before .before .before .before .before .if3 .left) _ (c .before .before .if7 .taken) (omega arith)
+    (sym (rw (c .before .before .before .before .before .own-input .ensures) at
+    (c .before .before .before .before .all-held4 .ensures e (w .below) g (w .first)))
+    ∙ not-false _ (c .before .before .before .if6 .left)))
     (λ c κs.
     let p = c .before .before .before .before .before .before .before .before .before .before .before .before .before .before .before .pre .1 .1 in
-    let w = step (p .forest) (p .linked) (c .before .before .before .before .before .before .before .before .before .before .before .before .if1 .left) (c .before .before .before .before .before .before .before .before .before .before .before .from-record .ensures) (c .before .before .before .before .before .before .before .before .before .before .look .ensures) in
-    (c .before .before .before .before .before .before .before .before .before .before .before .before .before .before .before .pre .1 .0, record { forest = w .below; linked = w .first }))
+    let w = step (p .forest) (p .linked)
+    (c .before .before .before .before .before .before .before .before .before .before .before .before .if1 .left)
+    (c .before .before .before .before .before .before .before .before .before .before .before .from-record .ensures)
+    (c .before .before .before .before .before .before .before .before .before .before .look .ensures) in (
+      c .before .before .before .before .before .before .before .before .before .before .before .before .before .before .before .pre .1 .0,
+      record { forest = w .below; linked = w .first },
+    ))
     (λ c e f g h.
-    let w = step f h (c .before .before .before .before .before .before .before .before .before .before .before .before .before .if1 .left) (c .before .before .before .before .before .before .before .before .before .before .before .before .from-record .ensures) (c .before .before .before .before .before .before .before .before .before .before .before .look .ensures) in
-    let d = held-more w _ (c .before .before .before .before .before .before .before .before .before .before .role-of .ensures) _ (c .before .before .before .before .before .before .before .before .if3 .left) _ (c .before .if9 .taken)
-    (sym (rw (c .before .before .before .before .before .own-input .ensures) at (c .before .before .before .before .all-held4 .ensures e (w .below) g (w .first))) ∙ not-false _ (c .before .before .before .if6 .left)) in
+    let w = step f h (c .before .before .before .before .before .before .before .before .before .before .before .before .before .if1 .left)
+    (c .before .before .before .before .before .before .before .before .before .before .before .before .from-record .ensures)
+    (c .before .before .before .before .before .before .before .before .before .before .before .look .ensures) in
+    let d = held-more w _ (c .before .before .before .before .before .before .before .before .before .before .role-of .ensures) _
+    (c .before .before .before .before .before .before .before .before .if3 .left) _ (c .before .if9 .taken)
+    (sym (rw (c .before .before .before .before .before .own-input .ensures) at
+    (c .before .before .before .before .all-held4 .ensures e (w .below) g (w .first)))
+    ∙ not-false _ (c .before .before .before .if6 .left)) in
     c .all-made2 .ensures e (w .below) (d .0) g (w .first) ∙ d .1)
     (λ c e f g h.
-    let w = step f h (c .before .before .before .before .before .before .before .before .before .before .before .before .if1 .left) (c .before .before .before .before .before .before .before .before .before .before .before .from-record .ensures) (c .before .before .before .before .before .before .before .before .before .before .look .ensures) in
-    held-first w _ (c .before .before .before .before .before .before .before .before .before .role-of .ensures) _ (c .before .before .before .before .before .before .before .if3 .left) _ (omega (arith, c .before .before .before .before .before .before .before .before .if2 .left, c .before .before .before .before .before .before .if4 .left, c .before .before .before .before .before .if5 .left, c .before .if7 .left, c .if9 .left))
-    (sym (rw (c .before .before .before .before .own-input .ensures) at (c .before .before .before .all-held4 .ensures e (w .below) g (w .first))) ∙ not-false _ (c .before .before .if6 .left)))
+    let w = step f h (c .before .before .before .before .before .before .before .before .before .before .before .before .if1 .left)
+    (c .before .before .before .before .before .before .before .before .before .before .before .from-record .ensures)
+    (c .before .before .before .before .before .before .before .before .before .before .look .ensures) in
+    held-first w _ (c .before .before .before .before .before .before .before .before .before .role-of .ensures) _
+    (c .before .before .before .before .before .before .before .if3 .left) _
+    (omega (
+      arith,
+      c .before .before .before .before .before .before .before .before .if2 .left,
+      c .before .before .before .before .before .before .if4 .left,
+      c .before .before .before .before .before .if5 .left,
+      c .before .if7 .left,
+      c .if9 .left,
+    ))
+    (sym (rw (c .before .before .before .before .own-input .ensures) at
+    (c .before .before .before .all-held4 .ensures e (w .below) g (w .first))) ∙ not-false _ (c .before .before .if6 .left)))

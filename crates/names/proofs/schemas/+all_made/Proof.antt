@@ -1,3 +1,4 @@
+-- `schemas::all_made` meets its contract. The measure is how many bytes are left.
 use mathlib.Core.Path.{sym, _∙_}
 use Prim.Native.Nat.{ℕ, _<_}
 use native.Mathlib.Omega.{arith}
@@ -55,23 +56,39 @@ pub +all-made-spec : {M : Type 1} → statement M
     (λ c κs. tt)
     (λ c κs.
     let p = c .before .before .before .before .before .before .before .pre .1 .1 in
-    let w = step (p .forest) (p .linked) (c .before .before .before .before .if1 .left) (c .before .before .before .from-record .ensures) (c .before .before .look .ensures) in
-    (omega (arith, w .less), (c .before .before .before .before .before .before .before .pre .1 .0, record { forest = w .after; linked = w .next })))
+    let w = step (p .forest) (p .linked) (c .before .before .before .before .if1 .left) (c .before .before .before .from-record .ensures)
+    (c .before .before .look .ensures) in (
+      omega (arith, w .less),
+      (c .before .before .before .before .before .before .before .pre .1 .0, record { forest = w .after; linked = w .next }),
+    ))
     (λ c e f d g h.
-    let w = step f h (c .before .before .before .before .before .if1 .left) (c .before .before .before .before .from-record .ensures) (c .before .before .before .look .ensures) in
-    c .all-made .ensures e (w .after) d g (w .next) ∙ made-other _ w d (c .before .before .makes-one .ensures) (not-true _ (c .before .if2 .taken)))
+    let w = step f h (c .before .before .before .before .before .if1 .left) (c .before .before .before .before .from-record .ensures)
+    (c .before .before .before .look .ensures) in
+    c .all-made .ensures e (w .after) d g (w .next)
+    ∙ made-other _ w d (c .before .before .makes-one .ensures) (not-true _ (c .before .if2 .taken)))
     (λ c κs. tt)
     (λ c κs. c .before .before .before .before .before .before .before .before .pre .1 .0)
     (λ c e f d g h.
-    let w = step f h (c .before .before .before .before .before .before .before .if1 .left) (c .before .before .before .before .before .before .from-record .ensures) (c .before .before .before .before .before .look .ensures) in
+    let w = step f h (c .before .before .before .before .before .before .before .if1 .left)
+    (c .before .before .before .before .before .before .from-record .ensures) (c .before .before .before .before .before .look .ensures) in
     made-fails _ w d (c .before .before .before .before .makes-one .ensures) (not-false _ (c .before .before .before .if2 .left))
     (sym (rw (c .before .before .qualifier .ensures) at (c .before .is-single .ensures e g)) ∙ not-true _ (c .if3 .taken)))
     (λ c κs.
     let p = c .before .before .before .before .before .before .before .before .before .before .pre .1 .1 in
-    let w = step (p .forest) (p .linked) (c .before .before .before .before .before .before .before .if1 .left) (c .before .before .before .before .before .before .from-record .ensures) (c .before .before .before .before .before .look .ensures) in
-    (omega (arith, w .less), (c .before .before .before .before .before .before .before .before .before .before .pre .1 .0, record { forest = w .after; linked = w .next })))
+    let w = step (p .forest) (p .linked) (c .before .before .before .before .before .before .before .if1 .left)
+    (c .before .before .before .before .before .before .from-record .ensures) (c .before .before .before .before .before .look .ensures) in (
+      omega (arith, w .less),
+      (
+        c .before .before .before .before .before .before .before .before .before .before .pre .1 .0,
+        record { forest = w .after; linked = w .next },
+      ),
+    ))
     (λ c e f d g h.
-    let w = step f h (c .before .before .before .before .before .before .before .before .if1 .left) (c .before .before .before .before .before .before .before .from-record .ensures) (c .before .before .before .before .before .before .look .ensures) in
+    let w = step f h (c .before .before .before .before .before .before .before .before .if1 .left)
+    (c .before .before .before .before .before .before .before .from-record .ensures)
+    (c .before .before .before .before .before .before .look .ensures) in
     c .all-made2 .ensures e (w .after) d g (w .next)
-    ∙ made-passes _ w d (c .before .before .before .before .before .makes-one .ensures) (not-false _ (c .before .before .before .before .if2 .left))
-    (sym (rw (c .before .before .before .qualifier .ensures) at (c .before .before .is-single .ensures e g)) ∙ not-false _ (c .before .if3 .left)))
+    ∙ made-passes _ w d (c .before .before .before .before .before .makes-one .ensures)
+    (not-false _ (c .before .before .before .before .if2 .left))
+    (sym (rw (c .before .before .before .qualifier .ensures) at (c .before .before .is-single .ensures e g))
+    ∙ not-false _ (c .before .if3 .left)))

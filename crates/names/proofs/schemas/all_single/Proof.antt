@@ -41,4 +41,6 @@ all-single-spec =
     (λ c e h.
     first-fails _ _ (made [] e) (sym (c .before .all-held5 .ensures e e h h) ∙ c .if7 .left)
     ∙ as-called _ _ _ ∙ ap (allOf _) (own-input-and-parts _ e (c .before .before .if6 .taken)))
-    (λ c e h. none-fails _ ∙ ap (allOf _) (own-none _ e (c .before .before .before .before .if1 .left) (c .before .before .before .if2 .left) (c .before .before .if4 .left) (c .before .if5 .left) (c .if6 .left))))
+    (λ c e h. none-fails _
+    ∙ ap (allOf _) (own-none _ e (c .before .before .before .before .if1 .left) (c .before .before .before .if2 .left)
+    (c .before .before .if4 .left) (c .before .if5 .left) (c .if6 .left))))

@@ -21,6 +21,7 @@ held-by-spec =
       few-held _ _ (p .forest) _ _ _ (p .linked) (c .before .holders .ensures (p .forest) (p .linked)),
       few-made _ (p .forest) [] _ _ _ (p .linked) (c .made-count .ensures (p .forest) [] (p .linked)),
     ))
-    (λ c f h. rw (eq-eqb _ 5 (c .before .before .if1 .taken), c .before .holders .ensures f h, c .made-count .ensures f [] h) (sym (counted-++ _ _ _)))
+    (λ c f h. rw (eq-eqb _ 5 (c .before .before .if1 .taken), c .before .holders .ensures f h, c .made-count .ensures f [] h)
+    (sym (counted-++ _ _ _)))
     (λ c κs. search needs)
     (λ c f h. rw (ne-eqb _ 5 (c .before .if1 .left)) (c .held-in .ensures f h)))
