@@ -8,7 +8,7 @@ use mathlib.Core.List.{List}
 use Prim.Native.Nat.{ℕ, _-_, _*_, _≤_}
 use native.Mathlib.Omega.{arith}
 use lib.ListN.{length, drop, length-drop}
-use Rattle.image.specs.Tree.{Forest, none, node, Linked, Node, nodeOf}
+use Rattle.image.specs.Tree.{Forest, none, Linked, Node, nodeOf}
 use Rattle.image.specs.Places.{Chained}
 use Rattle.image.proofs.Walking.{left, ended, turn}
 use Rattle.image.proofs.Stepping.{Step, step}

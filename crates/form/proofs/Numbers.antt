@@ -8,7 +8,7 @@ use mathlib.Core.List.{List, [], _∷_}
 use Prim.Native.Nat.{ℕ, zero, suc, _+_, _≤_, _<_}
 use native.Mathlib.Omega.{arith}
 use lib.Dec.{eqb, leb}
-use borrow.Author.Tests.{leb-true, leb-false, le-leb, eqb-true}
+use borrow.Author.Tests.{leb-true, leb-false, eqb-true}
 use Rattle.plan.specs.Kinds.{What, expr, plan, part, unknown, kinds, among, whatOf, numberOf, exprW, planW}
 use Rattle.form.proofs.Bools.{and-left, and-right, same-truth}
 

@@ -1,9 +1,9 @@
 -- Laws of patterns of children, by the links to them.
 -- Assumes nothing.
 use mathlib.Core.Path.{_≡_, refl, sym, ap, subst, _∙_}
-use mathlib.Core.Bool.{Bool, true, false, not, cond, _&&_}
+use mathlib.Core.Bool.{Bool, true, false, cond, _&&_}
 use mathlib.Core.List.{List, [], _∷_}
-use Prim.Native.Nat.{ℕ, _+_, _-_, _*_, _/_, _%_, _≤_, _<_}
+use Prim.Native.Nat.{ℕ, _-_, _*_, _/_, _%_}
 use native.Mathlib.Omega.{arith}
 use lib.Dec.{eqb, leb}
 use lib.ListN.{getD, drop}
@@ -15,13 +15,13 @@ use Rattle.image.specs.declared.places.Place.the-variants.{At, Nowhere}
 use Rattle.image.proofs.Stepping.{Step}
 use Rattle.plan.specs.Lists.{_&_}
 use Rattle.plan.specs.Kinds.{unknown, whatOf, among}
-use Rattle.plan.specs.Form.{end, one, past, many, perhaps, childrenBy}
+use Rattle.plan.specs.Form.{end, one, past, perhaps, childrenBy}
 use Rattle.plan.proofs.Lists.{and-true}
 use Rattle.form.specs.declared.kinds.Sort.{Sort}
 use Rattle.form.specs.Sorts.{sortOf, ofSort}
 use Rattle.form.specs.Patterns.{sortFor, item, lastItem, meets, fitting, Follows, Leads}
 use Rattle.form.proofs.Bools.{both}
-use Rattle.form.proofs.Numbers.{Each, at, from-run, to-run}
+use Rattle.form.proofs.Numbers.{at, from-run, to-run}
 use Rattle.form.proofs.Along.{Along, along-start, along-end, along-step, here-in}
 
 -- ---- the tables

@@ -1,13 +1,13 @@
 -- The root of an image: what a look at it says, and what the form test finds there.
 -- Assumes nothing.
-use mathlib.Core.Path.{_≡_, refl, sym, ap, subst, _∙_}
+use mathlib.Core.Path.{_≡_, sym, ap, subst, _∙_}
 use mathlib.Core.Bool.{Bool, true, false}
 use mathlib.Core.List.{List}
 use Prim.Native.Nat.{ℕ}
 use Rattle.image.specs.Word.{word}
 use Rattle.image.specs.Tree as Trees
-use Rattle.image.specs.Tree.{Label, Forest, Tree, Linked, Node, nodeOf}
-use Rattle.image.specs.Lowest.{Found, orElse, unless}
+use Rattle.image.specs.Tree.{Label, Tree, Linked, Node, nodeOf}
+use Rattle.image.specs.Lowest.{orElse, unless}
 use Rattle.image.specs.Places.{placeOf}
 use Rattle.image.specs.declared.places.Place.the-variants.{At}
 use Rattle.image.proofs.Walking.{linked-first}

@@ -1,8 +1,8 @@
 -- What the links of an image come to, from the links of its root.
 -- Assumes nothing.
-use mathlib.Core.Path.{_≡_, refl, sym, ap, _∙_}
+use mathlib.Core.Path.{_≡_, sym, _∙_}
 use mathlib.Core.List.{List}
-use Prim.Native.Nat.{ℕ, suc, _-_, _<_}
+use Prim.Native.Nat.{ℕ, suc}
 use native.Mathlib.Omega.{arith}
 use borrow.Author.Tests.{eq-eqb, ne-eqb}
 use Rattle.image.specs.Word.{word}
@@ -13,7 +13,6 @@ use Rattle.image.specs.declared.links.Walk.the-variants.{Next, Bad}
 use Rattle.image.proofs.Reading.{Says, was-bad}
 use Rattle.acceptance.specs.Check.{rooted, linked}
 use Rattle.form.specs.Linking.{linkingOf}
-use Rattle.form.specs.declared.linking.Linking.{Linking}
 use Rattle.form.specs.declared.linking.Linking.the-variants.{Whole, Broken}
 
 -- what was read is a forest that ends before record j

@@ -1,7 +1,7 @@
 -- The rows of the code's tables are those of the kinds; and the loop over the records of an image.
 -- Assumes nothing.
 use mathlib.Core.Path.{_≡_, refl, sym, ap, _∙_}
-use mathlib.Core.Bool.{Bool, true, false, cond, _&&_}
+use mathlib.Core.Bool.{Bool, true, false, _&&_}
 use mathlib.Core.List.{List, [], _∷_}
 use Prim.Native.Nat.{ℕ, zero, suc, _+_, _-_, _*_, _/_, _%_, _≤_, _<_}
 use native.Mathlib.Omega.{arith}
@@ -17,7 +17,7 @@ use Rattle.plan.specs.Words.{Row, _to_, inside, fits, wordsBy, wordsOk}
 use Rattle.acceptance.specs.Check.{badWords}
 use Rattle.form.specs.Rows.{rangeOf, decoded, rowBy}
 use Rattle.form.proofs.Bools.{both, and-left, and-right}
-use Rattle.form.proofs.Numbers.{Each, at, from-run, to-run}
+use Rattle.form.proofs.Numbers.{at, from-run, to-run}
 
 -- ---- the tables
 

@@ -2,7 +2,7 @@
 --     check-is      the check is theirs, and where none is met that of names and types
 --     sound         where none is met, the image is a tree's, and what holds of it
 -- Assumes nothing.
-use mathlib.Core.Path.{_≡_, refl, sym, ap, _∙_}
+use mathlib.Core.Path.{_≡_, refl}
 use mathlib.Core.Bool.{Bool, true, false, cond}
 use mathlib.Core.List.{List}
 use Prim.Native.Nat.{ℕ, _*_, _/_, _≤_}
@@ -16,10 +16,10 @@ use Rattle.image.specs.Lowest.{Found, nothing, found, unless, alone}
 use Rattle.plan.specs.Words.{Worded}
 use Rattle.plan.specs.Form.{badForm}
 use Rattle.plan.specs.Read.{planAt}
-use Rattle.acceptance.specs.Check.{bufferOk, badWords, Links, tree, broken, linked, tooDeep, Verdict, verdict, at, checkPlan, checkTree, checkLinks, check}
+use Rattle.acceptance.specs.Check.{bufferOk, badWords, Links, tree, broken, linked, tooDeep, Verdict, at, checkPlan, checkTree, checkLinks, check}
 use Rattle.acceptance.proofs.Accept.{words-of, worded, links-count, links-stand}
 use Rattle.form.specs.declared.checked.Formed.{Formed}
-use Rattle.form.specs.declared.checked.Formed.the-variants.{Buffer, Record, Link, Depth, Form, Whole}
+use Rattle.form.specs.declared.checked.Formed.the-variants.{Buffer, Record, Depth, Form, Whole}
 use Rattle.form.specs.Formed.{stop, formedTree, formedLinks, formed, numbered, later}
 use Rattle.form.proofs.Stages.{sized}
 

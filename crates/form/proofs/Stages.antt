@@ -12,7 +12,7 @@ use borrow.Author.Tests.{leb-true, eqb-true, eqb-false, not-true}
 use Rattle.image.specs.Limits.{maxRecords}
 use Rattle.image.specs.Tree as Trees
 use Rattle.image.specs.Tree.{Tree}
-use Rattle.image.specs.Lowest.{Found, nothing, found}
+use Rattle.image.specs.Lowest.{nothing}
 use Rattle.image.specs.Places.{placeOf}
 use Rattle.image.specs.declared.places.Place.{Place}
 use Rattle.image.specs.declared.places.Place.the-variants.{At, Nowhere}

@@ -1,6 +1,6 @@
 -- Patterns of children, as the code numbers them: an item is two digits, how many and of which sort.
 use mathlib.Core.Path.{_≡_}
-use mathlib.Core.Bool.{Bool, true, false, not, cond}
+use mathlib.Core.Bool.{Bool, false, not, cond}
 use mathlib.Core.List.{List}
 use Prim.Native.Nat.{ℕ, _+_, _/_, _%_}
 use lib.Dec.{eqb}
@@ -9,7 +9,7 @@ use Rattle.image.specs.declared.places.Place.{Place}
 use Rattle.image.specs.declared.places.Place.the-variants.{At, Nowhere}
 use Rattle.plan.specs.Lists.{_&_}
 use Rattle.plan.specs.Kinds.{isPlan}
-use Rattle.plan.specs.Form.{end, one, past, many, perhaps}
+use Rattle.plan.specs.Form.{end, one, many, perhaps}
 use Rattle.form.specs.Sorts.{ofSort}
 use Rattle.form.specs.declared.kinds.Sort.{Sort}
 use Rattle.form.specs.declared.kinds.Sort.the-variants.{Expression, Plan, Kind}

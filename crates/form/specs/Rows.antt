@@ -1,5 +1,5 @@
 -- The ranges of a record's words, as the code numbers them.
-use mathlib.Core.List.{List, [], _∷_}
+use mathlib.Core.List.{[], _∷_}
 use Prim.Native.Nat.{ℕ, _/_, _%_}
 use lib.ListN.{getD}
 use Rattle.image.specs.Limits.{maxWord}

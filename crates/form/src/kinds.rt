@@ -1,8 +1,6 @@
 // The kinds of records, with their numbers, and the sorts of records that a pattern of children names.
 ghost use mathlib.Core.Path.{_≡_};
-ghost use Prim.Native.Nat.{ℕ};
 ghost use Rattle.form.specs.Sorts.{sortOf};
-ghost use Rattle.plan.specs.Kinds.{whatOf};
 
 pub const FIRST_EXPRESSION: usize = 1;
 
@@ -27,18 +25,6 @@ pub const AGGREGATE: usize = 42;
 pub const LAST_PLAN: usize = 43;
 
 pub const FIRST_PART: usize = 48;
-
-pub const FIELD: usize = 48;
-
-pub const ENTRY: usize = 49;
-
-pub const PAIR: usize = 50;
-
-pub const KEY: usize = 51;
-
-pub const AGGREGATE_ENTRY: usize = 52;
-
-pub const WINDOW_ENTRY: usize = 53;
 
 pub const LAST_PART: usize = 53;
 

@@ -1,4 +1,5 @@
 // Patterns of children: up to four items, one after another, and then the end.
+use crate::kinds::COLUMN;
 use crate::kinds::FIRST_EXPRESSION;
 use crate::kinds::FIRST_PART;
 use crate::kinds::FIRST_PLAN;
@@ -11,7 +12,7 @@ use image::places::Place;
 use image::records::from_record;
 use image::records::look;
 ghost use mathlib.Core.Path.{_≡_};
-ghost use Prim.Native.Nat.{_≤_, _<_};
+ghost use Prim.Native.Nat.{_<_};
 ghost use Rattle.image.specs.Tree.{Forest, Linked};
 ghost use Rattle.image.specs.Places.{Chained};
 ghost use Rattle.plan.specs.Kinds.{whatOf};
@@ -21,36 +22,43 @@ ghost use Rattle.form.specs.Patterns.{sortFor, Leads, item, lastItem, me
 
 // An item is two digits. The first says how many: 1 one, 2 any number, 3 one or none, 0 no item.
 // The second says of which sort: 1 expressions, 2 plans, 3 to 8 the parts in their order, 9 columns.
-// A pattern has four items. The patterns of each kind; an Aggregate has an entry besides:
+// A pattern has four items. The patterns of each kind, in the order of their numbers:
 const EXPRESSIONS: [usize; 10] = [
-    0,
-    0,
-    0,
-    0,
-    11110000,
-    11000000,
-    11000000,
-    11111100,
-    11112100,
-    21000000,
+    0, // Column
+    0, // integer
+    0, // boolean
+    0, // NULL
+    11110000, // BinaryExpr
+    11000000, // Not
+    11000000, // test
+    11111100, // Between
+    11112100, // InList
+    21000000, // function
 ];
 
 const PLANS: [usize; 12] = [
-    23210000,
-    11120000,
-    14241200,
-    12122531,
-    12000000,
-    12122200,
-    12000000,
-    26120000,
-    12000000,
-    12000000,
-    24271200,
-    18281200,
+    23210000, // TableScan
+    11120000, // Filter
+    14241200, // Projection
+    12122531, // Join
+    12000000, // SubqueryAlias
+    12122200, // Union
+    12000000, // Distinct
+    26120000, // Sort
+    12000000, // Repartition
+    12000000, // Limit
+    24271200, // Aggregate, which has an entry besides
+    18281200, // Window
 ];
 
-const PARTS: [usize; 6] = [0, 11000000, 11110000, 11000000, 11000000, 11290000];
+const PARTS: [usize; 6] = [
+    0, // field
+    11000000, // entry
+    11110000, // key pair
+    11000000, // sort key
+    11000000, // entry of an Aggregate
+    11290000, // entry of a Window
+];
 
 // No children meet it.
 const NEVER: usize = 99999999;
@@ -89,8 +97,9 @@ fn sort_for(n: usize) -> Sort
         return Sort::Plan;
     }
     if n == 9 {
-        return Sort::Kind(1);
+        return Sort::Kind(COLUMN);
     }
+    // The parts begin at 48.
     Sort::Kind(45 + n)
 }
 

@@ -55,35 +55,43 @@ pub +conjuncts-in-spec : {M : Type 1} → statement M
     (λ c f h. conj-none f (ended f _ _ _ h (c .if1 .taken)))
     (λ c κs. within (c .before .before .pre .1) (c .if1 .left))
     (λ c κs. whole (c .before .before .before .pre .1) (c .before .if1 .left) (c .from-record .ensures))
-    (λ c κs. let w = step-at (c .before .before .before .before .pre .1) (c .before .before .if1 .left) (c .before .from-record .ensures) (c .look .ensures) in
+    (λ c κs. let w = step-at (c .before .before .before .before .pre .1) (c .before .before .if1 .left) (c .before .from-record .ensures)
+    (c .look .ensures) in
     (omega (arith, w .less, c .before .before .before .before .pre .0), record { forest = w .after; linked = w .next }))
-    (λ c κs. let w = step-at (c .before .before .before .before .before .pre .1) (c .before .before .before .if1 .left) (c .before .before .from-record .ensures) (c .before .look .ensures) in
+    (λ c κs. let w = step-at (c .before .before .before .before .before .pre .1) (c .before .before .before .if1 .left)
+    (c .before .before .from-record .ensures) (c .before .look .ensures) in
     record { forest = w .below; linked = w .first })
-    (λ c κs. let w = step-at (c .before .before .before .before .before .before .before .pre .1) (c .before .before .before .before .before .if1 .left) (c .before .before .before .before .from-record .ensures) (c .before .before .before .look .ensures) in
+    (λ c κs. let w = step-at (c .before .before .before .before .before .before .before .pre .1)
+    (c .before .before .before .before .before .if1 .left) (c .before .before .before .before .from-record .ensures)
+    (c .before .before .before .look .ensures) in
     (omega (arith, w .down, c .before .before .before .before .before .before .before .pre .0), record { forest = w .below; linked = w .first }))
     (λ c. let p = c .before .before .before .before .before .before .before .before .pre .1 in
-    let w = step-at p (c .before .before .before .before .before .before .if1 .left) (c .before .before .before .before .before .from-record .ensures) (c .before .before .before .before .look .ensures) in
+    let w = step-at p (c .before .before .before .before .before .before .if1 .left)
+    (c .before .before .before .before .before .from-record .ensures) (c .before .before .before .before .look .ensures) in
     omega (
       arith,
       conj-room (p .forest) _ _ _ (p .linked) (conj-and w
           (sym (c .before .if2 .taken) ∙ c .before .before .is-and .ensures (w .label) (w .below) (w .kind) (w .p) (w .first))
           (c .conjuncts-in2 .ensures (w .below) (w .first)) (c .before .before .before .conjuncts-in .ensures (w .after) (w .next))),
     ))
-    (λ c f h. let w = step f h (c .before .before .before .before .before .before .if1 .left) (c .before .before .before .before .before .from-record .ensures) (c .before .before .before .before .look .ensures) in
+    (λ c f h. let w = step f h (c .before .before .before .before .before .before .if1 .left)
+    (c .before .before .before .before .before .from-record .ensures) (c .before .before .before .before .look .ensures) in
     conj-and w
     (sym (c .before .if2 .taken) ∙ c .before .before .is-and .ensures (w .label) (w .below) (w .kind) (w .p) (w .first))
     (c .conjuncts-in2 .ensures (w .below) (w .first)) (c .before .before .before .conjuncts-in .ensures (w .after) (w .next)))
     (λ c κs. search needs)
     (λ c κs. search needs)
     (λ c. let p = c .before .before .before .before .before .before .before .before .before .pre .1 in
-    let w = step-at p (c .before .before .before .before .before .before .before .if1 .left) (c .before .before .before .before .before .before .from-record .ensures) (c .before .before .before .before .before .look .ensures) in
+    let w = step-at p (c .before .before .before .before .before .before .before .if1 .left)
+    (c .before .before .before .before .before .before .from-record .ensures) (c .before .before .before .before .before .look .ensures) in
     omega (
       arith,
       conj-room (p .forest) _ _ _ (p .linked) (conj-one w
           (sym (c .before .before .if2 .left) ∙ c .before .before .before .is-and .ensures (w .label) (w .below) (w .kind) (w .p) (w .first))
           (c .before .of-sort .ensures) (c .one-if .ensures) (c .before .before .before .before .conjuncts-in .ensures (w .after) (w .next))),
     ))
-    (λ c f h. let w = step f h (c .before .before .before .before .before .before .before .if1 .left) (c .before .before .before .before .before .before .from-record .ensures) (c .before .before .before .before .before .look .ensures) in
+    (λ c f h. let w = step f h (c .before .before .before .before .before .before .before .if1 .left)
+    (c .before .before .before .before .before .before .from-record .ensures) (c .before .before .before .before .before .look .ensures) in
     conj-one w
     (sym (c .before .before .if2 .left) ∙ c .before .before .before .is-and .ensures (w .label) (w .below) (w .kind) (w .p) (w .first))
     (c .before .of-sort .ensures) (c .one-if .ensures) (c .before .before .before .before .conjuncts-in .ensures (w .after) (w .next)))

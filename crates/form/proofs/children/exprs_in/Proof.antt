@@ -29,7 +29,9 @@ exprs-in-spec =
       count-room (c .before .before .before .before .before .loop .n) (c .before .before .before .before .before .loop .inv) (c .before .before .before .before .loop-test .taken) (c .before .before .before .from-record .ensures) (c .before .before .look .ensures)
           (c .before .of-sort .ensures) (c .one-if .ensures) (c .before .before .before .before .before .before .before .pre),
     ))
-    (λ c. here (c .before .before .before .before .before .loop .inv) (c .before .before .before .before .loop-test .taken) (c .before .before .before .from-record .ensures) (c .before .before .look .ensures) .less)
-    (λ c. count-on _ (c .before .before .before .before .before .loop .inv) (c .before .before .before .before .loop-test .taken) (c .before .before .before .from-record .ensures) (c .before .before .look .ensures)
+    (λ c. here (c .before .before .before .before .before .loop .inv) (c .before .before .before .before .loop-test .taken)
+    (c .before .before .before .from-record .ensures) (c .before .before .look .ensures) .less)
+    (λ c. count-on _ (c .before .before .before .before .before .loop .inv) (c .before .before .before .before .loop-test .taken)
+    (c .before .before .before .from-record .ensures) (c .before .before .look .ensures)
     (c .before .of-sort .ensures) (c .one-if .ensures))
     (λ c. count-end (c .before .loop .inv) (c .loop-test .left)))

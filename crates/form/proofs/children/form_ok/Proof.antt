@@ -13,4 +13,5 @@ form-ok-spec =
     (λ c κs. search needs)
     (λ c l f k h. form-children l f k (sym (not-true _ (c .if1 .taken)) ∙ c .before .children-ok .ensures f h))
     (λ c κs. search needs)
-    (λ c l f k h. form-list l f k (sym (not-false _ (c .before .if1 .left)) ∙ c .before .before .children-ok .ensures f h) (c .list-len .ensures f h)))
+    (λ c l f k h. form-list l f k (sym (not-false _ (c .before .if1 .left)) ∙ c .before .before .children-ok .ensures f h)
+    (c .list-len .ensures f h)))

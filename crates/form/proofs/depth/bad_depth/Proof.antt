@@ -1,7 +1,7 @@
 -- `depth::bad_depth` meets its contract: the root's depth is 1, and its children stand at depth 2.
 use mathlib.Core.Path.{sym, ap, _∙_}
 use lib.Dec.{leb}
-use Prim.Native.Nat.{ℕ, _+_}
+use Prim.Native.Nat.{_+_}
 use native.Mathlib.Omega.{arith}
 use Rattle.image.specs.Limits.{maxDepth}
 use Rattle.image.specs.Lowest.{orElse, unless}

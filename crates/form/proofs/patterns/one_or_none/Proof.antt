@@ -15,5 +15,6 @@ one-or-none-spec =
     (λ c κs. within (c .before .before .pre) (c .if1 .left))
     (λ c κs. whole (c .before .before .before .pre) (c .before .if1 .left) (c .from-record .ensures))
     (λ c κs. search needs)
-    (λ c f h. let w = step f h (c .before .before .before .before .if1 .left) (c .before .before .before .from-record .ensures) (c .before .before .look .ensures) in
+    (λ c f h. let w = step f h (c .before .before .before .before .if1 .left) (c .before .before .before .from-record .ensures)
+    (c .before .before .look .ensures) in
     perhaps-one _ (w .label) (w .below) (w .after) _ _ _ (w .is) (sorted _ w (c .before .of-sort .ensures)) (w .next)))
