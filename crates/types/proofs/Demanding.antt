@@ -1,4 +1,9 @@
 -- Laws of what a record asks of the types of its own expressions.
+--     demand-last                     the table of the code, past the kinds that it names
+--     tree-at, type-here              the tree and the type of the record at which a walk is
+--     have-none, have-skip, have-not, have-more   all of a chain have a type, record by record
+--     first-none, first-skip, first-here          the first type of a chain
+--     alike-by                        one type for all is the first's for all
 -- Assumes nothing.
 use mathlib.Core.Path.{_≡_, refl, sym, ap, subst, _∙_}
 use mathlib.Core.Bool.{Bool, true, false}
@@ -76,7 +81,7 @@ demand-last n p r a b c d g h i = go (whatOf n) refl
 
 -- ---- the types of a chain
 
--- all of no expressions have a type, and the first has none
+-- no records, no types
 pub types-none : (c after : Scope) (f : Forest) → f ≡ none → typesOf c after f ≡ []
 unfolding typesOf
 types-none c after f e = rw e
@@ -87,6 +92,7 @@ unfolding alike first all _&_
 alike-first [] = refl
 alike-first (t ∷ ts) = rw (eq-eqb t t refl)
 
+-- as the code asks for it
 pub alike-by : (ts : List ℕ) {r : Bool} {t : ℕ} → r ≡ all (eqb t) ts → t ≡ first 0 ts → r ≡ alike ts
 alike-by ts e k = e ∙ ap (λ (x : ℕ). all (eqb x) ts) k ∙ alike-first ts
 
@@ -123,12 +129,14 @@ type-here w d h e k = k ∙ ap (typeOf d) (tree-at w h e .head .label)
 
 -- ---- all have the type t
 
+-- of no expressions all have it
 pub have-none : (t : ℕ) (c after : Scope) (f : Forest) → f ≡ none → true ≡ all (eqb t) (typesOf c after f)
 unfolding typesOf all
 have-none t c after f e = rw e
 
 -- ---- the first type
 
+-- no expressions, no type
 pub first-none : (c after : Scope) (f : Forest) → f ≡ none → 0 ≡ first 0 (typesOf c after f)
 unfolding typesOf first
 first-none c after f e = rw e
@@ -139,19 +147,23 @@ module _ {f : Forest} {s : List ℕ} {b at : ℕ} {part : List ℕ} {v : Node} (
   pub have-skip : (t : ℕ) → x ≡ false → all (eqb t) (typesOf after after (w .after)) ≡ all (eqb t) (typesOf c after f)
   have-skip t z = ap (all (eqb t)) (sym (types-other w c after e z))
 
+  -- the first type is then that of the rest
   pub first-skip : x ≡ false → first 0 (typesOf after after (w .after)) ≡ first 0 (typesOf c after f)
   first-skip z = ap (first 0) (sym (types-other w c after e z))
 
   -- it is one, and u is its type
   module _ {u : ℕ} (z : x ≡ true) (k : u ≡ typeOf (seen c) (w .label)) where
+    -- which is not t
     pub have-not : (t : ℕ) → (t ≡ u → ⊥) → false ≡ all (eqb t) (typesOf c after f)
     unfolding all _&_
     have-not t n = sym (ap (all (eqb t)) (types-more w c after e z k) ∙ rw (ne-eqb t u n))
 
+    -- which is t
     pub have-more : (t : ℕ) → t ≡ u → all (eqb t) (typesOf after after (w .after)) ≡ all (eqb t) (typesOf c after f)
     unfolding all _&_
     have-more t n = sym (ap (all (eqb t)) (types-more w c after e z k) ∙ rw (eq-eqb t u n))
 
+    -- which is the first type
     pub first-here : u ≡ first 0 (typesOf c after f)
     unfolding first
     first-here = sym (ap (first 0) (types-more w c after e z k))

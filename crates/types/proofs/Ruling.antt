@@ -32,6 +32,7 @@ moreP K.Limit root l cs = true
 moreP K.Aggregate root l cs = true
 moreP K.Window root l cs = true
 
+-- what a record asks besides
 abbrev more : What → Forest → Label → Forest → Bool
 more (expr k) root l cs = true
 more (plan k) root l cs = moreP k root l cs
@@ -44,6 +45,7 @@ module _ (root : Forest) (l : Label) (cs : Forest) (ts : List ℕ) where
   count-or true = sym (and-true true)
   count-or false = sym (and-true (eqb (first 0 ts) 1))
 
+  -- the rule is what it asks of its own expressions, and what it asks besides
   rule-is : (w : What) → typeOkBy w root l cs ts ≡ met (demandOf w (l .p) (l .r)) ts & more w root l cs
   rule-is (expr K.Column) = sym (and-true true)
   rule-is (expr K.Integer) = sym (and-true true)
@@ -103,6 +105,7 @@ module _ (root : Forest) (l : Label) (cs : Forest) (ts : List ℕ) where
 
 module _ {t : Tree} {s : List ℕ} {b : ℕ} {v : Node} (k : Looked t s b v) (root : Forest) (ts : List ℕ) {d : ℕ} {m : Bool}
     (D : d ≡ demandOf (whatOf (v .kind)) (v .p) (v .r)) (M : m ≡ met d ts) where
+  -- the same as the code asks it
   rule-by : typeOkBy (what (t .label)) root (t .label) (t .below) ts ≡ m & more (what (t .label)) root (t .label) (t .below)
   rule-by =
       rule-is root (t .label) (t .below) ts (what (t .label))
@@ -116,20 +119,24 @@ module _ {t : Tree} {s : List ℕ} {b : ℕ} {v : Node} (k : Looked t s b v) (ro
   rule-not e = sym (rule-by ∙ ap (λ (x : Bool). x & more (what (t .label)) root (t .label) (t .below)) e)
 
   module _ (e : m ≡ true) where
+    -- they are right: what it asks besides is the rule
     rule-then : more (what (t .label)) root (t .label) (t .below) ≡ typeOkBy (what (t .label)) root (t .label) (t .below) ts
     unfolding _&_
     rule-then = sym (rule-by ∙ ap (λ (x : Bool). x & more (what (t .label)) root (t .label) (t .below)) e)
 
+    -- a scan: the types of the first scan of its table
     pub rule-scan : v .kind ≡ 32 → same-types (typesIn (made [] (t .below))) (scanTypes (v .p) [] root) ≡ typeOkBy (what (t .label)) root (t .label) (t .below) ts
     unfolding whatOf K.among
     rule-scan z =
         ap (λ (x : ℕ). same-types (typesIn (made [] (t .below))) (scanTypes x [] root)) (k .p)
         ∙ ap (λ (x : ℕ). more (whatOf x) root (t .label) (t .below)) (sym (sym (k .kind) ∙ z)) ∙ rule-then
 
+    -- a Union: its inputs united
     pub rule-union : v .kind ≡ 37 → united (inputs (t .below)) ≡ typeOkBy (what (t .label)) root (t .label) (t .below) ts
     unfolding whatOf K.among
     rule-union z = ap (λ (x : ℕ). more (whatOf x) root (t .label) (t .below)) (sym (sym (k .kind) ∙ z)) ∙ rule-then
 
+    -- another record asks no more
     pub rule-rest : (v .kind ≡ 32 → ⊥) → (v .kind ≡ 37 → ⊥) → true ≡ typeOkBy (what (t .label)) root (t .label) (t .below) ts
     rule-rest a c =
         more-none root (t .label) (t .below) ts (what (t .label))

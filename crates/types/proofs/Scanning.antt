@@ -29,6 +29,7 @@ pub record Looked (t : Tree) (s : List ℕ) (b : ℕ) (v : Node) : Type 0 where
   pub first : Linked (t .below) s b (v .first)
   pub first-number : v .first ≡ link (b + 1) (t .below)
 
+-- the record at the start of s is that tree's
 pub looked : {t : Tree} {s : List ℕ} {b : ℕ} {v : Node} → At t s b → v ≡ nodeOf s → Looked t s b v
 looked {t} {s} {b} {v} h g =
     rw g (record {
@@ -47,6 +48,7 @@ unfolding _&_
 and-same true b = refl
 and-same false b = refl
 
+-- no records, no scan
 pub scan-none : (t : ℕ) (ts d : List ℕ) (f : Forest) → f ≡ none → same-types ts d ≡ same-types ts (scanTypes t d f)
 unfolding scanTypes
 scan-none t ts d f e = rw e
@@ -83,17 +85,21 @@ module _ {f : Forest} {s : List ℕ} {b at : ℕ} {part : List ℕ} {v : Node} (
 -- ---- of the whole image
 
 module _ {u : Tree} {s : List ℕ} {b : ℕ} {v : Node} (k : Looked u s b v) (t : ℕ) (ts : List ℕ) where
+  -- the root is the first scan
   pub root-here : (eqb (v .kind) 32 && eqb (v .p) t) ≡ true → same-types ts (typesIn (made [] (u .below))) ≡ same-types ts (scanTypes t [] (alone u))
   root-here h = ap (same-types ts) (sym (scan-by t [] (u .label) (u .below) none (v .kind) (v .p) (k .kind) (k .p) h))
 
+  -- it is none: its children
   root-there : (eqb (v .kind) 32 && eqb (v .p) t) ≡ false → same-types ts (scanTypes t [] (u .below)) ≡ same-types ts (scanTypes t [] (alone u))
   unfolding scanTypes
   root-there h = ap (same-types ts) (sym (scan-by t [] (u .label) (u .below) none (v .kind) (v .p) (k .kind) (k .p) h))
 
   module _ (h : (eqb (v .kind) 32 && eqb (v .p) t) ≡ false) {r : ℕ} (below : verdict r (same-types ts []) ≡ same-types ts (scanTypes t [] (u .below))) where
+    -- one stands below
     pub root-below : (r ≡ 0 → ⊥) → eqb r 1 ≡ same-types ts (scanTypes t [] (alone u))
     root-below n = sym (ap (λ (y : Bool). cond y (same-types ts []) (eqb r 1)) (ne-eqb r 0 n)) ∙ below ∙ root-there h
 
+    -- none does
     pub root-none : r ≡ 0 → same-types ts [] ≡ same-types ts (scanTypes t [] (alone u))
     root-none e = sym (ap (λ (y : Bool). cond y (same-types ts []) (eqb r 1)) (eq-eqb r 0 e)) ∙ below ∙ root-there h
 

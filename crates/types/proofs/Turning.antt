@@ -21,14 +21,17 @@ use Rattle.types.proofs.Scanning.{Looked}
 
 -- ---- places
 
+-- a place that is a record was found
 was-found : (g : Found) (r : ℕ) → At r ≡ placeOf g → g ≡ found r
 was-found nothing r e = let z : _≡_ {A = ℕ} 0 1 = cc in absurd (omega arith)
 was-found (found q) r e = cc
 
+-- a place that is nowhere was not
 was-nothing : (g : Found) → Nowhere ≡ placeOf g → g ≡ nothing
 was-nothing nothing e = refl
 was-nothing (found q) e = let z : _≡_ {A = ℕ} 0 1 = cc in absurd (omega arith)
 
+-- nothing found after
 or-nothing : (g : Found) → orElse g nothing ≡ g
 unfolding orElse
 or-nothing nothing = refl
@@ -45,11 +48,13 @@ module _ {C : Type 0} (rule : C → Label → Forest → Bool) (hand : C → Lab
   lowest-at c after at a b l cs ns x y e g h =
       rw (h, e, g, lowest-link rule hand x y (at + 1) cs, lowest-link rule hand after after (at + 1 + size cs) ns)
 
+  -- of no records none is found
   pub place-none : (c after : C) (at : ℕ) (f : Forest) → f ≡ none → Nowhere ≡ placeOf (lowest rule hand c after at f)
   place-none c after at f e = sym (ap placeOf (lowest-none rule hand c after at f e))
 
   module _ {f : Forest} {s : List ℕ} {b at : ℕ} {part : List ℕ} {v : Node} (w : Step f s b at part v) (c after x y : C)
       (h : hand c (w .label) (w .below) ≡ (x, y)) {t : Bool} (T : t ≡ rule c (w .label) (w .below)) where
+    -- the turn, by the rule's answer
     turned : lowest rule hand c after at f
         ≡ orElse (unless t at) (orElse (lowest rule hand x y (v .first) (w .below)) (lowest rule hand after after (v .next) (w .after)))
     turned =
@@ -88,6 +93,7 @@ rule-of root c l cs x y h e = e ∙ ap (λ (p : Scope × Scope). typeOkBy (what 
 
 -- ---- the root
 
+-- what a plan hands down, as the code says it
 hand-p : (k : K.PlanKind) (cs : Forest) → handP k cs (inputs cs) ≡ scopeOf (sortP k) cs
 hand-p K.TableScan cs = refl
 hand-p K.Filter cs = rw (input-0 (inputs cs)) refl
@@ -116,15 +122,18 @@ hand-root unknown cs = refl
 
 module _ {t : Tree} {s : List ℕ} {v : Node} (k : Looked t s 0 v) {r : ℕ} (R : r ≡ sortW (whatOf (v .kind))) {x : Bool}
     (X : x ≡ typeOkBy (what (t .label)) (alone t) (t .label) (t .below) (typesOf (scopeOf r (t .below)) (scopeOf r (t .below)) (t .below))) where
+  -- what the root hands down
   handed : hand (over [] []) (t .label) (t .below) ≡ (scopeOf r (t .below), scopeOf r (t .below))
   unfolding hand
   handed =
       hand-root (what (t .label)) (t .below)
       ∙ ap (λ (n : ℕ). (scopeOf n (t .below), scopeOf n (t .below))) (sym (R ∙ ap (λ (n : ℕ). sortW (whatOf n)) (k .kind)))
 
+  -- what is found below the root
   abbrev below-root : Found
   below-root = lowest (typeOk (alone t)) hand (scopeOf r (t .below)) (scopeOf r (t .below)) (v .first) (t .below)
 
+  -- the root, then what is below it
   root-turn : badTypes t ≡ orElse (unless x 0) below-root
   unfolding badTypes
   root-turn =
@@ -133,10 +142,12 @@ module _ {t : Tree} {s : List ℕ} {v : Node} (k : Looked t s 0 v) {r : ℕ} (R 
       ∙ ap (λ (g : Found). orElse (unless (typeOk (alone t) (over [] []) (t .label) (t .below)) 0) g) (or-nothing below-root)
       ∙ ap (λ (b : Bool). orElse (unless b 0) below-root) (sym (rule-of (alone t) (over [] []) (t .label) (t .below) _ _ handed X))
 
+  -- the rule does not hold of the root
   pub root-bad : x ≡ false → At 0 ≡ placeOf (badTypes t)
   unfolding orElse unless
   root-bad e = sym (ap placeOf (root-turn ∙ ap (λ (b : Bool). orElse (unless b 0) below-root) e))
 
+  -- it does: the walk below it
   pub root-good : x ≡ true → placeOf below-root ≡ placeOf (badTypes t)
   unfolding orElse unless
   root-good e = sym (ap placeOf (root-turn ∙ ap (λ (b : Bool). orElse (unless b 0) below-root) e))

@@ -20,6 +20,35 @@ fn is_expr(kind: usize) -> bool
     (1 <= kind) & (kind <= 10)
 }
 
+// Count takes any type, Min and Max an integer.
+fn integer_unless_count(r: usize) -> usize
+    ensures { λ d. ⌜ d ≡ integerOr r ⌝ }
+{
+    if r == 1 {
+        return 0;
+    }
+    3
+}
+
+// Not and the plans with predicates take booleans.
+fn takes_booleans(kind: usize) -> usize
+    ensures { λ d. ⌜ d ≡ booleanKind kind ⌝ }
+{
+    if kind == 6 {
+        return 1;
+    }
+    if kind == 32 {
+        return 1;
+    }
+    if kind == 33 {
+        return 1;
+    }
+    if kind == 35 {
+        return 1;
+    }
+    0
+}
+
 // What a record asks for: 1 booleans, 2 one type for all, 3 an integer first, 0 nothing.
 pub fn demand(kind: usize, p: usize, r: usize) -> usize
     ensures { λ d. ⌜ d ≡ demandOf (whatOf kind) p r ⌝ }
@@ -52,35 +81,6 @@ pub fn demand(kind: usize, p: usize, r: usize) -> usize
         return 2;
     }
     takes_booleans(kind)
-}
-
-// Count takes any type, Min and Max an integer.
-fn integer_unless_count(r: usize) -> usize
-    ensures { λ d. ⌜ d ≡ integerOr r ⌝ }
-{
-    if r == 1 {
-        return 0;
-    }
-    3
-}
-
-// Not, and the plans with predicates.
-fn takes_booleans(kind: usize) -> usize
-    ensures { λ d. ⌜ d ≡ booleanKind kind ⌝ }
-{
-    if kind == 6 {
-        return 1;
-    }
-    if kind == 32 {
-        return 1;
-    }
-    if kind == 33 {
-        return 1;
-    }
-    if kind == 35 {
-        return 1;
-    }
-    0
 }
 
 // The type of the first expression from record `at` on; 0 for none.

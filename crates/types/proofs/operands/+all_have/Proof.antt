@@ -1,3 +1,4 @@
+-- `types::operands::all_have` meets its contract. The measure is how many bytes are left.
 use mathlib.Core.Path.{_∙_}
 use native.Mathlib.Omega.{arith}
 use lib.ListN.{length-drop}

@@ -1,3 +1,4 @@
+-- `types::places::type_at` meets its contract. The measure is how many bytes are left.
 use mathlib.Core.Path.{sym, ap, _∙_}
 use native.Mathlib.Omega.{arith}
 use lib.ListN.{length-drop}

@@ -1,3 +1,4 @@
+-- `types::places::same_fields` meets its contract. The loop's invariant: the types agree at every place passed.
 use mathlib.Core.Path.{_≡_, sym, _∙_}
 use Prim.Native.Nat.{ℕ, _<_, _-_}
 use native.Mathlib.Omega.{arith}

@@ -1,3 +1,4 @@
+-- `types::walk::bad_type` meets its contract. The measure is how many bytes are left.
 use mathlib.Core.Path.{sym, _∙_}
 use native.Mathlib.Omega.{arith}
 use lib.ListN.{length-drop}
