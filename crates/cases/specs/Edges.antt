@@ -1,4 +1,4 @@
--- Made by tools/cases.py: the limits, by hand (tools/edges.py)
+-- The limits of the rewrite, on both sides of each: lists of 128 and 129, depth 256 and 257, 2,048 and 2,049 records.
 use mathlib.Core.Path.{_≡_, refl}
 use mathlib.Core.Bool.{true, false}
 use mathlib.Core.List.{[], _∷_}

@@ -1,4 +1,4 @@
--- Made by tools/vectors.py from the Python reference: an image by its bytes, the first byte first, and the number and record that the reference answers.
+-- Images by their bytes, the first byte first, each with the number and the record that a checker written apart from the definitions answered.
 use mathlib.Core.Path.{_≡_, refl}
 use Rattle.acceptance.specs.Check.{check, verdict}
 use Rattle.acceptance.proofs.Opened.{checked}

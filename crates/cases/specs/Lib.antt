@@ -1,5 +1,5 @@
--- Stored cases, each computed by the definitions. Made by running the source over the same plans (D1 to D5 applied), and by an independent
--- checker of images; docs/DIFFERENCES.md says how.
+-- Stored cases, each computed by the definitions. Made by running the source over the same plans (D1 to D5 applied), and by a checker of
+-- images written apart from the definitions; docs/DIFFERENCES.md says how.
 pub mod Run
 pub mod Judged
 pub mod Drawn
