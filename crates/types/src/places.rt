@@ -5,6 +5,8 @@ use names::fields::Source;
 use names::fields::holders;
 use names::fields::made_count;
 use names::fields::made_type;
+use names::fields::makes_one;
+use names::fields::role_of;
 use names::fields::type_in;
 ghost use mathlib.Core.Path.{_≡_};
 ghost use Prim.Native.Nat.{_≤_, _<_};
@@ -18,50 +20,6 @@ ghost use Rattle.names.specs.Rules.{typesIn, united};
 ghost use Rattle.names.specs.Count.{hits, counted, input, makes, role};
 ghost use Rattle.names.specs.Typed.{sourceType};
 ghost use Rattle.types.specs.ByPlace.{tyAt, schemaOf, spotOf};
-
-// Whether a part of this kind makes a field.
-fn makes_one(kind: usize) -> bool
-    ensures { λ b. ⌜ b ≡ makes (whatOf kind) ⌝ }
-{
-    if kind == 48 {
-        return true;
-    }
-    if kind == 49 {
-        return true;
-    }
-    if kind == 52 {
-        return true;
-    }
-    kind == 53
-}
-
-// Where a plan of this kind has its fields from; 0 for no plan.
-fn role_of(kind: usize) -> usize
-    ensures { λ r. ⌜ r ≡ role (whatOf kind) ⌝ }
-{
-    if kind == 32 {
-        return 1;
-    }
-    if kind == 34 {
-        return 1;
-    }
-    if kind == 42 {
-        return 1;
-    }
-    if kind == 35 {
-        return 2;
-    }
-    if kind == 36 {
-        return 3;
-    }
-    if kind == 43 {
-        return 4;
-    }
-    if (32 <= kind) & (kind <= 43) {
-        return 5;
-    }
-    0
-}
 
 // The type of the field with the place k among those that the parts from record `at` on make.
 fn made_at(s: &[u8], base: usize, at: usize, k: usize) -> Source

@@ -14,7 +14,7 @@ use Rattle.types.proofs.places.+made_at.Lts-made_at as made-at-lts
 use Rattle.image.proofs.records.from_record.Reads as from-record-reads
 use Rattle.image.proofs.records.look.Reads as look-reads
 use Rattle.names.proofs.fields.made_type.Reads as made-type-reads
-use Rattle.types.proofs.places.makes_one.Reads as makes-one-reads
+use Rattle.names.proofs.fields.makes_one.Reads as makes-one-reads
 use Rattle.types.proofs.places.+made_at.{statement}
 use Rattle.types.proofs.places.+made_at.Tie.{close}
 

@@ -20,7 +20,7 @@ use Rattle.image.proofs.records.from_record.Reads as from-record-reads
 use Rattle.image.proofs.records.look.Reads as look-reads
 use Rattle.names.proofs.fields.type_in.Reads as type-in-reads
 use Rattle.types.proofs.places.made_at.Reads as made-at-reads
-use Rattle.types.proofs.places.role_of.Reads as role-of-reads
+use Rattle.names.proofs.fields.role_of.Reads as role-of-reads
 use Rattle.types.proofs.places.spot_of.Reads as spot-of-reads
 use Rattle.types.proofs.places.+type_at.{statement}
 use Rattle.types.proofs.places.+type_at.Tie.{close}
