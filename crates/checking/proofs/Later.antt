@@ -1,19 +1,18 @@
 -- Names and types of an image that meets none of the tests 1 to 5: what the code finds on records is what the check finds on the plan.
 use Prim.Native.Nat.{ℕ, _/_}
 use native.Mathlib.Omega.{arith}
-use mathlib.Core.Path.{_≡_, refl, sym, ap, ap₂, _∙_}
+use mathlib.Core.Path.{_≡_, refl, sym, ap, _∙_}
 use mathlib.Core.List.{List}
 use lib.ListN.{length}
 use Rattle.image.specs.Lowest.{Found, nothing, found}
 use Rattle.image.specs.Places.{placeOf}
 use Rattle.image.specs.declared.places.Place.{Place}
 use Rattle.image.specs.declared.places.Place.the-variants.{At, Nowhere}
-use Rattle.plan.specs.Trees.{planTree}
 use Rattle.plan.specs.Read.{planAt}
 use Rattle.plan.proofs.PlanOf.{planTree-whole}
 use Rattle.acceptance.specs.Names.{badName}
 use Rattle.acceptance.specs.Types.{badType}
-use Rattle.acceptance.specs.Check.{linked, Verdict, verdict, at, checkPlan, check}
+use Rattle.acceptance.specs.Check.{linked, verdict, at, checkPlan, check}
 use Rattle.form.specs.Formed.{formed, numbered, later}
 use Rattle.form.specs.declared.checked.Formed.{Formed}
 use Rattle.form.proofs.Sound.{Sound, check-is}

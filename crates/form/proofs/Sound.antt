@@ -16,12 +16,12 @@ use Rattle.image.specs.Lowest.{Found, nothing, found, unless, alone}
 use Rattle.plan.specs.Words.{Worded}
 use Rattle.plan.specs.Form.{badForm}
 use Rattle.plan.specs.Read.{planAt}
-use Rattle.acceptance.specs.Check.{bufferOk, badWords, Links, tree, broken, linked, tooDeep, Verdict, at, checkPlan, checkTree, checkLinks, check}
-use Rattle.acceptance.proofs.Accept.{words-of, worded, links-count, links-stand}
+use Rattle.acceptance.specs.Check.{bufferOk, badWords, Links, tree, broken, linked, tooDeep, Verdict, at, checkPlan, checkTree, checkLinks}
+use Rattle.acceptance.specs.Check.{check}
+use Rattle.acceptance.proofs.Accept.{words-of, worded, links-count, links-stand, buffer-of as sized}
 use Rattle.form.specs.declared.checked.Formed.{Formed}
 use Rattle.form.specs.declared.checked.Formed.the-variants.{Buffer, Record, Depth, Form, Whole}
 use Rattle.form.specs.Formed.{stop, formedTree, formedLinks, formed, numbered, later}
-use Rattle.form.proofs.Stages.{sized}
 
 -- ---- the check
 

@@ -5,11 +5,9 @@
 use mathlib.Core.Path.{_≡_, refl, sym, ap, _∙_}
 use mathlib.Core.Bool.{Bool, true, false}
 use mathlib.Core.List.{List}
-use Prim.Native.Nat.{ℕ, _*_, _/_, _%_, _≤_}
+use Prim.Native.Nat.{ℕ, _/_}
 use native.Mathlib.Omega.{arith}
 use lib.ListN.{length}
-use borrow.Author.Tests.{leb-true, eqb-true, eqb-false, not-true}
-use Rattle.image.specs.Limits.{maxRecords}
 use Rattle.image.specs.Tree as Trees
 use Rattle.image.specs.Tree.{Tree}
 use Rattle.image.specs.Lowest.{nothing}
@@ -17,9 +15,8 @@ use Rattle.image.specs.Places.{placeOf}
 use Rattle.image.specs.declared.places.Place.{Place}
 use Rattle.image.specs.declared.places.Place.the-variants.{At, Nowhere}
 use Rattle.plan.specs.Form.{badForm}
-use Rattle.plan.proofs.Lists.{and-l, and-r}
 use Rattle.acceptance.specs.Check.{bufferOk, badWords, Links, tree, broken, linked, tooDeep}
-use Rattle.acceptance.proofs.Accept.{links-stand}
+use Rattle.acceptance.proofs.Accept.{links-stand, buffer-of as sized}
 use Rattle.form.specs.Linking.{linkingOf}
 use Rattle.form.specs.Formed.{stop, formedTree, formedLinks, formed}
 use Rattle.form.specs.declared.linking.Linking as linking
@@ -28,19 +25,6 @@ use Rattle.form.specs.declared.checked.Formed.the-variants.{Buffer, Reco
 use Rattle.form.proofs.Search.{was-found, was-nothing}
 
 -- ---- a buffer of whole records
-
-pub record Sized (s : List ℕ) : Type 0 where
-  pub len : length s ≡ 32 * (length s / 32)
-  pub one : 1 ≤ length s / 32
-  pub most : length s / 32 ≤ maxRecords
-
-pub sized : (s : List ℕ) → bufferOk s ≡ true → Sized s
-unfolding bufferOk
-sized s h =
-    let a = eqb-false (length s) 0 (not-true _ (and-l _ _ h)) in
-    let b = eqb-true (length s % 32) 0 (and-l _ _ (and-r _ _ h)) in
-    let c = leb-true (length s / 32) maxRecords (and-r _ _ (and-r _ _ h)) in
-    record { len = omega arith; one = omega (arith, a); most = c }
 
 -- ---- the enum of links, back to what was read
 

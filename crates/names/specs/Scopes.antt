@@ -5,7 +5,8 @@ use mathlib.Core.List.{[]}
 use Prim.Native.Nat.{ℕ}
 use lib.Dec.{eqb}
 use Rattle.image.specs.Tree.{Forest}
-use Rattle.plan.specs.Kinds.{What, expr, plan, part, unknown, PlanKind, TableScan, Filter, Projection, Join, SubqueryAlias, Union, Distinct, Sort, Repartition, Limit, Aggregate, Window}
+use Rattle.plan.specs.Kinds.{What, expr, plan, part, unknown, PlanKind, TableScan, Filter, Projection, Join, SubqueryAlias, Union, Distinct}
+use Rattle.plan.specs.Kinds.{Sort, Repartition, Limit, Aggregate, Window}
 use Rattle.names.specs.Fields.{made, inputs}
 use Rattle.names.specs.Rules.{Scope, over}
 use Rattle.names.specs.Count.{input}

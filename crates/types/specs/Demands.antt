@@ -3,9 +3,9 @@ use mathlib.Core.Bool.{Bool, true, cond}
 use mathlib.Core.List.{List}
 use Prim.Native.Nat.{ℕ}
 use lib.Dec.{eqb, leb}
-use Rattle.plan.specs.Kinds.{What, expr, plan, part, unknown, ExprKind, Column, Integer, Boolean, Null, Binary, Not, Test, Between}
-use Rattle.plan.specs.Kinds.{InList, Function, PlanKind, TableScan, Filter, Projection, Join, SubqueryAlias, Union, Distinct, Sort}
-use Rattle.plan.specs.Kinds.{Repartition, Limit, Aggregate, Window, PartKind, FieldPart, EntryPart, PairPart, KeyPart, AggPart, WinPart}
+use Rattle.plan.specs.Kinds.{What, expr, plan, part, unknown, ExprKind, Column, Integer, Boolean, Null, Binary, Not, Test, Between, InList}
+use Rattle.plan.specs.Kinds.{Function, PlanKind, TableScan, Filter, Projection, Join, SubqueryAlias, Union, Distinct, Sort, Repartition}
+use Rattle.plan.specs.Kinds.{Limit, Aggregate, Window, PartKind, FieldPart, EntryPart, PairPart, KeyPart, AggPart, WinPart}
 use Rattle.names.specs.Fields.{first}
 use Rattle.names.specs.Rules.{booleans, alike}
 

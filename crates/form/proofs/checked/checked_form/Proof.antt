@@ -3,7 +3,8 @@ use native.Mathlib.Omega.{arith}
 use mathlib.Core.Path.{sym, _∙_}
 use borrow.Author.Needs.{needs}
 use borrow.Author.Tests.{not-true, not-false}
-use Rattle.form.proofs.Stages.{sized, stage-buffer, stage-words, stage-links, stage-tree, stage-depth, stage-form, stage-whole}
+use Rattle.acceptance.proofs.Accept.{buffer-of as sized}
+use Rattle.form.proofs.Stages.{stage-buffer, stage-words, stage-links, stage-tree, stage-depth, stage-form, stage-whole}
 use Rattle.form.proofs.checked.checked_form.Statement.{statement}
 use Rattle.form.proofs.checked.checked_form.Tie as tie
 
