@@ -42,7 +42,7 @@ const ORDINARY: usize = 16;
 
 type Build = fn(Size) -> Tree;
 
-const HARD: [(&str, Build); 12] = [
+const HARD: [(&str, Build); 13] = [
     ("deep-filters", deep_filters),
     ("deep-projections", deep_projections),
     ("wide-projections", wide_projections),
@@ -53,6 +53,7 @@ const HARD: [(&str, Build); 12] = [
     ("scans-of-many-tables", many_tables),
     ("deep-joins-many-conjuncts", joins_with_conjuncts),
     ("deep-semi-joins", semi_joins),
+    ("right-deep-joins", right_deep_joins),
     ("deep-joins-many-references", joins_with_references),
     ("unions-over-deep-joins", unions_over_joins),
 ];
@@ -183,8 +184,19 @@ fn joins_with_conjuncts(size: Size) -> Tree {
 
 /// Left-deep semi joins with scans without fields: the fields of both inputs are told apart at each of them.
 fn semi_joins(size: Size) -> Tree {
-    let room = size.records - 2 * size.depth - size.fields;
-    empty_joins(5, 2, size, room / size.list)
+    empty_joins(5, 2, size, laden_scans(size))
+}
+
+/// Inner joins with a scan without fields on the left: the fields of the right input are told apart at each of them.
+fn right_deep_joins(size: Size) -> Tree {
+    let laden = laden_scans(size);
+    let lowest = empty_joins(1, size.depth - laden, size, laden);
+    (laden + 1..size.depth).fold(lowest, |right, _| join(1, vec![table(2, 2, 0, 0), right]))
+}
+
+/// How many scans with all their filters there is room for below joins of all levels.
+fn laden_scans(size: Size) -> usize {
+    (size.records - 2 * size.depth - size.fields) / size.list
 }
 
 /// Left-deep joins with scans without fields; the references, to the fields of the lowest scan, are above them all.

@@ -52,6 +52,9 @@ fn count(words: &[String]) -> Result<(), String> {
 }
 
 fn compare(names: &[String]) -> Result<(), String> {
+    if let Some(unknown) = names.iter().find(|name| sets().iter().all(|set| set.name != **name)) {
+        return Err(format!("no set {unknown}"));
+    }
     println!("{:<32} {:>8} {:>12} {:>12} {:>8}", "set", "records", "check us", "checker us", "ratio");
     for set in sets().iter().filter(|set| names.is_empty() || names.contains(&set.name)) {
         let (name, images) = (&set.name, set.images());
