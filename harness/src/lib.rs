@@ -7,6 +7,7 @@ pub mod ffi;
 pub mod image;
 pub mod kinds;
 pub mod random;
+pub mod sets;
 pub mod sweeps;
 pub mod terms;
 
