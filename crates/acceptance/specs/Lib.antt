@@ -1,5 +1,6 @@
-pub mod Accepted
-pub mod Check
+-- Which images are accepted: tests 6 and 7 as marks of the records of a plan, the whole check, and what it promises.
 pub mod Marks
 pub mod Names
 pub mod Types
+pub mod Check
+pub mod Accepted

@@ -24,7 +24,7 @@ use Rattle.rewrite.proofs.PassByRecords.{plan-from, visits, pass-by-records}
 use Rattle.rewrite.proofs.PassAgrees.{pass-agrees}
 use Rattle.rewrite.proofs.PassKeeps as K
 use Rattle.preservation.specs.Volatile.{NoVolatile}
-use Rattle.preservation.specs.Statement.{Image, Preserved, Preserves, left-by-pass, pass-through}
+use Rattle.preservation.specs.Statement.{left, Image, Preserved, Preserves, left-by-pass, pass-through}
 use Rattle.preservation.proofs.Depth.{deep-enough}
 use Rattle.preservation.proofs.FormTest.{formed-law}
 use Rattle.preservation.proofs.Granted.{Granted, well-ok, granted-keeps}
@@ -86,7 +86,7 @@ pass-granted budget room p w v =
 
 left-preserves : (s : List ℕ) (room : ℕ) → Image s → NoVolatile (planIn s) → (a : PassAnswer) → Numbered a
     → Granted (K.left-by-pass (planIn s) a) (planIn s) → Preserved s (left-by-pass s (reported room a))
-unfolding left-by-pass reported no-pass choose
+unfolding left left-by-pass reported no-pass choose
 left-preserves s room h v (passed n c f q) k g = rw (without-zeros room q) (preserved-granted s q g)
 left-preserves s room h v (pass-refused k r) pos g = rw (ne-eqb k 0 (λ e. omega arith)) (preserved-self s h v)
 
