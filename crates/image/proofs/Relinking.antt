@@ -90,7 +90,8 @@ record Mid (before after : List ℕ) (d v : ℕ) : Type 0 where
   under : (e : ℕ) → e < d → getD after e 0 ≡ getD before e 0
 
 -- a record at depth d before its children and its siblings
-mid-more : (T₀ T₁ T₂ : List ℕ) (d u v b : ℕ) → length T₂ ≡ 258 → d + 1 < 258 → Mid T₀ T₁ d u → Mid T₁ T₂ (d + 1) v → Mid T₀ (set (set T₂ d b) (d + 1) 0) d b
+mid-more : (T₀ T₁ T₂ : List ℕ) (d u v b : ℕ) → length T₂ ≡ 258 → d + 1 < 258 → Mid T₀ T₁ d u → Mid T₁ T₂ (d + 1) v
+    → Mid T₀ (set (set T₂ d b) (d + 1) 0) d b
 mid-more T₀ T₁ T₂ d u v b len small h k =
     let l : d + 1 < length (set T₂ d b) = simp length-set (omega arith) in
     let m : d < length T₂ = omega arith in
@@ -99,17 +100,20 @@ mid-more T₀ T₁ T₂ d u v b len small h k =
       above = λ e lt. ⊎-elim (λ q. rw (← q) (getD-set-same (set T₂ d b) (d + 1) 0 0 l))
           (λ q. getD-set-other (set T₂ d b) (d + 1) e 0 0 (λ r. omega arith) ∙ (getD-set-other T₂ d e b 0 (λ r. omega arith) ∙ k .above e q))
           (eq-or-lt-of-le {n = d + 1} {m = e} (omega arith));
-      under = λ e lt. getD-set-other (set T₂ d b) (d + 1) e 0 0 (λ r. omega arith) ∙ (getD-set-other T₂ d e b 0 (λ r. omega arith) ∙ (k .under e (omega arith) ∙ h .under e lt));
+      under = λ e lt. getD-set-other (set T₂ d b) (d + 1) e 0 0 (λ r. omega arith)
+          ∙ (getD-set-other T₂ d e b 0 (λ r. omega arith) ∙ (k .under e (omega arith) ∙ h .under e lt));
     }
 
 -- a forest at depth d leaves the link to it at d
 mid : (f : Forest) (d b k m : ℕ) (zs : List Rec) → Deep f k → d + k ≤ 257 → m ≡ b + size f → ((e : ℕ) → d ≤ e → getD (table m zs) e 0 ≡ 0)
     → Mid (table m zs) (table b (recsAny d f ++ zs)) d (link b f)
-mid none d b k m zs deep small e z = let q : m ≡ b = omega arith in rw (← q) (record { here = z d (le-refl d); above = λ e lt. z e (omega arith); under = λ e lt. refl })
+mid none d b k m zs deep small e z = let q : m ≡ b = omega arith in rw (← q)
+    (record { here = z d (le-refl d); above = λ e lt. z e (omega arith); under = λ e lt. refl })
 mid (node l cs ns) d b k m zs deep small e z =
     let h = mid ns d (b + 1 + size cs) k m zs (deep .2) small (omega arith) z in
     let j = mid cs (d + 1) (b + 1) (k - 1) (b + 1 + size cs) (recsAny d ns ++ zs) (deep .1) (omega arith) refl (λ e lt. h .above e (omega arith)) in
-    rw (append-assoc (recsAny (d + 1) cs) (recsAny d ns) zs) (mid-more _ _ _ d _ _ b (table-length (b + 1) (recsAny (d + 1) cs ++ (recsAny d ns ++ zs))) (omega arith) h j)
+    rw (append-assoc (recsAny (d + 1) cs) (recsAny d ns) zs)
+        (mid-more _ _ _ d _ _ b (table-length (b + 1) (recsAny (d + 1) cs ++ (recsAny d ns ++ zs))) (omega arith) h j)
 
 -- the bytes of a forest at depth d are its image
 links-any : (f : Forest) (d b k m : ℕ) (zs : List Rec) → Deep f k → d + k ≤ 257 → m ≡ b + size f → ((e : ℕ) → d ≤ e → getD (table m zs) e 0 ≡ 0)
@@ -134,7 +138,8 @@ pub relinked : (t : Tree) → Deep (t .below) 255 → links 0 (recs 1 t) ≡ enc
 relinked t deep =
     let f : Forest = t .below in
     let r : links 1 (recsAny 2 f ++ []) ≡ encAny 1 f ++ [] = links-any f 2 1 255 (1 + size f) [] deep (omega arith) refl (λ e h. zeros 258 e) in
-    let q : Mid (table (1 + size f) []) (table 1 (recsAny 2 f ++ [])) 2 (link 1 f) = mid f 2 1 255 (1 + size f) [] deep (omega arith) refl (λ e h. zeros 258 e) in
+    let q : Mid (table (1 + size f) []) (table 1 (recsAny 2 f ++ [])) 2 (link 1 f) = mid f 2 1 255 (1 + size f) [] deep (omega arith) refl
+        (λ e h. zeros 258 e) in
     rw (simp append-nil at (q .here), simp append-nil at (q .under 1 (omega arith)), zeros 258 1, simp append-nil at r)
 
 -- ---- a turn
@@ -153,7 +158,8 @@ shallow-append (x ∷ xs) ys h k = (h .0, shallow-append xs ys (h .1) k)
 shallow-any : (f : Forest) (d k : ℕ) → Deep f k → d + k ≤ 257 → Shallow (recsAny d f)
 shallow-any none d k deep small = tt
 shallow-any (node l cs ns) d k deep small =
-    (omega arith, shallow-append (recsAny (d + 1) cs) (recsAny d ns) (shallow-any cs (d + 1) (k - 1) (deep .1) (omega arith)) (shallow-any ns d k (deep .2) small))
+    (omega arith, shallow-append (recsAny (d + 1) cs) (recsAny d ns) (shallow-any cs (d + 1) (k - 1) (deep .1) (omega arith))
+        (shallow-any ns d k (deep .2) small))
 
 -- the records of a tree of 256 levels at most are shallow
 pub shallow : (t : Tree) → Deep (t .below) 255 → Shallow (recs 1 t)
@@ -223,7 +229,8 @@ pub record Turned (out tab : List ℕ) (j : ℕ) (xs : List Rec) (rest : List �
 turned-bytes : (out A S : List ℕ) (l : Label) (d j : ℕ) → out ≡ A ++ (bytesOf l d 0 ++ S) → length A ≡ 32 * j → d < 4294967296
     → (word out (32 * j + 24) ≡ d) × ((a b : ℕ) → sets out (32 * j + 24) (le a ++ le b) ≡ A ++ (bytesOf l a b ++ S))
 turned-bytes out A S l d j e len small =
-    rw (e, ← len) (word-right A (bytesOf l d 0 ++ S) 24 ∙ depth-of l d S small, λ a b. sets-right A (bytesOf l d 0 ++ S) 24 (le a ++ le b) ∙ rw links-of)
+    rw (e, ← len) (word-right A (bytesOf l d 0 ++ S) 24 ∙ depth-of l d S small, λ a b. sets-right A (bytesOf l d 0 ++ S) 24 (le a ++ le b)
+        ∙ rw links-of)
 
 -- the record x, with the number j, is turned next: ys are those after it
 module _ (out tab : List ℕ) (j : ℕ) (xs ys : List Rec) (x : Rec) (rest : List ℕ) (low : x .1 + 1 < 258) (h : Back out tab (suc j) xs rest)
@@ -245,19 +252,22 @@ module _ (out tab : List ℕ) (j : ℕ) (xs ys : List Rec) (x : Rec) (rest : Lis
       record {
         room = rw split (simp (length-append, bytesOf-length) (omega (arith, count)));
         small = rw (k .0) (omega arith);
-        again = λ out′ tab′ e f. record { within = omega (arith, h .within); bytes = e ∙ rw (k .0, k .1, longer, t) (simp append-assoc); tabled = f ∙ rw (k .0, longer, t) };
+        again = λ out′ tab′ e f. record
+            { within = omega (arith, h .within); bytes = e ∙ rw (k .0, k .1, longer, t) (simp append-assoc); tabled = f ∙ rw (k .0, longer, t) };
       }
 
 -- a turn at any record of shallow ones
 pub turned : (out tab : List ℕ) (j : ℕ) (xs : List Rec) (rest : List ℕ) → Shallow xs → Back out tab (suc j) xs rest → Turned out tab j xs rest
 turned out tab j xs rest low h =
     let z : Rec = (record { kind = 0; p = 0; q = 0; r = 0; lo = 0; hi = 0 }, 0) in
-    turned-of out tab j xs (drop (suc j) xs) (getD xs j z) rest (shallow-at xs j z low (h .within)) h (take-suc xs j z (h .within)) (drop-cons xs j z (h .within)) refl
+    turned-of out tab j xs (drop (suc j) xs) (getD xs j z) rest (shallow-at xs j z low (h .within)) h (take-suc xs j z (h .within))
+        (drop-cons xs j z (h .within)) refl
 
 -- ---- the whole loop
 
 -- before the loop all records are flat, and the table is empty
-pub back-start : (out : List ℕ) (n : ℕ) (t : Tree) (rest : List ℕ) → n ≡ sizeT t → out ≡ flat 1 t ++ rest → Back out (replicate 258 0) n (recs 1 t) rest
+pub back-start : (out : List ℕ) (n : ℕ) (t : Tree) (rest : List ℕ) → n ≡ sizeT t → out ≡ flat 1 t ++ rest
+    → Back out (replicate 258 0) n (recs 1 t) rest
 back-start out n t rest e f =
     let l : length (recs 1 t) ≡ n = recs-length 1 t ∙ sym e in
     let a : take n (recs 1 t) ≡ recs 1 t = take-all n (recs 1 t) (omega arith) in
@@ -269,13 +279,15 @@ pub back-long : {out tab : List ℕ} {i : ℕ} {xs : List Rec} {rest : List ℕ}
 back-long {i = i} {xs = xs} h = rw (h .tabled) (table-length i (drop i xs))
 
 -- in the loop there is a record to turn
-pub back-turn : (t : Tree) {out tab : List ℕ} {i : ℕ} {rest : List ℕ} → (i ≡ 0 → ⊥) → Deep (t .below) 255 → Back out tab i (recs 1 t) rest → Turned out tab (i - 1) (recs 1 t) rest
+pub back-turn : (t : Tree) {out tab : List ℕ} {i : ℕ} {rest : List ℕ} → (i ≡ 0 → ⊥) → Deep (t .below) 255 → Back out tab i (recs 1 t) rest
+    → Turned out tab (i - 1) (recs 1 t) rest
 back-turn t {out} {tab} {i} {rest} nz deep h =
     let e : i ≡ suc (i - 1) = omega arith in
     turned out tab (i - 1) (recs 1 t) rest (shallow t deep) (subst (λ (k : ℕ). Back out tab k (recs 1 t) rest) e h)
 
 -- after the loop the output is the image
-pub back-end : (t : Tree) {out tab : List ℕ} {i : ℕ} {rest : List ℕ} → i ≡ 0 → Deep (t .below) 255 → Back out tab i (recs 1 t) rest → out ≡ enc 0 t ++ rest
+pub back-end : (t : Tree) {out tab : List ℕ} {i : ℕ} {rest : List ℕ} → i ≡ 0 → Deep (t .below) 255 → Back out tab i (recs 1 t) rest
+    → out ≡ enc 0 t ++ rest
 back-end t {out} {tab} {i} {rest} z deep h =
     let k : Back out tab 0 (recs 1 t) rest = subst (λ (n : ℕ). Back out tab n (recs 1 t) rest) z h in
     k .bytes ∙ ap (λ (l : List ℕ). l ++ rest) (relinked t deep)

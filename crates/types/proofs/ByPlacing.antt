@@ -129,7 +129,8 @@ module _ {f : Forest} {s : List ℕ} {b at : ℕ} {part : List ℕ} {v : Node} (
   unfolding made
   made-skip z =
       sym (ap (λ (g : Forest). tyAt k (made d g)) (w .is)
-      ∙ ap (tyAt k) (by-skip (what (w .label)) d (w .label) (w .below) (made d (w .after)) (sym (ap (λ (m : ℕ). makes (whatOf m)) (w .kind)) ∙ sym e ∙ z)))
+      ∙ ap (tyAt k) (by-skip (what (w .label)) d (w .label) (w .below) (made d (w .after))
+          (sym (ap (λ (m : ℕ). makes (whatOf m)) (w .kind)) ∙ sym e ∙ z)))
 
 -- ---- the plans
 
@@ -220,7 +221,8 @@ over-scan kind cs e = rw e refl
 pub over-other : (kind : ℕ) (cs : Forest) → (kind ≡ 32 → ⊥) → partsOver kind cs ≡ input 0 (inputs cs)
 over-other kind cs n = rw (ne-eqb kind 32 n)
 
-module _ {f : Forest} {s : List ℕ} {b at : ℕ} {part : List ℕ} {v : Node} (w : Step f s b at part v) (r : ℕ) (R : r ≡ role (whatOf (v .kind))) (z : r ≡ 0 → ⊥)
+module _ {f : Forest} {s : List ℕ} {b at : ℕ} {part : List ℕ} {v : Node} (w : Step f s b at part v) (r : ℕ) (R : r ≡ role (whatOf (v .kind)))
+    (z : r ≡ 0 → ⊥)
     (i : ℕ) (zero-i : i ≡ 0) (k : ℕ) (x : Spot) (X : x ≡ spotOf r (v .p) (counted (hits 2 0 0) (input 0 (inputs (w .below)))) k) where
   -- the same at a step of the walk
   told-spot : Spotted k (of-plan w r R z .0) (w .label) (w .below) (inputs (w .below)) x
@@ -236,15 +238,18 @@ module _ {f : Forest} {s : List ℕ} {b at : ℕ} {part : List ℕ} {v : Node} (
   spot-parts e =
       let o = of-plan w r R z in
       ap (tyAt k) (here w r R i zero-i z) ∙ told-spot
-      ∙ ap (λ (y : Bool). cond y (tyAt (x .place) (made (base (w .label) (w .below) (inputs (w .below)) (o .0)) (w .below))) (tyAt (x .place) (input (x .from) (inputs (w .below))))) (eq-eqb (x .from) 2 e)
-      ∙ ap (λ (d : Schema). tyAt (x .place) (made d (w .below))) (base-of (w .label) (w .below) (inputs (w .below)) (o .0) ∙ ap (λ (y : ℕ). partsOver y (w .below)) (sym (o .3)))
+      ∙ ap (λ (y : Bool). cond y (tyAt (x .place) (made (base (w .label) (w .below) (inputs (w .below)) (o .0)) (w .below)))
+          (tyAt (x .place) (input (x .from) (inputs (w .below))))) (eq-eqb (x .from) 2 e)
+      ∙ ap (λ (d : Schema). tyAt (x .place) (made d (w .below)))
+          (base-of (w .label) (w .below) (inputs (w .below)) (o .0) ∙ ap (λ (y : ℕ). partsOver y (w .below)) (sym (o .3)))
 
   -- it is a field of an input
   pub spot-input : (x .from ≡ 2 → ⊥) → tyAt k (input i (inputs f)) ≡ tyAt (x .place) (input (x .from) (inputs (w .below)))
   spot-input e =
       let o = of-plan w r R z in
       ap (tyAt k) (here w r R i zero-i z) ∙ told-spot
-      ∙ ap (λ (y : Bool). cond y (tyAt (x .place) (made (base (w .label) (w .below) (inputs (w .below)) (o .0)) (w .below))) (tyAt (x .place) (input (x .from) (inputs (w .below))))) (ne-eqb (x .from) 2 e)
+      ∙ ap (λ (y : Bool). cond y (tyAt (x .place) (made (base (w .label) (w .below) (inputs (w .below)) (o .0)) (w .below)))
+          (tyAt (x .place) (input (x .from) (inputs (w .below))))) (ne-eqb (x .from) 2 e)
 
 -- ---- the same types
 
@@ -317,7 +322,8 @@ cons-all : (t : Schema → Bool) (ins : List Schema) (g : Schema) (rest : List S
 unfolding all input
 cons-all t ins g rest e = rw e
 
-module _ {f : Forest} {s : List ℕ} {b at : ℕ} {part : List ℕ} {v : Node} (w : Step f s b at part v) (r : ℕ) (R : r ≡ role (whatOf (v .kind))) (t : Schema → Bool) where
+module _ {f : Forest} {s : List ℕ} {b at : ℕ} {part : List ℕ} {v : Node} (w : Step f s b at part v) (r : ℕ) (R : r ≡ role (whatOf (v .kind)))
+    (t : Schema → Bool) where
   -- the first record is a plan
   pub all-not : (r ≡ 0 → ⊥) → {x : Bool} → x ≡ t (input 0 (inputs f)) → x ≡ false → false ≡ all t (inputs f)
   unfolding _&_

@@ -125,7 +125,8 @@ module _ {t : Tree} {s : List ℕ} {b : ℕ} {v : Node} (k : Looked t s b v) (ro
     rule-then = sym (rule-by ∙ ap (λ (x : Bool). x & more (what (t .label)) root (t .label) (t .below)) e)
 
     -- a scan: the types of the first scan of its table
-    pub rule-scan : v .kind ≡ 32 → same-types (typesIn (made [] (t .below))) (scanTypes (v .p) [] root) ≡ typeOkBy (what (t .label)) root (t .label) (t .below) ts
+    pub rule-scan : v .kind ≡ 32 → same-types (typesIn (made [] (t .below))) (scanTypes (v .p) [] root) ≡ typeOkBy (what (t .label)) root
+        (t .label) (t .below) ts
     unfolding whatOf K.among
     rule-scan z =
         ap (λ (x : ℕ). same-types (typesIn (made [] (t .below))) (scanTypes x [] root)) (k .p)

@@ -59,16 +59,20 @@ scan-by : (t : ℕ) (d : List ℕ) (l : Label) (cs ns : Forest) (k p : ℕ) {x :
 unfolding scanTypes
 scan-by t d l cs ns k p e g h =
     ap (λ (y : Bool). cond y (typesIn (made [] cs)) (scanTypes t (scanTypes t d ns) cs))
-    (sym (and-same (eqb (l .kind) 32) (eqb (l .p) t)) ∙ ap (λ (n : ℕ). eqb n 32 && eqb (l .p) t) (sym e) ∙ ap (λ (n : ℕ). eqb k 32 && eqb n t) (sym g) ∙ h)
+    (sym (and-same (eqb (l .kind) 32) (eqb (l .p) t)) ∙ ap (λ (n : ℕ). eqb n 32 && eqb (l .p) t) (sym e)
+        ∙ ap (λ (n : ℕ). eqb k 32 && eqb n t) (sym g) ∙ h)
 
 module _ {f : Forest} {s : List ℕ} {b at : ℕ} {part : List ℕ} {v : Node} (w : Step f s b at part v) (t : ℕ) (ts d : List ℕ) where
   -- the first record is a scan of the table
   pub scan-here : (eqb (v .kind) 32 && eqb (v .p) t) ≡ true → same-types ts (typesIn (made [] (w .below))) ≡ same-types ts (scanTypes t d f)
-  scan-here h = ap (same-types ts) (sym (ap (scanTypes t d) (w .is) ∙ scan-by t d (w .label) (w .below) (w .after) (v .kind) (v .p) (w .kind) (w .p) h))
+  scan-here h = ap (same-types ts)
+      (sym (ap (scanTypes t d) (w .is) ∙ scan-by t d (w .label) (w .below) (w .after) (v .kind) (v .p) (w .kind) (w .p) h))
 
   -- it is none: its children, then its siblings
-  scan-there : (eqb (v .kind) 32 && eqb (v .p) t) ≡ false → same-types ts (scanTypes t (scanTypes t d (w .after)) (w .below)) ≡ same-types ts (scanTypes t d f)
-  scan-there h = ap (same-types ts) (sym (ap (scanTypes t d) (w .is) ∙ scan-by t d (w .label) (w .below) (w .after) (v .kind) (v .p) (w .kind) (w .p) h))
+  scan-there : (eqb (v .kind) 32 && eqb (v .p) t) ≡ false
+      → same-types ts (scanTypes t (scanTypes t d (w .after)) (w .below)) ≡ same-types ts (scanTypes t d f)
+  scan-there h = ap (same-types ts)
+      (sym (ap (scanTypes t d) (w .is) ∙ scan-by t d (w .label) (w .below) (w .after) (v .kind) (v .p) (w .kind) (w .p) h))
 
   module _ (h : (eqb (v .kind) 32 && eqb (v .p) t) ≡ false) {r : ℕ}
       (below : verdict r (same-types ts (scanTypes t d (w .after))) ≡ same-types ts (scanTypes t (scanTypes t d (w .after)) (w .below))) where
@@ -94,7 +98,8 @@ module _ {u : Tree} {s : List ℕ} {b : ℕ} {v : Node} (k : Looked u s b v) (t 
   unfolding scanTypes
   root-there h = ap (same-types ts) (sym (scan-by t [] (u .label) (u .below) none (v .kind) (v .p) (k .kind) (k .p) h))
 
-  module _ (h : (eqb (v .kind) 32 && eqb (v .p) t) ≡ false) {r : ℕ} (below : verdict r (same-types ts []) ≡ same-types ts (scanTypes t [] (u .below))) where
+  module _ (h : (eqb (v .kind) 32 && eqb (v .p) t) ≡ false) {r : ℕ}
+      (below : verdict r (same-types ts []) ≡ same-types ts (scanTypes t [] (u .below))) where
     -- one stands below
     pub root-below : (r ≡ 0 → ⊥) → eqb r 1 ≡ same-types ts (scanTypes t [] (alone u))
     root-below n = sym (ap (λ (y : Bool). cond y (same-types ts []) (eqb r 1)) (ne-eqb r 0 n)) ∙ below ∙ root-there h

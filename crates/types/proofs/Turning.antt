@@ -43,7 +43,8 @@ module _ {C : Type 0} (rule : C → Label → Forest → Bool) (hand : C → Lab
   -- the record, its children with what it hands down, its siblings; a and b are the links to them
   lowest-at : (c after : C) (at a b : ℕ) (l : Label) (cs ns : Forest) (x y : C)
       → a ≡ link (at + 1) cs → b ≡ link (at + 1 + size cs) ns → hand c l cs ≡ (x, y)
-      → lowest rule hand c after at (node l cs ns) ≡ orElse (unless (rule c l cs) at) (orElse (lowest rule hand x y a cs) (lowest rule hand after after b ns))
+      → lowest rule hand c after at (node l cs ns) ≡ orElse (unless (rule c l cs) at)
+          (orElse (lowest rule hand x y a cs) (lowest rule hand after after b ns))
   unfolding lowest
   lowest-at c after at a b l cs ns x y e g h =
       rw (h, e, g, lowest-link rule hand x y (at + 1) cs, lowest-link rule hand after after (at + 1 + size cs) ns)
@@ -60,7 +61,8 @@ module _ {C : Type 0} (rule : C → Label → Forest → Bool) (hand : C → Lab
     turned =
         ap (lowest rule hand c after at) (w .is)
         ∙ lowest-at c after at (v .first) (v .next) (w .label) (w .below) (w .after) x y (w .first-number) (w .next-number) h
-        ∙ ap (λ (k : Bool). orElse (unless k at) (orElse (lowest rule hand x y (v .first) (w .below)) (lowest rule hand after after (v .next) (w .after)))) (sym T)
+        ∙ ap (λ (k : Bool). orElse (unless k at)
+            (orElse (lowest rule hand x y (v .first) (w .below)) (lowest rule hand after after (v .next) (w .after)))) (sym T)
 
     -- the rule does not hold of the record
     pub place-here : t ≡ false → At at ≡ placeOf (lowest rule hand c after at f)
@@ -68,7 +70,8 @@ module _ {C : Type 0} (rule : C → Label → Forest → Bool) (hand : C → Lab
     place-here e = let z : lowest rule hand c after at f ≡ found at = turned ∙ rw e in sym (ap placeOf z)
 
     -- it holds, and not of a record below
-    pub place-below : (r : ℕ) → t ≡ true → At r ≡ placeOf (lowest rule hand x y (v .first) (w .below)) → At r ≡ placeOf (lowest rule hand c after at f)
+    pub place-below : (r : ℕ) → t ≡ true → At r ≡ placeOf (lowest rule hand x y (v .first) (w .below))
+        → At r ≡ placeOf (lowest rule hand c after at f)
     unfolding orElse unless
     place-below r e g =
         let z : lowest rule hand c after at f ≡ found r = turned ∙ rw (e, was-found (lowest rule hand x y (v .first) (w .below)) r g) in
@@ -138,7 +141,8 @@ module _ {t : Tree} {s : List ℕ} {v : Node} (k : Looked t s 0 v) {r : ℕ} (R 
   unfolding badTypes
   root-turn =
       lowest-at (typeOk (alone t)) hand (over [] []) (over [] []) 0 (v .first) 0 (t .label) (t .below) none _ _ (k .first-number) refl handed
-      ∙ ap (λ (g : Found). orElse (unless (typeOk (alone t) (over [] []) (t .label) (t .below)) 0) (orElse below-root g)) (lowest-none (typeOk (alone t)) hand (over [] []) (over [] []) 0 none refl)
+      ∙ ap (λ (g : Found). orElse (unless (typeOk (alone t) (over [] []) (t .label) (t .below)) 0) (orElse below-root g))
+          (lowest-none (typeOk (alone t)) hand (over [] []) (over [] []) 0 none refl)
       ∙ ap (λ (g : Found). orElse (unless (typeOk (alone t) (over [] []) (t .label) (t .below)) 0) g) (or-nothing below-root)
       ∙ ap (λ (b : Bool). orElse (unless b 0) below-root) (sym (rule-of (alone t) (over [] []) (t .label) (t .below) _ _ handed X))
 

@@ -26,7 +26,8 @@ exprs-in-spec =
     (λ c κs. search needs)
     (λ c. omega (
       arith,
-      count-room (c .before .before .before .before .before .loop .n) (c .before .before .before .before .before .loop .inv) (c .before .before .before .before .loop-test .taken) (c .before .before .before .from-record .ensures) (c .before .before .look .ensures)
+      count-room (c .before .before .before .before .before .loop .n) (c .before .before .before .before .before .loop .inv)
+          (c .before .before .before .before .loop-test .taken) (c .before .before .before .from-record .ensures) (c .before .before .look .ensures)
           (c .before .of-sort .ensures) (c .one-if .ensures) (c .before .before .before .before .before .before .before .pre),
     ))
     (λ c. here (c .before .before .before .before .before .loop .inv) (c .before .before .before .before .loop-test .taken)

@@ -17,10 +17,12 @@ past-one-spec =
     (λ c κs. whole (c .before .before .before .pre) (c .before .if1 .left) (c .from-record .ensures))
     (λ c κs. search needs)
     (λ c. record {
-      leads = λ f h. let w = step f h (c .before .before .before .before .if1 .left) (c .before .before .before .from-record .ensures) (c .before .before .look .ensures) in
+      leads = λ f h. let w = step f h (c .before .before .before .before .if1 .left) (c .before .before .before .from-record .ensures)
+          (c .before .before .look .ensures) in
           (w .after, w .next, one-yes _ (w .label) (w .below) (w .after) (w .is) (sorted _ w (c .before .of-sort .ensures) ∙ c .if2 .taken));
     })
     (λ c. record {
-      leads = λ f h. let w = step f h (c .before .before .before .before .if1 .left) (c .before .before .before .from-record .ensures) (c .before .before .look .ensures) in
+      leads = λ f h. let w = step f h (c .before .before .before .before .if1 .left) (c .before .before .before .from-record .ensures)
+          (c .before .before .look .ensures) in
           one-no _ (w .label) (w .below) (w .after) (w .is) (sorted _ w (c .before .of-sort .ensures) ∙ c .if2 .left);
     }))

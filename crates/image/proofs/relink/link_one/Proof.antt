@@ -31,6 +31,7 @@ link-one-spec =
     (λ c. search needs)
     (λ c. search needs)
     (λ c. rw (← c .before .before .before .before .before .before .before .before .before .before .word-at .ensures .0) (
-      rw (c .before .before .put-word2 .ensures, c .before .before .before .before .before .before .before .put-word .ensures) (simp (sets-append, le-length, add-assoc)),
+      rw (c .before .before .put-word2 .ensures, c .before .before .before .before .before .before .before .put-word .ensures)
+          (simp (sets-append, le-length, add-assoc)),
       refl,
     )))
