@@ -46,9 +46,16 @@ pattern-expr k h f =
 pub pattern-plan : (k : ℕ) → (leb 32 k && leb k 43) ≡ true → (f : Forest) → fitting k (getD plans (k - 32) 0) f ≡ childrenBy (whatOf k) f
 unfolding fitting meets item lastItem sortOf whatOf among _&_
 pattern-plan k h f =
-    at (λ n. fitting n (getD plans (n - 32) 0) f ≡ childrenBy (whatOf n) f) 12 32 k
-    (and-true _, (and-true _, (and-true _,
-        (and-true _, (and-true _, (and-true _, (and-true _, (and-true _, (and-true _, (and-true _, (refl, (and-true _, tt))))))))))))
+    at (λ n. fitting n (getD plans (n - 32) 0) f ≡ childrenBy (whatOf n) f) 12 32 k (
+      and-true _,
+      (
+        and-true _,
+        (
+          and-true _,
+          (and-true _, (and-true _, (and-true _, (and-true _, (and-true _, (and-true _, (and-true _, (refl, (and-true _, tt))))))))),
+        ),
+      ),
+    )
     (from-run 32 43 k h) (omega (arith, to-run 32 43 k h))
 
 pub pattern-part : (k : ℕ) → (leb 48 k && leb k 53) ≡ true → (f : Forest) → fitting k (getD parts (k - 48) 0) f ≡ childrenBy (whatOf k) f

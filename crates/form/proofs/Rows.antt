@@ -41,9 +41,16 @@ row-expr k p h =
 pub row-plan : (k p : ℕ) → (eqb k 39 && eqb p 1) ≡ false → (leb 32 k && leb k 43) ≡ true → decoded (getD plans (k - 32) 0) ≡ rowBy (whatOf k) p
 unfolding decoded rangeOf whatOf among
 row-plan k p f h =
-    at (λ n. (eqb n 39 && eqb p 1) ≡ false → decoded (getD plans (n - 32) 0) ≡ rowBy (whatOf n) p) 12 32 k
-    (λ _. refl, (λ _. refl, (λ _. refl,
-        (λ _. refl, (λ _. refl, (λ _. refl, (λ _. refl, (λ e. rw e, (λ _. refl, (λ _. refl, (λ _. refl, (λ _. refl, tt))))))))))))
+    at (λ n. (eqb n 39 && eqb p 1) ≡ false → decoded (getD plans (n - 32) 0) ≡ rowBy (whatOf n) p) 12 32 k (
+      λ _. refl,
+      (
+        λ _. refl,
+        (
+          λ _. refl,
+          (λ _. refl, (λ _. refl, (λ _. refl, (λ _. refl, (λ e. rw e, (λ _. refl, (λ _. refl, (λ _. refl, (λ _. refl, tt))))))))),
+        ),
+      ),
+    )
     (from-run 32 43 k h) (omega (arith, to-run 32 43 k h)) f
 
 pub row-part : (k p : ℕ) → (leb 48 k && leb k 53) ≡ true → decoded (getD parts (k - 48) 0) ≡ rowBy (whatOf k) p

@@ -113,7 +113,7 @@ mid (node l cs ns) d b k m zs deep small e z =
     let h = mid ns d (b + 1 + size cs) k m zs (deep .2) small (omega arith) z in
     let j = mid cs (d + 1) (b + 1) (k - 1) (b + 1 + size cs) (recsAny d ns ++ zs) (deep .1) (omega arith) refl (λ e lt. h .above e (omega arith)) in
     rw (append-assoc (recsAny (d + 1) cs) (recsAny d ns) zs)
-        (mid-more _ _ _ d _ _ b (table-length (b + 1) (recsAny (d + 1) cs ++ (recsAny d ns ++ zs))) (omega arith) h j)
+    (mid-more _ _ _ d _ _ b (table-length (b + 1) (recsAny (d + 1) cs ++ (recsAny d ns ++ zs))) (omega arith) h j)
 
 -- the bytes of a forest at depth d are its image
 links-any : (f : Forest) (d b k m : ℕ) (zs : List Rec) → Deep f k → d + k ≤ 257 → m ≡ b + size f → ((e : ℕ) → d ≤ e → getD (table m zs) e 0 ≡ 0)
@@ -139,7 +139,7 @@ relinked t deep =
     let f : Forest = t .below in
     let r : links 1 (recsAny 2 f ++ []) ≡ encAny 1 f ++ [] = links-any f 2 1 255 (1 + size f) [] deep (omega arith) refl (λ e h. zeros 258 e) in
     let q : Mid (table (1 + size f) []) (table 1 (recsAny 2 f ++ [])) 2 (link 1 f) = mid f 2 1 255 (1 + size f) [] deep (omega arith) refl
-        (λ e h. zeros 258 e) in
+    (λ e h. zeros 258 e) in
     rw (simp append-nil at (q .here), simp append-nil at (q .under 1 (omega arith)), zeros 258 1, simp append-nil at r)
 
 -- ---- a turn
@@ -157,9 +157,11 @@ shallow-append (x ∷ xs) ys h k = (h .0, shallow-append xs ys (h .1) k)
 -- the records of a forest that is not too deep are shallow
 shallow-any : (f : Forest) (d k : ℕ) → Deep f k → d + k ≤ 257 → Shallow (recsAny d f)
 shallow-any none d k deep small = tt
-shallow-any (node l cs ns) d k deep small =
-    (omega arith, shallow-append (recsAny (d + 1) cs) (recsAny d ns) (shallow-any cs (d + 1) (k - 1) (deep .1) (omega arith))
-        (shallow-any ns d k (deep .2) small))
+shallow-any (node l cs ns) d k deep small = (
+  omega arith,
+  shallow-append (recsAny (d + 1) cs) (recsAny d ns) (shallow-any cs (d + 1) (k - 1) (deep .1) (omega arith))
+      (shallow-any ns d k (deep .2) small),
+)
 
 -- the records of a tree of 256 levels at most are shallow
 pub shallow : (t : Tree) → Deep (t .below) 255 → Shallow (recs 1 t)
@@ -229,8 +231,11 @@ pub record Turned (out tab : List ℕ) (j : ℕ) (xs : List Rec) (rest : List �
 turned-bytes : (out A S : List ℕ) (l : Label) (d j : ℕ) → out ≡ A ++ (bytesOf l d 0 ++ S) → length A ≡ 32 * j → d < 4294967296
     → (word out (32 * j + 24) ≡ d) × ((a b : ℕ) → sets out (32 * j + 24) (le a ++ le b) ≡ A ++ (bytesOf l a b ++ S))
 turned-bytes out A S l d j e len small =
-    rw (e, ← len) (word-right A (bytesOf l d 0 ++ S) 24 ∙ depth-of l d S small, λ a b. sets-right A (bytesOf l d 0 ++ S) 24 (le a ++ le b)
-        ∙ rw links-of)
+    rw (e, ← len) (
+      word-right A (bytesOf l d 0 ++ S) 24 ∙ depth-of l d S small,
+      λ a b. sets-right A (bytesOf l d 0 ++ S) 24 (le a ++ le b)
+          ∙ rw links-of,
+    )
 
 -- the record x, with the number j, is turned next: ys are those after it
 module _ (out tab : List ℕ) (j : ℕ) (xs ys : List Rec) (x : Rec) (rest : List ℕ) (low : x .1 + 1 < 258) (h : Back out tab (suc j) xs rest)
@@ -261,7 +266,7 @@ pub turned : (out tab : List ℕ) (j : ℕ) (xs : List Rec) (rest : List ℕ) �
 turned out tab j xs rest low h =
     let z : Rec = (record { kind = 0; p = 0; q = 0; r = 0; lo = 0; hi = 0 }, 0) in
     turned-of out tab j xs (drop (suc j) xs) (getD xs j z) rest (shallow-at xs j z low (h .within)) h (take-suc xs j z (h .within))
-        (drop-cons xs j z (h .within)) refl
+    (drop-cons xs j z (h .within)) refl
 
 -- ---- the whole loop
 

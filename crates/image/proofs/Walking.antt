@@ -195,7 +195,7 @@ round P {d} {s} {b} {at} k nz =
 -- the invariant again, with Q for P where the loop changes what P speaks of
 pub again : {P : Tree → Forest → Type 0} (Q : Tree → Forest → Type 0) {d : ℕ} {s : List ℕ} {b at : ℕ}
     (k : Chain P d s b at) (u : Round P d s b at (k .tree) (k .rest)) → Q (k .tree) (u .turn .after)
-        → Chain Q d s b (word (drop (32 * (at - b)) s) 28)
+    → Chain Q d s b (word (drop (32 * (at - b)) s) 28)
 again Q {d} k u q =
     record {
       tree = k .tree;

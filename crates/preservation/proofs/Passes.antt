@@ -53,7 +53,7 @@ visits-numbered (suc b) (some n) p v c = go (rewriteAt n p) refl (λ o q v c. vi
   where
     go : (a : Answer) → rewriteAt n p ≡ a → ((o : Option ℕ) (q : Plan) (v c : ℕ) → Numbered (visits b o q v c))
         → Numbered (elim a as (λ x. PassAnswer)
-            [ granted f q ↦ visits b (plan-from (suc n) q) q (v + 1) (c + bitOf f) | refused k r ↦ pass-refused k r ])
+        [ granted f q ↦ visits b (plan-from (suc n) q) q (v + 1) (c + bitOf f) | refused k r ↦ pass-refused k r ])
     go (granted f q) e ih = ih (plan-from (suc n) q) q (v + 1) (c + bitOf f)
     go (refused k r) e ih = numbered n (focus n p) k r e
 

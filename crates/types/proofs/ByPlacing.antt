@@ -130,7 +130,7 @@ module _ {f : Forest} {s : List ℕ} {b at : ℕ} {part : List ℕ} {v : Node} (
   made-skip z =
       sym (ap (λ (g : Forest). tyAt k (made d g)) (w .is)
       ∙ ap (tyAt k) (by-skip (what (w .label)) d (w .label) (w .below) (made d (w .after))
-          (sym (ap (λ (m : ℕ). makes (whatOf m)) (w .kind)) ∙ sym e ∙ z)))
+      (sym (ap (λ (m : ℕ). makes (whatOf m)) (w .kind)) ∙ sym e ∙ z)))
 
 -- ---- the plans
 
@@ -239,9 +239,9 @@ module _ {f : Forest} {s : List ℕ} {b at : ℕ} {part : List ℕ} {v : Node} (
       let o = of-plan w r R z in
       ap (tyAt k) (here w r R i zero-i z) ∙ told-spot
       ∙ ap (λ (y : Bool). cond y (tyAt (x .place) (made (base (w .label) (w .below) (inputs (w .below)) (o .0)) (w .below)))
-          (tyAt (x .place) (input (x .from) (inputs (w .below))))) (eq-eqb (x .from) 2 e)
+      (tyAt (x .place) (input (x .from) (inputs (w .below))))) (eq-eqb (x .from) 2 e)
       ∙ ap (λ (d : Schema). tyAt (x .place) (made d (w .below)))
-          (base-of (w .label) (w .below) (inputs (w .below)) (o .0) ∙ ap (λ (y : ℕ). partsOver y (w .below)) (sym (o .3)))
+      (base-of (w .label) (w .below) (inputs (w .below)) (o .0) ∙ ap (λ (y : ℕ). partsOver y (w .below)) (sym (o .3)))
 
   -- it is a field of an input
   pub spot-input : (x .from ≡ 2 → ⊥) → tyAt k (input i (inputs f)) ≡ tyAt (x .place) (input (x .from) (inputs (w .below)))
@@ -249,7 +249,7 @@ module _ {f : Forest} {s : List ℕ} {b at : ℕ} {part : List ℕ} {v : Node} (
       let o = of-plan w r R z in
       ap (tyAt k) (here w r R i zero-i z) ∙ told-spot
       ∙ ap (λ (y : Bool). cond y (tyAt (x .place) (made (base (w .label) (w .below) (inputs (w .below)) (o .0)) (w .below)))
-          (tyAt (x .place) (input (x .from) (inputs (w .below))))) (ne-eqb (x .from) 2 e)
+      (tyAt (x .place) (input (x .from) (inputs (w .below))))) (ne-eqb (x .from) 2 e)
 
 -- ---- the same types
 

@@ -60,7 +60,7 @@ unfolding scanTypes
 scan-by t d l cs ns k p e g h =
     ap (λ (y : Bool). cond y (typesIn (made [] cs)) (scanTypes t (scanTypes t d ns) cs))
     (sym (and-same (eqb (l .kind) 32) (eqb (l .p) t)) ∙ ap (λ (n : ℕ). eqb n 32 && eqb (l .p) t) (sym e)
-        ∙ ap (λ (n : ℕ). eqb k 32 && eqb n t) (sym g) ∙ h)
+    ∙ ap (λ (n : ℕ). eqb k 32 && eqb n t) (sym g) ∙ h)
 
 module _ {f : Forest} {s : List ℕ} {b at : ℕ} {part : List ℕ} {v : Node} (w : Step f s b at part v) (t : ℕ) (ts d : List ℕ) where
   -- the first record is a scan of the table

@@ -44,7 +44,7 @@ module _ {C : Type 0} (rule : C → Label → Forest → Bool) (hand : C → Lab
   lowest-at : (c after : C) (at a b : ℕ) (l : Label) (cs ns : Forest) (x y : C)
       → a ≡ link (at + 1) cs → b ≡ link (at + 1 + size cs) ns → hand c l cs ≡ (x, y)
       → lowest rule hand c after at (node l cs ns) ≡ orElse (unless (rule c l cs) at)
-          (orElse (lowest rule hand x y a cs) (lowest rule hand after after b ns))
+      (orElse (lowest rule hand x y a cs) (lowest rule hand after after b ns))
   unfolding lowest
   lowest-at c after at a b l cs ns x y e g h =
       rw (h, e, g, lowest-link rule hand x y (at + 1) cs, lowest-link rule hand after after (at + 1 + size cs) ns)
@@ -62,7 +62,7 @@ module _ {C : Type 0} (rule : C → Label → Forest → Bool) (hand : C → Lab
         ap (lowest rule hand c after at) (w .is)
         ∙ lowest-at c after at (v .first) (v .next) (w .label) (w .below) (w .after) x y (w .first-number) (w .next-number) h
         ∙ ap (λ (k : Bool). orElse (unless k at)
-            (orElse (lowest rule hand x y (v .first) (w .below)) (lowest rule hand after after (v .next) (w .after)))) (sym T)
+        (orElse (lowest rule hand x y (v .first) (w .below)) (lowest rule hand after after (v .next) (w .after)))) (sym T)
 
     -- the rule does not hold of the record
     pub place-here : t ≡ false → At at ≡ placeOf (lowest rule hand c after at f)
@@ -142,7 +142,7 @@ module _ {t : Tree} {s : List ℕ} {v : Node} (k : Looked t s 0 v) {r : ℕ} (R 
   root-turn =
       lowest-at (typeOk (alone t)) hand (over [] []) (over [] []) 0 (v .first) 0 (t .label) (t .below) none _ _ (k .first-number) refl handed
       ∙ ap (λ (g : Found). orElse (unless (typeOk (alone t) (over [] []) (t .label) (t .below)) 0) (orElse below-root g))
-          (lowest-none (typeOk (alone t)) hand (over [] []) (over [] []) 0 none refl)
+      (lowest-none (typeOk (alone t)) hand (over [] []) (over [] []) 0 none refl)
       ∙ ap (λ (g : Found). orElse (unless (typeOk (alone t) (over [] []) (t .label) (t .below)) 0) g) (or-nothing below-root)
       ∙ ap (λ (b : Bool). orElse (unless b 0) below-root) (sym (rule-of (alone t) (over [] []) (t .label) (t .below) _ _ handed X))
 

@@ -20,14 +20,14 @@ returns-2 : tie.Need-returns-2
 returns-2 c =
     let w = c .before .before .before .before .before .before .before .before .pre in
     later-type w (sym (c .before .before .before .before .enum-told .given .1)
-        ∙ c .before .before .before .before .before .before .bad-names .ensures (w .tree) (w .stands)) _
+    ∙ c .before .before .before .before .before .before .bad-names .ensures (w .tree) (w .stands)) _
     (sym (c .before .ty .given .1) ∙ c .before .before .before .bad-types .ensures (w .tree) (w .stands))
 
 returns-3 : tie.Need-returns-3
 returns-3 c =
     let w = c .before .before .before .before .before .before .before .pre in
     later-none w (sym (c .before .before .before .enum-told .given .1)
-        ∙ c .before .before .before .before .before .bad-names .ensures (w .tree) (w .stands))
+    ∙ c .before .before .before .before .before .bad-names .ensures (w .tree) (w .stands))
     (sym (c .enum-told2 .given .1) ∙ c .before .before .bad-types .ensures (w .tree) (w .stands))
 
 pub checked-plan-spec : {M : Type 1} → statement M

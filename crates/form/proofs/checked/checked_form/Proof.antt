@@ -49,7 +49,7 @@ checked-form-spec =
     record { tree = p .tree; at = p .at })
     (λ c. search needs)
     (λ c. stage-form (stage-tree _ (c .before .before .before .before .before .before .before .before .before .before .before .before .before
-        .before .buffer-ok .ensures)
+    .before .buffer-ok .ensures)
     (not-false _ (c .before .before .before .before .before .before .before .before .before .before .before .before .before .if1 .left))
     (c .before .before .before .before .before .before .before .before .before .before .before .before .bad-words .ensures)
     (c .before .before .before .before .before .before .before .before .before .before .enum-told .given .1)
@@ -59,7 +59,7 @@ checked-form-spec =
     (c .before .before .before .bad-root-form .ensures) (c .before .form .given .1))
     (λ c. search needs)
     (λ c. stage-whole (stage-tree _
-        (c .before .before .before .before .before .before .before .before .before .before .before .before .before .buffer-ok .ensures)
+    (c .before .before .before .before .before .before .before .before .before .before .before .before .before .buffer-ok .ensures)
     (not-false _ (c .before .before .before .before .before .before .before .before .before .before .before .before .if1 .left))
     (c .before .before .before .before .before .before .before .before .before .before .before .bad-words .ensures)
     (c .before .before .before .before .before .before .before .before .before .enum-told .given .1)

@@ -71,9 +71,11 @@ pub +bad-form-spec : {M : Type 1} → statement M
     (λ f w. sym (c .before .form-ok .ensures (w .label) (w .below) (w .kind) (w .first)) ∙ not-true _ (c .if1 .taken)))
     (λ c κs. let k = c .before .before .before .before .before .loop .inv in
     let w = here k (c .before .before .before .before .loop-test .taken) (c .before .before .before .from-record .ensures)
-    (c .before .before .look .ensures) in
-    (omega (arith, w .down, k .less, c .before .before .before .before .before .before .before .pre .0), record
-        { forest = w .below; linked = w .first }))
+    (c .before .before .look .ensures) in (
+      omega (arith, w .down, k .less, c .before .before .before .before .before .before .before .pre .0),
+      record
+          { forest = w .below; linked = w .first },
+    ))
     (λ c. search needs)
     (λ c. search-below rule same tt (c .before .before .before .before .before .before .before .before .before .loop .inv)
     (c .before .before .before .before .before .before .before .before .loop-test .taken)

@@ -20,6 +20,6 @@ last-item-spec =
     (λ c. search needs)
     (λ c. search needs)
     (λ c f h. leads-nowhere (c .before .before .past-item .ensures) end (c .enum-told .given .1) f h
-        ∙ sym (last-other _ (c .before .before .before .if1 .left) f))
+    ∙ sym (last-other _ (c .before .before .before .if1 .left) f))
     (λ c f h. leads-on (c .before .before .before .past-item .ensures) end (c .before .past .given .1) (λ g k. end-link g _ _ _ k) f h
     ∙ sym (last-other _ (c .before .before .before .before .if1 .left) f)))

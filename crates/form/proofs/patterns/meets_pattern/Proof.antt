@@ -26,7 +26,7 @@ meets-pattern-spec =
     (λ c. search needs)
     (λ c. search needs)
     (λ c. leads-on (c .before .before .before .before .before .before .before .before .before .before .past-item .ensures) _
-        (c .before .before .before .before .before .before .before .before .a .given .1)
+    (c .before .before .before .before .before .before .before .before .a .given .1)
     (leads-on (c .before .before .before .before .before .before .past-item2 .ensures) _ (c .before .before .before .before .b .given .1)
     (leads-nowhere (c .before .before .past-item3 .ensures) _ (c .enum-told3 .given .1))))
     (λ c κs. leads-chained (c .before .before .before .past-item3 .ensures) (c .before .c .given .1)
@@ -36,7 +36,7 @@ meets-pattern-spec =
     (c .before .before .before .before .before .before .before .before .before .a .given .1)
     (c .before .before .before .before .before .before .before .before .before .before .before .before .before .pre))))
     (λ c. leads-on (c .before .before .before .before .before .before .before .before .before .before .before .before .past-item .ensures) _
-        (c .before .before .before .before .before .before .before .before .before .before .a .given .1)
+    (c .before .before .before .before .before .before .before .before .before .before .a .given .1)
     (leads-on (c .before .before .before .before .before .before .before .before .past-item2 .ensures) _
-        (c .before .before .before .before .before .before .b .given .1)
+    (c .before .before .before .before .before .before .b .given .1)
     (leads-on (c .before .before .before .before .past-item3 .ensures) _ (c .before .before .c .given .1) (c .last-item .ensures)))))

@@ -62,10 +62,10 @@ pub +copy-tree-spec : {M : Type 1} → statement M
     let p = c .before .before .before .before .before .before .before .before .before .before .before .before .pre in
     (omega (arith, k .some, p .0), (rw (c .before .from-record .ensures) (u .readable), (omega (arith, p .1 .1 .0, k .some), k .so-far .long))))
     (λ c κs. let u = round _ (c .before .before .before .before .before .before .loop .inv)
-        (c .before .before .before .before .before .loop-test .taken) in
+    (c .before .before .before .before .before .loop-test .taken) in
     rw (c .before .before .before .before .from-record .ensures, length-drop) (omega (arith, u .turn .fits)))
     (λ c. let u = round _ (c .before .before .before .before .before .before .before .loop .inv)
-        (c .before .before .before .before .before .before .loop-test .taken) in
+    (c .before .before .before .before .before .before .loop-test .taken) in
     rw (c .word-at2 .ensures .0, c .before .before .before .before .before .from-record .ensures) (u .turn .less))
     (λ c. let k = c .before .before .before .before .before .before .before .loop .inv in
     let u = round _ k (c .before .before .before .before .before .before .loop-test .taken) in

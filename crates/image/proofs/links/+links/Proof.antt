@@ -44,7 +44,7 @@ pub +links-spec : {M : Type 1} → statement M
     (λ c. omega arith)
     (λ c κs. omega arith)
     (λ c κs. let w = next-within _ _ _ _ _ _ (c .before .before .before .before .links .ensures) (c .before .before .below2 .given .1)
-        (omega arith) in
+    (omega arith) in
     omega (arith, w .0, w .1))
     (λ c. says-bad _ _ _ _ _
     (c .before .before .before .before .before .before .before .if1 .left)

@@ -137,7 +137,7 @@ pub +all-held-spec : {M : Type 1} → statement M
     ∙ not-true _ (c .if6 .taken)))
     (λ c κs.
     let p = c .before .before .before .before .before .before .before .before .before .before .before .before .before .before .before .before
-        .pre .1 .1 in
+    .pre .1 .1 in
     let w = step (p .forest) (p .linked)
     (c .before .before .before .before .before .before .before .before .before .before .before .before .before .if1 .left)
     (c .before .before .before .before .before .before .before .before .before .before .before .before .from-record .ensures)

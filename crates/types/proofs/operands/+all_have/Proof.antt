@@ -46,31 +46,43 @@ pub +all-have-spec : {M : Type 1} → statement M
     (λ c f e h g. have-none _ _ _ f (ended f _ _ _ h (c .if1 .taken)))
     (λ c κs. let p = c .before .before .before .pre .1 .0 in let u = turn (p .forest) (p .linked) (c .if1 .left) in omega arith)
     (λ c κs. let p = c .before .before .before .before .pre .1 .0 in let u = turn (p .forest) (p .linked) (c .before .if1 .left) in rw
-        (c .from-record .ensures, length-drop) (omega arith))
+    (c .from-record .ensures, length-drop) (omega arith))
     (λ c κs. tt)
     (λ c κs. let p = c .before .before .before .before .before .before .before .pre .1 .0 in let u = turn (p .forest) (p .linked)
-        (c .before .before .before .before .if1 .left) in
-        (rw (c .before .before .before .from-record .ensures, length-drop)
-        (omega arith), c .before .before .before .before .before .before .before .pre .1 .1))
+    (c .before .before .before .before .if1 .left) in (
+      rw (c .before .before .before .from-record .ensures, length-drop)
+          (omega arith),
+      c .before .before .before .before .before .before .before .pre .1 .1,
+    ))
     (λ c f e h g. let w = step f h (c .before .before .before .before .before .before .if1 .left)
-        (c .before .before .before .before .before .from-record .ensures) (c .before .before .before .before .look .ensures) in have-not w _ _
-        (c .before .before .before .is-expr .ensures) (c .before .before .if2 .taken)
-        (type-here w _ h (c .before .before .before .before .before .from-record .ensures) (c .before .type-of .ensures e g)) _ (c .if3 .taken))
+    (c .before .before .before .before .before .from-record .ensures) (c .before .before .before .before .look .ensures) in have-not w _ _
+    (c .before .before .before .is-expr .ensures) (c .before .before .if2 .taken)
+    (type-here w _ h (c .before .before .before .before .before .from-record .ensures) (c .before .type-of .ensures e g)) _ (c .if3 .taken))
     (λ c κs. let p = c .before .before .before .before .before .before .before .before .before .pre .1 .0 in let w = step (p .forest)
-        (p .linked) (c .before .before .before .before .before .before .if1 .left)
-        (c .before .before .before .before .before .from-record .ensures) (c .before .before .before .before .look .ensures) in
-        (omega (arith, w .less), (record { forest = w .after; linked = w .next }, c .before .before .before .before .before .before .before
-        .before .before .pre .1 .1)))
+    (p .linked) (c .before .before .before .before .before .before .if1 .left)
+    (c .before .before .before .before .before .from-record .ensures) (c .before .before .before .before .look .ensures) in (
+      omega (arith, w .less),
+      (
+        record { forest = w .after; linked = w .next },
+        c .before .before .before .before .before .before .before
+            .before .before .pre .1 .1,
+      ),
+    ))
     (λ c f e h g. let w = step f h (c .before .before .before .before .before .before .before .if1 .left)
-        (c .before .before .before .before .before .before .from-record .ensures)
-        (c .before .before .before .before .before .look .ensures) in c .all-have .ensures (w .after) e (w .next) g
-        ∙ have-more w _ _ (c .before .before .before .before .is-expr .ensures) (c .before .before .before .if2 .taken)
-        (type-here w _ h (c .before .before .before .before .before .before .from-record .ensures) (c .before .before .type-of .ensures e g))
-        _ (c .before .if3 .left))
+    (c .before .before .before .before .before .before .from-record .ensures)
+    (c .before .before .before .before .before .look .ensures) in c .all-have .ensures (w .after) e (w .next) g
+    ∙ have-more w _ _ (c .before .before .before .before .is-expr .ensures) (c .before .before .before .if2 .taken)
+    (type-here w _ h (c .before .before .before .before .before .before .from-record .ensures) (c .before .before .type-of .ensures e g))
+    _ (c .before .if3 .left))
     (λ c κs. let p = c .before .before .before .before .before .before .before .pre .1 .0 in let w = step (p .forest) (p .linked)
-        (c .before .before .before .before .if1 .left) (c .before .before .before .from-record .ensures) (c .before .before .look .ensures) in
-        (omega (arith, w .less), (record { forest = w .after; linked = w .next }, c .before .before .before .before .before .before .before
-        .pre .1 .1)))
+    (c .before .before .before .before .if1 .left) (c .before .before .before .from-record .ensures) (c .before .before .look .ensures) in (
+      omega (arith, w .less),
+      (
+        record { forest = w .after; linked = w .next },
+        c .before .before .before .before .before .before .before
+            .pre .1 .1,
+      ),
+    ))
     (λ c f e h g. let w = step f h (c .before .before .before .before .before .if1 .left)
-        (c .before .before .before .before .from-record .ensures) (c .before .before .before .look .ensures) in c .all-have2 .ensures
-        (w .after) e (w .next) g ∙ have-skip w _ _ (c .before .before .is-expr .ensures) _ (c .before .if2 .left))
+    (c .before .before .before .before .from-record .ensures) (c .before .before .before .look .ensures) in c .all-have2 .ensures
+    (w .after) e (w .next) g ∙ have-skip w _ _ (c .before .before .is-expr .ensures) _ (c .before .if2 .left))

@@ -47,20 +47,27 @@ pub +first-type-spec : {M : Type 1} → statement M
     (λ c f e h g. first-none _ _ f (ended f _ _ _ h (c .if1 .taken)))
     (λ c κs. let p = c .before .before .before .pre .1 .0 in let u = turn (p .forest) (p .linked) (c .if1 .left) in omega arith)
     (λ c κs. let p = c .before .before .before .before .pre .1 .0 in let u = turn (p .forest) (p .linked) (c .before .if1 .left) in rw
-        (c .from-record .ensures, length-drop) (omega arith))
+    (c .from-record .ensures, length-drop) (omega arith))
     (λ c κs. tt)
     (λ c κs. let p = c .before .before .before .before .before .before .before .pre .1 .0 in let u = turn (p .forest) (p .linked)
-        (c .before .before .before .before .if1 .left) in
-        (rw (c .before .before .before .from-record .ensures, length-drop)
-        (omega arith), c .before .before .before .before .before .before .before .pre .1 .1))
+    (c .before .before .before .before .if1 .left) in (
+      rw (c .before .before .before .from-record .ensures, length-drop)
+          (omega arith),
+      c .before .before .before .before .before .before .before .pre .1 .1,
+    ))
     (λ c f e h g. let w = step f h (c .before .before .before .before .before .if1 .left)
-        (c .before .before .before .before .from-record .ensures) (c .before .before .before .look .ensures) in first-here w _ _
-        (c .before .before .is-expr .ensures) (c .before .if2 .taken)
-        (type-here w _ h (c .before .before .before .before .from-record .ensures) (c .type-of .ensures e g)))
+    (c .before .before .before .before .from-record .ensures) (c .before .before .before .look .ensures) in first-here w _ _
+    (c .before .before .is-expr .ensures) (c .before .if2 .taken)
+    (type-here w _ h (c .before .before .before .before .from-record .ensures) (c .type-of .ensures e g)))
     (λ c κs. let p = c .before .before .before .before .before .before .before .pre .1 .0 in let w = step (p .forest) (p .linked)
-        (c .before .before .before .before .if1 .left) (c .before .before .before .from-record .ensures) (c .before .before .look .ensures) in
-        (omega (arith, w .less), (record { forest = w .after; linked = w .next }, c .before .before .before .before .before .before .before
-        .pre .1 .1)))
+    (c .before .before .before .before .if1 .left) (c .before .before .before .from-record .ensures) (c .before .before .look .ensures) in (
+      omega (arith, w .less),
+      (
+        record { forest = w .after; linked = w .next },
+        c .before .before .before .before .before .before .before
+            .pre .1 .1,
+      ),
+    ))
     (λ c f e h g. let w = step f h (c .before .before .before .before .before .if1 .left)
-        (c .before .before .before .before .from-record .ensures) (c .before .before .before .look .ensures) in c .first-type .ensures
-        (w .after) e (w .next) g ∙ first-skip w _ _ (c .before .before .is-expr .ensures) (c .before .if2 .left))
+    (c .before .before .before .before .from-record .ensures) (c .before .before .before .look .ensures) in c .first-type .ensures
+    (w .after) e (w .next) g ∙ first-skip w _ _ (c .before .before .is-expr .ensures) (c .before .if2 .left))

@@ -24,6 +24,6 @@ demand-spec =
     (λ c. rw (c .if9 .taken) refl)
     (λ c κs. search needs)
     (λ c. c .takes-booleans .ensures
-        ∙ demand-last _ _ _ (c .before .before .before .before .before .before .before .if1 .left)
-        (c .before .before .before .before .before .before .if3 .left) (c .before .before .before .before .before .if5 .left)
-        (c .before .before .before .before .if6 .left) (c .before .before .before .if7 .left) (c .before .before .if8 .left) (c .before .if9 .left)))
+    ∙ demand-last _ _ _ (c .before .before .before .before .before .before .before .if1 .left)
+    (c .before .before .before .before .before .before .if3 .left) (c .before .before .before .before .before .if5 .left)
+    (c .before .before .before .before .if6 .left) (c .before .before .before .if7 .left) (c .before .before .if8 .left) (c .before .if9 .left)))

@@ -16,8 +16,12 @@ meets-spec =
     (λ c κs. search needs)
     (λ c κs. search needs)
     (λ c f e h g. rw (ne-eqb _ 1 (c .before .before .before .if1 .left), eq-eqb _ 2 (c .before .before .if2 .taken))
-        (alike-by _ (c .all-have2 .ensures f e h g) (c .before .first-type .ensures f e h g)))
+    (alike-by _ (c .all-have2 .ensures f e h g) (c .before .first-type .ensures f e h g)))
     (λ c κs. search needs)
-    (λ c f e h g. rw (ne-eqb _ 1 (c .before .before .before .if1 .left), ne-eqb _ 2 (c .before .before .if2 .left), eq-eqb _ 3
-        (c .before .if3 .taken)) (ap (λ (x : ℕ). eqb x 1) (c .first-type2 .ensures f e h g)))
+    (λ c f e h g. rw (
+      ne-eqb _ 1 (c .before .before .before .if1 .left),
+      ne-eqb _ 2 (c .before .before .if2 .left),
+      eq-eqb _ 3
+          (c .before .if3 .taken),
+    ) (ap (λ (x : ℕ). eqb x 1) (c .first-type2 .ensures f e h g)))
     (λ c f e h g. rw (ne-eqb _ 1 (c .before .before .if1 .left), ne-eqb _ 2 (c .before .if2 .left), ne-eqb _ 3 (c .if3 .left))))

@@ -11,5 +11,10 @@ takes-booleans-spec =
     (λ c. rw (c .if2 .taken) refl)
     (λ c. rw (c .if3 .taken) refl)
     (λ c. rw (c .if4 .taken) refl)
-    (λ c. rw (ne-eqb _ 6 (c .before .before .before .if1 .left), ne-eqb _ 32 (c .before .before .if2 .left), ne-eqb _ 33
-        (c .before .if3 .left), ne-eqb _ 35 (c .if4 .left))))
+    (λ c. rw (
+      ne-eqb _ 6 (c .before .before .before .if1 .left),
+      ne-eqb _ 32 (c .before .before .if2 .left),
+      ne-eqb _ 33
+          (c .before .if3 .left),
+      ne-eqb _ 35 (c .if4 .left),
+    )))

@@ -47,27 +47,37 @@ pub +as-first-spec : {M : Type 1} → statement M
     (λ c f e h g. all-none _ f (ended f _ _ _ h (c .if1 .taken)))
     (λ c κs. let p = c .before .before .before .pre .1 .0 in let u = turn (p .forest) (p .linked) (c .if1 .left) in omega arith)
     (λ c κs. let p = c .before .before .before .before .pre .1 .0 in let u = turn (p .forest) (p .linked) (c .before .if1 .left) in rw
-        (c .from-record .ensures, length-drop) (omega arith))
+    (c .from-record .ensures, length-drop) (omega arith))
     (λ c κs. tt)
     (λ c κs. c .before .before .before .before .before .before .before .pre .1)
     (λ c f e h g. let w = step f h (c .before .before .before .before .before .before .if1 .left)
-        (c .before .before .before .before .before .from-record .ensures) (c .before .before .before .before .look .ensures) in all-not w _
-        (c .before .before .before .role-of .ensures) _ (c .before .before .if2 .taken) (c .before .same-fields .ensures f e h g)
-        (not-true _ (c .if3 .taken)))
+    (c .before .before .before .before .before .from-record .ensures) (c .before .before .before .before .look .ensures) in all-not w _
+    (c .before .before .before .role-of .ensures) _ (c .before .before .if2 .taken) (c .before .same-fields .ensures f e h g)
+    (not-true _ (c .if3 .taken)))
     (λ c κs. let p = c .before .before .before .before .before .before .before .before .before .pre .1 .0 in let w = step (p .forest)
-        (p .linked) (c .before .before .before .before .before .before .if1 .left)
-        (c .before .before .before .before .before .from-record .ensures) (c .before .before .before .before .look .ensures) in
-        (omega (arith, w .less), (record { forest = w .after; linked = w .next }, c .before .before .before .before .before .before .before
-        .before .before .pre .1 .1)))
+    (p .linked) (c .before .before .before .before .before .before .if1 .left)
+    (c .before .before .before .before .before .from-record .ensures) (c .before .before .before .before .look .ensures) in (
+      omega (arith, w .less),
+      (
+        record { forest = w .after; linked = w .next },
+        c .before .before .before .before .before .before .before
+            .before .before .pre .1 .1,
+      ),
+    ))
     (λ c f e h g. let w = step f h (c .before .before .before .before .before .before .before .if1 .left)
-        (c .before .before .before .before .before .before .from-record .ensures)
-        (c .before .before .before .before .before .look .ensures) in c .as-first .ensures (w .after) e (w .next) g
-        ∙ all-more w _ (c .before .before .before .before .role-of .ensures) _ (c .before .before .before .if2 .taken)
-        (c .before .before .same-fields .ensures f e h g) (not-false _ (c .before .if3 .left)))
+    (c .before .before .before .before .before .before .from-record .ensures)
+    (c .before .before .before .before .before .look .ensures) in c .as-first .ensures (w .after) e (w .next) g
+    ∙ all-more w _ (c .before .before .before .before .role-of .ensures) _ (c .before .before .before .if2 .taken)
+    (c .before .before .same-fields .ensures f e h g) (not-false _ (c .before .if3 .left)))
     (λ c κs. let p = c .before .before .before .before .before .before .before .pre .1 .0 in let w = step (p .forest) (p .linked)
-        (c .before .before .before .before .if1 .left) (c .before .before .before .from-record .ensures) (c .before .before .look .ensures) in
-        (omega (arith, w .less), (record { forest = w .after; linked = w .next }, c .before .before .before .before .before .before .before
-        .pre .1 .1)))
+    (c .before .before .before .before .if1 .left) (c .before .before .before .from-record .ensures) (c .before .before .look .ensures) in (
+      omega (arith, w .less),
+      (
+        record { forest = w .after; linked = w .next },
+        c .before .before .before .before .before .before .before
+            .pre .1 .1,
+      ),
+    ))
     (λ c f e h g. let w = step f h (c .before .before .before .before .before .if1 .left)
-        (c .before .before .before .before .from-record .ensures) (c .before .before .before .look .ensures) in c .as-first2 .ensures
-        (w .after) e (w .next) g ∙ all-skip w _ (c .before .before .role-of .ensures) _ (c .before .if2 .left))
+    (c .before .before .before .before .from-record .ensures) (c .before .before .before .look .ensures) in c .as-first2 .ensures
+    (w .after) e (w .next) g ∙ all-skip w _ (c .before .before .role-of .ensures) _ (c .before .if2 .left))

@@ -47,19 +47,19 @@ pub +made-at-spec : {M : Type 1} → statement M
     (λ c f d h. sym (at-none _ d f (ended f _ _ _ h (c .if2 .taken))))
     (λ c κs. let p = c .before .before .before .pre .1 in let u = turn (p .forest) (p .linked) (c .if2 .left) in omega arith)
     (λ c κs. let p = c .before .before .before .before .pre .1 in let u = turn (p .forest) (p .linked) (c .before .if2 .left) in rw
-        (c .from-record .ensures, length-drop) (omega arith))
+    (c .from-record .ensures, length-drop) (omega arith))
     (λ c κs. tt)
     (λ c. omega (arith, c .before .before .before .before .before .if1 .left))
     (λ c κs. let p = c .before .before .before .before .before .before .before .pre .1 in let w = step (p .forest) (p .linked)
-        (c .before .before .before .before .if2 .left) (c .before .before .before .from-record .ensures) (c .before .before .look .ensures) in
-        (omega (arith, w .less), record { forest = w .after; linked = w .next }))
+    (c .before .before .before .before .if2 .left) (c .before .before .before .from-record .ensures) (c .before .before .look .ensures) in
+    (omega (arith, w .less), record { forest = w .after; linked = w .next }))
     (λ c f d h. let w = step f h (c .before .before .before .before .before .if2 .left)
-        (c .before .before .before .before .from-record .ensures) (c .before .before .before .look .ensures) in c .made-at .ensures
-        (w .after) d (w .next) ∙ made-more w d _ (c .before .before .makes-one .ensures) (c .before .if3 .taken)
-        (c .before .before .before .before .before .before .if1 .left))
+    (c .before .before .before .before .from-record .ensures) (c .before .before .before .look .ensures) in c .made-at .ensures
+    (w .after) d (w .next) ∙ made-more w d _ (c .before .before .makes-one .ensures) (c .before .if3 .taken)
+    (c .before .before .before .before .before .before .if1 .left))
     (λ c κs. let p = c .before .before .before .before .before .before .before .pre .1 in let w = step (p .forest) (p .linked)
-        (c .before .before .before .before .if2 .left) (c .before .before .before .from-record .ensures) (c .before .before .look .ensures) in
-        (omega (arith, w .less), record { forest = w .after; linked = w .next }))
+    (c .before .before .before .before .if2 .left) (c .before .before .before .from-record .ensures) (c .before .before .look .ensures) in
+    (omega (arith, w .less), record { forest = w .after; linked = w .next }))
     (λ c f d h. let w = step f h (c .before .before .before .before .before .if2 .left)
-        (c .before .before .before .before .from-record .ensures) (c .before .before .before .look .ensures) in c .made-at2 .ensures
-        (w .after) d (w .next) ∙ made-skip w d _ (c .before .before .makes-one .ensures) (c .before .if3 .left))
+    (c .before .before .before .before .from-record .ensures) (c .before .before .before .look .ensures) in c .made-at2 .ensures
+    (w .after) d (w .next) ∙ made-skip w d _ (c .before .before .makes-one .ensures) (c .before .if3 .left))

@@ -56,80 +56,80 @@ pub +type-at-spec : {M : Type 1} → statement M
     (λ c f h. input-none _ _ f (ended f _ _ _ h (c .if1 .taken)))
     (λ c κs. let p = c .before .before .pre .1 in let u = turn (p .forest) (p .linked) (c .if1 .left) in omega arith)
     (λ c κs. let p = c .before .before .before .pre .1 in let u = turn (p .forest) (p .linked) (c .before .if1 .left) in rw
-        (c .from-record .ensures, length-drop) (omega arith))
+    (c .from-record .ensures, length-drop) (omega arith))
     (λ c κs. tt)
     (λ c κs. let p = c .before .before .before .before .before .before .pre .1 in let w = step (p .forest) (p .linked)
-        (c .before .before .before .before .if1 .left) (c .before .before .before .from-record .ensures) (c .before .before .look .ensures) in
-        (omega (arith, w .less), record { forest = w .after; linked = w .next }))
+    (c .before .before .before .before .if1 .left) (c .before .before .before .from-record .ensures) (c .before .before .look .ensures) in
+    (omega (arith, w .less), record { forest = w .after; linked = w .next }))
     (λ c f h. let w = step f h (c .before .before .before .before .before .if1 .left)
-        (c .before .before .before .before .from-record .ensures) (c .before .before .before .look .ensures) in c .type-at .ensures (w .after)
-        (w .next) ∙ ap (tyAt _) (sym (skip-part w _ (c .before .before .role-of .ensures) (c .before .if2 .taken) _)))
+    (c .before .before .before .before .from-record .ensures) (c .before .before .before .look .ensures) in c .type-at .ensures (w .after)
+    (w .next) ∙ ap (tyAt _) (sym (skip-part w _ (c .before .before .role-of .ensures) (c .before .if2 .taken) _)))
     (λ c. omega (arith, c .if3 .taken))
     (λ c κs. let p = c .before .before .before .before .before .before .before .pre .1 in let w = step (p .forest) (p .linked)
-        (c .before .before .before .before .before .if1 .left) (c .before .before .before .before .from-record .ensures)
-        (c .before .before .before .look .ensures) in (omega (arith, w .less), record { forest = w .after; linked = w .next }))
+    (c .before .before .before .before .before .if1 .left) (c .before .before .before .before .from-record .ensures)
+    (c .before .before .before .look .ensures) in (omega (arith, w .less), record { forest = w .after; linked = w .next }))
     (λ c f h. let w = step f h (c .before .before .before .before .before .before .if1 .left)
-        (c .before .before .before .before .before .from-record .ensures)
-        (c .before .before .before .before .look .ensures) in c .type-at2 .ensures (w .after) (w .next)
-        ∙ ap (tyAt _) (sym (skip-plan w _ (c .before .before .before .role-of .ensures) (c .before .before .if2 .left) _ (c .before .if3 .taken))))
+    (c .before .before .before .before .before .from-record .ensures)
+    (c .before .before .before .before .look .ensures) in c .type-at2 .ensures (w .after) (w .next)
+    ∙ ap (tyAt _) (sym (skip-plan w _ (c .before .before .before .role-of .ensures) (c .before .before .if2 .left) _ (c .before .if3 .taken))))
     (λ c κs. let p = c .before .before .before .before .before .before .before .pre .1 in let w = step (p .forest) (p .linked)
-        (c .before .before .before .before .before .if1 .left) (c .before .before .before .before .from-record .ensures)
-        (c .before .before .before .look .ensures) in record { forest = w .below; linked = w .first })
+    (c .before .before .before .before .before .if1 .left) (c .before .before .before .before .from-record .ensures)
+    (c .before .before .before .look .ensures) in record { forest = w .below; linked = w .first })
     (λ c κs. let p = c .before .before .before .before .before .before .before .before .before .before .pre .1 in let w = step (p .forest)
-        (p .linked) (c .before .before .before .before .before .before .before .before .if1 .left)
-        (c .before .before .before .before .before .before .before .from-record .ensures)
-        (c .before .before .before .before .before .before .look .ensures) in record { forest = w .below; linked = w .first })
+    (p .linked) (c .before .before .before .before .before .before .before .before .if1 .left)
+    (c .before .before .before .before .before .before .before .from-record .ensures)
+    (c .before .before .before .before .before .before .look .ensures) in record { forest = w .below; linked = w .first })
     (λ c f h. let w = step f h (c .before .before .before .before .before .before .before .before .before .before .before .before .before .if1
-        .left) (c .before .before .before .before .before .before .before .before .before .before .before .before .from-record .ensures)
-        (c .before .before .before .before .before .before .before .before .before .before .before .look .ensures) in let d = partsOver
-        (c .before .before .before .before .before .before .before .before .before .before .before .look .result .kind) (w .below) in sym
-        (spot-parts w _ (c .before .before .before .before .before .before .before .before .before .before .role-of .ensures)
-        (c .before .before .before .before .before .before .before .before .before .if2 .left) _
-        (c .before .before .before .before .before .before .before .before .if3 .left) _
-        (c .before .before .before .before .before .before .before .spot-of .result)
-        (c .before .before .before .before .before .before .before .spot-of .ensures (w .below) (w .first))
-        (c .before .before .before .before .before .if4 .taken)
-        ∙ sym (c .before .before .before .before .made-at .ensures (w .below) d (w .first))
-        ∙ source-from (c .before .before .before .before .made-at .result) d (c .before .before .if5 .taken)
-        ∙ type-in-none _ d (over-scan _ (w .below) (c .if6 .taken))))
+    .left) (c .before .before .before .before .before .before .before .before .before .before .before .before .from-record .ensures)
+    (c .before .before .before .before .before .before .before .before .before .before .before .look .ensures) in let d = partsOver
+    (c .before .before .before .before .before .before .before .before .before .before .before .look .result .kind) (w .below) in sym
+    (spot-parts w _ (c .before .before .before .before .before .before .before .before .before .before .role-of .ensures)
+    (c .before .before .before .before .before .before .before .before .before .if2 .left) _
+    (c .before .before .before .before .before .before .before .before .if3 .left) _
+    (c .before .before .before .before .before .before .before .spot-of .result)
+    (c .before .before .before .before .before .before .before .spot-of .ensures (w .below) (w .first))
+    (c .before .before .before .before .before .if4 .taken)
+    ∙ sym (c .before .before .before .before .made-at .ensures (w .below) d (w .first))
+    ∙ source-from (c .before .before .before .before .made-at .result) d (c .before .before .if5 .taken)
+    ∙ type-in-none _ d (over-scan _ (w .below) (c .if6 .taken))))
     (λ c κs. let p = c .before .before .before .before .before .before .before .before .before .before .before .before .before .before .before
-        .pre .1 in let w = step (p .forest) (p .linked)
-        (c .before .before .before .before .before .before .before .before .before .before .before .before .before .if1 .left)
-        (c .before .before .before .before .before .before .before .before .before .before .before .before .from-record .ensures)
-        (c .before .before .before .before .before .before .before .before .before .before .before .look .ensures) in record
-        { forest = w .below; linked = w .first })
+    .pre .1 in let w = step (p .forest) (p .linked)
+    (c .before .before .before .before .before .before .before .before .before .before .before .before .before .if1 .left)
+    (c .before .before .before .before .before .before .before .before .before .before .before .before .from-record .ensures)
+    (c .before .before .before .before .before .before .before .before .before .before .before .look .ensures) in record
+    { forest = w .below; linked = w .first })
     (λ c f h. let w = step f h (c .before .before .before .before .before .before .before .before .before .before .before .before .before
-        .before .if1 .left) (c .before .before .before .before .before .before .before .before .before .before .before .before .before
-        .from-record .ensures) (c .before .before .before .before .before .before .before .before .before .before .before .before .look
-        .ensures) in let d = partsOver (c .before .before .before .before .before .before .before .before .before .before .before .before
-        .look .result .kind) (w .below) in c .type-in .ensures (w .below) (w .first) ∙ typed-name _ _ _
-        ∙ sym (spot-parts w _ (c .before .before .before .before .before .before .before .before .before .before .before .role-of .ensures)
-        (c .before .before .before .before .before .before .before .before .before .before .if2 .left) _
-        (c .before .before .before .before .before .before .before .before .before .if3 .left) _
-        (c .before .before .before .before .before .before .before .before .spot-of .result)
-        (c .before .before .before .before .before .before .before .before .spot-of .ensures (w .below) (w .first))
-        (c .before .before .before .before .before .before .if4 .taken)
-        ∙ sym (c .before .before .before .before .before .made-at .ensures (w .below) d (w .first))
-        ∙ source-from (c .before .before .before .before .before .made-at .result) d (c .before .before .before .if5 .taken)
-        ∙ ap (λ (g : Schema). typeIn g (nm (c .before .before .before .before .before .made-at .result .q)
-        (c .before .before .before .before .before .made-at .result .n))) (over-other _ (w .below) (c .before .if6 .left))))
+    .before .if1 .left) (c .before .before .before .before .before .before .before .before .before .before .before .before .before
+    .from-record .ensures) (c .before .before .before .before .before .before .before .before .before .before .before .before .look
+    .ensures) in let d = partsOver (c .before .before .before .before .before .before .before .before .before .before .before .before
+    .look .result .kind) (w .below) in c .type-in .ensures (w .below) (w .first) ∙ typed-name _ _ _
+    ∙ sym (spot-parts w _ (c .before .before .before .before .before .before .before .before .before .before .before .role-of .ensures)
+    (c .before .before .before .before .before .before .before .before .before .before .if2 .left) _
+    (c .before .before .before .before .before .before .before .before .before .if3 .left) _
+    (c .before .before .before .before .before .before .before .before .spot-of .result)
+    (c .before .before .before .before .before .before .before .before .spot-of .ensures (w .below) (w .first))
+    (c .before .before .before .before .before .before .if4 .taken)
+    ∙ sym (c .before .before .before .before .before .made-at .ensures (w .below) d (w .first))
+    ∙ source-from (c .before .before .before .before .before .made-at .result) d (c .before .before .before .if5 .taken)
+    ∙ ap (λ (g : Schema). typeIn g (nm (c .before .before .before .before .before .made-at .result .q)
+    (c .before .before .before .before .before .made-at .result .n))) (over-other _ (w .below) (c .before .if6 .left))))
     (λ c f h. let w = step f h (c .before .before .before .before .before .before .before .before .before .before .before .if1 .left)
-        (c .before .before .before .before .before .before .before .before .before .before .from-record .ensures)
-        (c .before .before .before .before .before .before .before .before .before .look .ensures) in let d = partsOver
-        (c .before .before .before .before .before .before .before .before .before .look .result .kind) (w .below) in sym
-        (spot-parts w _ (c .before .before .before .before .before .before .before .before .role-of .ensures)
-        (c .before .before .before .before .before .before .before .if2 .left) _
-        (c .before .before .before .before .before .before .if3 .left) _ (c .before .before .before .before .before .spot-of .result)
-        (c .before .before .before .before .before .spot-of .ensures (w .below) (w .first)) (c .before .before .before .if4 .taken)
-        ∙ sym (c .before .before .made-at .ensures (w .below) d (w .first)) ∙ source-known (c .before .before .made-at .result) d (c .if5 .left)))
+    (c .before .before .before .before .before .before .before .before .before .before .from-record .ensures)
+    (c .before .before .before .before .before .before .before .before .before .look .ensures) in let d = partsOver
+    (c .before .before .before .before .before .before .before .before .before .look .result .kind) (w .below) in sym
+    (spot-parts w _ (c .before .before .before .before .before .before .before .before .role-of .ensures)
+    (c .before .before .before .before .before .before .before .if2 .left) _
+    (c .before .before .before .before .before .before .if3 .left) _ (c .before .before .before .before .before .spot-of .result)
+    (c .before .before .before .before .before .spot-of .ensures (w .below) (w .first)) (c .before .before .before .if4 .taken)
+    ∙ sym (c .before .before .made-at .ensures (w .below) d (w .first)) ∙ source-known (c .before .before .made-at .result) d (c .if5 .left)))
     (λ c κs. let p = c .before .before .before .before .before .before .before .before .before .before .pre .1 in let w = step (p .forest)
-        (p .linked) (c .before .before .before .before .before .before .before .before .if1 .left)
-        (c .before .before .before .before .before .before .before .from-record .ensures)
-        (c .before .before .before .before .before .before .look .ensures) in
-        (omega (arith, w .down), record { forest = w .below; linked = w .first }))
+    (p .linked) (c .before .before .before .before .before .before .before .before .if1 .left)
+    (c .before .before .before .before .before .before .before .from-record .ensures)
+    (c .before .before .before .before .before .before .look .ensures) in
+    (omega (arith, w .down), record { forest = w .below; linked = w .first }))
     (λ c f h. let w = step f h (c .before .before .before .before .before .before .before .before .before .if1 .left)
-        (c .before .before .before .before .before .before .before .before .from-record .ensures)
-        (c .before .before .before .before .before .before .before .look .ensures) in c .type-at3 .ensures (w .below) (w .first)
-        ∙ sym (spot-input w _ (c .before .before .before .before .before .before .role-of .ensures)
-        (c .before .before .before .before .before .if2 .left) _ (c .before .before .before .before .if3 .left) _
-        (c .before .before .before .spot-of .result) (c .before .before .before .spot-of .ensures (w .below) (w .first)) (c .before .if4 .left)))
+    (c .before .before .before .before .before .before .before .before .from-record .ensures)
+    (c .before .before .before .before .before .before .before .look .ensures) in c .type-at3 .ensures (w .below) (w .first)
+    ∙ sym (spot-input w _ (c .before .before .before .before .before .before .role-of .ensures)
+    (c .before .before .before .before .before .if2 .left) _ (c .before .before .before .before .if3 .left) _
+    (c .before .before .before .spot-of .result) (c .before .before .before .spot-of .ensures (w .below) (w .first)) (c .before .if4 .left)))

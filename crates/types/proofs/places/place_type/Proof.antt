@@ -12,9 +12,9 @@ place-type-spec =
     (tie.spec
     (λ c κs. search needs)
     (λ c f h. rw (eq-eqb _ 0 (c .before .before .before .if1 .taken))
-        (sym (type-in-none _ [] refl) ∙ sym (source-from (c .before .before .made-at .result) [] (c .if2 .taken))
-        ∙ c .before .before .made-at .ensures f [] h))
+    (sym (type-in-none _ [] refl) ∙ sym (source-from (c .before .before .made-at .result) [] (c .if2 .taken))
+    ∙ c .before .before .made-at .ensures f [] h))
     (λ c f h. rw (eq-eqb _ 0 (c .before .before .before .if1 .taken))
-        (sym (source-known (c .before .before .made-at .result) [] (c .if2 .left)) ∙ c .before .before .made-at .ensures f [] h))
+    (sym (source-known (c .before .before .made-at .result) [] (c .if2 .left)) ∙ c .before .before .made-at .ensures f [] h))
     (λ c κs. search needs)
     (λ c f h. rw (ne-eqb _ 0 (c .before .if1 .left)) (c .type-at .ensures f h)))

@@ -31,9 +31,9 @@ same-fields-spec =
     (λ c. omega arith)
     (λ c. omega arith)
     (λ c f e h g. one-more (λ m. tyAt m
-        (schemaOf (c .before .before .before .before .before .before .before .before .before .before .args .which) f) ≡ tyAt m
-        (schemaOf (c .before .before .before .before .before .before .before .before .before .before .args .which) e)) _
-        (c .before .before .before .before .loop .inv f e h g)
-        (sym (c .before .before .place-type .ensures f h) ∙ c .if2 .left ∙ c .before .place-type2 .ensures e g))
+    (schemaOf (c .before .before .before .before .before .before .before .before .before .before .args .which) f) ≡ tyAt m
+    (schemaOf (c .before .before .before .before .before .before .before .before .before .before .args .which) e)) _
+    (c .before .before .before .before .loop .inv f e h g)
+    (sym (c .before .before .place-type .ensures f h) ∙ c .if2 .left ∙ c .before .place-type2 .ensures e g))
     (λ c f e h g. same-all _ _ (c .before .before .before .before .width .ensures f h) (c .before .before .before .width2 .ensures e g)
-        (c .before .before .if1 .left) (λ k l. c .before .loop .inv f e h g k (omega arith))))
+    (c .before .before .if1 .left) (λ k l. c .before .loop .inv f e h g k (omega arith))))

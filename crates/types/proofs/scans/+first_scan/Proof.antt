@@ -47,39 +47,49 @@ pub +first-scan-spec : {M : Type 1} → statement M
     (λ c f e h g d. scan-none (c .before .before .before .args .table) (typesIn (made [] e)) d f (ended f _ _ _ h (c .if1 .taken)))
     (λ c κs. let p = c .before .before .before .pre .1 .0 in let u = turn (p .forest) (p .linked) (c .if1 .left) in omega arith)
     (λ c κs. let p = c .before .before .before .before .pre .1 .0 in let u = turn (p .forest) (p .linked) (c .before .if1 .left) in rw
-        (c .from-record .ensures, length-drop) (omega arith))
+    (c .from-record .ensures, length-drop) (omega arith))
     (λ c κs. let p = c .before .before .before .before .before .before .before .before .pre .1 .0 in let w = step (p .forest) (p .linked)
-        (c .before .before .before .before .before .if1 .left) (c .before .before .before .before .from-record .ensures)
-        (c .before .before .before .look .ensures) in
-        (c .before .before .before .before .before .before .before .before .pre .1 .1, record { forest = w .below; linked = w .first }))
+    (c .before .before .before .before .before .if1 .left) (c .before .before .before .before .from-record .ensures)
+    (c .before .before .before .look .ensures) in
+    (c .before .before .before .before .before .before .before .before .pre .1 .1, record { forest = w .below; linked = w .first }))
     (λ c f e h g d. let w = step f h (c .before .before .before .before .before .before .before .if1 .left)
-        (c .before .before .before .before .before .before .from-record .ensures)
-        (c .before .before .before .before .before .look .ensures) in sym (c .if3 .taken)
-        ∙ c .before .same-fields .ensures e (w .below) g (w .first) ∙ scan-here w _ (typesIn (made [] e)) d (c .before .before .if2 .taken))
+    (c .before .before .before .before .before .before .from-record .ensures)
+    (c .before .before .before .before .before .look .ensures) in sym (c .if3 .taken)
+    ∙ c .before .same-fields .ensures e (w .below) g (w .first) ∙ scan-here w _ (typesIn (made [] e)) d (c .before .before .if2 .taken))
     (λ c f e h g d. let w = step f h (c .before .before .before .before .before .before .before .if1 .left)
-        (c .before .before .before .before .before .before .from-record .ensures)
-        (c .before .before .before .before .before .look .ensures) in sym (c .if3 .left)
-        ∙ c .before .same-fields .ensures e (w .below) g (w .first) ∙ scan-here w _ (typesIn (made [] e)) d (c .before .before .if2 .taken))
+    (c .before .before .before .before .before .before .from-record .ensures)
+    (c .before .before .before .before .before .look .ensures) in sym (c .if3 .left)
+    ∙ c .before .same-fields .ensures e (w .below) g (w .first) ∙ scan-here w _ (typesIn (made [] e)) d (c .before .before .if2 .taken))
     (λ c κs. let p = c .before .before .before .before .before .before .before .before .pre .1 .0 in let w = step (p .forest) (p .linked)
-        (c .before .before .before .before .before .if1 .left) (c .before .before .before .before .from-record .ensures)
-        (c .before .before .before .look .ensures) in
-        (omega (arith, w .down), (record { forest = w .below; linked = w .first }, c .before .before .before .before .before .before .before
-        .before .pre .1 .1)))
+    (c .before .before .before .before .before .if1 .left) (c .before .before .before .before .from-record .ensures)
+    (c .before .before .before .look .ensures) in (
+      omega (arith, w .down),
+      (
+        record { forest = w .below; linked = w .first },
+        c .before .before .before .before .before .before .before
+            .before .pre .1 .1,
+      ),
+    ))
     (λ c f e h g d. let w = step f h (c .before .before .before .before .before .before .before .if1 .left)
-        (c .before .before .before .before .before .before .from-record .ensures)
-        (c .before .before .before .before .before .look .ensures) in scan-below w _ (typesIn (made [] e)) d (c .before .before .if2 .left)
-        (c .before .first-scan .ensures (w .below) e (w .first) g
-        (scanTypes (c .before .before .before .before .before .before .before .before .before .before .args .table) d (w .after))) (c .if4 .taken))
+    (c .before .before .before .before .before .before .from-record .ensures)
+    (c .before .before .before .before .before .look .ensures) in scan-below w _ (typesIn (made [] e)) d (c .before .before .if2 .left)
+    (c .before .first-scan .ensures (w .below) e (w .first) g
+    (scanTypes (c .before .before .before .before .before .before .before .before .before .before .args .table) d (w .after))) (c .if4 .taken))
     (λ c κs. let p = c .before .before .before .before .before .before .before .before .before .before .pre .1 .0 in let w = step (p .forest)
-        (p .linked) (c .before .before .before .before .before .before .before .if1 .left)
-        (c .before .before .before .before .before .before .from-record .ensures)
-        (c .before .before .before .before .before .look .ensures) in
-        (omega (arith, w .less), (record { forest = w .after; linked = w .next }, c .before .before .before .before .before .before .before
-        .before .before .before .pre .1 .1)))
+    (p .linked) (c .before .before .before .before .before .before .before .if1 .left)
+    (c .before .before .before .before .before .before .from-record .ensures)
+    (c .before .before .before .before .before .look .ensures) in (
+      omega (arith, w .less),
+      (
+        record { forest = w .after; linked = w .next },
+        c .before .before .before .before .before .before .before
+            .before .before .before .pre .1 .1,
+      ),
+    ))
     (λ c f e h g d. let w = step f h (c .before .before .before .before .before .before .before .before .if1 .left)
-        (c .before .before .before .before .before .before .before .from-record .ensures)
-        (c .before .before .before .before .before .before .look .ensures) in c .first-scan2 .ensures (w .after) e (w .next) g d
-        ∙ scan-after w _ (typesIn (made [] e)) d (c .before .before .before .if2 .left)
-        (c .before .before .first-scan .ensures (w .below) e (w .first) g
-        (scanTypes (c .before .before .before .before .before .before .before .before .before .before .before .args .table) d (w .after)))
-        (c .before .if4 .left))
+    (c .before .before .before .before .before .before .before .from-record .ensures)
+    (c .before .before .before .before .before .before .look .ensures) in c .first-scan2 .ensures (w .after) e (w .next) g d
+    ∙ scan-after w _ (typesIn (made [] e)) d (c .before .before .before .if2 .left)
+    (c .before .before .first-scan .ensures (w .below) e (w .first) g
+    (scanTypes (c .before .before .before .before .before .before .before .before .before .before .before .args .table) d (w .after)))
+    (c .before .if4 .left))

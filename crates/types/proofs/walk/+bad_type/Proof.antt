@@ -59,162 +59,198 @@ pub +bad-type-spec : {M : Type 1} → statement M
     (λ c f e u h g z. place-none (typeOk (alone u)) hand _ _ _ f (ended f _ _ _ h (c .if1 .taken)))
     (λ c κs. let p = c .before .before .before .before .pre .1 .0 in let u = turn (p .forest) (p .linked) (c .if1 .left) in omega arith)
     (λ c κs. let p = c .before .before .before .before .before .pre .1 .0 in let u = turn (p .forest) (p .linked) (c .before .if1 .left) in rw
-        (c .from-record .ensures, length-drop) (omega arith))
+    (c .from-record .ensures, length-drop) (omega arith))
     (λ c κs. tt)
     (λ c κs. tt)
     (λ c κs. tt)
     (λ c κs. let p = c .before .before .before .before .before .before .before .before .before .before .pre .1 .0 in let w = step (p .forest)
-        (p .linked) (c .before .before .before .before .before .before .if1 .left)
-        (c .before .before .before .before .before .from-record .ensures) (c .before .before .before .before .look .ensures) in
-        (record { tree = record { label = w .label; below = w .below }; at = tree-at w (p .linked)
-        (c .before .before .before .before .before .from-record .ensures) }, c .before .before .before .before .before .before .before .before
-        .before .before .pre .1 .1, c .before .before .before .before .before .before .before .before .before .before .pre .1 .2))
+    (p .linked) (c .before .before .before .before .before .before .if1 .left)
+    (c .before .before .before .before .before .from-record .ensures) (c .before .before .before .before .look .ensures) in (
+      record {
+        tree = record { label = w .label; below = w .below };
+        at = tree-at w (p .linked)
+            (c .before .before .before .before .before .from-record .ensures);
+      },
+      c .before .before .before .before .before .before .before .before
+          .before .before .pre .1 .1,
+      c .before .before .before .before .before .before .before .before .before .before .pre .1 .2,
+    ))
     (λ c f e u h g z. let w = step f h (c .before .before .before .before .before .before .before .before .if1 .left)
-        (c .before .before .before .before .before .before .before .from-record .ensures)
-        (c .before .before .before .before .before .before .look .ensures) in place-here (typeOk (alone u)) hand w
-        (scopeOf (c .before .before .before .before .before .before .before .before .before .before .before .before .args .here) e)
-        (scopeOf (c .before .before .before .before .before .before .before .before .before .before .before .before .args .after) e) _ _
-        (hand-part w (c .before .before .before .before .before .before .before .before .before .before .before .before .args .here) e
-        (c .before .before .before .before .before .sort-of .ensures) (c .before .before .before .before .if2 .taken)
-        (c .before .before .before .first-sort .ensures) (c .before .before .rest-sort .ensures))
-        (rule-of (alone u) (scopeOf (c .before .before .before .before .before .before .before .before .before .before .before .before .args
-        .here) e) (w .label) (w .below) _ _
-        (hand-part w (c .before .before .before .before .before .before .before .before .before .before .before .before .args .here) e
-        (c .before .before .before .before .before .sort-of .ensures) (c .before .before .before .before .if2 .taken)
-        (c .before .before .before .first-sort .ensures) (c .before .before .rest-sort .ensures))
-        (c .before .type-ok .ensures (record { label = w .label; below = w .below }) u e
-        (tree-at w h (c .before .before .before .before .before .before .before .from-record .ensures)) g z)) (not-true _ (c .if3 .taken)))
+    (c .before .before .before .before .before .before .before .from-record .ensures)
+    (c .before .before .before .before .before .before .look .ensures) in place-here (typeOk (alone u)) hand w
+    (scopeOf (c .before .before .before .before .before .before .before .before .before .before .before .before .args .here) e)
+    (scopeOf (c .before .before .before .before .before .before .before .before .before .before .before .before .args .after) e) _ _
+    (hand-part w (c .before .before .before .before .before .before .before .before .before .before .before .before .args .here) e
+    (c .before .before .before .before .before .sort-of .ensures) (c .before .before .before .before .if2 .taken)
+    (c .before .before .before .first-sort .ensures) (c .before .before .rest-sort .ensures))
+    (rule-of (alone u) (scopeOf (c .before .before .before .before .before .before .before .before .before .before .before .before .args
+    .here) e) (w .label) (w .below) _ _
+    (hand-part w (c .before .before .before .before .before .before .before .before .before .before .before .before .args .here) e
+    (c .before .before .before .before .before .sort-of .ensures) (c .before .before .before .before .if2 .taken)
+    (c .before .before .before .first-sort .ensures) (c .before .before .rest-sort .ensures))
+    (c .before .type-ok .ensures (record { label = w .label; below = w .below }) u e
+    (tree-at w h (c .before .before .before .before .before .before .before .from-record .ensures)) g z)) (not-true _ (c .if3 .taken)))
     (λ c κs. let p = c .before .before .before .before .before .before .before .before .before .before .before .before .pre .1 .0 in let w
-        = step (p .forest) (p .linked) (c .before .before .before .before .before .before .before .before .if1 .left)
-        (c .before .before .before .before .before .before .before .from-record .ensures)
-        (c .before .before .before .before .before .before .look .ensures) in
-        (omega (arith, w .down), (record { forest = w .below; linked = w .first }, c .before .before .before .before .before .before .before
-        .before .before .before .before .before .pre .1 .1, c .before .before .before .before .before .before .before .before .before .before
-        .before .before .pre .1 .2)))
+    = step (p .forest) (p .linked) (c .before .before .before .before .before .before .before .before .if1 .left)
+    (c .before .before .before .before .before .before .before .from-record .ensures)
+    (c .before .before .before .before .before .before .look .ensures) in (
+      omega (arith, w .down),
+      (
+        record { forest = w .below; linked = w .first },
+        c .before .before .before .before .before .before .before
+            .before .before .before .before .before .pre .1 .1,
+        c .before .before .before .before .before .before .before .before .before .before
+            .before .before .pre .1 .2,
+      ),
+    ))
     (λ c. search needs)
     (λ c. search needs)
     (λ c κs. let p = c .before .before .before .before .before .before .before .before .before .before .before .before .before .before .before
-        .pre .1 .0 in let w = step (p .forest) (p .linked)
-        (c .before .before .before .before .before .before .before .before .before .before .before .if1 .left)
-        (c .before .before .before .before .before .before .before .before .before .before .from-record .ensures)
-        (c .before .before .before .before .before .before .before .before .before .look .ensures) in
-        (omega (arith, w .less), (record { forest = w .after; linked = w .next }, c .before .before .before .before .before .before .before
-        .before .before .before .before .before .before .before .before .pre .1 .1, c .before .before .before .before .before .before .before
-        .before .before .before .before .before .before .before .before .pre .1 .2)))
+    .pre .1 .0 in let w = step (p .forest) (p .linked)
+    (c .before .before .before .before .before .before .before .before .before .before .before .if1 .left)
+    (c .before .before .before .before .before .before .before .before .before .before .from-record .ensures)
+    (c .before .before .before .before .before .before .before .before .before .look .ensures) in (
+      omega (arith, w .less),
+      (
+        record { forest = w .after; linked = w .next },
+        c .before .before .before .before .before .before .before
+            .before .before .before .before .before .before .before .before .pre .1 .1,
+        c .before .before .before .before .before .before .before
+            .before .before .before .before .before .before .before .before .pre .1 .2,
+      ),
+    ))
     (λ c κs. let p = c .before .before .before .before .before .before .before .before .pre .1 .0 in let w = step (p .forest) (p .linked)
-        (c .before .before .before .before .if1 .left) (c .before .before .before .from-record .ensures) (c .before .before .look .ensures) in
-        (record { tree = record { label = w .label; below = w .below }; at = tree-at w (p .linked)
-        (c .before .before .before .from-record .ensures) }, record { forest = w .below; linked = w .first }, c .before .before .before
-        .before .before .before .before .before .pre .1 .2))
+    (c .before .before .before .before .if1 .left) (c .before .before .before .from-record .ensures) (c .before .before .look .ensures) in (
+      record {
+        tree = record { label = w .label; below = w .below };
+        at = tree-at w (p .linked)
+            (c .before .before .before .from-record .ensures);
+      },
+      record { forest = w .below; linked = w .first },
+      c .before .before .before
+          .before .before .before .before .before .pre .1 .2,
+    ))
     (λ c f e u h g z. let w = step f h (c .before .before .before .before .before .before .if1 .left)
-        (c .before .before .before .before .before .from-record .ensures) (c .before .before .before .before .look .ensures) in place-here
-        (typeOk (alone u)) hand w (scopeOf (c .before .before .before .before .before .before .before .before .before .before .args .here) e)
-        (scopeOf (c .before .before .before .before .before .before .before .before .before .before .args .after) e) _ _
-        (hand-plan w (scopeOf (c .before .before .before .before .before .before .before .before .before .before .args .here) e) _
-        (c .before .before .before .sort-of .ensures) (c .before .before .if2 .left))
-        (rule-of (alone u) (scopeOf (c .before .before .before .before .before .before .before .before .before .before .args .here) e)
-        (w .label) (w .below) _ _ (hand-plan w
-        (scopeOf (c .before .before .before .before .before .before .before .before .before .before .args .here) e) _
-        (c .before .before .before .sort-of .ensures) (c .before .before .if2 .left))
-        (c .before .type-ok2 .ensures (record { label = w .label; below = w .below }) u (w .below)
-        (tree-at w h (c .before .before .before .before .before .from-record .ensures)) (w .first) z)) (not-true _ (c .if4 .taken)))
+    (c .before .before .before .before .before .from-record .ensures) (c .before .before .before .before .look .ensures) in place-here
+    (typeOk (alone u)) hand w (scopeOf (c .before .before .before .before .before .before .before .before .before .before .args .here) e)
+    (scopeOf (c .before .before .before .before .before .before .before .before .before .before .args .after) e) _ _
+    (hand-plan w (scopeOf (c .before .before .before .before .before .before .before .before .before .before .args .here) e) _
+    (c .before .before .before .sort-of .ensures) (c .before .before .if2 .left))
+    (rule-of (alone u) (scopeOf (c .before .before .before .before .before .before .before .before .before .before .args .here) e)
+    (w .label) (w .below) _ _ (hand-plan w
+    (scopeOf (c .before .before .before .before .before .before .before .before .before .before .args .here) e) _
+    (c .before .before .before .sort-of .ensures) (c .before .before .if2 .left))
+    (c .before .type-ok2 .ensures (record { label = w .label; below = w .below }) u (w .below)
+    (tree-at w h (c .before .before .before .before .before .from-record .ensures)) (w .first) z)) (not-true _ (c .if4 .taken)))
     (λ c κs. let p = c .before .before .before .before .before .before .before .before .before .before .pre .1 .0 in let w = step (p .forest)
-        (p .linked) (c .before .before .before .before .before .before .if1 .left)
-        (c .before .before .before .before .before .from-record .ensures) (c .before .before .before .before .look .ensures) in
-        (omega (arith, w .down), (record { forest = w .below; linked = w .first }, record { forest = w .below; linked = w .first }, c .before
-        .before .before .before .before .before .before .before .before .before .pre .1 .2)))
+    (p .linked) (c .before .before .before .before .before .before .if1 .left)
+    (c .before .before .before .before .before .from-record .ensures) (c .before .before .before .before .look .ensures) in (
+      omega (arith, w .down),
+      (
+        record { forest = w .below; linked = w .first },
+        record { forest = w .below; linked = w .first },
+        c .before
+            .before .before .before .before .before .before .before .before .before .pre .1 .2,
+      ),
+    ))
     (λ c. search needs)
     (λ c. search needs)
     (λ c κs. let p = c .before .before .before .before .before .before .before .before .before .before .before .before .before .pre .1 .0 in
-        let w = step (p .forest) (p .linked) (c .before .before .before .before .before .before .before .before .before .if1 .left)
-        (c .before .before .before .before .before .before .before .before .from-record .ensures)
-        (c .before .before .before .before .before .before .before .look .ensures) in
-        (omega (arith, w .less), (record { forest = w .after; linked = w .next }, c .before .before .before .before .before .before .before
-        .before .before .before .before .before .before .pre .1 .1, c .before .before .before .before .before .before .before .before .before
-        .before .before .before .before .pre .1 .2)))
+    let w = step (p .forest) (p .linked) (c .before .before .before .before .before .before .before .before .before .if1 .left)
+    (c .before .before .before .before .before .before .before .before .from-record .ensures)
+    (c .before .before .before .before .before .before .before .look .ensures) in (
+      omega (arith, w .less),
+      (
+        record { forest = w .after; linked = w .next },
+        c .before .before .before .before .before .before .before
+            .before .before .before .before .before .before .pre .1 .1,
+        c .before .before .before .before .before .before .before .before .before
+            .before .before .before .before .pre .1 .2,
+      ),
+    ))
     (λ c f e u h g z. let w = step f h
-        (c .before .before .before .before .before .before .before .before .before .before .before .before .if1 .left)
-        (c .before .before .before .before .before .before .before .before .before .before .before .from-record .ensures)
-        (c .before .before .before .before .before .before .before .before .before .before .look .ensures) in place-below
-        (typeOk (alone u)) hand w (scopeOf
-        (c .before .before .before .before .before .before .before .before .before .before .before .before .before .before .before .before
-        .args .here) e) (scopeOf (c .before .before .before .before .before .before .before .before .before .before .before .before .before
-        .before .before .before .args .after) e) _ _
-        (hand-part w (c .before .before .before .before .before .before .before .before .before .before .before .before .before .before
-        .before .before .args .here) e (c .before .before .before .before .before .before .before .before .before .sort-of .ensures)
-        (c .before .before .before .before .before .before .before .before .if2 .taken)
-        (c .before .before .before .before .before .before .before .first-sort .ensures)
-        (c .before .before .before .before .before .before .rest-sort .ensures))
-        (rule-of (alone u) (scopeOf (c .before .before .before .before .before .before .before .before .before .before .before .before .before
-        .before .before .before .args .here) e) (w .label) (w .below) _ _
-        (hand-part w (c .before .before .before .before .before .before .before .before .before .before .before .before .before .before
-        .before .before .args .here) e (c .before .before .before .before .before .before .before .before .before .sort-of .ensures)
-        (c .before .before .before .before .before .before .before .before .if2 .taken)
-        (c .before .before .before .before .before .before .before .first-sort .ensures)
-        (c .before .before .before .before .before .before .rest-sort .ensures))
-        (c .before .before .before .before .before .type-ok .ensures (record { label = w .label; below = w .below }) u e
-        (tree-at w h (c .before .before .before .before .before .before .before .before .before .before .before .from-record .ensures)) g z))
-        _ (not-false _ (c .before .before .before .before .if3 .left))
-        (sym (c .before .below .given .1) ∙ c .before .before .before .bad-type .ensures (w .below) e u (w .first) g z))
+    (c .before .before .before .before .before .before .before .before .before .before .before .before .if1 .left)
+    (c .before .before .before .before .before .before .before .before .before .before .before .from-record .ensures)
+    (c .before .before .before .before .before .before .before .before .before .before .look .ensures) in place-below
+    (typeOk (alone u)) hand w (scopeOf
+    (c .before .before .before .before .before .before .before .before .before .before .before .before .before .before .before .before
+    .args .here) e) (scopeOf (c .before .before .before .before .before .before .before .before .before .before .before .before .before
+    .before .before .before .args .after) e) _ _
+    (hand-part w (c .before .before .before .before .before .before .before .before .before .before .before .before .before .before
+    .before .before .args .here) e (c .before .before .before .before .before .before .before .before .before .sort-of .ensures)
+    (c .before .before .before .before .before .before .before .before .if2 .taken)
+    (c .before .before .before .before .before .before .before .first-sort .ensures)
+    (c .before .before .before .before .before .before .rest-sort .ensures))
+    (rule-of (alone u) (scopeOf (c .before .before .before .before .before .before .before .before .before .before .before .before .before
+    .before .before .before .args .here) e) (w .label) (w .below) _ _
+    (hand-part w (c .before .before .before .before .before .before .before .before .before .before .before .before .before .before
+    .before .before .args .here) e (c .before .before .before .before .before .before .before .before .before .sort-of .ensures)
+    (c .before .before .before .before .before .before .before .before .if2 .taken)
+    (c .before .before .before .before .before .before .before .first-sort .ensures)
+    (c .before .before .before .before .before .before .rest-sort .ensures))
+    (c .before .before .before .before .before .type-ok .ensures (record { label = w .label; below = w .below }) u e
+    (tree-at w h (c .before .before .before .before .before .before .before .before .before .before .before .from-record .ensures)) g z))
+    _ (not-false _ (c .before .before .before .before .if3 .left))
+    (sym (c .before .below .given .1) ∙ c .before .before .before .bad-type .ensures (w .below) e u (w .first) g z))
     (λ c f e u h g z. let w = step f h
-        (c .before .before .before .before .before .before .before .before .before .before .before .before .if1 .left)
-        (c .before .before .before .before .before .before .before .before .before .before .before .from-record .ensures)
-        (c .before .before .before .before .before .before .before .before .before .before .look .ensures) in c .bad-type2 .ensures
-        (w .after) e u (w .next) g z ∙ place-after (typeOk (alone u)) hand w
-        (scopeOf (c .before .before .before .before .before .before .before .before .before .before .before .before .before .before .before
-        .before .args .here) e) (scopeOf
-        (c .before .before .before .before .before .before .before .before .before .before .before .before .before .before .before .before
-        .args .after) e) _ _ (hand-part w
-        (c .before .before .before .before .before .before .before .before .before .before .before .before .before .before .before .before
-        .args .here) e (c .before .before .before .before .before .before .before .before .before .sort-of .ensures)
-        (c .before .before .before .before .before .before .before .before .if2 .taken)
-        (c .before .before .before .before .before .before .before .first-sort .ensures)
-        (c .before .before .before .before .before .before .rest-sort .ensures))
-        (rule-of (alone u) (scopeOf (c .before .before .before .before .before .before .before .before .before .before .before .before .before
-        .before .before .before .args .here) e) (w .label) (w .below) _ _
-        (hand-part w (c .before .before .before .before .before .before .before .before .before .before .before .before .before .before
-        .before .before .args .here) e (c .before .before .before .before .before .before .before .before .before .sort-of .ensures)
-        (c .before .before .before .before .before .before .before .before .if2 .taken)
-        (c .before .before .before .before .before .before .before .first-sort .ensures)
-        (c .before .before .before .before .before .before .rest-sort .ensures))
-        (c .before .before .before .before .before .type-ok .ensures (record { label = w .label; below = w .below }) u e
-        (tree-at w h (c .before .before .before .before .before .before .before .before .before .before .before .from-record .ensures)) g z))
-        (not-false _ (c .before .before .before .before .if3 .left))
-        (sym (c .before .enum-told .given .1) ∙ c .before .before .before .bad-type .ensures (w .below) e u (w .first) g z))
+    (c .before .before .before .before .before .before .before .before .before .before .before .before .if1 .left)
+    (c .before .before .before .before .before .before .before .before .before .before .before .from-record .ensures)
+    (c .before .before .before .before .before .before .before .before .before .before .look .ensures) in c .bad-type2 .ensures
+    (w .after) e u (w .next) g z ∙ place-after (typeOk (alone u)) hand w
+    (scopeOf (c .before .before .before .before .before .before .before .before .before .before .before .before .before .before .before
+    .before .args .here) e) (scopeOf
+    (c .before .before .before .before .before .before .before .before .before .before .before .before .before .before .before .before
+    .args .after) e) _ _ (hand-part w
+    (c .before .before .before .before .before .before .before .before .before .before .before .before .before .before .before .before
+    .args .here) e (c .before .before .before .before .before .before .before .before .before .sort-of .ensures)
+    (c .before .before .before .before .before .before .before .before .if2 .taken)
+    (c .before .before .before .before .before .before .before .first-sort .ensures)
+    (c .before .before .before .before .before .before .rest-sort .ensures))
+    (rule-of (alone u) (scopeOf (c .before .before .before .before .before .before .before .before .before .before .before .before .before
+    .before .before .before .args .here) e) (w .label) (w .below) _ _
+    (hand-part w (c .before .before .before .before .before .before .before .before .before .before .before .before .before .before
+    .before .before .args .here) e (c .before .before .before .before .before .before .before .before .before .sort-of .ensures)
+    (c .before .before .before .before .before .before .before .before .if2 .taken)
+    (c .before .before .before .before .before .before .before .first-sort .ensures)
+    (c .before .before .before .before .before .before .rest-sort .ensures))
+    (c .before .before .before .before .before .type-ok .ensures (record { label = w .label; below = w .below }) u e
+    (tree-at w h (c .before .before .before .before .before .before .before .before .before .before .before .from-record .ensures)) g z))
+    (not-false _ (c .before .before .before .before .if3 .left))
+    (sym (c .before .enum-told .given .1) ∙ c .before .before .before .bad-type .ensures (w .below) e u (w .first) g z))
     (λ c f e u h g z. let w = step f h (c .before .before .before .before .before .before .before .before .before .before .if1 .left)
-        (c .before .before .before .before .before .before .before .before .before .from-record .ensures)
-        (c .before .before .before .before .before .before .before .before .look .ensures) in place-below (typeOk (alone u)) hand w
-        (scopeOf (c .before .before .before .before .before .before .before .before .before .before .before .before .before .before .args
-        .here) e) (scopeOf (c .before .before .before .before .before .before .before .before .before .before .before .before .before .before
-        .args .after) e) _ _ (hand-plan w
-        (scopeOf (c .before .before .before .before .before .before .before .before .before .before .before .before .before .before .args
-        .here) e) _ (c .before .before .before .before .before .before .before .sort-of .ensures)
-        (c .before .before .before .before .before .before .if2 .left))
-        (rule-of (alone u) (scopeOf (c .before .before .before .before .before .before .before .before .before .before .before .before .before
-        .before .args .here) e) (w .label) (w .below) _ _
-        (hand-plan w (scopeOf (c .before .before .before .before .before .before .before .before .before .before .before .before .before
-        .before .args .here) e) _ (c .before .before .before .before .before .before .before .sort-of .ensures)
-        (c .before .before .before .before .before .before .if2 .left))
-        (c .before .before .before .before .before .type-ok2 .ensures (record { label = w .label; below = w .below }) u (w .below)
-        (tree-at w h (c .before .before .before .before .before .before .before .before .before .from-record .ensures)) (w .first) z)) _
-        (not-false _ (c .before .before .before .before .if4 .left))
-        (sym (c .before .under .given .1) ∙ c .before .before .before .bad-type3 .ensures (w .below) (w .below) u (w .first) (w .first) z))
+    (c .before .before .before .before .before .before .before .before .before .from-record .ensures)
+    (c .before .before .before .before .before .before .before .before .look .ensures) in place-below (typeOk (alone u)) hand w
+    (scopeOf (c .before .before .before .before .before .before .before .before .before .before .before .before .before .before .args
+    .here) e) (scopeOf (c .before .before .before .before .before .before .before .before .before .before .before .before .before .before
+    .args .after) e) _ _ (hand-plan w
+    (scopeOf (c .before .before .before .before .before .before .before .before .before .before .before .before .before .before .args
+    .here) e) _ (c .before .before .before .before .before .before .before .sort-of .ensures)
+    (c .before .before .before .before .before .before .if2 .left))
+    (rule-of (alone u) (scopeOf (c .before .before .before .before .before .before .before .before .before .before .before .before .before
+    .before .args .here) e) (w .label) (w .below) _ _
+    (hand-plan w (scopeOf (c .before .before .before .before .before .before .before .before .before .before .before .before .before
+    .before .args .here) e) _ (c .before .before .before .before .before .before .before .sort-of .ensures)
+    (c .before .before .before .before .before .before .if2 .left))
+    (c .before .before .before .before .before .type-ok2 .ensures (record { label = w .label; below = w .below }) u (w .below)
+    (tree-at w h (c .before .before .before .before .before .before .before .before .before .from-record .ensures)) (w .first) z)) _
+    (not-false _ (c .before .before .before .before .if4 .left))
+    (sym (c .before .under .given .1) ∙ c .before .before .before .bad-type3 .ensures (w .below) (w .below) u (w .first) (w .first) z))
     (λ c f e u h g z. let w = step f h (c .before .before .before .before .before .before .before .before .before .before .if1 .left)
-        (c .before .before .before .before .before .before .before .before .before .from-record .ensures)
-        (c .before .before .before .before .before .before .before .before .look .ensures) in c .bad-type4 .ensures (w .after) e u
-        (w .next) g z ∙ place-after (typeOk (alone u)) hand w
-        (scopeOf (c .before .before .before .before .before .before .before .before .before .before .before .before .before .before .args
-        .here) e) (scopeOf (c .before .before .before .before .before .before .before .before .before .before .before .before .before .before
-        .args .after) e) _ _ (hand-plan w
-        (scopeOf (c .before .before .before .before .before .before .before .before .before .before .before .before .before .before .args
-        .here) e) _ (c .before .before .before .before .before .before .before .sort-of .ensures)
-        (c .before .before .before .before .before .before .if2 .left))
-        (rule-of (alone u) (scopeOf (c .before .before .before .before .before .before .before .before .before .before .before .before .before
-        .before .args .here) e) (w .label) (w .below) _ _
-        (hand-plan w (scopeOf (c .before .before .before .before .before .before .before .before .before .before .before .before .before
-        .before .args .here) e) _ (c .before .before .before .before .before .before .before .sort-of .ensures)
-        (c .before .before .before .before .before .before .if2 .left))
-        (c .before .before .before .before .before .type-ok2 .ensures (record { label = w .label; below = w .below }) u (w .below)
-        (tree-at w h (c .before .before .before .before .before .before .before .before .before .from-record .ensures)) (w .first) z))
-        (not-false _ (c .before .before .before .before .if4 .left))
-        (sym (c .before .enum-told2 .given .1) ∙ c .before .before .before .bad-type3 .ensures (w .below) (w .below) u (w .first) (w .first) z))
+    (c .before .before .before .before .before .before .before .before .before .from-record .ensures)
+    (c .before .before .before .before .before .before .before .before .look .ensures) in c .bad-type4 .ensures (w .after) e u
+    (w .next) g z ∙ place-after (typeOk (alone u)) hand w
+    (scopeOf (c .before .before .before .before .before .before .before .before .before .before .before .before .before .before .args
+    .here) e) (scopeOf (c .before .before .before .before .before .before .before .before .before .before .before .before .before .before
+    .args .after) e) _ _ (hand-plan w
+    (scopeOf (c .before .before .before .before .before .before .before .before .before .before .before .before .before .before .args
+    .here) e) _ (c .before .before .before .before .before .before .before .sort-of .ensures)
+    (c .before .before .before .before .before .before .if2 .left))
+    (rule-of (alone u) (scopeOf (c .before .before .before .before .before .before .before .before .before .before .before .before .before
+    .before .args .here) e) (w .label) (w .below) _ _
+    (hand-plan w (scopeOf (c .before .before .before .before .before .before .before .before .before .before .before .before .before
+    .before .args .here) e) _ (c .before .before .before .before .before .before .before .sort-of .ensures)
+    (c .before .before .before .before .before .before .if2 .left))
+    (c .before .before .before .before .before .type-ok2 .ensures (record { label = w .label; below = w .below }) u (w .below)
+    (tree-at w h (c .before .before .before .before .before .before .before .before .before .from-record .ensures)) (w .first) z))
+    (not-false _ (c .before .before .before .before .if4 .left))
+    (sym (c .before .enum-told2 .given .1) ∙ c .before .before .before .bad-type3 .ensures (w .below) (w .below) u (w .first) (w .first) z))
