@@ -22,7 +22,7 @@ use Rattle.form.specs.declared.kinds.Sort.the-variants.{Expression}
 use Rattle.form.specs.Sorts.{sortOf}
 use Rattle.form.specs.Patterns.{item, lastItem, meets, fitting}
 use Rattle.form.proofs.Bools.{both}
-use Rattle.form.proofs.Along.{Along, along-start, along-end, along-step, here-in}
+use Rattle.image.proofs.Along.{Along, along-start, along-end, along-step, here-in}
 use Rattle.form.proofs.Patterned.{sorted}
 
 -- ---- children

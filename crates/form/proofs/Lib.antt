@@ -1,4 +1,3 @@
-pub mod Along
 pub mod Bools
 pub mod Counts
 pub mod Numbers

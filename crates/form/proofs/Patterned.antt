@@ -22,7 +22,7 @@ use Rattle.form.specs.Sorts.{sortOf, ofSort}
 use Rattle.form.specs.Patterns.{sortFor, item, lastItem, meets, fitting, Follows, Leads}
 use Rattle.form.proofs.Bools.{both}
 use Rattle.form.proofs.Numbers.{at, from-run, to-run}
-use Rattle.form.proofs.Along.{Along, along-start, along-end, along-step, here-in}
+use Rattle.image.proofs.Along.{Along, along-start, along-end, along-step, here-in}
 
 -- ---- the tables
 

@@ -19,7 +19,7 @@ use Rattle.image.specs.declared.places.Place.{Place}
 use Rattle.image.specs.declared.places.Place.the-variants.{At, Nowhere}
 use Rattle.image.proofs.Stepping.{Step}
 use Rattle.image.proofs.Lowest.{lowest-link}
-use Rattle.form.proofs.Along.{Along, along-start, along-end, along-step, here-in}
+use Rattle.image.proofs.Along.{Along, along-start, along-end, along-step, here-in}
 
 -- ---- a place, back to what was found
 

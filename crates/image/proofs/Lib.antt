@@ -1,5 +1,6 @@
 pub mod Walking
 pub mod Stepping
+pub mod Along
 pub mod Lowest
 pub mod Writing
 pub mod Room

@@ -256,13 +256,13 @@ unfoldable pub total : List Schema → ℕ
 total [] = 0
 total (s ∷ ss) = length s + total ss
 
-total-input : (k : ℕ) (ins : List Schema) → length (input k ins) ≤ total ins
+pub total-input : (k : ℕ) (ins : List Schema) → length (input k ins) ≤ total ins
 unfolding input total
 total-input k [] = omega arith
 total-input zero (s ∷ ss) = omega arith
 total-input (suc k) (s ∷ ss) = omega (arith, total-input k ss)
 
-total-two : (ins : List Schema) → length (first [] ins) + length (second [] ins) ≤ total ins
+pub total-two : (ins : List Schema) → length (first [] ins) + length (second [] ins) ≤ total ins
 unfolding first second total
 total-two [] = omega arith
 total-two (s ∷ []) = omega arith
@@ -321,7 +321,7 @@ size-le none s b h = omega arith
 size-le (node l cs ns) s b h =
     omega (arith, h .head .room, size-le ns (drop (32 * suc (size cs)) s) (b + 1 + size cs) (h .after), length-drop (32 * suc (size cs)) s)
 
-linked-size : (f : Forest) (s : List ℕ) (b at : ℕ) → Linked f s b at → 32 * size f ≤ length s
+pub linked-size : (f : Forest) (s : List ℕ) (b at : ℕ) → Linked f s b at → 32 * size f ≤ length s
 linked-size none s b at h = omega arith
 linked-size (node l cs ns) s b at h =
     omega (arith, size-le (node l cs ns) (drop (32 * (at - b)) s) at (h .1), length-drop (32 * (at - b)) s)
@@ -409,9 +409,9 @@ asked-rest r t p u mode q n ins e g b = rw (← e, ← g, ne-eqb r 2 b) refl
 module _ {f : Forest} {s : List ℕ} {b at : ℕ} {part : List ℕ} {v : Node} (w : Step f s b at part v) (r : ℕ)
     (R : r ≡ role (whatOf (v .kind))) where
   -- a record that is no plan
-  pub skip-part : r ≡ 0 → (k : ℕ) → input k (inputs f) ≡ input k (inputs (w .after))
-  skip-part z k =
-      ap (input k) (inputs-part f (w .label) (w .below) (w .after) (w .is) (sym (ap (λ (n : ℕ). role (whatOf n)) (w .kind)) ∙ sym R ∙ z))
+  pub skip-part : r ≡ 0 → inputs f ≡ inputs (w .after)
+  skip-part z =
+      inputs-part f (w .label) (w .below) (w .after) (w .is) (sym (ap (λ (n : ℕ). role (whatOf n)) (w .kind)) ∙ sym R ∙ z)
 
   -- the kind of the plan, and the schemas from it on
   pub of-plan : (r ≡ 0 → ⊥)
@@ -423,10 +423,9 @@ module _ {f : Forest} {s : List ℕ} {b at : ℕ} {part : List ℕ} {v : Node} (
       (k .0, e ∙ ap role (k .1), k .2, w .kind ∙ kind-p (w .label) (k .0) (k .1))
 
   -- a plan that is not the one asked for
-  pub skip-plan : (r ≡ 0 → ⊥) → (k : ℕ) → (k ≡ 0 → ⊥) → input k (inputs f) ≡ input (k - 1) (inputs (w .after))
-  unfolding input
+  pub skip-plan : (r ≡ 0 → ⊥) → (k : ℕ) → (k ≡ 0 → ⊥) → drop k (inputs f) ≡ drop (k - 1) (inputs (w .after))
   skip-plan z zero nz = absurd (nz refl)
-  skip-plan z (suc k) nz = let e : suc k - 1 ≡ k = omega arith in ap (input (suc k)) (of-plan z .2) ∙ rw e
+  skip-plan z (suc k) nz = let e : suc k - 1 ≡ k = omega arith in ap (drop (suc k)) (of-plan z .2) ∙ rw e
 
   module _ (k : ℕ) (zero-k : k ≡ 0) where
     -- the plan that is asked for

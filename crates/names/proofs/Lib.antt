@@ -9,6 +9,7 @@ pub mod Finding
 pub mod KindRanges
 pub mod NameRule
 pub mod Scoping
+pub mod Seeking
 pub mod Singling
 pub mod Telling
 pub mod Typing

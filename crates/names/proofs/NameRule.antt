@@ -188,4 +188,4 @@ module _ {f : Forest} {s : List ℕ} {b at : ℕ} {part : List ℕ} {v : Node} (
 
   -- that of the plan which comes next, where it is none
   pub sound-rest : (r : ℕ) → r ≡ role (whatOf (v .kind)) → r ≡ 0 → sound (namesIn (input 0 (inputs (w .after)))) ≡ true
-  sound-rest r R z = subst (λ (t : Schema). sound (namesIn t) ≡ true) (skip-part w r R z 0) known
+  sound-rest r R z = subst (λ (t : Schema). sound (namesIn t) ≡ true) (ap (input 0) (skip-part w r R z)) known

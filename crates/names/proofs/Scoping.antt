@@ -3,26 +3,30 @@
 use mathlib.Core.Path.{_≡_, refl, sym, ap, _∙_}
 use mathlib.Core.Bool.{Bool, true, false, cond, _&&_}
 use mathlib.Core.List.{List, [], _∷_, _++_}
-use Prim.Native.Nat.{ℕ, suc, _+_}
+use Prim.Native.Nat.{ℕ, suc, _+_, _*_, _≤_}
 use native.Mathlib.Omega.{arith}
 use lib.Dec.{eqb, leb}
 use borrow.Author.Tests.{eq-eqb, ne-eqb, eqb-true}
-use Rattle.image.specs.Tree.{Label, Forest, Node}
+use lib.ListN.{length, length-append}
+use Rattle.image.specs.Tree.{Label, Forest, Linked, Node}
 use Rattle.plan.specs.Lists.{_&_}
 use Rattle.plan.specs.Schema.{same}
 use Rattle.plan.specs.Kinds as K
 use Rattle.plan.specs.Kinds.{What, expr, plan, part, unknown, what, whatOf, planW}
 use Rattle.plan.specs.Syntax.{Name, nm}
-use Rattle.names.specs.Fields.{Schema, inputs, typeIn, namesIn}
+use Rattle.names.specs.Fields.{Schema, made, inputs, typeIn, namesIn}
 use Rattle.acceptance.specs.Names.{holders}
-use Rattle.names.specs.Rules.{Scope, over, hand, handBy, handP}
+use Rattle.names.specs.Rules.{Scope, over, seen, hand, handBy, handP}
 use Rattle.plan.proofs.Rebuilt.{kind-p, kind-w, kind-e}
 use Rattle.names.proofs.KindRanges.{plan-kind}
 use Rattle.image.proofs.Stepping.{Step}
-use Rattle.names.specs.Count.{hits, counted}
-use Rattle.names.specs.Typed.{typed}
-use Rattle.names.proofs.Typing.{typed-++, typed-name}
-use Rattle.names.proofs.Counting.{input-0, input-1, of-kind, counted-++}
+use Rattle.names.specs.Count.{hits, counted, input}
+use Rattle.names.specs.Seek.{seek, told, typeFound, passedOf, allPlaces}
+use Rattle.names.specs.declared.fields.Sought.{Sought}
+use Rattle.names.specs.declared.fields.Sought.the-variants.{Known, Named, Left}
+use Rattle.names.proofs.Typing.{typed-name}
+use Rattle.names.proofs.Seeking.{onward, seek-++, seek-typed, seek-passed, told-same, type-told, passed-told}
+use Rattle.names.proofs.Counting.{input-0, input-1, of-kind, counted-++, counted-le, enough, linked-size, total, total-input, total-two}
 use Rattle.names.specs.Scopes.{scopeOf, sortP, sortW, firstSort, restSort}
 
 -- ---- counting
@@ -47,19 +51,6 @@ counted-name q n (f ∷ s) = step (f .name) (counted-name q n s)
 pub all-of : (s : Schema) → s ++ [] ≡ s
 all-of [] = refl
 all-of (f ∷ s) = ap (λ (t : Schema). f ∷ t) (all-of s)
-
--- both inputs
-pub held-two : (h : Name → Bool) (s t : Schema) → counted h s + counted h t ≡ counted h (s ++ t)
-held-two h s t = sym (counted-++ h s t)
-
--- one schema
-pub held-one : (h : Name → Bool) (s : Schema) → counted h s ≡ counted h (s ++ [])
-held-one h s = ap (counted h) (sym (all-of s))
-
--- none
-pub held-nothing : (h : Name → Bool) → 0 ≡ counted h []
-unfolding counted
-held-nothing h = refl
 
 -- ---- the tables of the code
 
@@ -202,31 +193,70 @@ hand-root l cs e = rw e (go (what l))
     go (part K.WinPart) = refl
     go (plan k) = rw (hand-p k cs) refl
 
--- ---- types in a scope
+-- ---- what is found in a scope
 
--- a name's type in one schema
-pub type-one : (q n : ℕ) (s : Schema) → typed (hits 0 q n) s ≡ typeIn (s ++ []) (nm q n)
-type-one q n s = typed-name q n s ∙ ap (λ (t : Schema). typeIn t (nm q n)) (sym (all-of s))
+-- of one schema
+pub seek-one : (h : Name → Bool) (k : ℕ) (s : Schema) → seek h k s ≡ seek h k (s ++ [])
+seek-one h k s = ap (seek h k) (sym (all-of s))
 
--- in two: that of the first which has it
-type-two : (q n : ℕ) (s t : Schema)
-    → cond (eqb (counted (hits 0 q n) s) 0) (typed (hits 0 q n) t) (typed (hits 0 q n) s) ≡ typeIn (s ++ t) (nm q n)
-type-two q n s t = sym (typed-++ (hits 0 q n) s t) ∙ typed-name q n (s ++ t)
+-- of two: the first has it
+pub seek-left : (h : Name → Bool) (k : ℕ) (s t : Schema) (x : Sought) → x ≡ seek h k s → ((g : ℕ → Sought) → onward x g ≡ x)
+    → told [] x ≡ seek h k (s ++ t)
+seek-left h k s t x e stop =
+    told-same h [] k (s ++ t)
+    (sym (stop (λ j. seek h j t)) ∙ ap (λ (u : Sought). onward u (λ j. seek h j t)) e ∙ sym (seek-++ h k s t))
 
--- it is not in the left one
-pub type-right : (q n : ℕ) (s t : Schema) {k : ℕ} → k ≡ counted (hits 0 q n) s → k ≡ 0 → typed (hits 0 q n) t ≡ typeIn (s ++ t) (nm q n)
-type-right q n s t e z =
-    ap (λ (b : Bool). cond b (typed (hits 0 q n) t) (typed (hits 0 q n) s)) (sym (eq-eqb (counted (hits 0 q n) s) 0 (sym e ∙ z)))
-    ∙ type-two q n s t
+-- it has it not
+pub seek-right : (h : Name → Bool) (k j : ℕ) (s t : Schema) {x : Sought} → Left j ≡ seek h k s → x ≡ seek h j t → told [] x ≡ seek h k (s ++ t)
+seek-right h k j s t e g =
+    told-same h [] k (s ++ t) (g ∙ ap (λ (u : Sought). onward u (λ i. seek h i t)) e ∙ sym (seek-++ h k s t))
 
--- it is
-pub type-left : (q n : ℕ) (s t : Schema) {k : ℕ} → k ≡ counted (hits 0 q n) s → (k ≡ 0 → ⊥)
-    → typed (hits 0 q n) s ≡ typeIn (s ++ t) (nm q n)
-type-left q n s t e z =
-    ap (λ (b : Bool). cond b (typed (hits 0 q n) t) (typed (hits 0 q n) s)) (sym (ne-eqb (counted (hits 0 q n) s) 0 (λ x. z (e ∙ x))))
-    ∙ type-two q n s t
+-- a name's type
+pub type-name : (q n : ℕ) (s : Schema) (x : Sought) → told [] x ≡ seek (hits 0 q n) 0 s → typeFound x ≡ typeIn s (nm q n)
+type-name q n s x e = sym (type-told x) ∙ ap typeFound e ∙ seek-typed (hits 0 q n) s ∙ typed-name q n s
 
--- no field has no type
-pub type-nothing : (x : Name) → 0 ≡ typeIn [] x
-unfolding typeIn
-type-nothing x = refl
+-- an expression's type, by what was found of it
+module _ (d : Schema) {t : ℕ} {x : Sought} where
+  -- outright
+  pub type-known : {u : ℕ} → x ≡ Known u → told d x ≡ Known t → u ≡ t
+  type-known {u} e g = let z : Known u ≡ Known t = rw e at g in cc
+
+  -- as a name's
+  pub type-named : {q n : ℕ} → x ≡ Named q n → told d x ≡ Known t → typeIn d (nm q n) ≡ t
+  type-named {q} {n} e g = let z : Known (typeIn d (nm q n)) ≡ Known t = rw e at g in cc
+
+  -- it has one
+  pub type-left : {j u : ℕ} → x ≡ Left j → told d x ≡ Known t → u ≡ t
+  type-left e g = let z : _≡_ {A = ℕ} 0 1 = cc (rw e at g) in absurd (omega arith)
+
+-- a scope has no more fields than there are records
+few-seen : (h : Name → Bool) (n : ℕ) (f : Forest) (s : List ℕ) (b at : ℕ) → Linked f s b at → 32 * counted h (seen (scopeOf n f)) ≤ length s
+few-seen h n f s b at k =
+    omega (arith, counted-le h (seen (scopeOf n f)), enough f [], linked-size f s b at k, go (eqb n 1) (eqb n 2) (eqb n 3) (eqb n 4))
+  where
+    z : ℕ
+    z = total (inputs f) + length (made [] f)
+
+    scope : Bool → Bool → Bool → Bool → Scope
+    scope a b c d =
+        cond a (over (input 0 (inputs f)) [])
+        (cond b (over (input 0 (inputs f)) (input 1 (inputs f))) (cond c (over (made [] f) []) (cond d (over (input 1 (inputs f)) []) (over [] []))))
+
+    alone : (t : Schema) → length (t ++ []) ≡ length t
+    alone t = ap length (all-of t)
+
+    go : (a b c d : Bool) → length (seen (scope a b c d)) ≤ z
+    go true b c d = omega (arith, alone (input 0 (inputs f)), total-input 0 (inputs f))
+    go false true c d = omega (arith, length-append (input 0 (inputs f)) (input 1 (inputs f)), both)
+      where
+        both : length (input 0 (inputs f)) + length (input 1 (inputs f)) ≤ total (inputs f)
+        both = rw (← input-0 (inputs f), ← input-1 (inputs f)) (total-two (inputs f))
+    go false false true d = omega (arith, alone (made [] f))
+    go false false false true = omega (arith, alone (input 1 (inputs f)), total-input 1 (inputs f))
+    go false false false false = omega arith
+
+-- how many it has
+pub passed-seen : (h : Name → Bool) (n : ℕ) (f : Forest) (s : List ℕ) (b at : ℕ) (x : Sought) → Linked f s b at → length s ≤ allPlaces
+    → told [] x ≡ seek h allPlaces (seen (scopeOf n f)) → passedOf x ≡ counted h (seen (scopeOf n f))
+passed-seen h n f s b at x k l e =
+    sym (passed-told [] x) ∙ seek-passed h (seen (scopeOf n f)) (omega (arith, few-seen h n f s b at k)) e

@@ -75,9 +75,9 @@ module _ (h : Name → Bool) where
 -- ---- the plans
 
 -- no plan has no field
-pub none-held : (h : Name → Bool) (k : ℕ) (f : Forest) → f ≡ none → true ≡ allOf h (input k (inputs f))
-unfolding input inputs allOf
-none-held h k f e = rw e
+pub none-held : (h : Name → Bool) (t : Schema) → t ≡ [] → true ≡ allOf h t
+unfolding allOf
+none-held h t e = rw e
 
 module _ (l : Label) (cs : Forest) (ins : List Schema) where
   from-renamed : (k : K.PlanKind) → roleP k ≡ 3 → fieldsP k l cs ins ≡ map (requalify (l .p)) (input 0 ins)
@@ -254,7 +254,8 @@ module _ (n : ℕ) (f : Forest) where
 
 -- ---- the number of fields
 
-counted-all : (q n : ℕ) (s : Schema) → counted (hits 2 q n) s ≡ length s
+-- the question 2 counts all fields
+pub counted-all : (q n : ℕ) (s : Schema) → counted (hits 2 q n) s ≡ length s
 unfolding counted
 counted-all q n [] = refl
 counted-all q n (f ∷ s) = step (f .name) (counted-all q n s)

@@ -2,20 +2,15 @@
 use mathlib.Core.Bool.{Bool, cond}
 use mathlib.Core.List.{[], _∷_}
 use Prim.Native.Nat.{ℕ}
-use lib.Dec.{eqb, leb}
+use Rattle.image.specs.Tree.{Label, Forest}
 use Rattle.plan.specs.Kinds.{What, expr, plan, part, unknown, ExprKind, Column, Integer, Boolean, Null, Binary, Not, Test, Between, InList}
-use Rattle.plan.specs.Kinds.{Function}
-use Rattle.plan.specs.Syntax.{Name, nm}
-use Rattle.names.specs.Fields.{Schema, typeIn}
-use Rattle.names.specs.Count.{own}
-use Rattle.names.specs.declared.fields.Source.{Source}
+use Rattle.plan.specs.Kinds.{Function, PartKind, FieldPart, EntryPart, PairPart, KeyPart, AggPart, WinPart}
+use Rattle.plan.specs.Syntax.{Name}
+use Rattle.names.specs.Fields.{Schema, typeFirst}
 
 unfoldable pub typed : (Name → Bool) → Schema → ℕ
 typed h [] = 0
 typed h (f ∷ s) = cond (h (f .name)) (f .ty) (typed h s)
-
-abbrev pub sourceType : Schema → Source → ℕ
-sourceType d x = cond (eqb (x .from) 1) (typeIn d (nm (x .q) (x .n))) (x .ty)
 
 -- the type of an expression that is no column
 abbrev pub plainE : ExprKind → ℕ → ℕ → ℕ
@@ -36,6 +31,17 @@ plainType (plan k) p r = 0
 plainType (part k) p r = 0
 plainType unknown p r = 0
 
--- which answers in a plan of this role: input 0 or 1, or its parts (2); c: how many fields input 0 has
-abbrev pub who : ℕ → ℕ → ℕ → ℕ
-who r p c = cond (eqb r 1) 2 (cond (eqb r 2) (cond (leb p 4) (cond (eqb c 0) 1 0) (own 2 p)) (cond (eqb r 4) (cond (eqb c 0) 2 0) 0))
+-- the type of the field that a part makes over the schema d
+abbrev pub partTypeQ : PartKind → Schema → Label → Forest → ℕ
+partTypeQ FieldPart d l cs = l .r
+partTypeQ EntryPart d l cs = typeFirst d cs
+partTypeQ PairPart d l cs = 0
+partTypeQ KeyPart d l cs = 0
+partTypeQ AggPart d l cs = 1
+partTypeQ WinPart d l cs = 1
+
+abbrev pub partType : What → Schema → Label → Forest → ℕ
+partType (expr k) d l cs = 0
+partType (plan k) d l cs = 0
+partType (part k) d l cs = partTypeQ k d l cs
+partType unknown d l cs = 0

@@ -1,16 +1,19 @@
 // The fields of a plan's schema, asked for by recursion on the plan's records: no schema is stored.
+use image::records::Node;
 use image::records::from_record;
 use image::records::look;
 ghost use mathlib.Core.Path.{_≡_};
-ghost use Prim.Native.Nat.{_≤_, _<_};
+ghost use mathlib.Core.Bool.{true};
+ghost use Prim.Native.Nat.{_≤_};
 ghost use lib.ListN.{length};
-ghost use Rattle.image.specs.Tree.{Forest, Linked, labelAt};
-ghost use Rattle.names.specs.Fields.{Schema, made, inputs, typeOf};
+ghost use Rattle.image.specs.Tree.{Label, Forest, Linked, labelAt};
 ghost use Rattle.image.specs.Places.{Chained};
+ghost use Rattle.names.specs.Fields.{Schema, made, inputs, typeOf};
 ghost use Rattle.names.specs.Count as Count;
 ghost use Rattle.names.specs.Count.{hit, hits, counted, input, makes, role, own, below};
-ghost use Rattle.names.specs.Typed.{sourceType, plainType, typed, who};
-ghost use Rattle.plan.specs.Kinds.{whatOf};
+ghost use Rattle.names.specs.Typed.{plainType, partType, typed};
+ghost use Rattle.names.specs.Seek.{seek, told, typeFound, passedOf, partsOver, Planned};
+ghost use Rattle.plan.specs.Kinds.{what, whatOf};
 
 // Whether the qualifiers do not tell two fields of one name apart: they are the same, or one is none.
 fn near(q: usize, r: usize) -> bool
@@ -121,79 +124,18 @@ fn question(role: usize, p: usize, mode: usize, q: usize) -> usize
     mode
 }
 
-// How many fields that the question asks for are made by the parts from record `at` on.
-pub fn made_count(s: &[u8], base: usize, at: usize, mode: usize, q: usize, n: usize) -> usize
-    requires { ⌜ Chained (now s) base at ⌝ }
-    ensures { λ r. ⌜ ((f : Forest) (c : Schema) → Linked f (now (s .entry)) base at → r ≡ counted (hits mode q n) (made c f)) ⌝ }
-{
-    if at == 0 {
-        return 0;
-    }
-    let part = from_record(s, base, at);
-    let v = look(part);
-    let rest = made_count(s, base, v.next, mode, q, n);
-    if makes_one(v.kind) & is_hit(mode, q, n, v.p, v.q) {
-        return rest + 1;
-    }
-    rest
+// What a search for a field finds.
+pub enum Sought {
+    // The field, and its type.
+    Known(usize),
+    // The field; its type is that of the input's field with this qualifier and name.
+    Named(usize, usize),
+    // Not the field: so many that the question asks for are still to be passed before it.
+    Left(usize),
 }
 
-// How many fields that the question asks for has the plan with the place `skip` among the trees from record `at` on.
-pub fn holders(
-    s: &[u8],
-    base: usize,
-    at: usize,
-    skip: usize,
-    mode: usize,
-    q: usize,
-    n: usize,
-) -> usize
-    requires { ⌜ Chained (now s) base at ⌝ }
-    ensures { λ r. ⌜ ((f : Forest) → Linked f (now (s .entry)) base at → r ≡ counted (hits mode q n) (input skip (inputs f))) ⌝ }
-{
-    if at == 0 {
-        return 0;
-    }
-    let part = from_record(s, base, at);
-    let v = look(part);
-    let role = role_of(v.kind);
-    if role == 0 {
-        return holders(s, base, v.next, skip, mode, q, n);
-    }
-    if skip != 0 {
-        return holders(s, base, v.next, skip - 1, mode, q, n);
-    }
-    if role == 1 {
-        return made_count(part, at, v.first, mode, q, n);
-    }
-    let under = holders(
-        part,
-        at,
-        v.first,
-        own_input(role, v.p),
-        question(role, v.p, mode, q),
-        q,
-        n,
-    );
-    if role == 2 {
-        if v.p <= 4 {
-            return under + holders(part, at, v.first, 1, mode, q, n);
-        }
-        return under;
-    }
-    if role == 4 {
-        return under + made_count(part, at, v.first, mode, q, n);
-    }
-    under
-}
-
-// How a type is known: outright, or as the type of a field of the input (from = 1).
-pub struct Source {
-    pub from: usize,
-    pub ty: usize,
-    pub q: usize,
-    pub n: usize,
-}
+// More than any plan has fields: a search for this place passes them all.
+pub const ALL: usize = 18446744073709551615;
 
 // The type of an expression that is no column.
 fn plain_type(kind: usize, p: usize, r: usize) -> usize
@@ -218,105 +160,205 @@ fn plain_type(kind: usize, p: usize, r: usize) -> usize
 }
 
 // The type of the expression at the start of s.
-pub fn source_of(s: &[u8]) -> Source
+pub fn source_of(s: &[u8]) -> Sought
     requires { ⌜ 32 ≤ length (now s) ⌝ }
-    ensures { λ x. ⌜ ((d : Schema) → sourceType d x ≡ typeOf d (labelAt (now (s .entry)))) ⌝ }
+    ensures { λ x. ⌜ ((d : Schema) → told d x ≡ Sought.Known (typeOf d (labelAt (now (s .entry))))) ⌝ }
 {
     let v = look(s);
     if v.kind == 1 {
-        return Source {
-            from: 1,
-            ty: 0,
-            q: v.p,
-            n: v.q,
-        };
+        return Sought::Named(v.p, v.q);
     }
-    Source {
-        from: 0,
-        ty: plain_type(v.kind, v.p, v.r),
-        q: 0,
-        n: 0,
-    }
+    Sought::Known(plain_type(v.kind, v.p, v.r))
 }
 
-// The type of the first field asked for that the parts from record `at` on make.
-pub fn made_type(s: &[u8], base: usize, at: usize, mode: usize, q: usize, n: usize) -> Source
-    requires { ⌜ Chained (now s) base at ⌝ }
-    ensures { λ x. ⌜ ((f : Forest) (d : Schema) → Linked f (now (s .entry)) base at → sourceType d x ≡ typed (hits mode q n) (made d f)) ⌝ }
+// The type of the field that a part makes: `part` begins at its record, `at`, and v is what was looked at.
+fn made_by(part: &[u8], at: usize, v: Node) -> Sought
+    requires { ⌜ Chained (now part) at (v .first) ⌝ }
+    ensures { λ x. ⌜ ((l : Label) (cs : Forest) (d : Schema) → v .kind ≡ l .kind → v .r ≡ l .r → Linked cs (now (part .entry)) at (v .first)
+        → makes (what l) ≡ true → told d x ≡ Sought.Known (partType (what l) d l cs)) ⌝ }
 {
-    if at == 0 {
-        return Source {
-            from: 0,
-            ty: 0,
-            q: 0,
-            n: 0,
-        };
+    if v.kind == 48 {
+        return Sought::Known(v.r);
     }
-    let part = from_record(s, base, at);
-    let v = look(part);
-    if makes_one(v.kind) & is_hit(mode, q, n, v.p, v.q) {
-        if v.kind == 48 {
-            return Source {
-                from: 0,
-                ty: v.r,
-                q: 0,
-                n: 0,
-            };
+    if v.kind == 49 {
+        if v.first == 0 {
+            return Sought::Known(0);
         }
-        if v.kind == 49 {
-            if v.first == 0 {
-                return Source {
-                    from: 0,
-                    ty: 0,
-                    q: 0,
-                    n: 0,
-                };
-            }
-            return source_of(from_record(part, at, v.first));
-        }
-        return Source {
-            from: 0,
-            ty: 1,
-            q: 0,
-            n: 0,
-        };
+        return source_of(from_record(part, at, v.first));
     }
-    made_type(s, base, v.next, mode, q, n)
+    Sought::Known(1)
 }
 
-// Which answers: input 0 or 1, or the parts (2).
-fn answerer(
+// Of the fields asked for that the parts from record `at` on make, the one with the place k.
+pub fn seek_made(
     s: &[u8],
     base: usize,
     at: usize,
-    role: usize,
-    p: usize,
+    mode: usize,
+    q: usize,
+    n: usize,
+    k: usize,
+) -> Sought
+    requires { ⌜ Chained (now s) base at ⌝ }
+    ensures { λ x. ⌜ ((f : Forest) (d : Schema) → Linked f (now (s .entry)) base at → told d x ≡ seek (hits mode q n) k (made d f)) ⌝ }
+{
+    let mut left = k;
+    let mut here = at;
+    while here != 0 {
+        let part = from_record(s, base, here);
+        let v = look(part);
+        if makes_one(v.kind) & is_hit(mode, q, n, v.p, v.q) {
+            if left == 0 {
+                return made_by(part, here, v);
+            }
+            left -= 1;
+        }
+        here = v.next;
+    }
+    Sought::Left(left)
+}
+
+// The record of the plan with the place `skip` among the trees from record `at` on; 0 for none.
+pub fn plan_at(s: &[u8], base: usize, at: usize, skip: usize) -> usize
+    requires { ⌜ Chained (now s) base at ⌝ }
+    ensures { λ r. ⌜ ((f : Forest) → Linked f (now (s .entry)) base at → Planned f (now (s .entry)) base at skip r) ⌝ }
+{
+    let mut left = skip;
+    let mut here = at;
+    while here != 0 {
+        let v = look(from_record(s, base, here));
+        if role_of(v.kind) != 0 {
+            if left == 0 {
+                return here;
+            }
+            left -= 1;
+        }
+        here = v.next;
+    }
+    0
+}
+
+// The type that a search found; 0 for none.
+pub fn type_found(x: Sought) -> usize
+    ensures { λ t. ⌜ t ≡ typeFound x ⌝ }
+{
+    match x {
+        Sought::Known(t) => t,
+        Sought::Named(_, _) => 0,
+        Sought::Left(_) => 0,
+    }
+}
+
+// Of the fields asked for of the plan with the place `skip` among the trees from record `at` on, the one with the place k. Each record is asked
+// once: where an input has it not, the search goes on with what is left to pass.
+pub fn seek_field(
+    s: &[u8],
+    base: usize,
+    at: usize,
+    skip: usize,
+    mode: usize,
+    q: usize,
+    n: usize,
+    k: usize,
+) -> Sought
+    requires { ⌜ Chained (now s) base at ⌝ }
+    ensures { λ x. ⌜ ((f : Forest) → Linked f (now (s .entry)) base at → x ≡ seek (hits mode q n) k (input skip (inputs f))) ⌝ }
+{
+    let here = plan_at(s, base, at, skip);
+    if here == 0 {
+        return Sought::Left(k);
+    }
+    let part = from_record(s, base, here);
+    let v = look(part);
+    let role = role_of(v.kind);
+    if role == 1 {
+        return seek_parts(part, here, v.first, v.kind, mode, q, n, k);
+    }
+    let under = seek_field(
+        part,
+        here,
+        v.first,
+        own_input(role, v.p),
+        question(role, v.p, mode, q),
+        q,
+        n,
+        k,
+    );
+    match under {
+        Sought::Known(t) => Sought::Known(t),
+        Sought::Named(a, b) => Sought::Named(a, b),
+        Sought::Left(j) => {
+            if (role == 2) & (v.p <= 4) {
+                return seek_field(part, here, v.first, 1, mode, q, n, j);
+            }
+            if role == 4 {
+                return seek_parts(part, here, v.first, v.kind, mode, q, n, j);
+            }
+            Sought::Left(j)
+        }
+    }
+}
+
+// The same of the fields that the parts of a plan of this kind make, whose children are from record `at` on: they stand over its input.
+fn seek_parts(
+    s: &[u8],
+    base: usize,
+    at: usize,
+    kind: usize,
+    mode: usize,
+    q: usize,
+    n: usize,
+    k: usize,
+) -> Sought
+    requires { ⌜ Chained (now s) base at ⌝ }
+    ensures { λ x. ⌜ ((f : Forest) → Linked f (now (s .entry)) base at → x ≡ seek (hits mode q n) k (made (partsOver kind f) f)) ⌝ }
+{
+    let made = seek_made(s, base, at, mode, q, n, k);
+    match made {
+        Sought::Known(t) => Sought::Known(t),
+        Sought::Named(a, b) => {
+            if kind == 32 {
+                return Sought::Known(0);
+            }
+            Sought::Known(type_found(seek_field(s, base, at, 0, 0, a, b, 0)))
+        }
+        Sought::Left(j) => Sought::Left(j),
+    }
+}
+
+// How many of ALL places a search has passed.
+pub fn passed(x: Sought) -> usize
+    ensures { λ r. ⌜ r ≡ passedOf x ⌝ }
+{
+    match x {
+        Sought::Known(_) => 0,
+        Sought::Named(_, _) => 0,
+        Sought::Left(j) => ALL - j,
+    }
+}
+
+// How many fields that the question asks for are made by the parts from record `at` on.
+pub fn made_count(s: &[u8], base: usize, at: usize, mode: usize, q: usize, n: usize) -> usize
+    requires { ⌜ Chained (now s) base at ⌝ }
+    ensures { λ r. ⌜ ((f : Forest) (c : Schema) → Linked f (now (s .entry)) base at → r ≡ counted (hits mode q n) (made c f)) ⌝ }
+{
+    passed(seek_made(s, base, at, mode, q, n, ALL))
+}
+
+// How many fields that the question asks for has the plan with the place `skip` among the trees from record `at` on.
+pub fn holders(
+    s: &[u8],
+    base: usize,
+    at: usize,
+    skip: usize,
     mode: usize,
     q: usize,
     n: usize,
 ) -> usize
     requires { ⌜ Chained (now s) base at ⌝ }
-    ensures { λ r. ⌜ ((f : Forest) → Linked f (now (s .entry)) base at → r ≡ who role p (counted (hits mode q n) (input 0 (inputs f)))) ⌝ }
+    ensures { λ r. ⌜ ((f : Forest) → Linked f (now (s .entry)) base at → r ≡ counted (hits mode q n) (input skip (inputs f))) ⌝ }
 {
-    if role == 1 {
-        return 2;
-    }
-    if role == 2 {
-        if p <= 4 {
-            if holders(s, base, at, 0, mode, q, n) == 0 {
-                return 1;
-            }
-            return 0;
-        }
-        return own_input(2, p);
-    }
-    if role == 4 {
-        if holders(s, base, at, 0, mode, q, n) == 0 {
-            return 2;
-        }
-        return 0;
-    }
-    0
+    passed(seek_field(s, base, at, skip, mode, q, n, ALL))
 }
 
 // The type of the first field asked for, as in `holders`; 0 for none.
@@ -332,28 +374,5 @@ pub fn type_in(
     requires { ⌜ Chained (now s) base at ⌝ }
     ensures { λ r. ⌜ ((f : Forest) → Linked f (now (s .entry)) base at → r ≡ typed (hits mode q n) (input skip (inputs f))) ⌝ }
 {
-    if at == 0 {
-        return 0;
-    }
-    let part = from_record(s, base, at);
-    let v = look(part);
-    let role = role_of(v.kind);
-    if role == 0 {
-        return type_in(s, base, v.next, skip, mode, q, n);
-    }
-    if skip != 0 {
-        return type_in(s, base, v.next, skip - 1, mode, q, n);
-    }
-    let from = answerer(part, at, v.first, role, v.p, mode, q, n);
-    if from == 2 {
-        let x = made_type(part, at, v.first, mode, q, n);
-        if x.from == 1 {
-            if v.kind == 32 {
-                return 0;
-            }
-            return type_in(part, at, v.first, 0, 0, x.q, x.n);
-        }
-        return x.ty;
-    }
-    type_in(part, at, v.first, from, question(role, v.p, mode, q), q, n)
+    type_found(seek_field(s, base, at, skip, mode, q, n, 0))
 }

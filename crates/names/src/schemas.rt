@@ -3,6 +3,7 @@ use crate::fields::holders;
 use crate::fields::made_count;
 use crate::fields::makes_one;
 use crate::fields::own_input;
+use crate::fields::plan_at;
 use crate::fields::role_of;
 use crate::scopes::held_in;
 use image::limits::MAX_FIELDS;
@@ -91,44 +92,39 @@ fn all_held(
     ensures { λ b. ⌜ ((e f : Forest) → Linked e (now (g .entry)) (w .base) (w .at) → Linked f (now (s .entry)) base at
         → b ≡ allOf (lone (ownOf (w .sort) e) (w .mode) renamed to) (input skip (inputs f))) ⌝ }
 {
-    if at == 0 {
+    let here = plan_at(s, base, at, skip);
+    if here == 0 {
         return true;
     }
-    let part = from_record(s, base, at);
+    let part = from_record(s, base, here);
     let v = look(part);
     let role = role_of(v.kind);
-    if role == 0 {
-        return all_held(g, w, s, base, v.next, skip, renamed, to);
-    }
-    if skip != 0 {
-        return all_held(g, w, s, base, v.next, skip - 1, renamed, to);
-    }
     if role == 1 {
-        return all_made(g, w, part, at, v.first, renamed, to);
+        return all_made(g, w, part, here, v.first, renamed, to);
     }
     if role == 3 {
         return all_held(
             g,
             w,
             part,
-            at,
+            here,
             v.first,
             0,
             true,
             qualifier(renamed, to, v.p),
         );
     }
-    if !all_held(g, w, part, at, v.first, own_input(role, v.p), renamed, to) {
+    if !all_held(g, w, part, here, v.first, own_input(role, v.p), renamed, to) {
         return false;
     }
     if role == 2 {
         if v.p <= 4 {
-            return all_held(g, w, part, at, v.first, 1, renamed, to);
+            return all_held(g, w, part, here, v.first, 1, renamed, to);
         }
         return true;
     }
     if role == 4 {
-        return all_made(g, w, part, at, v.first, renamed, to);
+        return all_made(g, w, part, here, v.first, renamed, to);
     }
     true
 }

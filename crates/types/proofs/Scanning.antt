@@ -17,7 +17,7 @@ use Rattle.names.specs.Fields.{Schema, made}
 use Rattle.names.specs.Rules.{typesIn, scanTypes}
 use Rattle.names.specs.Count.{hits, counted}
 use Rattle.types.specs.ByPlace.{verdict}
-use Rattle.types.proofs.ByPlacing.{counted-all}
+use Rattle.names.proofs.Telling.{counted-all}
 
 -- ---- a record that is looked at
 
@@ -111,5 +111,5 @@ module _ {u : Tree} {s : List ℕ} {b : ℕ} {v : Node} (k : Looked u s b v) (t 
 -- a schema has no fields just where its types are none
 pub no-fields : (s : Schema) {n : ℕ} → n ≡ counted (hits 2 0 0) s → eqb n 0 ≡ same-types (typesIn s) []
 unfolding typesIn
-no-fields [] {n} e = eq-eqb n 0 (e ∙ counted-all [])
-no-fields (f ∷ s) {n} e = ne-eqb n 0 (λ q. omega (arith, counted-all (f ∷ s)))
+no-fields [] {n} e = eq-eqb n 0 (e ∙ counted-all 0 0 [])
+no-fields (f ∷ s) {n} e = ne-eqb n 0 (λ q. omega (arith, counted-all 0 0 (f ∷ s)))

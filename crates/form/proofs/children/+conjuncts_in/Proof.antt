@@ -4,7 +4,7 @@ use native.Mathlib.Omega.{arith}
 use borrow.Author.Needs.{needs}
 use Rattle.image.proofs.Walking.{left, ended}
 use Rattle.image.proofs.Stepping.{step}
-use Rattle.form.proofs.Along.{within, whole, step-at}
+use Rattle.image.proofs.Along.{within, whole, step-at}
 use Rattle.form.proofs.Counts.{conj-none, conj-and, conj-one, conj-room}
 use Prim.Native.Nat.{ℕ, _<_}
 use borrow.Fn.Kinds.{In}

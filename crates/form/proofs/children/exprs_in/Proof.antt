@@ -2,7 +2,7 @@
 use native.Mathlib.Omega.{arith}
 use borrow.Author.Needs.{needs}
 use Rattle.image.proofs.Walking.{left}
-use Rattle.form.proofs.Along.{Along, within, whole, here}
+use Rattle.image.proofs.Along.{Along, within, whole, here}
 use Rattle.form.proofs.Counts.{Counted, count-start, count-on, count-room, count-end}
 use Rattle.form.proofs.children.exprs_in.Statement.{statement}
 use Rattle.form.proofs.children.exprs_in.Tie as tie

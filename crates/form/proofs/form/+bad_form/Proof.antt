@@ -8,7 +8,7 @@ use borrow.Author.Tests.{not-true, not-false}
 use Rattle.image.specs.Tree.{Label, Forest}
 use Rattle.image.proofs.Walking.{left}
 use Rattle.plan.specs.Form.{formOk}
-use Rattle.form.proofs.Along.{within, whole, here}
+use Rattle.image.proofs.Along.{within, whole, here}
 use Rattle.form.proofs.Search.{Sought, search-start, search-here, search-below, search-on, search-end}
 use Prim.Native.Nat.{ℕ, _<_}
 use borrow.Fn.Kinds.{In}

@@ -2,7 +2,7 @@
 use borrow.Author.Needs.{needs}
 use Rattle.image.proofs.Walking.{ended}
 use Rattle.image.proofs.Stepping.{step}
-use Rattle.form.proofs.Along.{within, whole}
+use Rattle.image.proofs.Along.{within, whole}
 use Rattle.form.proofs.Patterned.{sorted, perhaps-none, perhaps-one}
 use Rattle.form.proofs.patterns.one_or_none.Statement.{statement}
 use Rattle.form.proofs.patterns.one_or_none.Tie as tie

@@ -4,7 +4,7 @@ use borrow.Author.Tests.{not-true, not-false}
 use mathlib.Core.Path.{_∙_}
 use Rattle.image.proofs.Walking.{left}
 use Rattle.form.specs.Sorts.{ofSort}
-use Rattle.form.proofs.Along.{Along, within, whole, here}
+use Rattle.image.proofs.Along.{Along, within, whole, here}
 use Rattle.form.proofs.Patterned.{Past, sorted, past-start, past-stay, past-on, past-end}
 use Rattle.form.proofs.patterns.past_all.Statement.{statement}
 use Rattle.form.proofs.patterns.past_all.Tie as tie

@@ -3,7 +3,7 @@ use mathlib.Core.Path.{_∙_}
 use borrow.Author.Needs.{needs}
 use Rattle.image.proofs.Walking.{ended}
 use Rattle.image.proofs.Stepping.{step}
-use Rattle.form.proofs.Along.{within, whole}
+use Rattle.image.proofs.Along.{within, whole}
 use Rattle.form.proofs.Patterned.{sorted, one-none, one-yes, one-no}
 use Rattle.form.proofs.patterns.past_one.Statement.{statement}
 use Rattle.form.proofs.patterns.past_one.Tie as tie

@@ -1,13 +1,24 @@
 -- `scopes::type_of` meets its contract.
-use mathlib.Core.Path.{sym, _∙_}
-use Rattle.names.proofs.Typing.{source-from, source-known}
+use mathlib.Core.Path.{_≡_, sym, ap, _∙_}
+use Prim.Native.Nat.{ℕ}
+use native.Mathlib.Omega.{arith}
 use borrow.Author.Needs.{needs}
+use Rattle.names.specs.Seek.{told, typeFound}
+use Rattle.names.proofs.Scoping.{type-name, type-known, type-named, type-left}
 use Rattle.names.proofs.scopes.type_of.Statement.{statement}
 use Rattle.names.proofs.scopes.type_of.Tie as tie
 
 pub type-of-spec : {M : Type 1} → statement M
 type-of-spec =
-    tie.close (tie.spec (λ c κs. search needs) (λ c κs. search needs)
-    (λ c f h. c .type-seen .ensures f h ∙ sym (source-from (c .before .before .before .source-of .result) _ (c .before .if1 .taken))
-    ∙ c .before .before .before .source-of .ensures _)
-    (λ c f h. sym (source-known (c .before .before .source-of .result) _ (c .if1 .left)) ∙ c .before .before .source-of .ensures _))
+    tie.close
+    (tie.spec
+    (λ c κs. search needs)
+    (λ c. search needs)
+    (λ c. search needs)
+    (λ c κs. search needs)
+    (λ c κs. search needs)
+    (λ c. search needs)
+    (λ c f h. type-known _ (c .before .x .given .1) (c .before .before .before .source-of .ensures _))
+    (λ c f h. c .type-found .ensures ∙ type-name _ _ _ (c .before .seek-seen .result) (c .before .seek-seen .ensures f h)
+    ∙ type-named _ (c .before .before .before .x2 .given .1) (c .before .before .before .before .before .source-of .ensures _))
+    (λ c f h. type-left _ (c .enum-told .given .1) (c .before .before .source-of .ensures _)))

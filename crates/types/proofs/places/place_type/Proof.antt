@@ -1,8 +1,11 @@
-use mathlib.Core.Path.{refl, sym, _∙_}
+-- `places::place_type` meets its contract.
+use mathlib.Core.Path.{sym, ap, _∙_}
 use mathlib.Core.List.{[]}
 use borrow.Author.Needs.{needs}
 use borrow.Author.Tests.{eq-eqb, ne-eqb}
-use Rattle.names.proofs.Typing.{source-from, source-known, type-in-none}
+use Rattle.names.specs.Seek.{typeFound}
+use Rattle.names.proofs.Seeking.{type-told}
+use Rattle.types.proofs.ByPlacing.{seek-place}
 use Rattle.types.proofs.places.place_type.Statement.{statement}
 use Rattle.types.proofs.places.place_type.Tie as tie
 
@@ -11,10 +14,10 @@ place-type-spec =
     tie.close
     (tie.spec
     (λ c κs. search needs)
-    (λ c f h. rw (eq-eqb _ 0 (c .before .before .before .if1 .taken))
-    (sym (type-in-none _ [] refl) ∙ sym (source-from (c .before .before .made-at .result) [] (c .if2 .taken))
-    ∙ c .before .before .made-at .ensures f [] h))
-    (λ c f h. rw (eq-eqb _ 0 (c .before .before .before .if1 .taken))
-    (sym (source-known (c .before .before .made-at .result) [] (c .if2 .left)) ∙ c .before .before .made-at .ensures f [] h))
     (λ c κs. search needs)
-    (λ c f h. rw (ne-eqb _ 0 (c .before .if1 .left)) (c .type-at .ensures f h)))
+    (λ c f h. rw (eq-eqb _ 0 (c .before .before .if1 .taken))
+    (c .type-found .ensures ∙ sym (type-told (c .before .seek-made .result)) ∙ ap typeFound (c .before .seek-made .ensures f [] h) ∙ seek-place _ _))
+    (λ c κs. search needs)
+    (λ c κs. search needs)
+    (λ c f h. rw (ne-eqb _ 0 (c .before .before .if1 .left))
+    (c .type-found2 .ensures ∙ ap typeFound (c .before .seek-field .ensures f h) ∙ seek-place _ _)))
