@@ -4,8 +4,9 @@
 -- Assumes nothing.
 use mathlib.Core.Path.{_≡_, refl, sym, ap, _∙_}
 use mathlib.Core.Bool.{Bool, true, false, cond, not, _&&_, _||_}
+use mathlib.Core.Logic.{_⊎_, inl, inr}
 use mathlib.Core.List.{List, [], _∷_, _++_, map}
-use Prim.Native.Nat.{ℕ, suc, _+_, _≤_, _<_}
+use Prim.Native.Nat.{ℕ, zero, suc, _+_, _-_, _≤_, _<_}
 use native.Mathlib.Omega.{arith}
 use lib.Dec.{eqb, leb}
 use lib.ListN.{length, length-append}
@@ -18,11 +19,11 @@ use Rattle.plan.specs.Kinds as K
 use Rattle.plan.specs.Kinds.{What, expr, plan, part, unknown, what}
 use Rattle.plan.specs.Syntax.{Name, nm}
 use Rattle.acceptance.specs.Names.{clash, distinct-names, sound}
-use Rattle.names.specs.Count.{counted, hits, near, input, roleP}
+use Rattle.names.specs.Count.{counted, hits, near, input, roleP, own}
 use Rattle.names.specs.Fields.{Fld, Schema, nameOf, made, madeBy, inputs, requalify, joinFields, namesIn, first, second}
 use Rattle.names.specs.Rules.{nameP}
 use Rattle.names.specs.Singles.{allOf, called, single, ownOf, ownSort, ownMode, apart}
-use Rattle.names.proofs.Counting.{renamed, input-0, input-1}
+use Rattle.names.proofs.Counting.{renamed, input-0, input-1, counted-++}
 use Rattle.names.proofs.Scoping.{all-of}
 
 -- ---- tests of all names
@@ -273,6 +274,117 @@ join-sound p s t = go (sound (namesIn (s ++ t))) refl
     go true e = rw (side (leb p 4) (eqb p 5 || eqb p 7) e) (true-and true)
     go false e = and-false _
 
+-- ---- a schema beside one that is sound
+
+-- the field is one of the schema
+abbrev In : Fld → Schema → Type 0
+In f [] = ⊥
+In f (g ∷ s) = (f ≡ g) ⊎ In f s
+
+all-in : (h : Name → Bool) (f : Fld) (s : Schema) → allOf h s ≡ true → In f s → h (f .name) ≡ true
+unfolding allOf
+all-in h f [] e m = absurd m
+all-in h f (g ∷ s) e (inl q) = ap (λ (x : Fld). h (x .name)) q ∙ and-l _ _ e
+all-in h f (g ∷ s) e (inr m) = all-in h f s (and-r _ _ e) m
+
+all-intro : (h : Name → Bool) (s : Schema) → ((f : Fld) → In f s → h (f .name) ≡ true) → allOf h s ≡ true
+unfolding allOf
+all-intro h [] e = refl
+all-intro h (g ∷ s) e = and-intro (e g (inl refl)) (all-intro h s (λ f m. e f (inr m)))
+
+count-in : (h : Name → Bool) (f : Fld) (s : Schema) → In f s → h (f .name) ≡ true → 0 < counted h s
+unfolding counted
+count-in h f [] m e = absurd m
+count-in h f (g ∷ s) (inl q) e = rw (sym (ap (λ (x : Fld). h (x .name)) q) ∙ e) (omega arith)
+count-in h f (g ∷ s) (inr m) e = go (h (g .name)) (count-in h f s m e)
+  where
+    go : (b : Bool) → 0 < counted h s → 0 < cond b (counted h s + 1) (counted h s)
+    go true l = omega arith
+    go false l = l
+
+count-some : (h : Name → Bool) (s : Schema) → (counted h s ≡ 0) ⊎ ((f : Fld) × In f s × (h (f .name) ≡ true))
+unfolding counted
+count-some h [] = inl refl
+count-some h (g ∷ s) = go (h (g .name)) refl (count-some h s)
+  where
+    go : (b : Bool) → h (g .name) ≡ b → (counted h s ≡ 0) ⊎ ((f : Fld) × In f s × (h (f .name) ≡ true))
+        → (cond b (counted h s + 1) (counted h s) ≡ 0) ⊎ ((f : Fld) × In f (g ∷ s) × (h (f .name) ≡ true))
+    go true e k = inr (g, inl refl, e)
+    go false e (inl z) = inl z
+    go false e (inr k) = inr (k .0, inr (k .1), k .2)
+
+-- where a is sound and each field of b clashes with one of both, each of a does
+beside : (a b : Schema) (h : Name → Bool) → ((x : Name) → h x ≡ eqb (counted (clash x) a + counted (clash x) b) 1)
+    → allOf (once a) a ≡ true → allOf h b ≡ true → allOf h a ≡ true
+beside a b h e p q = all-intro h a (λ f m. e (f .name) ∙ eq-eqb _ 1 (one f m (count-some (clash (f .name)) b)))
+  where
+    one : (f : Fld) → In f a → (counted (clash (f .name)) b ≡ 0) ⊎ ((g : Fld) × In g b × (clash (f .name) (g .name) ≡ true))
+        → counted (clash (f .name)) a + counted (clash (f .name)) b ≡ 1
+    one f m (inl z) = omega (arith, eqb-true (counted (clash (f .name)) a) 1 (all-in (once a) f a p m))
+    one f m (inr k) =
+        let g = k .0 in
+        absurd (omega (
+          arith,
+          eqb-true (counted (clash (g .name)) a + counted (clash (g .name)) b) 1 (sym (e (g .name)) ∙ all-in h g b q (k .1)),
+          count-in (clash (g .name)) f a m (clash-sym (g .name) (f .name) ∙ k .2),
+          count-in (clash (g .name)) g b (k .1) (clash-self (g .name)),
+        ))
+
+-- so of two schemas of which one is sound, the fields of the other tell
+module _ (s t : Schema) where
+  abbrev both-in : Name → Bool
+  both-in = single (s ++ t) 3
+
+  agree-both : (x : Name) → both-in x ≡ eqb (counted (clash x) s + counted (clash x) t) 1
+  agree-both (nm q n) =
+      ap (λ (k : ℕ). eqb k 1) (counted-cong (hits 3 q n) (clash (nm q n)) (asks-clash q n) (s ++ t) ∙ counted-++ (clash (nm q n)) s t)
+
+  once-of : (a : Schema) → sound (namesIn a) ≡ true → allOf (once a) a ≡ true
+  unfolding sound
+  once-of a e = sym (distinct-once a) ∙ and-l _ _ e
+
+  tells : (a b : Bool) → (b ≡ true → a ≡ true) → b ≡ a & b
+  unfolding _&_
+  tells true b f = refl
+  tells false false f = refl
+  tells false true f = sym (f refl)
+
+  pub beside-left : sound (namesIn s) ≡ true → allOf both-in t ≡ allOf both-in (s ++ t)
+  beside-left e = tells _ _ (beside s t both-in agree-both (once-of s e)) ∙ sym (allOf-++ both-in s t)
+
+  pub beside-right : sound (namesIn t) ≡ true → allOf both-in s ≡ allOf both-in (s ++ t)
+  unfolding _&_
+  beside-right e =
+      tells _ _ (beside t s both-in (λ x. agree-both x ∙ ap (λ (k : ℕ). eqb k 1) (swapped (clash x))) (once-of t e))
+      ∙ turned (allOf both-in t) (allOf both-in s) ∙ sym (allOf-++ both-in s t)
+    where
+      swapped : (h : Name → Bool) → counted h s + counted h t ≡ counted h t + counted h s
+      swapped h = omega arith
+
+      turned : (a b : Bool) → a & b ≡ b & a
+      turned true true = refl
+      turned true false = refl
+      turned false true = refl
+      turned false false = refl
+
+-- the same by the number of the input that is sound
+pub beside-own : (i : ℕ) (ins : List Schema) → i ≤ 1 → sound (namesIn (input i ins)) ≡ true
+    → allOf (single (input 0 ins ++ input 1 ins) 3) (input (1 - i) ins)
+    ≡ allOf (single (input 0 ins ++ input 1 ins) 3) (input 0 ins ++ input 1 ins)
+beside-own zero ins l e = beside-left (input 0 ins) (input 1 ins) e
+beside-own (suc zero) ins l e = beside-right (input 0 ins) (input 1 ins) e
+beside-own (suc (suc i)) ins l e = absurd (omega arith)
+
+-- a semi or anti join has the fields of input 0 or 1
+pub own-few : (p : ℕ) → own 2 p ≤ 1
+own-few p = go (leb p 4) (eqb p 5) (eqb p 7)
+  where
+    go : (a b c : Bool) → cond a 0 (cond b 0 (cond c 0 1)) ≤ 1
+    go true b c = omega arith
+    go false true c = omega arith
+    go false false true = omega arith
+    go false false false = omega arith
+
 -- ---- below an alias
 
 -- the names as an alias calls them
@@ -332,6 +444,22 @@ input-sound K.Repartition l cs ins e h = h
 input-sound K.Limit l cs ins e h = h
 input-sound K.Aggregate l cs ins e h = absurd (omega arith)
 input-sound K.Window l cs ins e h = sound-left (namesIn (first [] ins)) (namesIn (made (first [] ins) cs)) (rw names-++ at h)
+
+-- both inputs of a join are
+pub second-sound : (k : K.PlanKind) (l : Label) (cs : Forest) (ins : List Schema) → roleP k ≡ 2 → nameP k l cs ins ≡ true
+    → sound (namesIn (second [] ins)) ≡ true
+second-sound K.TableScan l cs ins e h = absurd (omega arith)
+second-sound K.Filter l cs ins e h = absurd (omega arith)
+second-sound K.Projection l cs ins e h = absurd (omega arith)
+second-sound K.Join l cs ins e h = sound-right (namesIn (first [] ins)) (namesIn (second [] ins)) (rw names-++ at (and-r _ _ h))
+second-sound K.SubqueryAlias l cs ins e h = absurd (omega arith)
+second-sound K.Union l cs ins e h = absurd (omega arith)
+second-sound K.Distinct l cs ins e h = absurd (omega arith)
+second-sound K.Sort l cs ins e h = absurd (omega arith)
+second-sound K.Repartition l cs ins e h = absurd (omega arith)
+second-sound K.Limit l cs ins e h = absurd (omega arith)
+second-sound K.Aggregate l cs ins e h = absurd (omega arith)
+second-sound K.Window l cs ins e h = absurd (omega arith)
 
 -- ---- the rule of a plan
 

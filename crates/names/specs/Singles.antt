@@ -2,7 +2,7 @@
 use mathlib.Core.Bool.{Bool, true, cond}
 use mathlib.Core.List.{[], _∷_, _++_}
 use Prim.Native.Nat.{ℕ}
-use lib.Dec.{eqb, leb}
+use lib.Dec.{eqb, leb, ltb}
 use lib.ListN.{length}
 use Rattle.image.specs.Limits.{maxFields}
 use Rattle.image.specs.Tree.{Forest}
@@ -42,6 +42,10 @@ ownSort r = cond (eqb r 1) 3 (cond (eqb r 2) 2 (cond (eqb r 4) 5 1))
 -- the question: under an alias two fields clash if they share the name
 abbrev pub ownMode : ℕ → ℕ
 ownMode r = cond (eqb r 3) 1 3
+
+-- how many of its inputs are sound where the plan is: both of a join, the first of others that have its fields
+abbrev pub knownInputs : ℕ → ℕ
+knownInputs r = cond (eqb r 2) 2 (cond (ltb 1 r) 1 0)
 
 -- the fields of a schema are told apart by the question, and there are not too many
 abbrev pub apart : ℕ → Schema → Bool

@@ -1,6 +1,7 @@
 // Name (6): the lowest record whose reference does not name one field of what it stands over, or whose schema is not sound.
 use crate::fields::role_of;
 use crate::schemas::is_sound;
+use crate::schemas::is_sound_beside;
 use crate::scopes::first_sort;
 use crate::scopes::held_in;
 use crate::scopes::rest_sort;
@@ -11,6 +12,7 @@ use image::records::from_record;
 use image::records::look;
 ghost use mathlib.Core.Path.{_≡_};
 ghost use mathlib.Core.Bool.{true};
+ghost use Prim.Native.Nat.{ℕ, _-_, _<_};
 ghost use Rattle.image.specs.Lowest.{lowest};
 ghost use Rattle.image.specs.Places.{Chained, placeOf};
 ghost use Rattle.image.specs.Tree.{Label, Forest, none, node, Linked, Tree, At};
@@ -21,9 +23,10 @@ ghost use Rattle.names.specs.Count.{input};
 ghost use Rattle.names.specs.Fields.{inputs, namesIn};
 ghost use Rattle.names.specs.Rules.{nameOk, hand, badNames};
 ghost use Rattle.names.specs.Scopes.{scopeOf};
+ghost use Rattle.names.specs.Singles.{knownInputs};
 
 // Whether the record keeps the rule: `part` begins there, v is what was looked at, the scope of the slice g and the number `here` is what it
-// stands over. A plan that is known to be sound is not tested again, but the two inputs of a semi or anti join are.
+// stands over. A plan that is known to be sound is not tested again, but of a semi or anti join the other input.
 fn name_ok(
     part: &[u8],
     at: usize,
@@ -47,14 +50,40 @@ fn name_ok(
     if role == 0 {
         return true;
     }
-    if known & ((role != 2) | (v.p <= 4)) {
-        return true;
+    if !known {
+        return is_sound(part, at, v.first, role);
     }
-    is_sound(part, at, v.first, role)
+    if (role == 2) & (4 < v.p) {
+        return is_sound_beside(part, at, v.first, v.p);
+    }
+    true
+}
+
+// How many inputs of a plan of this role are sound where it keeps the rule: both of a join, the first of others that have its fields.
+fn known_inputs(role: usize) -> usize
+    ensures { λ n. ⌜ n ≡ knownInputs role ⌝ }
+{
+    if role == 2 {
+        return 2;
+    }
+    if 1 < role {
+        return 1;
+    }
+    0
+}
+
+// One less, of plans that are known.
+fn but_one(known: usize) -> usize
+    ensures { λ n. ⌜ n ≡ known - 1 ⌝ }
+{
+    if known == 0 {
+        return 0;
+    }
+    known - 1
 }
 
 // The lowest record that breaks the rule, of the trees from record `at` on: the first stands over the scope `here`, the others over `after`.
-// `known`: the first plan among them is sound, since its fields are among those of its parent, which is.
+// `known`: so many of the first plans among them are sound, since their fields are among those of their parent, which is.
 pub fn bad_name(
     s: &[u8],
     base: usize,
@@ -64,11 +93,11 @@ pub fn bad_name(
     ga: usize,
     here: usize,
     after: usize,
-    known: bool,
+    known: usize,
 ) -> Place
     requires { ⌜ Chained (now s) base at × Chained (now g) gb ga ⌝ }
     ensures { λ r. ⌜ ((f e : Forest) → Linked f (now (s .entry)) base at → Linked e (now (g .entry)) gb ga
-        → (known ≡ true → sound (namesIn (input 0 (inputs f))) ≡ true)
+        → ((i : ℕ) → i < known → sound (namesIn (input i (inputs f))) ≡ true)
         → r ≡ placeOf (lowest nameOk hand (scopeOf here e) (scopeOf after e) at f)) ⌝ }
 {
     if at == 0 {
@@ -77,7 +106,7 @@ pub fn bad_name(
     let part = from_record(s, base, at);
     let v = look(part);
     let role = role_of(v.kind);
-    if !name_ok(part, at, v, role, known, g, gb, ga, here) {
+    if !name_ok(part, at, v, role, 0 < known, g, gb, ga, here) {
         return Place::At(at);
     }
     if role == 0 {
@@ -90,7 +119,7 @@ pub fn bad_name(
             ga,
             first_sort(v.kind, here),
             rest_sort(v.kind, here),
-            false,
+            0,
         );
         match below {
             Place::At(r) => Place::At(r),
@@ -98,10 +127,11 @@ pub fn bad_name(
         }
     } else {
         let sort = sort_of(v.kind);
-        let under = bad_name(part, at, v.first, part, at, v.first, sort, sort, 1 < role);
+        let inputs = known_inputs(role);
+        let under = bad_name(part, at, v.first, part, at, v.first, sort, sort, inputs);
         match under {
             Place::At(r) => Place::At(r),
-            Place::Nowhere => bad_name(s, base, v.next, g, gb, ga, after, after, false),
+            Place::Nowhere => bad_name(s, base, v.next, g, gb, ga, after, after, but_one(known)),
         }
     }
 }
@@ -117,5 +147,5 @@ pub fn bad_names(s: &[u8]) -> Place
         return Place::At(0);
     }
     let sort = sort_of(v.kind);
-    bad_name(s, 0, v.first, s, 0, v.first, sort, sort, 1 < role)
+    bad_name(s, 0, v.first, s, 0, v.first, sort, sort, known_inputs(role))
 }

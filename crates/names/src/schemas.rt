@@ -10,13 +10,14 @@ use image::limits::MAX_FIELDS;
 use image::records::from_record;
 use image::records::look;
 ghost use mathlib.Core.Path.{_≡_};
-ghost use mathlib.Core.Bool.{cond};
+ghost use mathlib.Core.Bool.{true, cond};
 ghost use Rattle.image.specs.Tree.{Label, Forest, Linked};
-ghost use Rattle.plan.specs.Kinds.{PlanKind};
+ghost use Rattle.plan.specs.Kinds.{PlanKind, Join};
 ghost use Rattle.image.specs.Places.{Chained};
 ghost use Rattle.plan.specs.Syntax.{nm};
-ghost use Rattle.names.specs.Fields.{Schema, made, inputs};
-ghost use Rattle.names.specs.Count.{counted, hits, input, roleP};
+ghost use Rattle.names.specs.Fields.{Schema, made, inputs, namesIn};
+ghost use Rattle.names.specs.Count.{counted, hits, input, roleP, own};
+ghost use Rattle.acceptance.specs.Names.{sound};
 ghost use Rattle.names.specs.Rules.{nameP};
 ghost use Rattle.names.specs.Singles.{allOf, single, lone, ownOf, ownSort, ownMode};
 
@@ -186,6 +187,25 @@ fn own_mode(role: usize) -> usize
         return 1;
     }
     3
+}
+
+// Whether the two inputs of a join of the kind p are sound together, where the one is whose fields a semi or anti join has: those of the other
+// are told apart.
+pub fn is_sound_beside(g: &[u8], base: usize, at: usize, p: usize) -> bool
+    requires { ⌜ Chained (now g) base at ⌝ }
+    ensures { λ b. ⌜ ((l : Label) (cs : Forest) → Linked cs (now (g .entry)) base at → sound (namesIn (input (own 2 p) (inputs cs))) ≡ true
+        → b ≡ nameP Join l cs (inputs cs)) ⌝ }
+{
+    if MAX_FIELDS < held_in(g, base, at, 2, 2, 0, 0) {
+        return false;
+    }
+    let both = Whole {
+        base: base,
+        at: at,
+        sort: 2,
+        mode: 3,
+    };
+    all_held(g, both, g, base, at, 1 - own_input(2, p), false, 0)
 }
 
 // Whether the schema of a plan of this role, whose children are from record `at` on, is sound, and for a join both inputs together.

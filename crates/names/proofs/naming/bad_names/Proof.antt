@@ -2,16 +2,16 @@
 use mathlib.Core.Path.{_≡_, refl, sym, ap, _∙_}
 use mathlib.Core.Bool.{true}
 use mathlib.Core.List.{[]}
-use Prim.Native.Nat.{ℕ, _<_}
+use Prim.Native.Nat.{ℕ}
 use native.Mathlib.Omega.{arith}
-use borrow.Author.Tests.{ltb-true, not-true, not-false}
+use borrow.Author.Tests.{not-true, not-false}
 use Rattle.image.specs.Tree.{none}
 use Rattle.plan.specs.Kinds.{whatOf}
 use Rattle.names.specs.Count.{role}
 use Rattle.names.specs.Rules.{Scope, over, nameOk, hand, badNames}
 use Rattle.names.specs.Scopes.{sortW}
 use Rattle.names.proofs.Finding.{root-here, root-below, rooted}
-use Rattle.names.proofs.NameRule.{never, sound-below}
+use Rattle.names.proofs.NameRule.{never, sound-root}
 use Rattle.names.proofs.Scoping.{hand-root}
 use borrow.Author.Needs.{needs}
 use Rattle.names.proofs.naming.bad_names.Statement.{statement}
@@ -21,9 +21,6 @@ use Rattle.names.proofs.naming.bad_names.Tie as tie
 abbrev nothing-seen : Scope
 nothing-seen = over [] []
 
-a-plan : {r : ℕ} → r ≡ 0 → 1 < r → ⊥
-a-plan e g = omega arith
-
 pub bad-names-spec : {M : Type 1} → statement M
 unfolding badNames
 bad-names-spec =
@@ -32,32 +29,22 @@ bad-names-spec =
     (λ c κs. search needs)
     (λ c κs. search needs)
     (λ c κs.
-    let w = rooted (c .before .before .before .pre .0) (c .before .before .before .pre .1) (c .before .look .ensures) in (
-      record { forest = c .before .before .before .pre .0 .below; linked = w .first },
-      record { forest = none; linked = refl },
-      c .role-of .ensures,
-    ))
+    let w = rooted (c .before .before .before .pre .0) (c .before .before .before .pre .1) (c .before .look .ensures) in
+    (record { forest = c .before .before .before .pre .0 .below; linked = w .first }, record { forest = none; linked = refl }, c .role-of .ensures))
     (λ c t h.
     let w = rooted t h (c .before .before .before .look .ensures) in
     root-here nameOk hand nothing-seen nothing-seen t
-    (sym (c .before .name-ok .ensures (t .label) (t .below) none (w .kind) (w .p) (w .q) (w .first) refl never)
-    ∙ not-true _ (c .if1 .taken)))
+    (sym (c .before .name-ok .ensures (t .label) (t .below) none (w .kind) (w .p) (w .q) (w .first) refl never) ∙ not-true _ (c .if1 .taken)))
+    (λ c κs. search needs)
     (λ c κs. search needs)
     (λ c κs.
-    let w = rooted (c .before .before .before .before .before .before .pre .0) (c .before .before .before .before .before .before .pre .1)
-    (c .before .before .before .before .look .ensures) in (
-      record { forest = c .before .before .before .before .before .before .pre .0 .below; linked = w .first },
-      record { forest = c .before .before .before .before .before .before .pre .0 .below; linked = w .first },
-    ))
+    let w = rooted (c .before .before .before .before .before .before .before .pre .0) (c .before .before .before .before .before .before .before .pre .1) (c .before .before .before .before .before .look .ensures) in
+    (record { forest = c .before .before .before .before .before .before .before .pre .0 .below; linked = w .first }, record { forest = c .before .before .before .before .before .before .before .pre .0 .below; linked = w .first }))
     (λ c t h.
-    let w = rooted t h (c .before .before .before .before .before .look .ensures) in
-    let ok : nameOk nothing-seen (t .label) (t .below)
-    ≡ true =
-    sym (c .before .before .before .name-ok .ensures (t .label) (t .below) none (w .kind) (w .p) (w .q) (w .first) refl never)
-    ∙ not-false _ (c .before .before .if1 .left) in
+    let w = rooted t h (c .before .before .before .before .before .before .look .ensures) in
+    let ok : nameOk nothing-seen (t .label) (t .below) ≡ true =
+    sym (c .before .before .before .before .name-ok .ensures (t .label) (t .below) none (w .kind) (w .p) (w .q) (w .first) refl never) ∙ not-false _ (c .before .before .before .if1 .left) in
     c .bad-name .ensures (t .below) (t .below) (w .first) (w .first)
-    (λ x. sound-below nothing-seen (t .label) (t .below) _
-    (c .before .before .before .before .role-of .ensures ∙ ap (λ (n : ℕ). role (whatOf n)) (w .kind)) (λ y. a-plan y (ltb-true 1 _ x))
-    (ltb-true 1 _ x) ok)
+    (sound-root nothing-seen (t .label) (t .below) (c .before .before .before .before .before .role-of .ensures ∙ ap (λ (n : ℕ). role (whatOf n)) (w .kind)) (c .before .known-inputs .ensures) ok)
     ∙ root-below nameOk hand nothing-seen nothing-seen t _ _ _ (w .first-number)
-    (hand-root (t .label) (t .below) (c .before .sort-of .ensures ∙ ap (λ (n : ℕ). sortW (whatOf n)) (w .kind))) ok))
+    (hand-root (t .label) (t .below) (c .before .before .sort-of .ensures ∙ ap (λ (n : ℕ). sortW (whatOf n)) (w .kind))) ok))
