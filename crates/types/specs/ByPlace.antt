@@ -1,5 +1,5 @@
 -- Types of fields by place.
-use mathlib.Core.Bool.{Bool, cond}
+use mathlib.Core.Bool.{cond}
 use mathlib.Core.List.{[], _∷_}
 use Prim.Native.Nat.{ℕ, zero, suc}
 use lib.Dec.{eqb}
@@ -16,7 +16,3 @@ tyAt (suc k) (f ∷ s) = tyAt k s
 -- 0 the fields that the parts make, else those of the first plan
 abbrev pub schemaOf : ℕ → Forest → Schema
 schemaOf n f = cond (eqb n 0) (made [] f) (input 0 (inputs f))
-
--- 1 yes, 2 no, else what is said otherwise
-abbrev pub verdict : ℕ → Bool → Bool
-verdict r b = cond (eqb r 0) b (eqb r 1)

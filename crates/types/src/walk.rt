@@ -16,7 +16,7 @@ ghost use Rattle.image.specs.Lowest.{lowest, alone};
 ghost use Rattle.plan.specs.Kinds.{what};
 ghost use Rattle.names.specs.Rules.{typesOf, typeOk, typeOkBy, hand, badTypes};
 ghost use Rattle.names.specs.Scopes.{scopeOf};
-ghost use Rattle.types.specs.Standing.{Planted};
+ghost use Rattle.types.specs.Standing.{Planted, Filled};
 
 // The rule of the record at the start of s, whose children stand over the scope.
 pub fn type_ok(
@@ -29,7 +29,7 @@ pub fn type_ok(
     after: usize,
     root: &[u8],
 ) -> bool
-    requires { ⌜ Planted (now s) at × Chained (now g) gb ga × Planted (now root) 0 ⌝ }
+    requires { ⌜ Planted (now s) at × Chained (now g) gb ga × Filled (now root) ⌝ }
     ensures { λ r. ⌜ ((t u : Tree) (e : Forest) → At t (now (s .entry)) at → Linked e (now (g .entry)) gb ga → At u (now (root .entry)) 0
         → r ≡ typeOkBy (what (t .label)) (alone u) (t .label) (t .below) (typesOf (scopeOf here e) (scopeOf after e) (t .below))) ⌝ }
 {
@@ -59,7 +59,7 @@ pub fn bad_type(
     after: usize,
     root: &[u8],
 ) -> Place
-    requires { ⌜ Chained (now s) base at × Chained (now g) gb ga × Planted (now root) 0 ⌝ }
+    requires { ⌜ Chained (now s) base at × Chained (now g) gb ga × Filled (now root) ⌝ }
     ensures { λ r. ⌜ ((f e : Forest) (u : Tree) → Linked f (now (s .entry)) base at → Linked e (now (g .entry)) gb ga → At u (now (root .entry)) 0
         → r ≡ placeOf (lowest (typeOk (alone u)) hand (scopeOf here e) (scopeOf after e) at f)) ⌝ }
 {
@@ -94,7 +94,7 @@ pub fn bad_type(
 
 // Test 7: the lowest record of the image whose types are wrong.
 pub fn bad_types(s: &[u8]) -> Place
-    requires { ⌜ Planted (now s) 0 ⌝ }
+    requires { ⌜ Filled (now s) ⌝ }
     ensures { λ r. ⌜ ((t : Tree) → At t (now (s .entry)) 0 → r ≡ placeOf (badTypes t)) ⌝ }
 {
     let v = look(s);

@@ -14,7 +14,7 @@ returns c =
     later-name w _ (sym (c .before .name .given .1) ∙ c .before .before .before .bad-names .ensures (w .tree) (w .stands))
 
 bad-types-requires : tie.Need-bad-types-requires
-bad-types-requires c κs = let w = c .before .before .before .before .pre in record { tree = w .tree; at = w .stands }
+bad-types-requires c κs = let w = c .before .before .before .before .pre in record { tree = w .tree; at = w .stands; bytes = w .bytes }
 
 returns-2 : tie.Need-returns-2
 returns-2 c =

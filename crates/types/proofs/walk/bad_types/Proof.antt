@@ -14,7 +14,7 @@ bad-types-spec =
     (λ c κs. omega (arith, c .before .pre .at .head .room))
     (λ c κs. search needs)
     (λ c κs. let k = looked (c .before .before .before .pre .at) (c .before .look .ensures) in (
-      c .before .before .before .pre,
+      record { tree = c .before .before .before .pre .tree; at = c .before .before .before .pre .at },
       record { forest = c .before .before .before .pre .tree .below; linked = k .first },
       c .before .before
           .before .pre,
