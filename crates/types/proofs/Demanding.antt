@@ -3,7 +3,7 @@
 --     tree-at, type-here              the tree and the type of the record at which a walk is
 --     have-none, have-skip, have-not, have-more   all of a chain have a type, record by record
 --     first-none, first-skip, first-here          the first type of a chain
---     alike-by                        one type for all is the first's for all
+--     alike-none, alike-skip, alike-here          one type for all of a chain
 -- Assumes nothing.
 use mathlib.Core.Path.{_≡_, refl, sym, ap, subst, _∙_}
 use mathlib.Core.Bool.{Bool, true, false}
@@ -86,16 +86,6 @@ pub types-none : (c after : Scope) (f : Forest) → f ≡ none → typesOf c aft
 unfolding typesOf
 types-none c after f e = rw e
 
--- one type for all is the type of the first for all
-alike-first : (ts : List ℕ) → all (eqb (first 0 ts)) ts ≡ alike ts
-unfolding alike first all _&_
-alike-first [] = refl
-alike-first (t ∷ ts) = rw (eq-eqb t t refl)
-
--- as the code asks for it
-pub alike-by : (ts : List ℕ) {r : Bool} {t : ℕ} → r ≡ all (eqb t) ts → t ≡ first 0 ts → r ≡ alike ts
-alike-by ts e k = e ∙ ap (λ (x : ℕ). all (eqb x) ts) k ∙ alike-first ts
-
 module _ {f : Forest} {s : List ℕ} {b at : ℕ} {part : List ℕ} {v : Node} (w : Step f s b at part v) (c after : Scope) where
   -- the types of the chain, by what its first record is
   types-step : {x : Bool} → x ≡ exprW (whatOf (v .kind)) → typesOf c after f ≡ put x (typeOf (seen c) (w .label)) (typesOf after after (w .after))
@@ -134,6 +124,13 @@ pub have-none : (t : ℕ) (c after : Scope) (f : Forest) → f ≡ none → true
 unfolding typesOf all
 have-none t c after f e = rw e
 
+-- ---- all have one type
+
+-- none are alike
+pub alike-none : (c after : Scope) (f : Forest) → f ≡ none → true ≡ alike (typesOf c after f)
+unfolding typesOf alike
+alike-none c after f e = rw e
+
 -- ---- the first type
 
 -- no expressions, no type
@@ -146,6 +143,10 @@ module _ {f : Forest} {s : List ℕ} {b at : ℕ} {part : List ℕ} {v : Node} (
   -- the first record is no expression
   pub have-skip : (t : ℕ) → x ≡ false → all (eqb t) (typesOf after after (w .after)) ≡ all (eqb t) (typesOf c after f)
   have-skip t z = ap (all (eqb t)) (sym (types-other w c after e z))
+
+  -- they are then alike if the rest is
+  pub alike-skip : x ≡ false → alike (typesOf after after (w .after)) ≡ alike (typesOf c after f)
+  alike-skip z = ap alike (sym (types-other w c after e z))
 
   -- the first type is then that of the rest
   pub first-skip : x ≡ false → first 0 (typesOf after after (w .after)) ≡ first 0 (typesOf c after f)
@@ -162,6 +163,11 @@ module _ {f : Forest} {s : List ℕ} {b at : ℕ} {part : List ℕ} {v : Node} (
     pub have-more : (t : ℕ) → t ≡ u → all (eqb t) (typesOf after after (w .after)) ≡ all (eqb t) (typesOf c after f)
     unfolding all _&_
     have-more t n = sym (ap (all (eqb t)) (types-more w c after e z k) ∙ rw (eq-eqb t u n))
+
+    -- they are alike if the rest has it
+    pub alike-here : all (eqb u) (typesOf after after (w .after)) ≡ alike (typesOf c after f)
+    unfolding alike
+    alike-here = sym (ap alike (types-more w c after e z k))
 
     -- which is the first type
     pub first-here : u ≡ first 0 (typesOf c after f)

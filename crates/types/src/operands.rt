@@ -9,7 +9,7 @@ ghost use Rattle.image.specs.Places.{Chained};
 ghost use Rattle.plan.specs.Kinds.{whatOf, exprW};
 ghost use Rattle.plan.specs.Lists.{all};
 ghost use Rattle.names.specs.Fields.{first};
-ghost use Rattle.names.specs.Rules.{typesOf};
+ghost use Rattle.names.specs.Rules.{typesOf, alike};
 ghost use Rattle.names.specs.Scopes.{scopeOf};
 ghost use Rattle.types.specs.Demands.{demandOf, integerOr, booleanKind, met};
 
@@ -139,6 +139,33 @@ pub fn all_have(
     all_have(s, base, v.next, g, gb, ga, after, after, t)
 }
 
+// Whether all expressions from record `at` on have one type: the first is asked for it, and then the others.
+pub fn all_alike(
+    s: &[u8],
+    base: usize,
+    at: usize,
+    g: &[u8],
+    gb: usize,
+    ga: usize,
+    here: usize,
+    after: usize,
+) -> bool
+    requires { ⌜ Chained (now s) base at × Chained (now g) gb ga ⌝ }
+    ensures { λ r. ⌜ ((f e : Forest) → Linked f (now (s .entry)) base at → Linked e (now (g .entry)) gb ga
+        → r ≡ alike (typesOf (scopeOf here e) (scopeOf after e) f)) ⌝ }
+{
+    if at == 0 {
+        return true;
+    }
+    let part = from_record(s, base, at);
+    let v = look(part);
+    if is_expr(v.kind) {
+        let t = type_of(part, g, gb, ga, here);
+        return all_have(s, base, v.next, g, gb, ga, after, after, t);
+    }
+    all_alike(s, base, v.next, g, gb, ga, after, after)
+}
+
 // Whether the expressions from record `at` on are as the record above them asks.
 pub fn meets(
     d: usize,
@@ -159,8 +186,7 @@ pub fn meets(
         return all_have(s, base, at, g, gb, ga, here, after, 2);
     }
     if d == 2 {
-        let t = first_type(s, base, at, g, gb, ga, here, after);
-        return all_have(s, base, at, g, gb, ga, here, after, t);
+        return all_alike(s, base, at, g, gb, ga, here, after);
     }
     if d == 3 {
         return first_type(s, base, at, g, gb, ga, here, after) == 1;
