@@ -40,42 +40,7 @@ module _ (h : Name → Bool) where
       go true e = omega arith
       go false e = omega arith
 
-  -- ---- the parts
-
-  -- no part makes no field
-  pub made-none : (c : Schema) (f : Forest) → f ≡ none → counted h (made c f) ≡ 0
-  unfolding counted made
-  made-none c f e = rw e
-
-  -- the field that one part makes
-  pub one-made : (c : Schema) (l : Label) (cs : Forest) (rest : Schema) (w : What)
-      → counted h (madeBy w c l cs rest) ≡ cond (makes w && h (nameOf l)) (counted h rest + 1) (counted h rest)
-  unfolding counted
-  one-made c l cs rest (part K.FieldPart) = refl
-  one-made c l cs rest (part K.EntryPart) = refl
-  one-made c l cs rest (part K.PairPart) = refl
-  one-made c l cs rest (part K.KeyPart) = refl
-  one-made c l cs rest (part K.AggPart) = refl
-  one-made c l cs rest (part K.WinPart) = refl
-  one-made c l cs rest (expr k) = refl
-  one-made c l cs rest (plan k) = refl
-  one-made c l cs rest unknown = refl
-
-  -- the same for a forest of parts
-  pub made-node : (c : Schema) (f : Forest) (l : Label) (cs ns : Forest) (b : Bool) → f ≡ node l cs ns
-      → (makes (what l) && h (nameOf l)) ≡ b
-      → counted h (made c f) ≡ cond b (counted h (made c ns) + 1) (counted h (made c ns))
-  unfolding made
-  made-node c f l cs ns b e m =
-      ap (λ (g : Forest). counted h (made c g)) e ∙ one-made c l cs (made c ns) (what l)
-      ∙ ap (λ (b : Bool). cond b (counted h (made c ns) + 1) (counted h (made c ns))) m
-
 -- ---- the inputs
-
--- no plan has no field
-pub held-none : (h : Name → Bool) (k : ℕ) (f : Forest) → f ≡ none → counted h (input k (inputs f)) ≡ 0
-unfolding input inputs counted
-held-none h k f e = rw e
 
 module _ (f : Forest) (l : Label) (cs ns : Forest) (is : f ≡ node l cs ns) where
   -- a record that is no plan is passed over
@@ -233,22 +198,6 @@ module _ (l : Label) (cs : Forest) (ins : List Schema) where
   from-input-and-parts K.Aggregate e = absurd (omega arith)
   from-input-and-parts K.Window e = rw (input-0 ins)
 
-  -- roles 3 and 5: the input's, by the question for it
-  pub from-input : (k : K.PlanKind) (mode q n : ℕ) → (roleP k ≡ 1 → ⊥) → (roleP k ≡ 2 → ⊥) → (roleP k ≡ 4 → ⊥)
-      → counted (hits mode q n) (fieldsP k l cs ins) ≡ counted (hits (below (roleP k) (l .p) mode q) q n) (input 0 ins)
-  from-input K.TableScan mode q n a b d = absurd (a refl)
-  from-input K.Filter mode q n a b d = rw (input-0 ins)
-  from-input K.Projection mode q n a b d = absurd (a refl)
-  from-input K.Join mode q n a b d = absurd (b refl)
-  from-input K.SubqueryAlias mode q n a b d = rw (input-0 ins) (renamed mode (l .p) q n (input 0 ins))
-  from-input K.Union mode q n a b d = rw (input-0 ins)
-  from-input K.Distinct mode q n a b d = rw (input-0 ins)
-  from-input K.Sort mode q n a b d = rw (input-0 ins)
-  from-input K.Repartition mode q n a b d = rw (input-0 ins)
-  from-input K.Limit mode q n a b d = rw (input-0 ins)
-  from-input K.Aggregate mode q n a b d = absurd (a refl)
-  from-input K.Window mode q n a b d = absurd (d refl)
-
 -- ---- no more fields than records
 
 -- the fields of all schemas together
@@ -383,27 +332,6 @@ module _ (n : ℕ) (a : n ≡ 32 → ⊥) (b : n ≡ 34 → ⊥) (c : n ≡ 42 �
   pub role-last : (x : Bool) → (leb 32 n && leb n 43) ≡ x → cond x 5 0 ≡ role (whatOf n)
   role-last x e = rw (← (plan-kind n ∙ e)) (role-rest (whatOf n) refl)
 
--- the part that a walk stands at
-pub made-step : {f : Forest} {s : List ℕ} {b at : ℕ} {part : List ℕ} {v : Node} (w : Step f s b at part v) (mode q n : ℕ)
-    (d : Schema) {x y : Bool} (z : Bool)
-    → x ≡ makes (whatOf (v .kind)) → y ≡ hit mode q n (v .p) (v .q) → (x && y) ≡ z
-    → counted (hits mode q n) (made d f)
-    ≡ cond z (counted (hits mode q n) (made d (w .after)) + 1) (counted (hits mode q n) (made d (w .after)))
-made-step {f} {v = v} w mode q n d {x} {y} z e g m =
-    let e2 : x ≡ makes (what (w .label)) = e ∙ ap (λ (k : ℕ). makes (whatOf k)) (w .kind) in
-    let g2 : y ≡ hit mode q n (w .label .p) (w .label .q) = g ∙ ap (λ (k : ℕ). hit mode q n k (v .q)) (w .p)
-    ∙ ap (λ (k : ℕ). hit mode q n (w .label .p) k) (w .q) in
-    made-node (hits mode q n) d f (w .label) (w .below) (w .after) z (w .is)
-    (ap (λ (a : Bool). a && hit mode q n (w .label .p) (w .label .q)) (sym e2) ∙ ap (λ (a : Bool). x && a) (sym g2) ∙ m)
-
-asked-plain : (r p mode q n : ℕ) (ins : List Schema) → r ≡ 4
-    → counted (hits mode q n) (input 0 ins) ≡ counted (hits (below r p mode q) q n) (input (own r p) ins)
-asked-plain r p mode q n ins e = rw e refl
-
-asked-rest : (r t p u mode q n : ℕ) (ins : List Schema) → r ≡ t → p ≡ u → (r ≡ 2 → ⊥)
-    → counted (hits (below t u mode q) q n) (input 0 ins) ≡ counted (hits (below r p mode q) q n) (input (own r p) ins)
-asked-rest r t p u mode q n ins e g b = rw (← e, ← g, ne-eqb r 2 b) refl
-
 -- ---- what a plan has, by its role, as the code goes
 
 module _ {f : Forest} {s : List ℕ} {b at : ℕ} {part : List ℕ} {v : Node} (w : Step f s b at part v) (r : ℕ)
@@ -441,55 +369,3 @@ module _ {f : Forest} {s : List ℕ} {b at : ℕ} {part : List ℕ} {v : Node} (
           here z
               ∙ from-parts (w .label) (w .below) (inputs (w .below)) (of-plan z .0) (sym (of-plan z .1) ∙ e),
         )
-
-    module _ (mode q n : ℕ) where
-      -- what its input is asked
-      abbrev pub asked : ℕ
-      asked = counted (hits (below r (v .p) mode q) q n) (input (own r (v .p)) (inputs (w .below)))
-
-      -- those of both inputs
-      pub has-both : r ≡ 2 → v .p ≤ 4
-          → counted (hits mode q n) (input k (inputs f)) ≡ asked + counted (hits mode q n) (input 1 (inputs (w .below)))
-      has-both e p =
-          let z : r ≡ 0 → ⊥ = λ q. omega arith in
-          let o = of-plan z in
-          rw (
-            here z,
-            from-both (w .label) (w .below) (inputs (w .below)) (o .0) (sym (o .1) ∙ e) (subst (λ (x : ℕ). x ≤ 4) (w .p) p),
-            e,
-            le-leb (v .p) 4 p,
-          )
-          (counted-++ (hits mode q n) (input 0 (inputs (w .below))) (input 1 (inputs (w .below))))
-
-      -- those of one input of a join
-      pub has-side : r ≡ 2 → 4 < v .p → counted (hits mode q n) (input k (inputs f)) ≡ asked
-      has-side e p =
-          let z : r ≡ 0 → ⊥ = λ q. omega arith in
-          let o = of-plan z in
-          rw (
-            here z,
-            from-side (w .label) (w .below) (inputs (w .below)) (o .0) (sym (o .1) ∙ e) (subst (λ (x : ℕ). 4 < x) (w .p) p),
-            e,
-            w .p,
-          ) refl
-
-      -- those of its input and its parts
-      pub has-more : r ≡ 4
-          → (c : Schema) × (counted (hits mode q n) (input k (inputs f)) ≡ asked + counted (hits mode q n) (made c (w .below)))
-      has-more e =
-          let z : r ≡ 0 → ⊥ = λ q. omega arith in
-          let o = of-plan z in
-          let c = base (w .label) (w .below) (inputs (w .below)) (o .0) in (
-            c,
-            ap (counted (hits mode q n)) (here z ∙ from-input-and-parts (w .label) (w .below) (inputs (w .below)) (o .0) (sym (o .1) ∙ e))
-                ∙ counted-++ (hits mode q n) (input 0 (inputs (w .below))) (made c (w .below))
-                ∙ ap (λ (x : ℕ). x + counted (hits mode q n) (made c (w .below))) (asked-plain r (v .p) mode q n (inputs (w .below)) e),
-          )
-
-      -- those of its input
-      pub has-input : (r ≡ 0 → ⊥) → (r ≡ 1 → ⊥) → (r ≡ 2 → ⊥) → (r ≡ 4 → ⊥) → counted (hits mode q n) (input k (inputs f)) ≡ asked
-      has-input z a b d =
-          let o = of-plan z in
-          ap (counted (hits mode q n)) (here z)
-          ∙ from-input (w .label) (w .below) (inputs (w .below)) (o .0) mode q n (λ x. a (o .1 ∙ x)) (λ x. b (o .1 ∙ x)) (λ x. d (o .1 ∙ x))
-          ∙ asked-rest r (roleP (o .0)) (v .p) (w .label .p) mode q n (inputs (w .below)) (o .1) (w .p) b

@@ -24,8 +24,7 @@ use Rattle.names.specs.Count.{hits, counted, input}
 use Rattle.names.specs.Seek.{seek, told, typeFound, passedOf, allPlaces}
 use Rattle.names.specs.declared.fields.Sought.{Sought}
 use Rattle.names.specs.declared.fields.Sought.the-variants.{Known, Named, Left}
-use Rattle.names.proofs.Typing.{typed-name}
-use Rattle.names.proofs.Seeking.{onward, seek-++, seek-typed, seek-passed, told-same, type-told, passed-told}
+use Rattle.names.proofs.Seeking.{onward, seek-++, seek-name, seek-passed, told-same, type-told, passed-told}
 use Rattle.names.proofs.Counting.{input-0, input-1, of-kind, counted-++, counted-le, enough, linked-size, total, total-input, total-two}
 use Rattle.names.specs.Scopes.{scopeOf, sortP, sortW, firstSort, restSort}
 
@@ -213,7 +212,7 @@ seek-right h k j s t e g =
 
 -- a name's type
 pub type-name : (q n : ℕ) (s : Schema) (x : Sought) → told [] x ≡ seek (hits 0 q n) 0 s → typeFound x ≡ typeIn s (nm q n)
-type-name q n s x e = sym (type-told x) ∙ ap typeFound e ∙ seek-typed (hits 0 q n) s ∙ typed-name q n s
+type-name q n s x e = sym (type-told x) ∙ ap typeFound e ∙ seek-name q n s
 
 -- an expression's type, by what was found of it
 module _ (d : Schema) {t : ℕ} {x : Sought} where

@@ -1,8 +1,8 @@
 -- Laws of the search for a field.
---     seek-++, seek-typed, seek-passed     of two schemas; what the first place and the last one tell
+--     seek-++, seek-name, seek-passed                 of two schemas; what the first place and the last one tell
 --     made-done, made-pass, made-skip, made-found     a record more among the parts
---     plan-start, plan-skip, plan-pass, plan-here, plan-none     the plan with a place
---     by-parts, by-both, by-more, by-asked     the fields of a plan by its role
+--     plan-none, plan-fields, missing                 the plan with a place
+--     by-parts, by-stop, on-right, on-parts           the fields of a plan by its role
 -- Assumes nothing.
 use mathlib.Core.Path.{_≡_, refl, sym, ap, subst, _∙_}
 use mathlib.Core.Bool.{Bool, true, false, cond, _&&_}
@@ -17,14 +17,15 @@ use Rattle.image.proofs.Walking.{left, ended}
 use Rattle.image.proofs.Stepping.{Step}
 use Rattle.plan.specs.Kinds as K
 use Rattle.plan.specs.Kinds.{What, expr, plan, part, unknown, what, whatOf}
+use Rattle.plan.specs.Lists.{_&_}
+use Rattle.plan.specs.Schema.{same}
 use Rattle.plan.specs.Syntax.{Name, nm}
 use Rattle.names.specs.Fields.{Schema, nameOf, made, madeBy, inputs, fieldsP, requalify, typeIn}
 use Rattle.names.specs.Count.{hits, hit, counted, input, makes, role, roleP, own, below}
-use Rattle.names.specs.Typed.{typed, partType}
+use Rattle.names.specs.Typed.{partType}
 use Rattle.names.specs.Seek.{seek, told, typeFound, allPlaces, passedOf, partsOver, Begins, Planned}
 use Rattle.names.specs.declared.fields.Sought.{Sought}
 use Rattle.names.specs.declared.fields.Sought.the-variants.{Known, Named, Left}
-use Rattle.names.proofs.Typing.{typed-name}
 use Rattle.names.proofs.Counting.{renamed-one, input-0, base, of-plan, here, few-made, few-held}
 use Rattle.names.proofs.Counting.{from-parts, from-both, from-side, from-input-and-parts}
 
@@ -48,17 +49,6 @@ module _ (h : Name → Bool) where
       go true true e g = refl
       go true false e g = e
       go false b e g = g
-
-  -- the first has the type of the first field asked for
-  pub seek-typed : (s : Schema) → typeFound (seek h 0 s) ≡ typed h s
-  unfolding seek typed
-  seek-typed [] = refl
-  seek-typed (f ∷ s) = go (h (f .name)) (seek-typed s)
-    where
-      go : (a : Bool) → typeFound (seek h 0 s) ≡ typed h s
-          → typeFound (cond a (Known (f .ty)) (seek h 0 s)) ≡ cond a (f .ty) (typed h s)
-      go true e = refl
-      go false e = e
 
   -- a place past the last: all were passed
   seek-all : (k : ℕ) (s : Schema) → counted h s ≤ k → seek h k s ≡ Left (k - counted h s)
@@ -100,6 +90,22 @@ module _ (h : Name → Bool) where
   -- over any schema
   pub told-same : (d : Schema) (k : ℕ) (s : Schema) {x : Sought} → x ≡ seek h k s → told d x ≡ seek h k s
   told-same d k s e = ap (told d) e ∙ told-seek d k s
+
+-- the first field with a qualifier and a name has the type of the definition
+pub seek-name : (q n : ℕ) (s : Schema) → typeFound (seek (hits 0 q n) 0 s) ≡ typeIn s (nm q n)
+unfolding seek typeIn _&_
+seek-name q n [] = refl
+seek-name q n (f ∷ s) = step (f .name) (seek-name q n s)
+  where
+    go : (a b : Bool) (t : ℕ) → typeFound (seek (hits 0 q n) 0 s) ≡ t
+        → typeFound (cond (a && b) (Known (f .ty)) (seek (hits 0 q n) 0 s)) ≡ cond (a & b) (f .ty) t
+    go true true t e = refl
+    go true false t e = e
+    go false b t e = e
+
+    step : (x : Name) → typeFound (seek (hits 0 q n) 0 s) ≡ typeIn s (nm q n)
+        → typeFound (seek (hits 0 q n) 0 (record { name = x; ty = f .ty } ∷ s)) ≡ cond (same x (nm q n)) (f .ty) (typeIn s (nm q n))
+    step (nm r m) e = go (eqb r q) (eqb m n) (typeIn s (nm q n)) e
 
 -- over no schema a name has no type
 pub type-told : (x : Sought) → typeFound (told [] x) ≡ typeFound x
@@ -257,7 +263,7 @@ module _ (kind : ℕ) (f : Forest) {a b : ℕ} {x y : Sought} (e : x ≡ Named a
   named-some z {t} p q =
       let n : partsOver kind f ≡ input 0 (inputs f) = rw (ne-eqb kind 32 z) in
       let i : t ≡ typeIn (input 0 (inputs f)) (nm a b) =
-      p ∙ ap typeFound q ∙ seek-typed (hits 0 a b) (input 0 (inputs f)) ∙ typed-name a b (input 0 (inputs f)) in
+      p ∙ ap typeFound q ∙ seek-name a b (input 0 (inputs f)) in
       rw i (rw (e, n) at g)
 
 -- ---- the fields of a plan

@@ -1,24 +1,22 @@
--- Laws of types: of an expression, of the field that a part makes, of the first field asked for.
+-- Laws of types: of an expression, of the field that a part makes.
 -- Assumes nothing.
 use mathlib.Core.Path.{_≡_, refl, sym, ap, _∙_}
 use mathlib.Core.Bool.{Bool, true, false, cond, _&&_}
-use mathlib.Core.List.{List, [], _∷_}
+use mathlib.Core.List.{List}
 use Prim.Native.Nat.{ℕ, _-_, _*_}
 use native.Mathlib.Omega.{arith}
-use lib.Dec.{eqb, leb}
+use lib.Dec.{leb}
 use lib.ListN.{drop}
 use Rattle.image.specs.Tree.{Label, Forest, Linked, labelAt, Node, nodeOf}
 use Rattle.image.specs.Word.{word}
 use Rattle.image.proofs.Walking.{turn, ended}
-use Rattle.plan.specs.Lists.{_&_}
-use Rattle.plan.specs.Schema.{same}
 use Rattle.plan.specs.Kinds as K
 use Rattle.plan.specs.Kinds.{What, expr, plan, part, unknown, what, whatOf, exprW}
-use Rattle.plan.specs.Syntax.{Name, nm}
+use Rattle.plan.specs.Syntax.{nm}
 use Rattle.plan.proofs.Rebuilt.{kind-w, kind-e}
 use Rattle.names.specs.Fields.{Schema, typeIn, typeOf, typeBy, typeFirst}
-use Rattle.names.specs.Count.{hits, makes}
-use Rattle.names.specs.Typed.{typed, plainType, partType}
+use Rattle.names.specs.Count.{makes}
+use Rattle.names.specs.Typed.{plainType, partType}
 use Rattle.names.proofs.KindRanges.{expr-kind}
 use Rattle.names.proofs.Counting.{of-kind}
 
@@ -114,20 +112,3 @@ module _ (l : Label) (cs : Forest) (d : Schema) (v : Node) (same-kind : v .kind 
       go (part K.KeyPart) q m = let z : _≡_ {A = ℕ} 0 1 = cc in absurd (omega arith)
       go (part K.AggPart) q m = refl
       go (part K.WinPart) q m = refl
-
--- ---- the first field asked for
-
--- the question for qualifier and name is the definition's
-pub typed-name : (q n : ℕ) (s : Schema) → typed (hits 0 q n) s ≡ typeIn s (nm q n)
-unfolding typed typeIn _&_
-typed-name q n [] = refl
-typed-name q n (f ∷ s) = step (f .name) (typed-name q n s)
-  where
-    and : (a b : Bool) (x y : ℕ) → cond (a && b) x y ≡ cond (a & b) x y
-    and true true x y = refl
-    and true false x y = refl
-    and false b x y = refl
-
-    step : (x : Name) → typed (hits 0 q n) s ≡ typeIn s (nm q n)
-        → cond (hits 0 q n x) (f .ty) (typed (hits 0 q n) s) ≡ cond (same x (nm q n)) (f .ty) (typeIn s (nm q n))
-    step (nm r m) e = rw e (and (eqb r q) (eqb m n) (f .ty) (typeIn s (nm q n)))

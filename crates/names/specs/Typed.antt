@@ -1,16 +1,9 @@
--- The type of the first field that a question asks for.
-use mathlib.Core.Bool.{Bool, cond}
-use mathlib.Core.List.{[], _∷_}
+-- Types as the code tells them from one record.
 use Prim.Native.Nat.{ℕ}
 use Rattle.image.specs.Tree.{Label, Forest}
 use Rattle.plan.specs.Kinds.{What, expr, plan, part, unknown, ExprKind, Column, Integer, Boolean, Null, Binary, Not, Test, Between, InList}
 use Rattle.plan.specs.Kinds.{Function, PartKind, FieldPart, EntryPart, PairPart, KeyPart, AggPart, WinPart}
-use Rattle.plan.specs.Syntax.{Name}
 use Rattle.names.specs.Fields.{Schema, typeFirst}
-
-unfoldable pub typed : (Name → Bool) → Schema → ℕ
-typed h [] = 0
-typed h (f ∷ s) = cond (h (f .name)) (f .ty) (typed h s)
 
 -- the type of an expression that is no column
 abbrev pub plainE : ExprKind → ℕ → ℕ → ℕ

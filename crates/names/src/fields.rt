@@ -11,7 +11,7 @@ ghost use Rattle.image.specs.Places.{Chained};
 ghost use Rattle.names.specs.Fields.{Schema, made, inputs, typeOf};
 ghost use Rattle.names.specs.Count as Count;
 ghost use Rattle.names.specs.Count.{hit, hits, counted, input, makes, role, own, below};
-ghost use Rattle.names.specs.Typed.{plainType, partType, typed};
+ghost use Rattle.names.specs.Typed.{plainType, partType};
 ghost use Rattle.names.specs.Seek.{seek, told, typeFound, passedOf, partsOver, Planned};
 ghost use Rattle.plan.specs.Kinds.{what, whatOf};
 
@@ -359,20 +359,4 @@ pub fn holders(
     ensures { λ r. ⌜ ((f : Forest) → Linked f (now (s .entry)) base at → r ≡ counted (hits mode q n) (input skip (inputs f))) ⌝ }
 {
     passed(seek_field(s, base, at, skip, mode, q, n, ALL))
-}
-
-// The type of the first field asked for, as in `holders`; 0 for none.
-pub fn type_in(
-    s: &[u8],
-    base: usize,
-    at: usize,
-    skip: usize,
-    mode: usize,
-    q: usize,
-    n: usize,
-) -> usize
-    requires { ⌜ Chained (now s) base at ⌝ }
-    ensures { λ r. ⌜ ((f : Forest) → Linked f (now (s .entry)) base at → r ≡ typed (hits mode q n) (input skip (inputs f))) ⌝ }
-{
-    type_found(seek_field(s, base, at, skip, mode, q, n, 0))
 }
