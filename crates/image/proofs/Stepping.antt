@@ -5,8 +5,9 @@ use mathlib.Core.List.{List}
 use Prim.Native.Nat.{ℕ, _+_, _-_, _*_, _≤_, _<_}
 use native.Mathlib.Omega.{arith}
 use lib.ListN.{drop, length-drop}
-use Rattle.image.specs.Tree.{Label, Forest, node, size, link, Linked, Node, nodeOf}
-use Rattle.image.proofs.Walking.{turn, left, left-first, linked-first}
+use lib.Seq.{drop-drop}
+use Rattle.image.specs.Tree.{Label, Forest, none, node, size, link, Linked, Node, nodeOf}
+use Rattle.image.proofs.Walking.{turn, left, left-first, left-less, linked-first}
 
 -- f is linked at `at`, `part` begins there, and v is what was looked at:
 -- f's first label, the forests that v's links lead to, and that both are fewer bytes to walk
@@ -49,3 +50,20 @@ step f {s} {b} {at} {part} {v} h nz e g =
       next-number = u .number;
       down = omega (arith, left-first (u .here), u .bytes, length-drop (32 * (at - b)) s);
     })
+
+-- the children stand in the bytes that the record stands in, and are fewer
+module _ {f : Forest} {s : List ℕ} {b at : ℕ} {part : List ℕ} {v : Node} (w : Step f s b at part v) (e : part ≡ drop (32 * (at - b)) s) where
+  pub within-first : Linked (w .below) s b (v .first)
+  within-first = go (w .below) (w .first)
+    where
+      go : (g : Forest) → Linked g part at (v .first) → Linked g s b (v .first)
+      go none h = h
+      go (node l cs ns) h =
+          let k : 32 * (at - b) + 32 * (v .first - at) ≡ 32 * (v .first - b) = omega (arith, w .past) in
+          (omega (arith, w .past), rw (e, drop-drop, k) at (h .1))
+
+  pub less-first : Linked f s b at → (at ≡ 0 → ⊥) → left s b (v .first) < left s b at
+  less-first h z =
+      let u = turn f h z in
+      let k : at + 1 + 0 ≡ at + 1 = omega arith in
+      rw (w .first-number) (rw k at (left-less (w .below) s b at 0 (u .past) (u .fits)))

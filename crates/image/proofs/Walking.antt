@@ -80,7 +80,7 @@ left-pos s b zero h = absurd (omega arith)
 left-pos s b (suc n) h = refl
 
 -- past a record there is less
-left-less : (f : Forest) (s : List ℕ) (b at k : ℕ) → b < at → 32 * (at - b) + 32 ≤ length s
+pub left-less : (f : Forest) (s : List ℕ) (b at k : ℕ) → b < at → 32 * (at - b) + 32 ≤ length s
     → left s b (link (at + 1 + k) f) < left s b at
 left-less none s b at k h fits = rw (left-pos s b at (omega arith)) (omega arith)
 left-less (node l cs ns) s b at k h fits = rw (left-pos s b at (omega arith), left-pos s b (at + 1 + k) (omega arith)) (omega arith)

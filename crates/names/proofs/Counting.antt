@@ -1,18 +1,18 @@
 -- Laws of counting: what a part makes, what a plan has from its inputs, and that no count is more than the records.
 -- Assumes nothing.
-use mathlib.Core.Path.{_≡_, refl, sym, ap, subst, _∙_}
+use mathlib.Core.Path.{_≡_, refl, sym, ap, _∙_}
 use mathlib.Core.Bool.{Bool, true, false, cond, _&&_, _||_}
 use mathlib.Core.List.{List, [], _∷_, _++_, map}
 use Prim.Native.Nat.{ℕ, zero, suc, _+_, _-_, _*_, _≤_, _<_}
 use native.Mathlib.Omega.{arith}
 use lib.Dec.{eqb, leb}
 use lib.ListN.{length, drop, length-drop, length-append}
-use borrow.Author.Tests.{ne-eqb, le-leb, lt-leb, eqb-true, eqb-false}
+use borrow.Author.Tests.{le-leb, lt-leb, eqb-true, eqb-false}
 use Rattle.image.specs.Tree.{Label, Forest, none, node, size, Stands, Linked, Node}
 use Rattle.plan.specs.Kinds as K
 use Rattle.plan.specs.Kinds.{What, expr, plan, part, unknown, what, whatOf, planW}
 use Rattle.plan.specs.Syntax.{Name, nm}
-use Rattle.names.specs.Fields.{Schema, nameOf, made, madeBy, inputs, inputsBy, fieldsP, requalify, joinFields, first, second}
+use Rattle.names.specs.Fields.{Schema, made, madeBy, inputs, inputsBy, fieldsP, requalify, joinFields, first, second}
 use Rattle.plan.proofs.Rebuilt.{kind-p, kind-w}
 use Rattle.image.proofs.Stepping.{Step}
 use Rattle.names.proofs.KindRanges.{plan-kind}

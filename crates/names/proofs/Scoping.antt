@@ -6,7 +6,7 @@ use mathlib.Core.List.{List, [], _∷_, _++_}
 use Prim.Native.Nat.{ℕ, suc, _+_, _*_, _≤_}
 use native.Mathlib.Omega.{arith}
 use lib.Dec.{eqb, leb}
-use borrow.Author.Tests.{eq-eqb, ne-eqb, eqb-true}
+use borrow.Author.Tests.{ne-eqb, eqb-true}
 use lib.ListN.{length, length-append}
 use Rattle.image.specs.Tree.{Label, Forest, Linked, Node}
 use Rattle.plan.specs.Lists.{_&_}
@@ -25,7 +25,7 @@ use Rattle.names.specs.Seek.{seek, told, typeFound, passedOf, allPlaces}
 use Rattle.names.specs.declared.fields.Sought.{Sought}
 use Rattle.names.specs.declared.fields.Sought.the-variants.{Known, Named, Left}
 use Rattle.names.proofs.Seeking.{onward, seek-++, seek-name, seek-passed, told-same, type-told, passed-told}
-use Rattle.names.proofs.Counting.{input-0, input-1, of-kind, counted-++, counted-le, enough, linked-size, total, total-input, total-two}
+use Rattle.names.proofs.Counting.{input-0, input-1, of-kind, counted-le, enough, linked-size, total, total-input, total-two}
 use Rattle.names.specs.Scopes.{scopeOf, sortP, sortW, firstSort, restSort}
 
 -- ---- counting

@@ -5,14 +5,14 @@
 --     by-parts, by-stop, on-right, on-parts           the fields of a plan by its role
 -- Assumes nothing.
 use mathlib.Core.Path.{_≡_, refl, sym, ap, subst, _∙_}
-use mathlib.Core.Bool.{Bool, true, false, cond, _&&_}
+use mathlib.Core.Bool.{Bool, true, false, cond, _&&_, _||_}
 use mathlib.Core.List.{List, [], _∷_, _++_, map}
 use Prim.Native.Nat.{ℕ, zero, suc, _+_, _-_, _≤_, _<_}
 use native.Mathlib.Omega.{arith}
 use lib.Dec.{eqb, leb}
 use lib.ListN.{length, drop}
-use borrow.Author.Tests.{eq-eqb, ne-eqb, le-leb, lt-leb, eqb-true, eqb-false, leb-true, leb-false}
-use Rattle.image.specs.Tree.{Label, Forest, none, node, Linked, Node}
+use borrow.Author.Tests.{eq-eqb, ne-eqb, le-leb, eqb-true, eqb-false, leb-true, leb-false}
+use Rattle.image.specs.Tree.{Label, Forest, none, Linked, Node}
 use Rattle.image.proofs.Walking.{left, ended}
 use Rattle.image.proofs.Stepping.{Step}
 use Rattle.plan.specs.Kinds as K
@@ -23,7 +23,7 @@ use Rattle.plan.specs.Syntax.{Name, nm}
 use Rattle.names.specs.Fields.{Schema, nameOf, made, madeBy, inputs, fieldsP, requalify, typeIn}
 use Rattle.names.specs.Count.{hits, hit, counted, input, makes, role, roleP, own, below}
 use Rattle.names.specs.Typed.{partType}
-use Rattle.names.specs.Seek.{seek, told, typeFound, allPlaces, passedOf, partsOver, Begins, Planned}
+use Rattle.names.specs.Seek.{seek, told, typeFound, allPlaces, passedOf, partsOver, Begins, Planned, Makes}
 use Rattle.names.specs.declared.fields.Sought.{Sought}
 use Rattle.names.specs.declared.fields.Sought.the-variants.{Known, Named, Left}
 use Rattle.names.proofs.Counting.{renamed-one, input-0, base, of-plan, here, few-made, few-held}
@@ -406,3 +406,53 @@ module _ {f : Forest} {s : List ℕ} {b at : ℕ} {part : List ℕ} {v : Node} (
 
     pub on-parts : r ≡ 4 → seek (hits mode q n) j partsOf ≡ seek (hits mode q n) k (input 0 (inputs f))
     on-parts g = ap (λ (t : Sought). onward t (λ i. seek (hits mode q n) i partsOf)) e ∙ by-more g
+
+-- ---- the plan that is asked
+
+-- the plan with the place itself
+pub makes-start : {f : Forest} {s : List ℕ} {b at i r : ℕ} (mode q : ℕ) → Planned f s b at i r → Makes f s b at i mode q r mode
+makes-start mode q y =
+    record {
+      forest = y .forest;
+      linked = y .linked;
+      begins = y .begins;
+      same = λ n k. ap (seek (hits mode q n) k) (plan-fields y);
+      less = y .less;
+    }
+
+-- there is none
+pub makes-none : {f : Forest} {s : List ℕ} {b at i mode q r m : ℕ} (n k : ℕ) → Makes f s b at i mode q r m → r ≡ 0
+    → Left k ≡ seek (hits mode q n) k (input i (inputs f))
+unfolding input inputs
+makes-none {q = q} {r} {m} n k y z =
+    sym (seek-none (hits m q n) k _ (ap (λ (g : Forest). input 0 (inputs g)) (ended (y .forest) _ _ r (y .linked) z))) ∙ y .same n k
+
+pub makes-end : {f : Forest} {s : List ℕ} {b at i mode q r m : ℕ} → Makes f s b at i mode q r m → r ≡ 0 → Makes f s b at i mode q 0 m
+makes-end {f} {s} {b} {at} {i} {mode} {q} {r} {m} y z = subst (λ (n : ℕ). Makes f s b at i mode q n m) z y
+
+-- past a plan that has one input's fields and no others
+pub makes-step : {f : Forest} {s : List ℕ} {b at i mode q r m : ℕ} {part : List ℕ} {v : Node} (y : Makes f s b at i mode q r m)
+    (w : Step (y .forest) s b r part v) (x : ℕ) → x ≡ role (whatOf (v .kind))
+    → (x ≡ 1 → ⊥) → (x ≡ 4 → ⊥) → (eqb x 2 && leb (v .p) 4) ≡ false → {o u j : ℕ} → o ≡ below x (v .p) m q → u ≡ own x (v .p)
+    → Planned (w .below) s b (v .first) u j → left s b (v .first) < left s b r → Makes f s b at i mode q j o
+makes-step {q = q} {m = m} y w x X a d g O U z l =
+    record {
+      forest = z .forest;
+      linked = z .linked;
+      begins = z .begins;
+      same = λ n k.
+          rw O (ap (seek (hits (below x _ m q) q n) k) (plan-fields z ∙ ap (λ (e : ℕ). input e (inputs (w .below))) U)
+          ∙ by-asked w x X m q n k (is-plan w X (y .begins)) a g d ∙ y .same n k);
+      less = omega (arith, z .less, l, y .less);
+    }
+
+-- the code's test of such a plan
+pub passes-on : (r p : ℕ) → ((eqb r 1 || eqb r 4) || (eqb r 2 && leb p 4)) ≡ false
+    → (r ≡ 1 → ⊥) × (r ≡ 4 → ⊥) × ((eqb r 2 && leb p 4) ≡ false)
+passes-on r p h = go (eqb r 1) refl (eqb r 4) refl h
+  where
+    go : (a : Bool) → eqb r 1 ≡ a → (b : Bool) → eqb r 4 ≡ b → ((a || b) || (eqb r 2 && leb p 4)) ≡ false
+        → (r ≡ 1 → ⊥) × (r ≡ 4 → ⊥) × ((eqb r 2 && leb p 4) ≡ false)
+    go false e false g k = (eqb-false r 1 e, eqb-false r 4 g, k)
+    go false e true g k = let z : _≡_ {A = ℕ} 0 1 = cc in absurd (omega arith)
+    go true e b g k = let z : _≡_ {A = ℕ} 0 1 = cc in absurd (omega arith)

@@ -10,7 +10,7 @@ use Rattle.image.proofs.Walking.{left}
 use Rattle.plan.specs.Kinds.{what}
 use Rattle.plan.specs.Syntax.{Name, nm}
 use Rattle.names.specs.Fields.{Schema, inputs, typeIn}
-use Rattle.names.specs.Count.{input, role}
+use Rattle.names.specs.Count.{hits, input, role}
 use Rattle.names.specs.declared.fields.Sought.{Sought}
 use Rattle.names.specs.declared.fields.Sought.the-variants.{Known, Named, Left}
 
@@ -56,4 +56,12 @@ pub record Planned (f : Forest) (s : List ℕ) (b at skip r : ℕ) : Type 0 wher
   pub linked : Linked forest s b r
   pub begins : Begins forest
   pub plans : drop skip (inputs f) ≡ inputs forest
+  pub less : left s b r ≤ left s b at
+
+-- the trees at r begin with the plan that is asked, by the question m, for the fields of f's plan with the place `skip`
+pub record Makes (f : Forest) (s : List ℕ) (b at skip mode q r m : ℕ) : Type 0 where
+  pub forest : Forest
+  pub linked : Linked forest s b r
+  pub begins : Begins forest
+  pub same : (n k : ℕ) → seek (hits m q n) k (input 0 (inputs forest)) ≡ seek (hits mode q n) k (input skip (inputs f))
   pub less : left s b r ≤ left s b at

@@ -12,7 +12,7 @@ ghost use Rattle.names.specs.Fields.{Schema, made, inputs, typeOf};
 ghost use Rattle.names.specs.Count as Count;
 ghost use Rattle.names.specs.Count.{hit, hits, counted, input, makes, role, own, below};
 ghost use Rattle.names.specs.Typed.{plainType, partType};
-ghost use Rattle.names.specs.Seek.{seek, told, typeFound, passedOf, partsOver, Planned};
+ghost use Rattle.names.specs.Seek.{seek, told, typeFound, passedOf, partsOver, Planned, Makes};
 ghost use Rattle.plan.specs.Kinds.{what, whatOf};
 
 // Whether the qualifiers do not tell two fields of one name apart: they are the same, or one is none.
@@ -238,6 +238,35 @@ pub fn plan_at(s: &[u8], base: usize, at: usize, skip: usize) -> usize
     0
 }
 
+// The plan that is asked for fields, or 0, and the question that is put to it.
+pub struct Maker {
+    pub at: usize,
+    pub mode: usize,
+}
+
+// Past the plans that have the fields of one input and no others: the plan to ask for those of the one with the place `skip` among the trees
+// from record `at` on.
+fn find_maker(s: &[u8], base: usize, at: usize, skip: usize, mode: usize, q: usize) -> Maker
+    requires { ⌜ Chained (now s) base at ⌝ }
+    ensures { λ x. ⌜ ((f : Forest) → Linked f (now (s .entry)) base at → Makes f (now (s .entry)) base at skip mode q (x .at) (x .mode)) ⌝ }
+{
+    let mut asked = mode;
+    let mut here = plan_at(s, base, at, skip);
+    while here != 0 {
+        let v = look(from_record(s, base, here));
+        let role = role_of(v.kind);
+        if (role == 1) | (role == 4) | ((role == 2) & (v.p <= 4)) {
+            return Maker {
+                at: here,
+                mode: asked,
+            };
+        }
+        asked = question(role, v.p, asked, q);
+        here = plan_at(s, base, v.first, own_input(role, v.p));
+    }
+    Maker { at: 0, mode: asked }
+}
+
 // The type that a search found; 0 for none.
 pub fn type_found(x: Sought) -> usize
     ensures { λ t. ⌜ t ≡ typeFound x ⌝ }
@@ -264,7 +293,9 @@ pub fn seek_field(
     requires { ⌜ Chained (now s) base at ⌝ }
     ensures { λ x. ⌜ ((f : Forest) → Linked f (now (s .entry)) base at → x ≡ seek (hits mode q n) k (input skip (inputs f))) ⌝ }
 {
-    let here = plan_at(s, base, at, skip);
+    let x = find_maker(s, base, at, skip, mode, q);
+    let here = x.at;
+    let asked = x.mode;
     if here == 0 {
         return Sought::Left(k);
     }
@@ -272,14 +303,14 @@ pub fn seek_field(
     let v = look(part);
     let role = role_of(v.kind);
     if role == 1 {
-        return seek_parts(part, here, v.first, v.kind, mode, q, n, k);
+        return seek_parts(part, here, v.first, v.kind, asked, q, n, k);
     }
     let under = seek_field(
         part,
         here,
         v.first,
         own_input(role, v.p),
-        question(role, v.p, mode, q),
+        question(role, v.p, asked, q),
         q,
         n,
         k,
@@ -289,10 +320,10 @@ pub fn seek_field(
         Sought::Named(a, b) => Sought::Named(a, b),
         Sought::Left(j) => {
             if (role == 2) & (v.p <= 4) {
-                return seek_field(part, here, v.first, 1, mode, q, n, j);
+                return seek_field(part, here, v.first, 1, asked, q, n, j);
             }
             if role == 4 {
-                return seek_parts(part, here, v.first, v.kind, mode, q, n, j);
+                return seek_parts(part, here, v.first, v.kind, asked, q, n, j);
             }
             Sought::Left(j)
         }

@@ -20,7 +20,7 @@ use Rattle.plan.proofs.Lists.{and-intro, and-l, and-r}
 use Rattle.plan.specs.Kinds.{whatOf}
 use Rattle.plan.specs.Syntax.{Name, nm}
 use Rattle.acceptance.specs.Types.{same-types}
-use Rattle.names.specs.Fields.{Fld, Schema, inputs}
+use Rattle.names.specs.Fields.{Schema, inputs}
 use Rattle.names.specs.Rules.{typesIn, united}
 use Rattle.names.specs.Count.{hits, counted, input, role}
 use Rattle.names.specs.Seek.{seek, typeFound, Planned}

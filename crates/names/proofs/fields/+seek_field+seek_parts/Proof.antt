@@ -1,14 +1,12 @@
 -- The cycle of `fields::seek_field` and `fields::seek_parts`. The measure of both is how many bytes are left, twice, and one more for the parts.
-use mathlib.Core.Path.{_≡_, refl, sym, ap, _∙_}
+use mathlib.Core.Path.{refl, sym, ap, _∙_}
 use native.Mathlib.Omega.{arith}
 use borrow.Author.Needs.{needs}
 use Rattle.image.proofs.Walking.{left}
 use Rattle.image.proofs.Stepping.{step}
 use Rattle.image.proofs.Along.{within, whole}
-use Rattle.names.specs.Seek.{seek, told, partsOver}
-use Rattle.names.specs.Count.{hits}
-use Rattle.names.specs.declared.fields.Sought.the-variants.{Known, Named, Left}
-use Rattle.names.proofs.Seeking.{plan-missing, plan-fields, is-plan, by-parts, by-asked, by-stop, on-right, on-parts, asked, named-none, named-some}
+use Rattle.names.specs.Seek.{told}
+use Rattle.names.proofs.Seeking.{makes-none, is-plan, by-parts, by-asked, by-stop, on-right, on-parts, named-none, named-some}
 use Prim.Native.Nat.{ℕ, _<_, _+_}
 use borrow.Fn.Kinds.{In}
 use borrow.Fn.PlainCycle.{Measures, is, falls, and}
@@ -21,7 +19,7 @@ use Rattle.names.proofs.fields.+seek_field+seek_parts.Lts-seek_parts as
 use Rattle.image.proofs.records.from_record.Reads as from-record-reads
 use Rattle.image.proofs.records.look.Reads as look-reads
 use Rattle.names.proofs.fields.own_input.Reads as own-input-reads
-use Rattle.names.proofs.fields.plan_at.Reads as plan-at-reads
+use Rattle.names.proofs.fields.find_maker.Reads as find-maker-reads
 use Rattle.names.proofs.fields.question.Reads as question-reads
 use Rattle.names.proofs.fields.role_of.Reads as role-of-reads
 use Rattle.names.proofs.fields.seek_made.Reads as seek-made-reads
@@ -53,8 +51,8 @@ seek-parts-below t =
 
 pub +seek-field+seek-parts-spec : {M : Type 1} → statement M
 +seek-field+seek-parts-spec = close μ-seek-field μ-seek-parts (λ t. seek-field-lts.spec (
-  plan-at-reads.Asked,
-  plan-at-reads.Learnt,
+  find-maker-reads.Asked,
+  find-maker-reads.Learnt,
   from-record-reads.Asked,
   from-record-reads.Learnt,
   look-reads.Asked,
@@ -73,54 +71,54 @@ pub +seek-field+seek-parts-spec : {M : Type 1} → statement M
     (seek-field-at t)
     seek-field.Post
     (λ c κs. c .before .pre .1)
-    (λ c f h. plan-missing _ _ _ (c .before .plan-at .ensures f h) (c .if1 .taken))
-    (λ c κs. let p = c .before .before .before .pre .1 in let y = c .before .plan-at .ensures (p .forest) (p .linked) in
+    (λ c f h. makes-none _ _ (c .before .find-maker .ensures f h) (c .if1 .taken))
+    (λ c κs. let p = c .before .before .before .pre .1 in let y = c .before .find-maker .ensures (p .forest) (p .linked) in
     within (record { forest = y .forest; linked = y .linked }) (c .if1 .left))
-    (λ c κs. let p = c .before .before .before .before .pre .1 in let y = c .before .before .plan-at .ensures (p .forest) (p .linked) in
+    (λ c κs. let p = c .before .before .before .before .pre .1 in let y = c .before .before .find-maker .ensures (p .forest) (p .linked) in
     whole (record { forest = y .forest; linked = y .linked }) (c .before .if1 .left) (c .from-record .ensures))
     (λ c κs. tt)
-    (λ c κs. let p = c .before .before .before .before .before .before .before .pre .1 in let y = c .before .before .before .before .before .plan-at .ensures (p .forest) (p .linked) in
+    (λ c κs. let p = c .before .before .before .before .before .before .before .pre .1 in let y = c .before .before .before .before .before .find-maker .ensures (p .forest) (p .linked) in
     let w = step (y .forest) (y .linked) (c .before .before .before .before .if1 .left) (c .before .before .before .from-record .ensures) (c .before .before .look .ensures) in (omega (arith, w .down, y .less), record { forest = w .below; linked = w .first }))
-    (λ c f h. let y = c .before .before .before .before .before .before .plan-at .ensures f h in
+    (λ c f h. let y = c .before .before .before .before .before .before .find-maker .ensures f h in
     let w = step (y .forest) (y .linked) (c .before .before .before .before .before .if1 .left) (c .before .before .before .before .from-record .ensures) (c .before .before .before .look .ensures) in
     c .seek-parts .ensures (w .below) (w .first) ∙ by-parts w _ (c .before .before .role-of .ensures) _ _ _ _ (c .before .if2 .taken)
-    ∙ ap (seek _ _) (plan-fields y))
+    ∙ y .same _ _)
     (λ c κs. tt)
     (λ c κs. tt)
-    (λ c κs. let p = c .before .before .before .before .before .before .before .before .before .pre .1 in let y = c .before .before .before .before .before .before .before .plan-at .ensures (p .forest) (p .linked) in
+    (λ c κs. let p = c .before .before .before .before .before .before .before .before .before .pre .1 in let y = c .before .before .before .before .before .before .before .find-maker .ensures (p .forest) (p .linked) in
     let w = step (y .forest) (y .linked) (c .before .before .before .before .before .before .if1 .left) (c .before .before .before .before .before .from-record .ensures) (c .before .before .before .before .look .ensures) in (omega (arith, w .down, y .less), record { forest = w .below; linked = w .first }))
     (λ c. search needs)
     (λ c. search needs)
     (λ c. search needs)
-    (λ c κs. let p = c .before .before .before .before .before .before .before .before .before .before .before .before .before .before .before .pre .1 in let y = c .before .before .before .before .before .before .before .before .before .before .before .before .before .plan-at .ensures (p .forest) (p .linked) in
+    (λ c κs. let p = c .before .before .before .before .before .before .before .before .before .before .before .before .before .before .before .pre .1 in let y = c .before .before .before .before .before .before .before .before .before .before .before .before .before .find-maker .ensures (p .forest) (p .linked) in
     let w = step (y .forest) (y .linked) (c .before .before .before .before .before .before .before .before .before .before .before .before .if1 .left) (c .before .before .before .before .before .before .before .before .before .before .before .from-record .ensures) (c .before .before .before .before .before .before .before .before .before .before .look .ensures) in (omega (arith, w .down, y .less), record { forest = w .below; linked = w .first }))
-    (λ c f h. let y = c .before .before .before .before .before .before .before .before .before .before .before .before .before .before .plan-at .ensures f h in
+    (λ c f h. let y = c .before .before .before .before .before .before .before .before .before .before .before .before .before .before .find-maker .ensures f h in
     let w = step (y .forest) (y .linked) (c .before .before .before .before .before .before .before .before .before .before .before .before .before .if1 .left) (c .before .before .before .before .before .before .before .before .before .before .before .before .from-record .ensures) (c .before .before .before .before .before .before .before .before .before .before .before .look .ensures) in
     c .seek-field2 .ensures (w .below) (w .first)
     ∙ on-right w _ (c .before .before .before .before .before .before .before .before .before .before .role-of .ensures) _ _ _ _ (sym (c .before .before .before .before .under3 .given .1) ∙ (rw (c .before .before .before .before .before .before .before .question .ensures, c .before .before .before .before .before .before .before .before .own-input .ensures) at (c .before .before .before .before .before .before .seek-field .ensures (w .below) (w .first)))) (c .before .if3 .taken)
-    ∙ ap (seek _ _) (plan-fields y))
-    (λ c κs. let p = c .before .before .before .before .before .before .before .before .before .before .before .before .before .before .before .before .pre .1 in let y = c .before .before .before .before .before .before .before .before .before .before .before .before .before .before .plan-at .ensures (p .forest) (p .linked) in
+    ∙ y .same _ _)
+    (λ c κs. let p = c .before .before .before .before .before .before .before .before .before .before .before .before .before .before .before .before .pre .1 in let y = c .before .before .before .before .before .before .before .before .before .before .before .before .before .before .find-maker .ensures (p .forest) (p .linked) in
     let w = step (y .forest) (y .linked) (c .before .before .before .before .before .before .before .before .before .before .before .before .before .if1 .left) (c .before .before .before .before .before .before .before .before .before .before .before .before .from-record .ensures) (c .before .before .before .before .before .before .before .before .before .before .before .look .ensures) in (omega (arith, w .down, y .less), record { forest = w .below; linked = w .first }))
-    (λ c f h. let y = c .before .before .before .before .before .before .before .before .before .before .before .before .before .before .before .plan-at .ensures f h in
+    (λ c f h. let y = c .before .before .before .before .before .before .before .before .before .before .before .before .before .before .before .find-maker .ensures f h in
     let w = step (y .forest) (y .linked) (c .before .before .before .before .before .before .before .before .before .before .before .before .before .before .if1 .left) (c .before .before .before .before .before .before .before .before .before .before .before .before .before .from-record .ensures) (c .before .before .before .before .before .before .before .before .before .before .before .before .look .ensures) in
     c .seek-parts2 .ensures (w .below) (w .first)
     ∙ on-parts w _ (c .before .before .before .before .before .before .before .before .before .before .before .role-of .ensures) _ _ _ _ (sym (c .before .before .before .before .before .under3 .given .1) ∙ (rw (c .before .before .before .before .before .before .before .before .question .ensures, c .before .before .before .before .before .before .before .before .before .own-input .ensures) at (c .before .before .before .before .before .before .before .seek-field .ensures (w .below) (w .first)))) (c .before .if4 .taken)
-    ∙ ap (seek _ _) (plan-fields y))
-    (λ c f h. let y = c .before .before .before .before .before .before .before .before .before .before .before .plan-at .ensures f h in
+    ∙ y .same _ _)
+    (λ c f h. let y = c .before .before .before .before .before .before .before .before .before .before .before .find-maker .ensures f h in
     let w = step (y .forest) (y .linked) (c .before .before .before .before .before .before .before .before .before .before .if1 .left) (c .before .before .before .before .before .before .before .before .before .from-record .ensures) (c .before .before .before .before .before .before .before .before .look .ensures) in
     by-stop w _ (c .before .before .before .before .before .before .before .role-of .ensures) _ _ _ _ (is-plan w (c .before .before .before .before .before .before .before .role-of .ensures) (y .begins)) (c .before .before .before .before .before .before .if2 .left) _
     (sym (c .before .under .given .1) ∙ (rw (c .before .before .before .before .question .ensures, c .before .before .before .before .before .own-input .ensures) at (c .before .before .before .seek-field .ensures (w .below) (w .first)))) (λ g. refl)
-    ∙ ap (seek _ _) (plan-fields y))
-    (λ c f h. let y = c .before .before .before .before .before .before .before .before .before .before .before .plan-at .ensures f h in
+    ∙ y .same _ _)
+    (λ c f h. let y = c .before .before .before .before .before .before .before .before .before .before .before .find-maker .ensures f h in
     let w = step (y .forest) (y .linked) (c .before .before .before .before .before .before .before .before .before .before .if1 .left) (c .before .before .before .before .before .before .before .before .before .from-record .ensures) (c .before .before .before .before .before .before .before .before .look .ensures) in
     by-stop w _ (c .before .before .before .before .before .before .before .role-of .ensures) _ _ _ _ (is-plan w (c .before .before .before .before .before .before .before .role-of .ensures) (y .begins)) (c .before .before .before .before .before .before .if2 .left) _
     (sym (c .before .under2 .given .1) ∙ (rw (c .before .before .before .before .question .ensures, c .before .before .before .before .before .own-input .ensures) at (c .before .before .before .seek-field .ensures (w .below) (w .first)))) (λ g. refl)
-    ∙ ap (seek _ _) (plan-fields y))
-    (λ c f h. let y = c .before .before .before .before .before .before .before .before .before .before .before .before .before .before .plan-at .ensures f h in
+    ∙ y .same _ _)
+    (λ c f h. let y = c .before .before .before .before .before .before .before .before .before .before .before .before .before .before .find-maker .ensures f h in
     let w = step (y .forest) (y .linked) (c .before .before .before .before .before .before .before .before .before .before .before .before .before .if1 .left) (c .before .before .before .before .before .before .before .before .before .before .before .before .from-record .ensures) (c .before .before .before .before .before .before .before .before .before .before .before .look .ensures) in
     sym (c .before .before .before .before .under3 .given .1) ∙ (rw (c .before .before .before .before .before .before .before .question .ensures, c .before .before .before .before .before .before .before .before .own-input .ensures) at (c .before .before .before .before .before .before .seek-field .ensures (w .below) (w .first)))
     ∙ by-asked w _ (c .before .before .before .before .before .before .before .before .before .before .role-of .ensures) _ _ _ _ (is-plan w (c .before .before .before .before .before .before .before .before .before .before .role-of .ensures) (y .begins)) (c .before .before .before .before .before .before .before .before .before .if2 .left) (c .before .if3 .left) (c .if4 .left)
-    ∙ ap (seek _ _) (plan-fields y)))
+    ∙ y .same _ _))
     λ t. seek-parts-lts.spec (
       seek-made-reads.Asked,
       seek-made-reads.Learnt,

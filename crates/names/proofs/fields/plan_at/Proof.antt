@@ -1,5 +1,5 @@
 -- `fields::plan_at` meets its contract. The loop's invariant: the plan sought is among the trees still to come.
-use mathlib.Core.Path.{refl, subst, sym, ap, _∙_}
+use mathlib.Core.Path.{refl, ap, _∙_}
 use native.Mathlib.Omega.{arith}
 use borrow.Author.Needs.{needs}
 use Prim.Native.Nat.{ℕ}

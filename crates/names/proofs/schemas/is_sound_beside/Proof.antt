@@ -1,7 +1,5 @@
 -- `schemas::is_sound_beside` meets its contract: the fields are counted, and then those of the other input told apart.
-use mathlib.Core.Path.{refl, subst, sym, _∙_}
-use mathlib.Core.Bool.{true}
-use Prim.Native.Nat.{ℕ}
+use mathlib.Core.Path.{refl, _∙_}
 use native.Mathlib.Omega.{arith}
 use borrow.Author.Needs.{needs}
 use Rattle.plan.specs.Kinds.{Join}

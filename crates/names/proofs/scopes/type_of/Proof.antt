@@ -1,9 +1,6 @@
 -- `scopes::type_of` meets its contract.
-use mathlib.Core.Path.{_≡_, sym, ap, _∙_}
-use Prim.Native.Nat.{ℕ}
-use native.Mathlib.Omega.{arith}
+use mathlib.Core.Path.{_∙_}
 use borrow.Author.Needs.{needs}
-use Rattle.names.specs.Seek.{told, typeFound}
 use Rattle.names.proofs.Scoping.{type-name, type-known, type-named, type-left}
 use Rattle.names.proofs.scopes.type_of.Statement.{statement}
 use Rattle.names.proofs.scopes.type_of.Tie as tie
