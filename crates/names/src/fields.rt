@@ -278,8 +278,8 @@ pub fn type_found(x: Sought) -> usize
     }
 }
 
-// Of the fields asked for of the plan with the place `skip` among the trees from record `at` on, the one with the place k. Each record is asked
-// once: where an input has it not, the search goes on with what is left to pass.
+// Of the fields asked for of the plan with the place `skip` among the trees from record `at` on, the one with the place k. No plan is
+// gone into twice: where an input has it not, the search goes on with what is left to pass.
 pub fn seek_field(
     s: &[u8],
     base: usize,
