@@ -60,6 +60,11 @@ fn tree(kind: u32, p: u32, q: u32, r: u32, children: Vec<Tree>) -> Tree {
     Tree { label: Label { kind, p, q, r, lo: 0, hi: 0 }, children }
 }
 
+/// A record that uses p alone, with its children.
+pub fn of_children(kind: u32, p: u32, children: Vec<Tree>) -> Tree {
+    tree(kind, p, 0, 0, children)
+}
+
 pub fn column(qualifier: u32, name: u32) -> Tree {
     tree(COLUMN, qualifier, name, 0, vec![])
 }

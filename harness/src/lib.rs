@@ -7,7 +7,9 @@ pub mod ffi;
 pub mod image;
 pub mod kinds;
 pub mod random;
+pub mod rewriting;
 pub mod sets;
+pub mod source;
 pub mod sweeps;
 pub mod terms;
 
