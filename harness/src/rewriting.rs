@@ -51,9 +51,7 @@ pub fn handed_back(answer: &Answer, room: usize) -> (Rewritten, Vec<u8>) {
     let too_short = Verdict { number: 12, record: 0 };
     match answer {
         Answer::Granted { flag, plan } => match in_room(plan, room) {
-            Some((records, output)) => {
-                (Rewritten { number: 0, record: 0, flag: u32::from(*flag), records }, output)
-            }
+            Some((records, output)) => (Rewritten { number: 0, record: 0, flag: u32::from(*flag), records }, output),
             None => refusal(too_short, room),
         },
         Answer::Refused(verdict) => refusal(*verdict, room),
@@ -110,9 +108,7 @@ pub enum PassAnswer {
 pub fn pass(build: Build, plan: &Tree, budget: u32) -> PassAnswer {
     let mut walk = Walk { build, plan: plan.clone(), budget, visits: 0, changed: 0 };
     match walk.visit(0) {
-        Ok(finished) => {
-            PassAnswer::Passed { visits: walk.visits, changed: walk.changed, finished, plan: walk.plan }
-        }
+        Ok(finished) => PassAnswer::Passed { visits: walk.visits, changed: walk.changed, finished, plan: walk.plan },
         Err(refusal) => PassAnswer::Refused(refusal),
     }
 }

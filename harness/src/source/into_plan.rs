@@ -75,9 +75,10 @@ pub struct Marked {
 impl Marked {
     fn takes(&self, predicate: &Expr) -> TableProviderFilterPushDown {
         let is_marked = |column: &&Column| {
-            self.fields.iter().map(|field| field.label).any(|Label { p, q, lo, .. }| {
-                relation(p) == column.relation && name(q) == column.name && lo == 1
-            })
+            self.fields
+                .iter()
+                .map(|field| field.label)
+                .any(|Label { p, q, lo, .. }| relation(p) == column.relation && name(q) == column.name && lo == 1)
         };
         let columns = predicate.column_refs();
         match !columns.is_empty() && columns.iter().all(is_marked) {

@@ -37,13 +37,18 @@ fn column_value(column: &Column, schema: &DFSchema) -> Result<ScalarValue> {
 }
 
 fn value(expr: &Expr, schema: &DFSchema) -> Result<ScalarValue> {
-    let operands: Vec<ScalarValue> = expr.children().into_iter().map(|child| value(child, schema)).collect::<Result<_>>()?;
+    let operands: Vec<ScalarValue> =
+        expr.children().into_iter().map(|child| value(child, schema)).collect::<Result<_>>()?;
     let truth = |value: Option<bool>| Ok(ScalarValue::Boolean(value));
     match expr {
         Expr::Column(column) => column_value(column, schema),
         Expr::Literal(value, _) => Ok(value.clone()),
-        Expr::BinaryExpr(BinaryExpr { op: Operator::And, .. }) => truth(and(is_true(&operands[0]), is_true(&operands[1]))),
-        Expr::BinaryExpr(BinaryExpr { op: Operator::Or, .. }) => truth(or(is_true(&operands[0]), is_true(&operands[1]))),
+        Expr::BinaryExpr(BinaryExpr { op: Operator::And, .. }) => {
+            truth(and(is_true(&operands[0]), is_true(&operands[1])))
+        }
+        Expr::BinaryExpr(BinaryExpr { op: Operator::Or, .. }) => {
+            truth(or(is_true(&operands[0]), is_true(&operands[1])))
+        }
         Expr::BinaryExpr(BinaryExpr { op, .. }) => truth(compared(*op, &operands[0], &operands[1])?),
         Expr::Not(_) => truth(is_true(&operands[0]).map(|value| !value)),
         Expr::IsNull(_) => truth(Some(operands[0].is_null())),

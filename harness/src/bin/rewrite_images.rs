@@ -1,0 +1,267 @@
+//! Runs rewrites of random plans through the source, unchanged and with D1 to D5, and, with the feature `rewrite`, through
+//! the exported function. Every plan is rewritten at every record, present or not. Compared are
+//! - the unchanged source with the patched one: a difference must be one of D1 to D5, and with all five switched off there
+//!   must be none;
+//! - the patched source with the exported function: number, record, flag, records and every byte of the output;
+//! - the rows of a plan without volatile functions before and after each rewrite, and after a pass, over small tables.
+//!
+//! Options: --plans N --seed S. Stops at the first difference, prints the plan as hex, and exits non-zero.
+
+use harness::checker::{check, Verdict};
+use harness::differences::grounds;
+use harness::ffi;
+use harness::image::{to_hex, Tree, RECORD_BYTES};
+use harness::kinds::{is_plan, FILTER, FUNCTION, JOIN};
+use harness::limits::RECORDS;
+use harness::meaning::{Row, World};
+use harness::random::Random;
+use harness::rewrites::{case, Case};
+use harness::rewriting::{handed_back, pass, rewrite_at, Answer, PassAnswer};
+use harness::source::{Build, Switches, ALL, NONE};
+use std::collections::BTreeMap;
+use std::fmt::Display;
+use std::process::ExitCode;
+use std::time::Instant;
+
+/// A plan's rows are compared over so many worlds of tables and functions.
+const WORLDS: usize = 2;
+
+struct Options {
+    plans: u64,
+    seed: u64,
+}
+
+/// What ran, by sort.
+#[derive(Default)]
+struct Counts {
+    families: BTreeMap<&'static str, u64>,
+    not_accepted: u64,
+    calls: u64,
+    nodes: BTreeMap<String, u64>,
+    numbers: BTreeMap<u32, u64>,
+    flags: u64,
+    changed: u64,
+    differences: BTreeMap<String, u64>,
+    exported: u64,
+    passes: u64,
+    rows: RowCounts,
+}
+
+#[derive(Default)]
+struct RowCounts {
+    compared: u64,
+    not_empty: u64,
+    too_many: u64,
+}
+
+fn main() -> ExitCode {
+    let Some(options) = options() else {
+        eprintln!("usage: rewrite_images [--plans N] [--seed S]");
+        return ExitCode::FAILURE;
+    };
+    let exported = if ffi::REWRITES { ", and the exported rewrite" } else { "; the exported rewrite is not linked" };
+    println!(
+        "running the source, unchanged and with D1 to D5{exported}: seed {}, {} plans",
+        options.seed, options.plans
+    );
+    let start = Instant::now();
+    let mut counts = Counts::default();
+    for number in 0..options.plans {
+        if let Err(difference) = compare_plan(&options, number, &mut counts) {
+            println!("plan {number}: {difference}");
+            return ExitCode::FAILURE;
+        }
+    }
+    print(&counts);
+    println!("all: {} rewrites of {} plans, {:.1} s", counts.calls, options.plans, start.elapsed().as_secs_f64());
+    ExitCode::SUCCESS
+}
+
+fn options() -> Option<Options> {
+    let mut options = Options { plans: 3000, seed: 1 };
+    let mut words = std::env::args().skip(1);
+    while let Some(word) = words.next() {
+        let number = words.next()?.parse().ok()?;
+        match word.as_str() {
+            "--plans" => options.plans = number,
+            "--seed" => options.seed = number,
+            _ => return None,
+        }
+    }
+    Some(options)
+}
+
+fn print(counts: &Counts) {
+    print_all("plans", &counts.families);
+    println!("plans beyond a limit, not rewritten: {}", counts.not_accepted);
+    print_all("rewrites of", &counts.nodes);
+    print_all("rewrites with number", &counts.numbers);
+    println!("flag raised: {}, plan altered: {}", counts.flags, counts.changed);
+    print_all("unchanged and patched source differ by", &counts.differences);
+    println!("compared with the exported rewrite: {}, passes: {}", counts.exported, counts.passes);
+    let RowCounts { compared, not_empty, too_many } = counts.rows;
+    println!(
+        "rows compared: {compared}, of these not empty {not_empty}; left out, as there were too many rows: {too_many}"
+    );
+}
+
+fn print_all<K: Display>(what: &str, counts: &BTreeMap<K, u64>) {
+    for (sort, count) in counts {
+        println!("{what} {sort}: {count}");
+    }
+}
+
+/// All rewrites of a plan, and a pass over it.
+fn compare_plan(options: &Options, number: u64, counts: &mut Counts) -> Result<(), String> {
+    let Case { family, plan } = case(options.seed, number);
+    let image = plan.image();
+    *counts.families.entry(family).or_default() += 1;
+    if check(&image) != Verdict::ACCEPTED {
+        counts.not_accepted += 1;
+        return Ok(());
+    }
+    let random = &mut Random::of_case(options.seed ^ u64::MAX, number);
+    let before = Rows::of(random, &plan);
+    for node in nodes(random, &plan) {
+        let named = |difference: String| format!("rewrite at {node}: {difference}\n{}", to_hex(&image));
+        counts.calls += 1;
+        *counts.nodes.entry(plan.node(node as usize).map_or("an absent record".to_string(), sort_of)).or_default() += 1;
+        let answer = compare_builds(&plan, node, counts).map_err(named)?;
+        let room = drawn_room(random, &image, &answer);
+        compare_exported(&image, node, room, &answer, counts).map_err(named)?;
+        if let Answer::Granted { plan: after, .. } = &answer {
+            counts.changed += u64::from(*after != plan);
+            before.compare(&plan, after, &mut counts.rows).map_err(named)?;
+        }
+    }
+    let budget = *random.pick(&[1, 2, 5, 10_000]);
+    if let PassAnswer::Passed { plan: after, .. } = pass(Build::Patched(ALL), &plan, budget) {
+        counts.passes += 1;
+        let named = |difference: String| format!("pass of {budget}: {difference}\n{}", to_hex(&image));
+        before.compare(&plan, &after, &mut counts.rows).map_err(named)?;
+    }
+    Ok(())
+}
+
+/// All plans, and the records before and behind each; of a small image all records; and three that are absent.
+fn nodes(random: &mut Random, plan: &Tree) -> Vec<u32> {
+    let all = plan.parent_first();
+    let records = all.len();
+    let is_chosen = |at: &usize| records <= 40 || is_plan(all[*at].1.label.kind);
+    let mut nodes: Vec<u32> = (0..records).filter(is_chosen).map(|at| at as u32).collect();
+    nodes.extend([random.below(records) as u32, records as u32, (records + random.below(RECORDS)) as u32, u32::MAX]);
+    nodes
+}
+
+/// The answer of the patched source, if the unchanged one differs from it by D1 to D5 alone.
+fn compare_builds(plan: &Tree, node: u32, counts: &mut Counts) -> Result<Answer, String> {
+    let unchanged = rewrite_at(Build::Unchanged, plan, node);
+    if rewrite_at(Build::Patched(NONE), plan, node) != unchanged {
+        return Err("the patched source differs from the unchanged one with D1 to D5 switched off".to_string());
+    }
+    let patched = rewrite_at(Build::Patched(ALL), plan, node);
+    if patched != unchanged {
+        let which = reason(plan, node, &patched);
+        let ground = plan.node(node as usize).map_or(NONE, grounds);
+        if (0..5).any(|at| which[at] && !ground[at]) {
+            return Err(format!("{} make a difference, without ground", name(which)));
+        }
+        *counts.differences.entry(name(which)).or_default() += 1;
+    }
+    Ok(patched)
+}
+
+/// The smallest set of differences that leads from the unchanged source to the patched one.
+fn reason(plan: &Tree, node: u32, patched: &Answer) -> Switches {
+    let switches = |set: u32| -> Switches { std::array::from_fn(|at| set >> at & 1 == 1) };
+    let mut sets: Vec<u32> = (0..32).collect();
+    sets.sort_by_key(|set| set.count_ones());
+    let leads_there = |set: &u32| rewrite_at(Build::Patched(switches(*set)), plan, node) == *patched;
+    switches(sets.into_iter().find(leads_there).expect("all five lead there"))
+}
+
+fn name(which: Switches) -> String {
+    let names: Vec<String> = (0..5).filter(|at| which[*at]).map(|at| format!("D{}", at + 1)).collect();
+    names.join(" and ")
+}
+
+/// A Filter by what it stands over, a plan by its kind; joins by theirs.
+fn sort_of(node: &Tree) -> String {
+    let kind = |tree: &Tree| match tree.label.kind {
+        JOIN => format!("kind {JOIN}, join {}", tree.label.p),
+        kind => format!("kind {kind}"),
+    };
+    match node.label.kind {
+        FILTER => format!("a Filter over {}", kind(&node.children[1])),
+        JOIN => kind(node),
+        other if is_plan(other) => "another plan".to_string(),
+        _ => "a record that is no plan".to_string(),
+    }
+}
+
+/// What the caller sees, with room for the answer, for more, or for less; the export must hand back the same.
+fn compare_exported(image: &[u8], node: u32, room: usize, answer: &Answer, counts: &mut Counts) -> Result<(), String> {
+    let expected = handed_back(answer, room);
+    *counts.numbers.entry(expected.0.number).or_default() += 1;
+    counts.flags += u64::from(expected.0.flag);
+    let Some(exported) = ffi::rewrite(image, node, room) else { return Ok(()) };
+    counts.exported += 1;
+    if exported != expected {
+        return Err(format!("room {room}: the source gives {:?}, the export {:?}", expected.0, exported.0));
+    }
+    Ok(())
+}
+
+fn drawn_room(random: &mut Random, image: &[u8], answer: &Answer) -> usize {
+    let needed = match answer {
+        Answer::Granted { plan, .. } => plan.image().len(),
+        Answer::Refused(_) => image.len(),
+    };
+    match random.below(10) {
+        0 => needed - 1,
+        1 => random.below(needed),
+        2 => 0,
+        3 => needed + random.below(100),
+        4 => RECORDS * RECORD_BYTES,
+        _ => needed,
+    }
+}
+
+/// The worlds over which a plan is read, and its rows in each; none of a plan with volatile functions.
+struct Rows {
+    worlds: Vec<(World, Option<Vec<Row>>)>,
+}
+
+impl Rows {
+    fn of(random: &mut Random, plan: &Tree) -> Rows {
+        let is_volatile = |tree: &Tree| tree.label.kind == FUNCTION && tree.label.q & 1 == 1;
+        if plan.parent_first().iter().any(|(_, tree)| is_volatile(tree)) {
+            return Rows { worlds: Vec::new() };
+        }
+        let mut world = || {
+            let world = World::for_plan(random, plan);
+            let rows = world.rows(plan);
+            (world, rows)
+        };
+        Rows { worlds: (0..WORLDS).map(|_| world()).collect() }
+    }
+
+    /// As many rows, and the same at each place.
+    fn compare(&self, plan: &Tree, after: &Tree, counts: &mut RowCounts) -> Result<(), String> {
+        if plan == after {
+            return Ok(());
+        }
+        for (world, rows) in &self.worlds {
+            let (Some(rows), Some(rows_after)) = (rows, world.rows(after)) else {
+                counts.too_many += 1;
+                continue;
+            };
+            counts.compared += 1;
+            counts.not_empty += u64::from(!rows.is_empty());
+            if *rows != rows_after {
+                return Err(format!("rows before {rows:?}, after {rows_after:?}"));
+            }
+        }
+        Ok(())
+    }
+}
