@@ -170,8 +170,13 @@ impl Draw<'_> {
             children.push(field(made.qualifier, made.name, made.of, self.random.chance(60)));
         }
         self.spend(1 + fields.len());
-        for _ in 0..self.few() {
-            children.push(self.expr(&fields, OF_BOOLEAN, 2));
+        if self.to_rewrite() {
+            let filters = *self.random.pick(&[0, 0, 0, 1, 2]);
+            children.extend(self.conjuncts(&fields, filters));
+        } else {
+            for _ in 0..self.few() {
+                children.push(self.expr(&fields, OF_BOOLEAN, 2));
+            }
         }
         Planned { plan: scan(table, children), fields }
     }

@@ -28,7 +28,7 @@ const FAMILIES: [Family; 10] = [
 ];
 
 /// How often each family is drawn, of 100.
-const WEIGHTS: [usize; 10] = [48, 8, 10, 10, 14, 4, 2, 1, 1, 2];
+const WEIGHTS: [usize; 10] = [44, 6, 10, 10, 14, 3, 6, 2, 3, 2];
 
 pub fn case(seed: u64, number: u64) -> Case {
     let random = &mut Random::of_case(seed, number);
@@ -66,18 +66,30 @@ fn stacked(random: &mut Random) -> Tree {
     (0..filters).fold(input.plan, |plan, _| filter(draw.conjunction(&input.fields), plan))
 }
 
-/// Many bounds on one or two columns, over a plan that takes some of them or none.
+/// Many bounds on one or two columns, most of them with the same literal, over a plan that takes some of them or none.
 fn bounds(random: &mut Random) -> Tree {
     let (aim, of) = (aim(random), *random.pick(&[OF_INTEGER, OF_INTEGER, OF_BOOLEAN]));
     let mut draw = Draw::for_aim(aim, random, 200);
     let columns = draw.random.within(1, 2);
     let fields = draw.names_for(&vec![of; columns], &[]);
-    let marked = |field: &Field, random: &mut Random| self::field(field.qualifier, field.name, of, random.chance(30));
-    let input = scan(1, fields.iter().map(|field| marked(field, draw.random)).collect());
+    let input = table(draw.random, 1, &fields);
     let input = if draw.random.chance(30) { draw.pass_through(input) } else { input };
-    let length = draw.random.within(2, 8);
-    let conjuncts = (0..length).map(|_| draw.bound(&fields)).collect();
+    let length = draw.random.within(2, 7);
+    let conjuncts = (0..length).map(|_| near_bound(&mut draw, &fields)).collect();
     filter(conjunction(conjuncts, Nesting::Balanced), input)
+}
+
+fn near_bound(draw: &mut Draw, fields: &[Field]) -> Tree {
+    let field = *draw.random.pick(fields);
+    let literal = match (draw.random.below(10), field.of) {
+        (0, of) => null(of),
+        (1, OF_BOOLEAN) => boolean(true),
+        (_, OF_BOOLEAN) => boolean(false),
+        (1, _) => integer(2),
+        _ => integer(1),
+    };
+    let operator = *draw.random.pick(&[EQ, EQ, LT, LT_EQ, GT, GT_EQ]);
+    draw.compared(operator, &field, literal)
 }
 
 /// A Filter over a join of two scans whose keys are columns, some of them in several pairs.

@@ -11,7 +11,7 @@ use harness::checker::{check, Verdict};
 use harness::differences::grounds;
 use harness::ffi;
 use harness::image::{to_hex, Tree, RECORD_BYTES};
-use harness::kinds::{is_plan, FILTER, FUNCTION, JOIN};
+use harness::kinds::{is_plan, FILTER, FUNCTION, JOIN, SCAN};
 use harness::limits::RECORDS;
 use harness::meaning::{Row, World};
 use harness::random::Random;
@@ -42,6 +42,7 @@ struct Counts {
     flags: u64,
     changed: u64,
     differences: BTreeMap<String, u64>,
+    rows_changed_by_source: BTreeMap<String, u64>,
     exported: u64,
     passes: u64,
     rows: RowCounts,
@@ -98,6 +99,7 @@ fn print(counts: &Counts) {
     print_all("rewrites with number", &counts.numbers);
     println!("flag raised: {}, plan altered: {}", counts.flags, counts.changed);
     print_all("unchanged and patched source differ by", &counts.differences);
+    print_all("of these the unchanged source changes the rows, by", &counts.rows_changed_by_source);
     println!("compared with the exported rewrite: {}, passes: {}", counts.exported, counts.passes);
     let RowCounts { compared, not_empty, too_many } = counts.rows;
     println!(
@@ -125,8 +127,8 @@ fn compare_plan(options: &Options, number: u64, counts: &mut Counts) -> Result<(
     for node in nodes(random, &plan) {
         let named = |difference: String| format!("rewrite at {node}: {difference}\n{}", to_hex(&image));
         counts.calls += 1;
-        *counts.nodes.entry(plan.node(node as usize).map_or("an absent record".to_string(), sort_of)).or_default() += 1;
-        let answer = compare_builds(&plan, node, counts).map_err(named)?;
+        *counts.nodes.entry(sort_of(plan.node(node as usize))).or_default() += 1;
+        let answer = compare_builds(&plan, node, &before, counts).map_err(named)?;
         let room = drawn_room(random, &image, &answer);
         compare_exported(&image, node, room, &answer, counts).map_err(named)?;
         if let Answer::Granted { plan: after, .. } = &answer {
@@ -143,30 +145,39 @@ fn compare_plan(options: &Options, number: u64, counts: &mut Counts) -> Result<(
     Ok(())
 }
 
-/// All plans, and the records before and behind each; of a small image all records; and three that are absent.
+/// All records of a small image. Of a large one the Filters and joins, some other plans, which a rewrite leaves alone, and
+/// a record of any sort. And three records that are absent.
 fn nodes(random: &mut Random, plan: &Tree) -> Vec<u32> {
     let all = plan.parent_first();
     let records = all.len();
-    let is_chosen = |at: &usize| records <= 40 || is_plan(all[*at].1.label.kind);
-    let mut nodes: Vec<u32> = (0..records).filter(is_chosen).map(|at| at as u32).collect();
+    let mut is_chosen = |at: &usize| match all[*at].1.label.kind {
+        FILTER | JOIN => true,
+        kind => records <= 40 || is_plan(kind) && random.chance(25),
+    };
+    let mut nodes: Vec<u32> = (0..records).filter(&mut is_chosen).map(|at| at as u32).collect();
     nodes.extend([random.below(records) as u32, records as u32, (records + random.below(RECORDS)) as u32, u32::MAX]);
     nodes
 }
 
 /// The answer of the patched source, if the unchanged one differs from it by D1 to D5 alone.
-fn compare_builds(plan: &Tree, node: u32, counts: &mut Counts) -> Result<Answer, String> {
+fn compare_builds(plan: &Tree, node: u32, before: &Rows, counts: &mut Counts) -> Result<Answer, String> {
     let unchanged = rewrite_at(Build::Unchanged, plan, node);
     if rewrite_at(Build::Patched(NONE), plan, node) != unchanged {
         return Err("the patched source differs from the unchanged one with D1 to D5 switched off".to_string());
     }
     let patched = rewrite_at(Build::Patched(ALL), plan, node);
-    if patched != unchanged {
-        let which = reason(plan, node, &patched);
-        let ground = plan.node(node as usize).map_or(NONE, grounds);
-        if (0..5).any(|at| which[at] && !ground[at]) {
-            return Err(format!("{} make a difference, without ground", name(which)));
-        }
-        *counts.differences.entry(name(which)).or_default() += 1;
+    if patched == unchanged {
+        return Ok(patched);
+    }
+    let which = reason(plan, node, &patched);
+    let ground = plan.node(node as usize).map_or(NONE, grounds);
+    if (0..5).any(|at| which[at] && !ground[at]) {
+        return Err(format!("{} make a difference, without ground", name(which)));
+    }
+    *counts.differences.entry(name(which)).or_default() += 1;
+    if let Answer::Granted { plan: after, .. } = &unchanged {
+        let changes = before.compare(plan, after, &mut RowCounts::default()).is_err();
+        *counts.rows_changed_by_source.entry(name(which)).or_default() += u64::from(changes);
     }
     Ok(patched)
 }
@@ -185,17 +196,34 @@ fn name(which: Switches) -> String {
     names.join(" and ")
 }
 
-/// A Filter by what it stands over, a plan by its kind; joins by theirs.
-fn sort_of(node: &Tree) -> String {
-    let kind = |tree: &Tree| match tree.label.kind {
-        JOIN => format!("kind {JOIN}, join {}", tree.label.p),
-        kind => format!("kind {kind}"),
+const PLANS: [&str; 12] = [
+    "TableScan",
+    "Filter",
+    "Projection",
+    "Join",
+    "SubqueryAlias",
+    "Union",
+    "Distinct",
+    "Sort",
+    "Repartition",
+    "Limit",
+    "Aggregate",
+    "Window",
+];
+
+const JOINS: [&str; 8] = ["Inner", "Left", "Right", "Full", "LeftSemi", "RightSemi", "LeftAnti", "RightAnti"];
+
+/// A Filter by what it stands over, a join by its kind, another plan by its name.
+fn sort_of(node: Option<&Tree>) -> String {
+    let name = |tree: &Tree| match tree.label.kind {
+        JOIN => format!("{} join", JOINS[tree.label.p as usize - 1]),
+        kind => PLANS[(kind - SCAN) as usize].to_string(),
     };
-    match node.label.kind {
-        FILTER => format!("a Filter over {}", kind(&node.children[1])),
-        JOIN => kind(node),
-        other if is_plan(other) => "another plan".to_string(),
-        _ => "a record that is no plan".to_string(),
+    match node {
+        Some(filter) if filter.label.kind == FILTER => format!("Filter over {}", name(&filter.children[1])),
+        Some(plan) if is_plan(plan.label.kind) => name(plan),
+        Some(_) => "a record that is no plan".to_string(),
+        None => "an absent record".to_string(),
     }
 }
 

@@ -242,15 +242,15 @@ fn schema(plan: &Tree) -> Vec<Name> {
 /// A few rows of the scan's types.
 fn drawn_rows(random: &mut Random, scan: &Tree) -> Vec<Row> {
     let types: Vec<u32> = parts(scan, FIELD).iter().map(|field| field.label.r).collect();
-    let count = random.below(6);
+    let count = if random.chance(10) { 0 } else { random.within(1, 12) };
     (0..count).map(|_| types.iter().map(|of| drawn_value(random, *of)).collect()).collect()
 }
 
-/// Small numbers, so that values meet; one in six is NULL.
+/// Small numbers, so that values meet; one in seven is NULL.
 fn drawn_value(random: &mut Random, of: u32) -> Value {
-    match (random.below(6), of) {
+    match (random.below(7), of) {
         (0, _) => Null,
-        (_, OF_BOOLEAN) => Truth(random.chance(50)),
+        (_, OF_BOOLEAN) => Truth(random.chance(65)),
         _ => Integer(*random.pick(&[-1, 0, 0, 1, 1, 2, 2, 3, 5])),
     }
 }

@@ -8,7 +8,7 @@ use crate::kinds::*;
 impl Draw<'_> {
     /// Mostly one to four conjuncts, now and then more, nested in any way.
     pub fn conjunction(&mut self, over: &[Field]) -> Tree {
-        let length = *self.random.pick(&[1, 1, 2, 2, 3, 4, 7]);
+        let length = *self.random.pick(&[1, 1, 1, 2, 2, 3, 4, 7]);
         let conjuncts = self.conjuncts(over, length);
         let nesting = *self.random.pick(&[Nesting::Left, Nesting::Left, Nesting::Right, Nesting::Balanced]);
         conjunction(conjuncts, nesting)
@@ -27,31 +27,45 @@ impl Draw<'_> {
 
     fn conjunct(&mut self, over: &[Field]) -> Tree {
         match self.random.below(20) {
-            0..10 => self.bound(over),
-            10 | 11 => self.column_free(),
-            12 | 13 => self.call(over, OF_BOOLEAN, 1),
-            14..17 => self.clauses(over),
+            0..9 => self.bound(over),
+            9 | 10 => self.column_free(),
+            11 | 12 => self.call(over, OF_BOOLEAN, 1),
+            13..18 => self.clauses(over),
             _ => self.expr(over, OF_BOOLEAN, 2),
         }
     }
 
-    /// A column compared with a literal, which stands on either side; it is one of few, or NULL.
+    /// A column compared with a literal, one of few, or NULL. Most bounds let most values of small tables pass.
     pub fn bound(&mut self, over: &[Field]) -> Tree {
         if over.is_empty() {
             return self.column_free();
         }
         let field = *self.random.pick(over);
-        let literal = match (self.random.below(7), field.of) {
-            (0, of) => null(of),
-            (_, OF_BOOLEAN) => boolean(self.random.chance(50)),
-            _ => integer(self.random.below(4) as i64),
+        let operator = *self.random.pick(&[EQ, NOT_EQ, NOT_EQ, LT, LT_EQ, LT_EQ, GT, GT_EQ, GT_EQ]);
+        let literal = match (self.random.below(9), field.of, operator) {
+            (0, of, _) => null(of),
+            (_, OF_BOOLEAN, LT_EQ) => boolean(self.random.chance(80)),
+            (_, OF_BOOLEAN, _) => boolean(self.random.chance(40)),
+            (_, _, LT | LT_EQ) => integer(*self.random.pick(&[3, 3, 2, 1])),
+            _ => integer(*self.random.pick(&[0, 0, 1, 2])),
         };
+        self.compared(operator, &field, literal)
+    }
+
+    /// The column on the left, or the same said with the literal on the left.
+    pub fn compared(&mut self, operator: u32, field: &Field, literal: Tree) -> Tree {
         self.spend(3);
-        let operator = *self.random.pick(&[EQ, NOT_EQ, LT, LT_EQ, GT, GT_EQ, GT_EQ, LT_EQ]);
-        match self.random.chance(50) {
-            true => binary(operator, field.reference(), literal),
-            false => binary(operator, literal, field.reference()),
+        if self.random.chance(50) {
+            return binary(operator, field.reference(), literal);
         }
+        let mirrored = match operator {
+            LT => GT,
+            LT_EQ => GT_EQ,
+            GT => LT,
+            GT_EQ => LT_EQ,
+            same => same,
+        };
+        binary(mirrored, literal, field.reference())
     }
 
     /// A predicate without columns, TRUE more often than not.
@@ -60,7 +74,7 @@ impl Draw<'_> {
             0 => null(OF_BOOLEAN),
             1 => self.call(&[], OF_BOOLEAN, 0),
             2 => binary(LT_EQ, integer(self.random.below(3) as i64), integer(self.random.below(3) as i64)),
-            3 => boolean(false),
+            3 if self.random.chance(40) => boolean(false),
             _ => boolean(true),
         }
     }
@@ -68,7 +82,7 @@ impl Draw<'_> {
     /// An OR of clauses, each an And of bounds: over the sides of a join some clauses read one side alone.
     fn clauses(&mut self, over: &[Field]) -> Tree {
         let clause = |draw: &mut Self| {
-            let length = draw.random.within(1, 3);
+            let length = *draw.random.pick(&[1, 1, 2, 3]);
             let bounds = (0..length).map(|_| draw.bound(over)).collect();
             conjunction(bounds, Nesting::Left)
         };
