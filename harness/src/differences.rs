@@ -2,7 +2,8 @@
 
 use crate::image::{Label, Tree};
 use crate::kinds::*;
-use crate::source::Switches;
+use crate::rewriting::{rewrite_at, Answer};
+use crate::source::{Build, Switches};
 
 /// For each difference whether the node gives ground for it. A node without ground for any must be rewritten alike.
 pub fn grounds(node: &Tree) -> Switches {
@@ -71,4 +72,18 @@ fn mentions_key(join: &Tree, above: &[&Tree]) -> bool {
         predicate.parent_first().iter().any(|(_, tree)| tree.label.kind == COLUMN && keys.contains(&tree.label))
     };
     above.iter().copied().chain(own).any(mentions)
+}
+
+/// The smallest set of differences that leads from the unchanged source to the patched one.
+pub fn reason(plan: &Tree, node: u32, patched: &Answer) -> Switches {
+    let switches = |set: u32| -> Switches { std::array::from_fn(|at| set >> at & 1 == 1) };
+    let mut sets: Vec<u32> = (0..32).collect();
+    sets.sort_by_key(|set| set.count_ones());
+    let leads_there = |set: &u32| rewrite_at(Build::Patched(switches(*set)), plan, node) == *patched;
+    switches(sets.into_iter().find(leads_there).expect("all five lead there"))
+}
+
+pub fn name(which: Switches) -> String {
+    let names: Vec<String> = (0..5).filter(|at| which[*at]).map(|at| format!("D{}", at + 1)).collect();
+    names.join(" and ")
 }

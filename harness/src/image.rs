@@ -191,7 +191,9 @@ mod tests {
 
     #[test]
     fn reading_gives_what_was_written() {
-        let records = node(33, vec![leaf(3), node(32, vec![leaf(48)])]).records();
+        let tree = node(33, vec![leaf(3), node(32, vec![leaf(48)])]);
+        let records = tree.records();
+        assert_eq!(Tree::of_records(&records), tree);
         assert_eq!(read(&write(&records)), records);
         assert_eq!(write(&records).len(), RECORD_BYTES * records.len());
         assert_eq!(write(&[Record::of_words([0x01020304, 0, 0, 0, 0, 0, 0, 5])])[..4], [4, 3, 2, 1]);

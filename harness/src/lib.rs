@@ -11,6 +11,7 @@ pub mod meaning;
 pub mod random;
 pub mod rewrites;
 pub mod rewriting;
+pub mod rows;
 pub mod sets;
 pub mod source;
 pub mod sweeps;

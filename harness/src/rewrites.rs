@@ -1,10 +1,11 @@
 //! Plans for the rewrite, from a seed. Each comes with the name of the way in which it was drawn.
 
 use crate::edges::{conjunction, near, Nesting};
-use crate::image::Tree;
+use crate::image::{Tree, RECORD_BYTES};
 use crate::kinds::*;
 use crate::limits::{DEPTH, LIST, RECORDS};
 use crate::random::{accepted, drawn_for, size, Aim, Draw, Field, Random};
+use crate::rewriting::Answer;
 
 /// A plan, and how it was drawn. Plans near a limit may lie beyond it.
 pub struct Case {
@@ -40,6 +41,36 @@ pub fn case(seed: u64, number: u64) -> Case {
     });
     let (family, draw) = FAMILIES[which.expect("the number drawn is below the sum of the weights")];
     Case { family, plan: draw(random) }
+}
+
+/// All records of a small image. Of a large one the Filters and joins, some other plans, which a rewrite leaves alone, and
+/// a record of any sort. And three records that are absent.
+pub fn nodes(random: &mut Random, plan: &Tree) -> Vec<u32> {
+    let all = plan.parent_first();
+    let records = all.len();
+    let mut is_chosen = |at: &usize| match all[*at].1.label.kind {
+        FILTER | JOIN => true,
+        kind => records <= 40 || is_plan(kind) && random.chance(25),
+    };
+    let mut nodes: Vec<u32> = (0..records).filter(&mut is_chosen).map(|at| at as u32).collect();
+    nodes.extend([random.below(records) as u32, records as u32, (records + random.below(RECORDS)) as u32, u32::MAX]);
+    nodes
+}
+
+/// Mostly room for the answer, or for more, or for less. A refused call may have any.
+pub fn room(random: &mut Random, image: &[u8], answer: &Answer) -> usize {
+    let needed = match answer {
+        Answer::Granted { plan, .. } => plan.image().len(),
+        Answer::Refused(_) => image.len(),
+    };
+    match random.below(10) {
+        0 => needed - 1,
+        1 => random.below(needed),
+        2 => 0,
+        3 => needed + random.below(100),
+        4 => RECORDS * RECORD_BYTES,
+        _ => needed,
+    }
 }
 
 /// One plan in three may hold volatile functions; the others can be compared by their rows.

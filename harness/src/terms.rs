@@ -277,6 +277,15 @@ mod tests {
     }
 
     #[test]
+    fn calls_are_read() {
+        let stored = rewrite_of("2 (scan 1 [] []) (refused 8 2)").expect("a stored rewrite");
+        assert_eq!((stored.number, stored.answer), (2, Answer::Refused(Verdict { number: 8, record: 2 })));
+        let stored = pass_of("7 (scan 1 [] []) (passed 1 0 1 (scan 1 [] []))").expect("a stored pass");
+        let passed = PassAnswer::Passed { visits: 1, changed: 0, finished: true, plan: stored.plan };
+        assert_eq!((stored.number, stored.answer), (7, passed));
+    }
+
+    #[test]
     fn records_are_read() {
         let record = Record { label: Label { kind: 41, lo: 3, ..Label::default() }, first: 1, next: 0 };
         assert_eq!(records_of("(w 41 0 0 0 3 0 1 0 ∷ [])"), Some(vec![record]));

@@ -2,29 +2,27 @@
 //! the exported function. Every plan is rewritten at every record, present or not. Compared are
 //! - the unchanged source with the patched one: a difference must be one of D1 to D5, and with all five switched off there
 //!   must be none;
-//! - the patched source with the exported function: number, record, flag, records and every byte of the output;
+//! - the patched source with the exported function: number, record, flag, records and every byte of the output, for
+//!   damaged images too;
 //! - the rows of a plan without volatile functions before and after each rewrite, and after a pass, over small tables.
 //!
 //! Options: --plans N --seed S. Stops at the first difference, prints the plan as hex, and exits non-zero.
 
 use harness::checker::{check, Verdict};
-use harness::differences::grounds;
+use harness::damage;
+use harness::differences::{grounds, name, reason};
 use harness::ffi;
-use harness::image::{to_hex, Tree, RECORD_BYTES};
-use harness::kinds::{is_plan, FILTER, FUNCTION, JOIN, SCAN};
-use harness::limits::RECORDS;
-use harness::meaning::{Row, World};
+use harness::image::{to_hex, Tree};
+use harness::kinds::{is_plan, FILTER, JOIN, SCAN};
 use harness::random::Random;
-use harness::rewrites::{case, Case};
-use harness::rewriting::{handed_back, pass, rewrite_at, Answer, PassAnswer};
-use harness::source::{Build, Switches, ALL, NONE};
+use harness::rewrites::{case, nodes, room, Case};
+use harness::rewriting::{handed_back, pass, rewrite, rewrite_at, Answer, PassAnswer, Rewritten};
+use harness::rows::{RowCounts, Rows};
+use harness::source::{Build, ALL, NONE};
 use std::collections::BTreeMap;
 use std::fmt::Display;
 use std::process::ExitCode;
 use std::time::Instant;
-
-/// A plan's rows are compared over so many worlds of tables and functions.
-const WORLDS: usize = 2;
 
 struct Options {
     plans: u64,
@@ -48,13 +46,6 @@ struct Counts {
     rows: RowCounts,
 }
 
-#[derive(Default)]
-struct RowCounts {
-    compared: u64,
-    not_empty: u64,
-    too_many: u64,
-}
-
 fn main() -> ExitCode {
     let Some(options) = options() else {
         eprintln!("usage: rewrite_images [--plans N] [--seed S]");
@@ -68,7 +59,9 @@ fn main() -> ExitCode {
     let start = Instant::now();
     let mut counts = Counts::default();
     for number in 0..options.plans {
-        if let Err(difference) = compare_plan(&options, number, &mut counts) {
+        let compared =
+            compare_plan(&options, number, &mut counts).and_then(|()| compare_damaged(&options, number, &mut counts));
+        if let Err(difference) = compared {
             println!("plan {number}: {difference}");
             return ExitCode::FAILURE;
         }
@@ -129,34 +122,35 @@ fn compare_plan(options: &Options, number: u64, counts: &mut Counts) -> Result<(
         counts.calls += 1;
         *counts.nodes.entry(sort_of(plan.node(node as usize))).or_default() += 1;
         let answer = compare_builds(&plan, node, &before, counts).map_err(named)?;
-        let room = drawn_room(random, &image, &answer);
-        compare_exported(&image, node, room, &answer, counts).map_err(named)?;
+        let expected = handed_back(&answer, room(random, &image, &answer));
+        compare_exported(&image, node, expected, counts).map_err(named)?;
         if let Answer::Granted { plan: after, .. } = &answer {
-            counts.changed += u64::from(*after != plan);
-            before.compare(&plan, after, &mut counts.rows).map_err(named)?;
+            compare_plans(&plan, after, &before, counts).map_err(named)?;
         }
     }
-    let budget = *random.pick(&[1, 2, 5, 10_000]);
-    if let PassAnswer::Passed { plan: after, .. } = pass(Build::Patched(ALL), &plan, budget) {
-        counts.passes += 1;
-        let named = |difference: String| format!("pass of {budget}: {difference}\n{}", to_hex(&image));
-        before.compare(&plan, &after, &mut counts.rows).map_err(named)?;
-    }
-    Ok(())
+    compare_pass(random, &plan, &before, counts)
 }
 
-/// All records of a small image. Of a large one the Filters and joins, some other plans, which a rewrite leaves alone, and
-/// a record of any sort. And three records that are absent.
-fn nodes(random: &mut Random, plan: &Tree) -> Vec<u32> {
-    let all = plan.parent_first();
-    let records = all.len();
-    let mut is_chosen = |at: &usize| match all[*at].1.label.kind {
-        FILTER | JOIN => true,
-        kind => records <= 40 || is_plan(kind) && random.chance(25),
-    };
-    let mut nodes: Vec<u32> = (0..records).filter(&mut is_chosen).map(|at| at as u32).collect();
-    nodes.extend([random.below(records) as u32, records as u32, (records + random.below(RECORDS)) as u32, u32::MAX]);
-    nodes
+/// What a rewrite made is accepted, and has the rows that were there before.
+fn compare_plans(plan: &Tree, after: &Tree, before: &Rows, counts: &mut Counts) -> Result<(), String> {
+    if after == plan {
+        return Ok(());
+    }
+    counts.changed += 1;
+    match check(&after.image()) {
+        Verdict::ACCEPTED => before.compare(after, &mut counts.rows),
+        refusal => Err(format!("the answer is refused with {refusal}")),
+    }
+}
+
+fn compare_pass(random: &mut Random, plan: &Tree, before: &Rows, counts: &mut Counts) -> Result<(), String> {
+    let budget = *random.pick(&[1, 2, 5, 10_000]);
+    if let PassAnswer::Passed { plan: after, .. } = pass(Build::Patched(ALL), plan, budget) {
+        counts.passes += 1;
+        let named = |difference: String| format!("pass of {budget}: {difference}\n{}", to_hex(&plan.image()));
+        compare_plans(plan, &after, before, counts).map_err(named)?;
+    }
+    Ok(())
 }
 
 /// The answer of the patched source, if the unchanged one differs from it by D1 to D5 alone.
@@ -176,24 +170,10 @@ fn compare_builds(plan: &Tree, node: u32, before: &Rows, counts: &mut Counts) ->
     }
     *counts.differences.entry(name(which)).or_default() += 1;
     if let Answer::Granted { plan: after, .. } = &unchanged {
-        let changes = before.compare(plan, after, &mut RowCounts::default()).is_err();
+        let changes = before.compare(after, &mut RowCounts::default()).is_err();
         *counts.rows_changed_by_source.entry(name(which)).or_default() += u64::from(changes);
     }
     Ok(patched)
-}
-
-/// The smallest set of differences that leads from the unchanged source to the patched one.
-fn reason(plan: &Tree, node: u32, patched: &Answer) -> Switches {
-    let switches = |set: u32| -> Switches { std::array::from_fn(|at| set >> at & 1 == 1) };
-    let mut sets: Vec<u32> = (0..32).collect();
-    sets.sort_by_key(|set| set.count_ones());
-    let leads_there = |set: &u32| rewrite_at(Build::Patched(switches(*set)), plan, node) == *patched;
-    switches(sets.into_iter().find(leads_there).expect("all five lead there"))
-}
-
-fn name(which: Switches) -> String {
-    let names: Vec<String> = (0..5).filter(|at| which[*at]).map(|at| format!("D{}", at + 1)).collect();
-    names.join(" and ")
 }
 
 const PLANS: [&str; 12] = [
@@ -227,11 +207,16 @@ fn sort_of(node: Option<&Tree>) -> String {
     }
 }
 
-/// What the caller sees, with room for the answer, for more, or for less; the export must hand back the same.
-fn compare_exported(image: &[u8], node: u32, room: usize, answer: &Answer, counts: &mut Counts) -> Result<(), String> {
-    let expected = handed_back(answer, room);
+/// What the caller sees must be what the export hands back.
+fn compare_exported(
+    image: &[u8],
+    node: u32,
+    expected: (Rewritten, Vec<u8>),
+    counts: &mut Counts,
+) -> Result<(), String> {
     *counts.numbers.entry(expected.0.number).or_default() += 1;
     counts.flags += u64::from(expected.0.flag);
+    let room = expected.1.len();
     let Some(exported) = ffi::rewrite(image, node, room) else { return Ok(()) };
     counts.exported += 1;
     if exported != expected {
@@ -240,56 +225,13 @@ fn compare_exported(image: &[u8], node: u32, room: usize, answer: &Answer, count
     Ok(())
 }
 
-fn drawn_room(random: &mut Random, image: &[u8], answer: &Answer) -> usize {
-    let needed = match answer {
-        Answer::Granted { plan, .. } => plan.image().len(),
-        Answer::Refused(_) => image.len(),
-    };
-    match random.below(10) {
-        0 => needed - 1,
-        1 => random.below(needed),
-        2 => 0,
-        3 => needed + random.below(100),
-        4 => RECORDS * RECORD_BYTES,
-        _ => needed,
-    }
-}
-
-/// The worlds over which a plan is read, and its rows in each; none of a plan with volatile functions.
-struct Rows {
-    worlds: Vec<(World, Option<Vec<Row>>)>,
-}
-
-impl Rows {
-    fn of(random: &mut Random, plan: &Tree) -> Rows {
-        let is_volatile = |tree: &Tree| tree.label.kind == FUNCTION && tree.label.q & 1 == 1;
-        if plan.parent_first().iter().any(|(_, tree)| is_volatile(tree)) {
-            return Rows { worlds: Vec::new() };
-        }
-        let mut world = || {
-            let world = World::for_plan(random, plan);
-            let rows = world.rows(plan);
-            (world, rows)
-        };
-        Rows { worlds: (0..WORLDS).map(|_| world()).collect() }
-    }
-
-    /// As many rows, and the same at each place.
-    fn compare(&self, plan: &Tree, after: &Tree, counts: &mut RowCounts) -> Result<(), String> {
-        if plan == after {
-            return Ok(());
-        }
-        for (world, rows) in &self.worlds {
-            let (Some(rows), Some(rows_after)) = (rows, world.rows(after)) else {
-                counts.too_many += 1;
-                continue;
-            };
-            counts.compared += 1;
-            counts.not_empty += u64::from(!rows.is_empty());
-            if *rows != rows_after {
-                return Err(format!("rows before {rows:?}, after {rows_after:?}"));
-            }
-        }
-        Ok(())
-    }
+/// A rewrite of an image that most often is refused.
+fn compare_damaged(options: &Options, number: u64, counts: &mut Counts) -> Result<(), String> {
+    let image = damage::case(options.seed, number).image;
+    let random = &mut Random::of_case(options.seed ^ u64::MAX, number);
+    let (node, room) = (random.below(4) as u32, random.below(image.len() + 100));
+    counts.calls += 1;
+    let expected = rewrite(Build::Patched(ALL), &image, node, room);
+    let named = |difference: String| format!("damaged image, rewrite at {node}: {difference}\n{}", to_hex(&image));
+    compare_exported(&image, node, expected, counts).map_err(named)
 }

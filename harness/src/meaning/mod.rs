@@ -260,3 +260,84 @@ fn first_occurrences(rows: Vec<Row>) -> Vec<Row> {
     let mut met = HashSet::new();
     rows.into_iter().filter(|row| met.insert(row.clone())).collect()
 }
+
+#[cfg(test)]
+mod tests {
+    use super::*;
+    use crate::kinds::in_list;
+
+    /// A table 1 with a field 1.1 and a table 2 with a field 2.1, of integers.
+    fn world(left: &[Value], right: &[Value]) -> World {
+        let rows = |values: &[Value]| values.iter().map(|value| vec![*value]).collect();
+        World { tables: BTreeMap::from([(1, rows(left)), (2, rows(right))]), functions: 7 }
+    }
+
+    fn table(number: u32) -> Tree {
+        crate::kinds::scan(number, vec![field(number, 1, OF_INTEGER, false)])
+    }
+
+    fn column_of(rows: Option<Vec<Row>>) -> Vec<Value> {
+        rows.expect("few rows").into_iter().map(|row| row[0]).collect()
+    }
+
+    #[test]
+    fn sorts_put_null_last_and_are_stable() {
+        let world = world(&[Null, Integer(2), Integer(1), Null, Integer(3)], &[]);
+        let sorted = |descending: bool, fetch: Option<u32>| {
+            let plan = sort(fetch, vec![sort_key(descending, column(1, 1))], table(1));
+            column_of(world.rows(&plan))
+        };
+        assert_eq!(sorted(false, None), [Integer(1), Integer(2), Integer(3), Null, Null]);
+        assert_eq!(sorted(true, None), [Integer(3), Integer(2), Integer(1), Null, Null]);
+        assert_eq!(sorted(true, Some(1)), [Integer(3)]);
+        assert_eq!(column_of(world.rows(&sort(None, vec![], table(1))))[..2], [Null, Integer(2)]);
+        assert_eq!(column_of(world.rows(&limit(2, 1, table(1)))), [Integer(2), Integer(1)]);
+    }
+
+    #[test]
+    fn joins_keep_their_order_and_full_adds_the_right_last() {
+        let world = world(&[Integer(1), Null, Integer(2)], &[Integer(3), Integer(2), Integer(2), Null]);
+        let joined = |which: u32| {
+            let pair = key_pair(column(1, 1), column(2, 1));
+            world.rows(&join(which, vec![table(1), table(2), pair])).expect("few rows")
+        };
+        let (one, two, three) = (Integer(1), Integer(2), Integer(3));
+        let matched = vec![two, two];
+        let left_alone = [vec![one, Null], vec![Null, Null]];
+        let right_alone = [vec![Null, three], vec![Null, Null]];
+        assert_eq!(joined(INNER), [matched.clone(), matched.clone()]);
+        let left = [left_alone.to_vec(), vec![matched.clone(), matched.clone()]].concat();
+        assert_eq!(joined(LEFT), left);
+        assert_eq!(joined(RIGHT), [right_alone[0].clone(), matched.clone(), matched, right_alone[1].clone()]);
+        assert_eq!(joined(FULL), [left, right_alone.to_vec()].concat());
+        assert_eq!(joined(LEFT_SEMI), [[two]]);
+        assert_eq!(joined(RIGHT_SEMI), [[two], [two]]);
+        assert_eq!(joined(LEFT_ANTI), [[one], [Null]]);
+        assert_eq!(joined(RIGHT_ANTI), [[three], [Null]]);
+    }
+
+    #[test]
+    fn groups_take_null_as_equal_and_no_groups_give_one_row() {
+        let world = world(&[Null, Integer(4), Null, Integer(4)], &[]);
+        let entry_of = |what: u32| aggregate_entry(0, 9, what, column(1, 1));
+        let grouped = |parts: Vec<Tree>, input: Tree| world.rows(&over(AGGREGATE, parts, input)).expect("few rows");
+        let by_value = grouped(vec![entry(0, 8, column(1, 1)), entry_of(COUNT)], table(1));
+        assert_eq!(by_value, [[Null, Integer(0)], [Integer(4), Integer(2)]]);
+        assert_eq!(grouped(vec![entry_of(COUNT)], table(2)), [[Integer(0)]]);
+        assert_eq!(grouped(vec![entry_of(MIN)], filter(boolean(false), table(1))), [[Null]]);
+        assert_eq!(column_of(world.rows(&distinct(table(1)))), [Null, Integer(4)]);
+    }
+
+    #[test]
+    fn in_list_and_between_are_as_the_scope_says() {
+        let world = world(&[], &[]);
+        let value = |expr: &Tree| world.value(expr, &[], &[]);
+        let nothing = || null(OF_INTEGER);
+        assert_eq!(value(&in_list(false, vec![nothing(), integer(1)])), Null);
+        assert_eq!(value(&in_list(false, vec![integer(1), nothing()])), Truth(false));
+        assert_eq!(value(&in_list(true, vec![integer(1), nothing(), integer(1)])), Truth(false));
+        assert_eq!(value(&between(false, integer(5), nothing(), integer(3))), Truth(false));
+        assert_eq!(value(&between(true, integer(2), integer(1), nothing())), Null);
+        assert_eq!(value(&binary(OR, null(OF_BOOLEAN), boolean(true))), Truth(true));
+    }
+}

@@ -60,3 +60,19 @@ fn merged_filters(node: &Tree, lists: Vec<Vec<Expr>>) -> Vec<Tree> {
     }
     merges
 }
+
+#[cfg(test)]
+mod tests {
+    use super::*;
+    use crate::random::{accepted, size, Random};
+
+    #[test]
+    fn a_plan_comes_back_as_it_was() {
+        for case in 0..2000 {
+            let random = &mut Random::of_case(9, case);
+            let records = size(random);
+            let plan = accepted(random, records).plan;
+            assert_eq!(from_plan::plan(&into_plan::plan(&plan)), plan, "case {case}");
+        }
+    }
+}
