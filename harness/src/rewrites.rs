@@ -280,6 +280,8 @@ fn near_records(random: &mut Random) -> Tree {
 mod tests {
     use super::*;
     use crate::checker::{check, Verdict};
+    use crate::rewriting::{list, rewrite_at};
+    use crate::source::{Build, ALL};
     use std::collections::BTreeMap;
 
     #[test]
@@ -293,5 +295,33 @@ mod tests {
             assert!(accepted.get(family).is_some_and(|&count| count > 0), "{family}: {accepted:?}");
         }
         assert!(accepted.values().sum::<usize>() > 1900, "{accepted:?}");
+    }
+
+    /// Of the plans near a limit some answers are just within it, and some are refused.
+    #[test]
+    fn answers_fall_on_both_sides_of_the_limits() {
+        let answers = |draw: fn(&mut Random) -> Tree| -> Vec<Answer> {
+            let plans = (0..400).map(|number| draw(&mut Random::of_case(4, number)));
+            let accepted = plans.filter(|plan| check(&plan.image()) == Verdict::ACCEPTED);
+            accepted.map(|plan| rewrite_at(Build::Patched(ALL), &plan, top_filter(&plan))).collect()
+        };
+        let refused = |answers: &[Answer]| answers.iter().any(|a| matches!(a, Answer::Refused(v) if v.number == 11));
+        let granted = |answers: &[Answer], at_limit: fn(&Tree) -> bool| {
+            answers.iter().any(|a| matches!(a, Answer::Granted { flag: true, plan } if at_limit(plan)))
+        };
+        let (lists, depths, records) = (answers(near_list), answers(near_depth), answers(near_records));
+        assert!(refused(&lists) && refused(&depths) && refused(&records));
+        assert!(granted(&lists, |plan| longest_list(plan) == LIST));
+        assert!(granted(&depths, |plan| plan.depth() == DEPTH));
+        assert!(granted(&records, |plan| plan.size() == RECORDS));
+    }
+
+    fn top_filter(plan: &Tree) -> u32 {
+        let is_filter = |(_, tree): &(usize, &Tree)| tree.label.kind == FILTER;
+        plan.parent_first().iter().position(is_filter).expect("the plan has a Filter") as u32
+    }
+
+    fn longest_list(plan: &Tree) -> usize {
+        plan.parent_first().iter().map(|(_, tree)| list(tree)).max().unwrap_or(0)
     }
 }

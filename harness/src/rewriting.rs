@@ -74,14 +74,14 @@ fn in_room(plan: &Tree, room: usize) -> Option<(u32, Vec<u8>)> {
 }
 
 /// Test 11: records, depth, and the length of every list.
-pub fn fits(plan: &Tree) -> bool {
+fn fits(plan: &Tree) -> bool {
     let nodes = plan.parent_first();
     let within = |(level, tree): &(usize, &Tree)| *level <= limits::DEPTH && list(tree) <= limits::LIST;
     nodes.len() <= limits::RECORDS && nodes.iter().all(within)
 }
 
 /// How long the list of a plan is, 0 where it has none.
-fn list(tree: &Tree) -> usize {
+pub fn list(tree: &Tree) -> usize {
     let expressions = tree.children.iter().filter(|child| is_expr(child.label.kind));
     match tree.label.kind {
         SCAN => expressions.count(),
