@@ -48,17 +48,13 @@ fn exprs(tree: &Tree) -> Vec<Expr> {
     tree.children.iter().filter(|child| is_expr(child.label.kind)).map(expr).collect()
 }
 
-/// The fields that parts make, by their p and q. No arm of the source that runs asks for the type of such a field.
-fn made_by(parts: &[&Tree]) -> Vec<(Option<datafusion_common::TableReference>, Arc<Field>)> {
-    let field = |part: &&Tree| {
+/// The fields that parts make, by their p and q. No arm of the source that runs asks for a field's type.
+fn schema_of(parts: &[Tree]) -> DFSchemaRef {
+    let field = |part: &Tree| {
         let Label { p, q, .. } = part.label;
         (relation(p), Arc::new(Field::new(name(q), DataType::Null, true)))
     };
-    parts.iter().map(field).collect()
-}
-
-fn schema_of(parts: &[&Tree]) -> DFSchemaRef {
-    Arc::new(DFSchema::new(made_by(parts)))
+    Arc::new(DFSchema::new(parts.iter().map(field).collect()))
 }
 
 /// The fields of one schema, then those of another.
@@ -98,7 +94,7 @@ fn scan(tree: &Tree) -> LogicalPlan {
     let fields = parts(tree, FIELD, Tree::clone);
     LogicalPlan::TableScan(TableScan {
         table_name: name(tree.label.p),
-        projected_schema: schema_of(&fields.iter().collect::<Vec<_>>()),
+        projected_schema: schema_of(&fields),
         source: Arc::new(Marked { fields }),
         filters: exprs(tree),
     })
@@ -109,7 +105,7 @@ fn projection(tree: &Tree) -> LogicalPlan {
     LogicalPlan::Projection(Projection {
         expr: entries.iter().map(entry).collect(),
         input: Arc::new(plan(input_plan)),
-        schema: schema_of(&entries.iter().collect::<Vec<_>>()),
+        schema: schema_of(entries),
     })
 }
 
@@ -155,7 +151,7 @@ fn aggregate(tree: &Tree) -> LogicalPlan {
         input: Arc::new(plan(input_plan)),
         group_expr: parts(tree, ENTRY, entry),
         aggr_expr: parts(tree, AGGREGATE_ENTRY, function),
-        schema: schema_of(&entries.iter().collect::<Vec<_>>()),
+        schema: schema_of(entries),
     })
 }
 
@@ -167,8 +163,7 @@ fn window(tree: &Tree) -> LogicalPlan {
         let params = WindowFunctionParams { args: vec![expr(&part.children[0])], partition_by };
         named(part, Expr::WindowFunction(WindowFunction { number: part.label.r, params }))
     };
-    let made = DFSchema::new(made_by(&entries.iter().collect::<Vec<_>>()));
-    let schema = beside(input.schema(), &made);
+    let schema = beside(input.schema(), &schema_of(entries));
     LogicalPlan::Window(Window { input, window_expr: entries.iter().map(function).collect(), schema })
 }
 
