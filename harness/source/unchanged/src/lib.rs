@@ -2,7 +2,7 @@
 //!
 //! The files name functions that nothing here calls, and variants that no image holds; of that the compiler would warn.
 #![allow(dead_code, unreachable_code, unreachable_patterns, unused_imports, unused_variables)]
-#![allow(deprecated, unfulfilled_lint_expectations)]
+#![allow(deprecated, unfulfilled_lint_expectations, clippy::all)]
 
 pub use datafusion_optimizer::{OptimizerConfig, OptimizerRule, analyzer, optimizer};
 

@@ -5,11 +5,10 @@ pub mod datatypes {
 
     pub type FieldRef = Arc<Field>;
 
+    /// The source asks whether a type is a Struct, and makes a column of Null.
     #[derive(Clone, Debug, PartialEq, Eq)]
     pub enum DataType {
         Null,
-        Boolean,
-        Int64,
         Struct(Vec<FieldRef>),
     }
 
@@ -51,6 +50,7 @@ pub mod array {
 
     pub type ArrayRef = Arc<BooleanArray>;
 
+    #[allow(clippy::len_without_is_empty)]
     pub trait Array {
         fn len(&self) -> usize;
         fn is_null(&self, at: usize) -> bool;

@@ -1,6 +1,5 @@
 use crate::{DataFusionError, Result};
 use std::cmp::Ordering;
-use std::fmt;
 
 /// A literal, none for NULL. `Null` is the NULL of no type that utils.rs puts in the place of columns.
 #[derive(Clone, Debug, PartialEq, Eq, Hash)]
@@ -21,16 +20,6 @@ impl ScalarValue {
             (ScalarValue::Int64(value), ScalarValue::Int64(other)) => Ok(value.cmp(other)),
             (ScalarValue::Boolean(value), ScalarValue::Boolean(other)) => Ok(value.cmp(other)),
             _ => Err(DataFusionError::Internal(format!("cannot compare {self:?} with {other:?}"))),
-        }
-    }
-}
-
-impl fmt::Display for ScalarValue {
-    fn fmt(&self, f: &mut fmt::Formatter<'_>) -> fmt::Result {
-        match self {
-            ScalarValue::Boolean(Some(value)) => write!(f, "{value}"),
-            ScalarValue::Int64(Some(value)) => write!(f, "{value}"),
-            _ => f.write_str("NULL"),
         }
     }
 }

@@ -9,7 +9,7 @@ mod walk;
 
 use datafusion_common::ScalarValue;
 
-pub use expr::{Between, BinaryExpr, Expr, ExpressionPlacement};
+pub use expr::{BinaryExpr, Expr, ExpressionPlacement};
 pub use logical_plan::{Distinct, Filter, LogicalPlan, Projection, TableProviderFilterPushDown};
 pub use operator::Operator;
 

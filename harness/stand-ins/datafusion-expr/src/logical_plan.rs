@@ -161,7 +161,7 @@ pub enum TableProviderFilterPushDown {
     Exact,
 }
 
-pub trait TableSource: Any {
+pub trait TableSource: Any + Send + Sync {
     /// An answer for each predicate.
     fn supports_filters_pushdown(&self, filters: &[&Expr]) -> Result<Vec<TableProviderFilterPushDown>>;
 }
