@@ -35,15 +35,23 @@ struct Counts {
     families: BTreeMap<&'static str, u64>,
     not_accepted: u64,
     calls: u64,
-    nodes: BTreeMap<String, u64>,
+    nodes: BTreeMap<String, NodeCounts>,
     numbers: BTreeMap<u32, u64>,
     flags: u64,
-    changed: u64,
+    altered: u64,
     differences: BTreeMap<String, u64>,
     rows_changed_by_source: BTreeMap<String, u64>,
     exported: u64,
     passes: u64,
     rows: RowCounts,
+}
+
+/// Of one sort of nodes: all rewrites, those that altered the plan, and comparisons of rows of which there were some.
+#[derive(Default)]
+struct NodeCounts {
+    calls: u64,
+    altered: u64,
+    with_rows: u64,
 }
 
 fn main() -> ExitCode {
@@ -88,9 +96,11 @@ fn options() -> Option<Options> {
 fn print(counts: &Counts) {
     print_all("plans", &counts.families);
     println!("plans beyond a limit, not rewritten: {}", counts.not_accepted);
-    print_all("rewrites of", &counts.nodes);
+    for (sort, NodeCounts { calls, altered, with_rows }) in &counts.nodes {
+        println!("rewrites of {sort}: {calls}, altered {altered}, compared with rows {with_rows}");
+    }
     print_all("rewrites with number", &counts.numbers);
-    println!("flag raised: {}, plan altered: {}", counts.flags, counts.changed);
+    println!("flag raised: {}, plan altered, by passes too: {}", counts.flags, counts.altered);
     print_all("unchanged and patched source differ by", &counts.differences);
     print_all("of these the unchanged source changes the rows, by", &counts.rows_changed_by_source);
     println!("compared with the exported rewrite: {}, passes: {}", counts.exported, counts.passes);
@@ -119,14 +129,17 @@ fn compare_plan(options: &Options, number: u64, counts: &mut Counts) -> Result<(
     let before = Rows::of(random, &plan);
     for node in nodes(random, &plan) {
         let named = |difference: String| format!("rewrite at {node}: {difference}\n{}", to_hex(&image));
-        counts.calls += 1;
-        *counts.nodes.entry(sort_of(plan.node(node as usize))).or_default() += 1;
         let answer = compare_builds(&plan, node, &before, counts).map_err(named)?;
         let expected = handed_back(&answer, room(random, &image, &answer));
         compare_exported(&image, node, expected, counts).map_err(named)?;
+        let (altered, with_rows) = (counts.altered, counts.rows.not_empty);
         if let Answer::Granted { plan: after, .. } = &answer {
             compare_plans(&plan, after, &before, counts).map_err(named)?;
         }
+        let of_sort = counts.nodes.entry(sort_of(plan.node(node as usize))).or_default();
+        of_sort.calls += 1;
+        of_sort.altered += counts.altered - altered;
+        of_sort.with_rows += counts.rows.not_empty - with_rows;
     }
     compare_pass(random, &plan, &before, counts)
 }
@@ -136,7 +149,7 @@ fn compare_plans(plan: &Tree, after: &Tree, before: &Rows, counts: &mut Counts) 
     if after == plan {
         return Ok(());
     }
-    counts.changed += 1;
+    counts.altered += 1;
     match check(&after.image()) {
         Verdict::ACCEPTED => before.compare(after, &mut counts.rows),
         refusal => Err(format!("the answer is refused with {refusal}")),
@@ -170,8 +183,9 @@ fn compare_builds(plan: &Tree, node: u32, before: &Rows, counts: &mut Counts) ->
     }
     *counts.differences.entry(name(which)).or_default() += 1;
     if let Answer::Granted { plan: after, .. } = &unchanged {
-        let changes = before.compare(after, &mut RowCounts::default()).is_err();
-        *counts.rows_changed_by_source.entry(name(which)).or_default() += u64::from(changes);
+        if before.compare(after, &mut RowCounts::default()).is_err() {
+            *counts.rows_changed_by_source.entry(name(which)).or_default() += 1;
+        }
     }
     Ok(patched)
 }
@@ -214,6 +228,7 @@ fn compare_exported(
     expected: (Rewritten, Vec<u8>),
     counts: &mut Counts,
 ) -> Result<(), String> {
+    counts.calls += 1;
     *counts.numbers.entry(expected.0.number).or_default() += 1;
     counts.flags += u64::from(expected.0.flag);
     let room = expected.1.len();
@@ -230,7 +245,6 @@ fn compare_damaged(options: &Options, number: u64, counts: &mut Counts) -> Resul
     let image = damage::case(options.seed, number).image;
     let random = &mut Random::of_case(options.seed ^ u64::MAX, number);
     let (node, room) = (random.below(4) as u32, random.below(image.len() + 100));
-    counts.calls += 1;
     let expected = rewrite(Build::Patched(ALL), &image, node, room);
     let named = |difference: String| format!("damaged image, rewrite at {node}: {difference}\n{}", to_hex(&image));
     compare_exported(&image, node, expected, counts).map_err(named)
