@@ -23,12 +23,13 @@ struct Family {
     draw: fn(&mut Random) -> Tree,
 }
 
-const FAMILIES: [Family; 10] = [
-    Family { percent: 44, name: "drawn for the rewrite", draw: drawn },
+const FAMILIES: [Family; 11] = [
+    Family { percent: 38, name: "drawn for the rewrite", draw: drawn },
     Family { percent: 6, name: "drawn for the check", draw: drawn_for_check },
     Family { percent: 10, name: "stacked Filters", draw: stacked },
     Family { percent: 10, name: "bounds", draw: bounds },
     Family { percent: 14, name: "joins with keys", draw: keyed_join },
+    Family { percent: 6, name: "Projections of functions", draw: projected },
     Family { percent: 3, name: "Aggregates without groups", draw: groupless },
     Family { percent: 6, name: "lists near 128", draw: near_list },
     Family { percent: 2, name: "depth near 256", draw: near_depth },
@@ -163,6 +164,20 @@ fn fields(qualifier: u32, types: &[u32]) -> Vec<Field> {
 fn table(random: &mut Random, number: u32, fields: &[Field]) -> Tree {
     let part = |made: &Field| field(made.qualifier, made.name, made.of, random.chance(50));
     scan(number, fields.iter().map(part).collect())
+}
+
+/// Conjuncts over a Projection whose entries are columns and functions, some of them volatile or leafward.
+fn projected(random: &mut Random) -> Tree {
+    let aim = aim(random);
+    let input = drawn_for(aim, random, 10);
+    let mut draw = Draw::for_aim(aim, random, 200);
+    let made = draw.names_for(&[OF_INTEGER, OF_BOOLEAN, OF_INTEGER], &[]);
+    let entries = made.iter().map(|field| {
+        let levels = draw.random.below(2);
+        entry(field.qualifier, field.name, draw.call_or_column(&input.fields, field.of, levels))
+    });
+    let entries = entries.collect();
+    filter(draw.conjunction(&made), over(PROJECTION, entries, input.plan))
 }
 
 /// Predicates, some of them without columns, over an Aggregate of one row.

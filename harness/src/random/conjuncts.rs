@@ -30,7 +30,8 @@ impl Draw<'_> {
             0..9 => self.bound(over),
             9 | 10 => self.column_free(),
             11 | 12 => self.call(over, OF_BOOLEAN, 1),
-            13..18 => self.clauses(over),
+            13 => self.tested(over, 0),
+            14..18 => self.clauses(over),
             _ => self.expr(over, OF_BOOLEAN, 2),
         }
     }
@@ -66,6 +67,14 @@ impl Draw<'_> {
             same => same,
         };
         binary(mirrored, literal, field.reference())
+    }
+
+    /// A function in two of three cases, else a column where there is one.
+    pub fn call_or_column(&mut self, over: &[Field], of: u32, levels: usize) -> Tree {
+        match self.random.chance(67) {
+            true => self.call(over, of, levels),
+            false => self.leaf(over, of),
+        }
     }
 
     /// A predicate without columns, TRUE more often than not.
