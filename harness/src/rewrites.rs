@@ -166,18 +166,23 @@ fn table(random: &mut Random, number: u32, fields: &[Field]) -> Tree {
     scan(number, fields.iter().map(part).collect())
 }
 
-/// Conjuncts over a Projection whose entries are columns and functions, some of them volatile or leafward.
+/// Conjuncts over a Projection whose entries are columns and functions, some of them volatile or leafward; in some plans
+/// all conjuncts read such an entry, so that nothing moves.
 fn projected(random: &mut Random) -> Tree {
     let aim = aim(random);
     let input = drawn_for(aim, random, 10);
     let mut draw = Draw::for_aim(aim, random, 200);
     let made = draw.names_for(&[OF_INTEGER, OF_BOOLEAN, OF_INTEGER], &[]);
-    let entries = made.iter().map(|field| {
-        let levels = draw.random.below(2);
-        entry(field.qualifier, field.name, draw.call_or_column(&input.fields, field.of, levels))
-    });
-    let entries = entries.collect();
-    filter(draw.conjunction(&made), over(PROJECTION, entries, input.plan))
+    let of_field = |field: &Field| entry(field.qualifier, field.name, draw.call_or_column(&input.fields, field.of, 1));
+    let entries: Vec<Tree> = made.iter().map(of_field).collect();
+    let is_blocked = |part: &Tree| part.children[0].label.kind == FUNCTION && part.children[0].label.q != 0;
+    let blocked = made.iter().zip(&entries).filter(|(_, part)| is_blocked(part)).map(|(field, _)| *field);
+    let blocked: Vec<Field> = blocked.collect();
+    let predicate = match !blocked.is_empty() && draw.random.chance(50) {
+        true => conjunction((0..3).map(|_| draw.bound(&blocked)).collect(), Nesting::Right),
+        false => draw.conjunction(&made),
+    };
+    filter(predicate, over(PROJECTION, entries, input.plan))
 }
 
 /// Predicates, some of them without columns, over an Aggregate of one row.
