@@ -2,9 +2,13 @@
 //! Without the feature `library` nothing is linked, and each answers none.
 
 use crate::checker::Verdict;
+use crate::rewriting::Rewritten;
 
 /// Whether the library is linked.
 pub const LINKED: bool = cfg!(feature = "library");
+
+/// Whether it exports the rewrite.
+pub const REWRITES: bool = cfg!(feature = "rewrite");
 
 #[cfg(feature = "library")]
 mod exported {
@@ -12,6 +16,17 @@ mod exported {
 
     unsafe extern "C" {
         pub fn push_down_filter_check(image: *const u8, len: usize) -> Verdict;
+    }
+
+    #[cfg(feature = "rewrite")]
+    unsafe extern "C" {
+        pub fn push_down_filter_rewrite(
+            image: *const u8,
+            len: usize,
+            node: u64,
+            out: *mut u8,
+            room: usize,
+        ) -> crate::rewriting::Rewritten;
     }
 }
 
@@ -23,5 +38,27 @@ pub fn check(image: &[u8]) -> Option<Verdict> {
 
 #[cfg(not(feature = "library"))]
 pub fn check(_image: &[u8]) -> Option<Verdict> {
+    None
+}
+
+/// The result and the whole output, which held no zero before the call.
+#[cfg(feature = "rewrite")]
+pub fn rewrite(image: &[u8], node: u32, room: usize) -> Option<(Rewritten, Vec<u8>)> {
+    let mut output = vec![0xA5; room];
+    // SAFETY: both pointers and lengths are those of slices that live through the call; it writes to the second alone.
+    let result = unsafe {
+        exported::push_down_filter_rewrite(
+            image.as_ptr(),
+            image.len(),
+            u64::from(node),
+            output.as_mut_ptr(),
+            output.len(),
+        )
+    };
+    Some((result, output))
+}
+
+#[cfg(not(feature = "rewrite"))]
+pub fn rewrite(_image: &[u8], _node: u32, _room: usize) -> Option<(Rewritten, Vec<u8>)> {
     None
 }

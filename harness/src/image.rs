@@ -62,6 +62,44 @@ impl Tree {
         nodes
     }
 
+    /// The tree that the records are of. They must be linked as `records` links them.
+    pub fn of_records(records: &[Record]) -> Tree {
+        Tree::read(records, &mut records.iter())
+    }
+
+    /// The tree of the next unread record; its children are those that follow until one has no `next`.
+    fn read(records: &[Record], unread: &mut std::slice::Iter<Record>) -> Tree {
+        let record = unread.next().expect("a link leads to a record");
+        let mut tree = Tree { label: record.label, children: Vec::new() };
+        let mut child = record.first;
+        while child != 0 {
+            tree.children.push(Tree::read(records, unread));
+            child = records[child as usize].next;
+        }
+        tree
+    }
+
+    /// The node whose record would be number `at`.
+    pub fn node(&self, at: usize) -> Option<&Tree> {
+        let mut waiting = vec![self];
+        let mut number = 0;
+        while let Some(tree) = waiting.pop() {
+            if number == at {
+                return Some(tree);
+            }
+            number += 1;
+            waiting.extend(tree.children.iter().rev());
+        }
+        None
+    }
+
+    /// The whole with another tree in the place of that node.
+    pub fn with(&self, at: usize, other: Tree) -> Tree {
+        let mut whole = self.clone();
+        *whole.node_mut(at).expect("the node stands in the tree") = other;
+        whole
+    }
+
     /// The node whose record would be number `at`.
     pub fn node_mut(&mut self, at: usize) -> Option<&mut Tree> {
         let mut waiting = vec![self];
@@ -153,7 +191,9 @@ mod tests {
 
     #[test]
     fn reading_gives_what_was_written() {
-        let records = node(33, vec![leaf(3), node(32, vec![leaf(48)])]).records();
+        let tree = node(33, vec![leaf(3), node(32, vec![leaf(48)])]);
+        let records = tree.records();
+        assert_eq!(Tree::of_records(&records), tree);
         assert_eq!(read(&write(&records)), records);
         assert_eq!(write(&records).len(), RECORD_BYTES * records.len());
         assert_eq!(write(&[Record::of_words([0x01020304, 0, 0, 0, 0, 0, 0, 5])])[..4], [4, 3, 2, 1]);

@@ -37,11 +37,24 @@ pub const WINDOW_ENTRY: u32 = 53;
 pub const OF_INTEGER: u32 = 1;
 pub const OF_BOOLEAN: u32 = 2;
 
-/// The operators of a BinaryExpr that the files name.
+/// The operators of a BinaryExpr.
 pub const AND: u32 = 1;
 pub const OR: u32 = 2;
 pub const EQ: u32 = 3;
+pub const NOT_EQ: u32 = 4;
+pub const LT: u32 = 5;
+pub const LT_EQ: u32 = 6;
 pub const GT: u32 = 7;
+pub const GT_EQ: u32 = 8;
+
+pub const INNER: u32 = 1;
+pub const LEFT: u32 = 2;
+pub const RIGHT: u32 = 3;
+pub const FULL: u32 = 4;
+pub const LEFT_SEMI: u32 = 5;
+pub const RIGHT_SEMI: u32 = 6;
+pub const LEFT_ANTI: u32 = 7;
+pub const RIGHT_ANTI: u32 = 8;
 
 /// What an entry of an Aggregate or a Window counts.
 pub const COUNT: u32 = 1;
@@ -58,6 +71,11 @@ pub fn is_plan(kind: u32) -> bool {
 
 fn tree(kind: u32, p: u32, q: u32, r: u32, children: Vec<Tree>) -> Tree {
     Tree { label: Label { kind, p, q, r, lo: 0, hi: 0 }, children }
+}
+
+/// A record that uses p alone, with its children.
+pub fn of_children(kind: u32, p: u32, children: Vec<Tree>) -> Tree {
+    tree(kind, p, 0, 0, children)
 }
 
 pub fn column(qualifier: u32, name: u32) -> Tree {

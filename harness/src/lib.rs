@@ -2,12 +2,18 @@
 
 pub mod checker;
 pub mod damage;
+pub mod differences;
 pub mod edges;
 pub mod ffi;
 pub mod image;
 pub mod kinds;
+pub mod meaning;
 pub mod random;
+pub mod rewrites;
+pub mod rewriting;
+pub mod rows;
 pub mod sets;
+pub mod source;
 pub mod sweeps;
 pub mod terms;
 

@@ -1,6 +1,8 @@
 //! Random plans that the check accepts, from a seed. Names come from a small pool, so that fields of different plans
 //! share names as often as they may.
 
+mod conjuncts;
+
 use crate::image::Tree;
 use crate::kinds::*;
 use crate::limits;
@@ -62,7 +64,7 @@ impl Field {
         self.name == other.name && (same_qualifier || self.qualifier == 0 || other.qualifier == 0)
     }
 
-    fn reference(&self) -> Tree {
+    pub fn reference(&self) -> Tree {
         column(self.qualifier, self.name)
     }
 }
@@ -73,9 +75,19 @@ pub struct Planned {
     pub fields: Vec<Field>,
 }
 
+/// What plans are drawn for.
+#[derive(Clone, Copy, Debug, PartialEq, Eq)]
+pub enum Aim {
+    /// All that the check accepts.
+    Check,
+    /// Work for the rewrite: Filters everywhere, lists of bounds, keys that are columns, values that meet.
+    Rewrite { volatile: bool },
+}
+
 /// Draws plans of about as many records as `left` says; the last parts may go a little over.
 pub struct Draw<'a> {
     pub random: &'a mut Random,
+    aim: Aim,
     left: usize,
     /// The field types of each table met.
     tables: BTreeMap<u32, Vec<u32>>,
@@ -85,8 +97,12 @@ pub struct Draw<'a> {
 
 /// A plan of about `records` records.
 pub fn accepted(random: &mut Random, records: usize) -> Planned {
+    drawn_for(Aim::Check, random, records)
+}
+
+pub fn drawn_for(aim: Aim, random: &mut Random, records: usize) -> Planned {
     let levels = 2 + records.ilog2() as usize;
-    Draw::new(random, records).plan(levels)
+    Draw::for_aim(aim, random, records).plan(levels)
 }
 
 /// Sizes as they are wanted: many small plans, some medium, few large.
@@ -101,7 +117,15 @@ pub fn size(random: &mut Random) -> usize {
 
 impl Draw<'_> {
     pub fn new(random: &mut Random, records: usize) -> Draw<'_> {
-        Draw { random, left: records, tables: BTreeMap::new(), fresh: 1000 }
+        Draw::for_aim(Aim::Check, random, records)
+    }
+
+    pub fn for_aim(aim: Aim, random: &mut Random, records: usize) -> Draw<'_> {
+        Draw { random, aim, left: records, tables: BTreeMap::new(), fresh: 1000 }
+    }
+
+    fn to_rewrite(&self) -> bool {
+        self.aim != Aim::Check
     }
 
     fn spend(&mut self, records: usize) {
@@ -113,6 +137,9 @@ impl Draw<'_> {
             return self.scan();
         }
         self.spend(1);
+        if self.to_rewrite() && self.random.chance(35) {
+            return self.filter(levels - 1);
+        }
         match self.random.below(18) {
             0 => self.scan(),
             1..=3 => self.filter(levels - 1),
@@ -143,8 +170,13 @@ impl Draw<'_> {
             children.push(field(made.qualifier, made.name, made.of, self.random.chance(60)));
         }
         self.spend(1 + fields.len());
-        for _ in 0..self.few() {
-            children.push(self.expr(&fields, OF_BOOLEAN, 2));
+        if self.to_rewrite() {
+            let filters = *self.random.pick(&[0, 0, 0, 1, 2]);
+            children.extend(self.conjuncts(&fields, filters));
+        } else {
+            for _ in 0..self.few() {
+                children.push(self.expr(&fields, OF_BOOLEAN, 2));
+            }
         }
         Planned { plan: scan(table, children), fields }
     }
@@ -183,10 +215,7 @@ impl Draw<'_> {
         let both = [left.fields.clone(), right.fields.clone()].concat();
         let mut children = vec![left.plan, right.plan];
         for _ in 0..self.few() {
-            let of = self.any_type();
-            let levels = self.random.below(2);
-            let pair = key_pair(self.expr(&left.fields, of, levels), self.expr(&right.fields, of, levels));
-            children.push(pair);
+            children.push(self.key_pair(&left.fields, &right.fields));
         }
         if self.random.chance(50) {
             children.push(self.predicate(&both));
@@ -197,6 +226,12 @@ impl Draw<'_> {
             _ => right.fields,
         };
         Planned { plan: join(which, children), fields }
+    }
+
+    fn key_pair(&mut self, left: &[Field], right: &[Field]) -> Tree {
+        let of = self.any_type();
+        let levels = if self.to_rewrite() { 0 } else { self.random.below(2) };
+        key_pair(self.expr(left, of, levels), self.expr(right, of, levels))
     }
 
     /// The plan with at most `most` fields, by a Projection if it has more.
@@ -279,6 +314,7 @@ impl Draw<'_> {
         match self.random.below(5) {
             0 => distinct(input),
             1 => repartition(input),
+            2 if self.to_rewrite() => limit(self.random.below(9) as u32, self.random.below(3) as u32, input),
             2 => limit(self.random.below(9) as u32, self.random.word() as u32, input),
             3 => sort(self.random.chance(50).then_some(u32::MAX), vec![], input),
             _ => filter(boolean(self.random.chance(50)), input),
@@ -372,6 +408,9 @@ impl Draw<'_> {
     }
 
     fn predicate(&mut self, over: &[Field]) -> Tree {
+        if self.to_rewrite() {
+            return self.conjunction(over);
+        }
         let levels = self.random.within(1, 4);
         self.expr(over, OF_BOOLEAN, levels)
     }
@@ -425,7 +464,10 @@ impl Draw<'_> {
 
     fn call(&mut self, over: &[Field], of: u32, levels: usize) -> Tree {
         let number = *self.random.pick(&[0, 1, 2, 3, u32::MAX]);
-        let marks = self.random.below(4) as u32;
+        let marks = match self.aim {
+            Aim::Rewrite { volatile: false } => 2 * self.random.below(2) as u32,
+            _ => self.random.below(4) as u32,
+        };
         let mut arguments = Vec::new();
         for _ in 0..self.few() {
             let of = self.any_type();
@@ -445,6 +487,9 @@ impl Draw<'_> {
         }
         if of == OF_BOOLEAN {
             return boolean(self.random.chance(50));
+        }
+        if self.to_rewrite() {
+            return integer(self.random.below(4) as i64);
         }
         let drawn = self.random.word() as i64;
         integer(*self.random.pick(&[-3, -1, 0, 1, 2, 5, 7, i64::MAX, i64::MIN, 1 << 32, drawn]))

@@ -1,7 +1,10 @@
-//! Plans as the stored cases write them, such as `filter (bin (cmp gt) (v 1 1) (i 5)) (scan 1 [] [])`, read as trees.
+//! Plans as the stored cases write them, such as `filter (bin (cmp gt) (v 1 1) (i 5)) (scan 1 [] [])`, read as trees; and
+//! the answers to rewrites and passes.
 
+use crate::checker::Verdict;
 use crate::image::{Record, Tree};
 use crate::kinds::*;
+use crate::rewriting::{Answer, PassAnswer};
 
 /// A word, or a bracketed or chained row of terms.
 #[derive(Debug)]
@@ -18,6 +21,54 @@ pub fn plan_of(text: &str) -> Option<Tree> {
 /// The records of `(w 33 0 0 0 0 0 1 0 ∷ w .. ∷ [])`.
 pub fn records_of(text: &str) -> Option<Vec<Record>> {
     list(&parsed(text)?, record)
+}
+
+/// A stored call: a record number or a budget, a plan, and the answer.
+pub struct Stored<A> {
+    pub number: u32,
+    pub plan: Tree,
+    pub answer: A,
+}
+
+/// `0 (plan) (granted true (plan))`
+pub fn rewrite_of(text: &str) -> Option<Stored<Answer>> {
+    stored(text, answer)
+}
+
+/// `10000 (plan) (passed 1 1 1 (plan))`
+pub fn pass_of(text: &str) -> Option<Stored<PassAnswer>> {
+    stored(text, pass_answer)
+}
+
+fn stored<A>(text: &str, answer: fn(&Term) -> Option<A>) -> Option<Stored<A>> {
+    let Term::Row(terms) = parsed(text)? else { return None };
+    let [asked, given, expected] = terms.as_slice() else { return None };
+    Some(Stored { number: number(asked)?, plan: plan(given)?, answer: answer(expected)? })
+}
+
+fn answer(term: &Term) -> Option<Answer> {
+    Some(match head(term)? {
+        ("granted", [flag, made]) => Answer::Granted { flag: truth(flag)?, plan: plan(made)? },
+        ("refused", [which, at]) => Answer::Refused(verdict(which, at)?),
+        _ => return None,
+    })
+}
+
+fn pass_answer(term: &Term) -> Option<PassAnswer> {
+    Some(match head(term)? {
+        ("passed", [visits, changed, finished, made]) => PassAnswer::Passed {
+            visits: number(visits)?,
+            changed: number(changed)?,
+            finished: number(finished)? == 1,
+            plan: plan(made)?,
+        },
+        ("pass-refused", [which, at]) => PassAnswer::Refused(verdict(which, at)?),
+        _ => return None,
+    })
+}
+
+fn verdict(which: &Term, at: &Term) -> Option<Verdict> {
+    Some(Verdict { number: number(which)?, record: number(at)? })
 }
 
 fn record(term: &Term) -> Option<Record> {
@@ -223,6 +274,15 @@ mod tests {
         let table = scan(1, vec![field(1, 1, OF_INTEGER, true), boolean(true)]);
         assert_eq!(plan_of(text), Some(filter(binary(GT, column(1, 1), integer(-5)), table)));
         assert_eq!(plan_of("filter (v 1 1)"), None);
+    }
+
+    #[test]
+    fn calls_are_read() {
+        let stored = rewrite_of("2 (scan 1 [] []) (refused 8 2)").expect("a stored rewrite");
+        assert_eq!((stored.number, stored.answer), (2, Answer::Refused(Verdict { number: 8, record: 2 })));
+        let stored = pass_of("7 (scan 1 [] []) (passed 1 0 1 (scan 1 [] []))").expect("a stored pass");
+        let passed = PassAnswer::Passed { visits: 1, changed: 0, finished: true, plan: stored.plan };
+        assert_eq!((stored.number, stored.answer), (7, passed));
     }
 
     #[test]

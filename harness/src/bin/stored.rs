@@ -1,11 +1,14 @@
 //! Compares the harness with the stored cases, which the formal definitions computed: the verdicts of images, the
-//! records of plans, and the numbers that tests 6 and 7 give to plans. With the feature `library` the exported check
-//! answers for the images too. Reads crates/cases/specs/*.antt, or the folder named on the command line.
+//! records of plans, the numbers that tests 6 and 7 give to plans, and the answers to rewrites and passes, which the
+//! patched source must give as well. With the feature `library` the exported check answers for the images too. Reads
+//! crates/cases/specs/*.antt, or the folder named on the command line.
 
 use harness::checker::{check, Verdict};
 use harness::ffi;
 use harness::image;
-use harness::terms::{plan_of, records_of};
+use harness::rewriting::{pass, rewrite_at};
+use harness::source::{Build, ALL};
+use harness::terms::{pass_of, plan_of, records_of, rewrite_of};
 use std::path::{Path, PathBuf};
 use std::process::ExitCode;
 
@@ -16,10 +19,14 @@ struct Sort {
     compare: fn(&str) -> Option<Result<(), String>>,
 }
 
-const SORTS: [Sort; 3] = [
+const SORTS: [Sort; 7] = [
     Sort { what: "verdicts of images", cases: image_statements, compare: verdict_of_image },
     Sort { what: "records of plans", cases: drawings, compare: records_of_plan },
     Sort { what: "numbers of plans", cases: judgings, compare: number_of_plan },
+    Sort { what: "rewrites", cases: rewrites, compare: answer_of_rewrite },
+    Sort { what: "rewrites at the limits", cases: limited_rewrites, compare: answer_of_rewrite },
+    Sort { what: "passes", cases: passes, compare: answer_of_pass },
+    Sort { what: "passes at the limits", cases: limited_passes, compare: answer_of_pass },
 ];
 
 /// The statements about the bytes of an image, a line each.
@@ -35,12 +42,38 @@ fn judgings(text: &str) -> Vec<String> {
     rows(text, "plans = judging ", " ∷ judging ", " ∷ [] verdicts-agree")
 }
 
-/// The rows of a table, whatever its line breaks.
+fn rewrites(text: &str) -> Vec<String> {
+    rows(text, "asked-of-plans = asked ", " ∷ asked ", " ∷ [] rewrites-agree")
+}
+
+fn passes(text: &str) -> Vec<String> {
+    rows(text, "passes-over-plans = passing ", " ∷ passing ", " ∷ [] passes-agree")
+}
+
+fn limited_rewrites(text: &str) -> Vec<String> {
+    statements(text, " : rewriteAt ")
+}
+
+fn limited_passes(text: &str) -> Vec<String> {
+    statements(text, " : pass ")
+}
+
+fn flat(text: &str) -> String {
+    text.split_whitespace().collect::<Vec<_>>().join(" ")
+}
+
+/// The rows of all tables so named, whatever their line breaks.
 fn rows(text: &str, begin: &str, between: &str, end: &str) -> Vec<String> {
-    let words: Vec<&str> = text.split_whitespace().collect();
-    let flat = words.join(" ");
-    let table = flat.split_once(begin).and_then(|(_, rest)| rest.split_once(end));
-    table.map_or_else(Vec::new, |(table, _)| table.split(between).map(str::to_string).collect())
+    let flat = flat(text);
+    let tables = flat.split(begin).skip(1).filter_map(|rest| rest.split_once(end));
+    tables.flat_map(|(table, _)| table.split(between)).map(str::to_string).collect()
+}
+
+/// The statements `name : asked ≡ answer`, each as a row of a table would be.
+fn statements(text: &str, asked: &str) -> Vec<String> {
+    let flat = flat(text);
+    let stated = flat.split(asked).skip(1).filter_map(|rest| rest.split_once(" unfolding opened"));
+    stated.map(|(statement, _)| statement.replacen(" ≡ ", " (", 1) + ")").collect()
 }
 
 fn main() -> ExitCode {
@@ -118,4 +151,26 @@ fn number_of_plan(case: &str) -> Option<Result<(), String>> {
     let (number, plan) = case.split_once(' ')?;
     let stored: u32 = number.trim().parse().ok()?;
     Some(same("checker", stored, check(&plan_of(plan)?.image()).number))
+}
+
+/// `0 (plan) (granted true (plan))`
+fn answer_of_rewrite(case: &str) -> Option<Result<(), String>> {
+    let stored = rewrite_of(case)?;
+    let answer = rewrite_at(Build::Patched(ALL), &stored.plan, stored.number);
+    Some(agree(stored.answer == answer, || format!("stored {:?}, source {answer:?}", stored.answer)))
+}
+
+/// `10000 (plan) (passed 1 1 1 (plan))`
+fn answer_of_pass(case: &str) -> Option<Result<(), String>> {
+    let stored = pass_of(case)?;
+    let answer = pass(Build::Patched(ALL), &stored.plan, stored.number);
+    Some(agree(stored.answer == answer, || format!("stored {:?}, source {answer:?}", stored.answer)))
+}
+
+fn agree(is_same: bool, difference: impl Fn() -> String) -> Result<(), String> {
+    if is_same {
+        Ok(())
+    } else {
+        Err(difference())
+    }
 }
