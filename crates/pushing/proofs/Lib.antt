@@ -1,0 +1,3 @@
+pub mod Plain
+pub mod Settling
+pub mod Finding
