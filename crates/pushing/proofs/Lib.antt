@@ -2,3 +2,5 @@ pub mod Plain
 pub mod Settling
 pub mod Finding
 pub mod Within
+pub mod Steps
+pub mod Naming
