@@ -4,3 +4,4 @@ pub mod Finding
 pub mod Within
 pub mod Steps
 pub mod Naming
+pub mod Scoped
