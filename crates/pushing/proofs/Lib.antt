@@ -5,3 +5,4 @@ pub mod Within
 pub mod Steps
 pub mod Naming
 pub mod Scoped
+pub mod Root
