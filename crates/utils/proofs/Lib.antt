@@ -1,0 +1,3 @@
+-- Laws of sets, schemas and clauses.
+pub mod Members
+pub mod Marking
