@@ -6,3 +6,4 @@ pub mod Steps
 pub mod Naming
 pub mod Scoped
 pub mod Root
+pub mod Marked
