@@ -7,3 +7,4 @@ pub mod Naming
 pub mod Scoped
 pub mod Root
 pub mod Marked
+pub mod Over
