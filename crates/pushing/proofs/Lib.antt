@@ -8,3 +8,4 @@ pub mod Scoped
 pub mod Root
 pub mod Marked
 pub mod Over
+pub mod Splicing
