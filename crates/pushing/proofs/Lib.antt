@@ -9,3 +9,4 @@ pub mod Root
 pub mod Marked
 pub mod Over
 pub mod Splicing
+pub mod Windows

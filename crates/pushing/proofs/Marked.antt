@@ -39,15 +39,15 @@ marks-at (node l cs ns) s b zero h k = ap isPlan (sym (h .head .label))
 marks-at (node l cs ns) s b (suc n) h k =
     in-either (marks cs) (marks ns) n (isPlan (labelAt (drop (32 * suc n) s)))
     (λ i.
-      let j : n < size cs = omega (arith, marks-length cs) in
-      let e : 32 + 32 * n ≡ 32 * suc n = omega arith in
-      marks-at cs (drop 32 s) (b + 1) n (h .below) j ∙ ap (λ t. isPlan (labelAt t)) (drop-drop (32 * n) 32 s ∙ ap (λ m. drop m s) e))
+    let j : n < size cs = omega (arith, marks-length cs) in
+    let e : 32 + 32 * n ≡ 32 * suc n = omega arith in
+    marks-at cs (drop 32 s) (b + 1) n (h .below) j ∙ ap (λ t. isPlan (labelAt t)) (drop-drop (32 * n) 32 s ∙ ap (λ m. drop m s) e))
     (λ i.
-      let m = n - length (marks cs) in
-      let j : m < size ns = omega (arith, marks-length cs) in
-      let e : 32 * suc (size cs) + 32 * m ≡ 32 * suc n = omega (arith, marks-length cs) in
-      marks-at ns (drop (32 * suc (size cs)) s) (b + 1 + size cs) m (h .after) j
-      ∙ ap (λ t. isPlan (labelAt t)) (drop-drop (32 * m) (32 * suc (size cs)) s ∙ ap (λ m. drop m s) e))
+    let m = n - length (marks cs) in
+    let j : m < size ns = omega (arith, marks-length cs) in
+    let e : 32 * suc (size cs) + 32 * m ≡ 32 * suc n = omega (arith, marks-length cs) in
+    marks-at ns (drop (32 * suc (size cs)) s) (b + 1 + size cs) m (h .after) j
+    ∙ ap (λ t. isPlan (labelAt t)) (drop-drop (32 * m) (32 * suc (size cs)) s ∙ ap (λ m. drop m s) e))
 
 -- the plan p stands at record 0
 module _ {s : List ℕ} {p : Plan} (h : StandingP s 0 p) (n : ℕ) (small : n < sizeP p) where

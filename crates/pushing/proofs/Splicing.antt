@@ -53,10 +53,10 @@ module _ {A : Type 0} where
     is =
         let a : k + n + m ≡ length pre + (n + m) = omega arith in
         let t : take (k + n) (pre ++ (old ++ post)) ≡ pre ++ take n old =
-            ap (λ i. take (i + n) (pre ++ (old ++ post))) e ∙ take-more pre (old ++ post) n
-            ∙ ap (λ l. pre ++ l) (take-less old post n (omega (arith, h .room))) in
+        ap (λ i. take (i + n) (pre ++ (old ++ post))) e ∙ take-more pre (old ++ post) n
+        ∙ ap (λ l. pre ++ l) (take-less old post n (omega (arith, h .room))) in
         let d : drop (k + n + m) (pre ++ (old ++ post)) ≡ drop (n + m) old ++ post =
-            ap (λ i. drop i (pre ++ (old ++ post))) a ∙ drop-more pre (old ++ post) (n + m) ∙ drop-less old post (n + m) (h .room) in
+        ap (λ i. drop i (pre ++ (old ++ post))) a ∙ drop-more pre (old ++ post) (n + m) ∙ drop-less old post (n + m) (h .room) in
         ap (λ l. pre ++ (l ++ post)) (h .is)
         ∙ ap (λ l. pre ++ l) (append-assoc (take n old) (ys ++ drop (n + m) old) post
         ∙ ap (λ l. take n old ++ l) (append-assoc ys (drop (n + m) old) post))
@@ -121,13 +121,13 @@ framed : {n : ℕ} {old : ℕ → List Rec} {t : Plan} {new : ℕ → Plan → L
 framed {n} {old} {t} {new} j k pre post e h = record {
   level = j + h .level;
   there = λ d.
-    let i : d + j + h .level ≡ d + (j + h .level) = omega arith in
-    ap (λ (r : Rec). r .1) (at-within (pre d) (old (d + j)) (post d) n k top (e d) (h .short (d + j))) ∙ h .there (d + j) ∙ i;
+      let i : d + j + h .level ≡ d + (j + h .level) = omega arith in
+      ap (λ (r : Rec). r .1) (at-within (pre d) (old (d + j)) (post d) n k top (e d) (h .short (d + j))) ∙ h .there (d + j) ∙ i;
   short = λ d. omega (arith, h .short (d + j), length-append (pre d) (old (d + j) ++ post d), length-append (old (d + j)) (post d), e d);
   placed = λ d q.
-    let i : d + j + h .level ≡ d + (j + h .level) = omega arith in
-    placed-within (pre d) (post d) k (e d)
-    (subst (λ l. Placed n (sizeP t) (old (d + j)) (recs l (planTree q)) (new (d + j) q)) i (h .placed (d + j) q));
+      let i : d + j + h .level ≡ d + (j + h .level) = omega arith in
+      placed-within (pre d) (post d) k (e d)
+      (subst (λ l. Placed n (sizeP t) (old (d + j)) (recs l (planTree q)) (new (d + j) q)) i (h .placed (d + j) q));
 }
 
 -- the same, given the records as they are
@@ -180,8 +180,8 @@ in-place p = record {
   there = λ d. omega arith;
   short = λ d. omega arith;
   placed = λ d q. let i : d + 0 ≡ d = omega arith in
-    subst (λ l. Placed 0 (sizeP p) (recsP p d) (recs l (planTree q)) (recsP q d)) (sym i)
-    (placed-whole (recsP p d) (recsP q d) (sizeP p) (sym (recs-length d (planTree p))));
+      subst (λ l. Placed 0 (sizeP p) (recsP p d) (recs l (planTree q)) (recsP q d)) (sym i)
+      (placed-whole (recsP p d) (recsP q d) (sizeP p) (sym (recs-length d (planTree p))));
 }
 
 ways : Ways (λ n p t C. Spliced n (recsP p) t (λ d q. recsP (C q) d)) (λ n ps t C. Spliced n (recsPs ps) t (λ d q. recsPs (C q) d))
@@ -189,44 +189,48 @@ unfolding labelP kidsP sizeE sizeP
 ways = record {
   root = in-place;
   in-filter = λ n p t C e h.
-    within-plan p C (suc (sizeE e)) (filter e) (λ d. (labelP (filter e p), d) ∷ ((labelE e, d + 1) ∷ recsAny (d + 1 + 1) (kidsE e))) (λ d. [])
-    (λ d. ap (λ i. suc (suc i)) (sym (recs-any-length (d + 1 + 1) (kidsE e)))) (λ q d. refl) h;
+      within-plan p C (suc (sizeE e)) (filter e) (λ d. (labelP (filter e p), d) ∷ ((labelE e, d + 1) ∷ recsAny (d + 1 + 1) (kidsE e))) (λ d. [])
+      (λ d. ap (λ i. suc (suc i)) (sym (recs-any-length (d + 1 + 1) (kidsE e)))) (λ q d. refl) h;
   in-project = λ n p t C es h. behind-run entryLabel entryKids es p C (project es) (labelP (project es p)) (λ q. refl) h;
   in-left = λ n l t C k r on f h.
-    within-plan l C 1 (λ q. join k q r on f) (λ d. (labelP (join k l r on f), d) ∷ [])
-    (λ d. recsAny (d + 1) (node (labelP r) (kidsP r) (each pairLabel pairKids on (filterKids f)))) (λ d. refl) (λ q d. refl) h;
+      within-plan l C 1 (λ q. join k q r on f) (λ d. (labelP (join k l r on f), d) ∷ [])
+      (λ d. recsAny (d + 1) (node (labelP r) (kidsP r) (each pairLabel pairKids on (filterKids f)))) (λ d. refl) (λ q d. refl) h;
   in-right = λ n r t C k l on f h.
-    within-plan r C (suc (sizeP l)) (λ q. join k l q on f) (λ d. (labelP (join k l r on f), d) ∷ recsP l (d + 1))
-    (λ d. recsAny (d + 1) (each pairLabel pairKids on (filterKids f))) (λ d. ap suc (sym (recs-length (d + 1) (planTree l)))) (λ q d. refl) h;
+      within-plan r C (suc (sizeP l)) (λ q. join k l q on f) (λ d. (labelP (join k l r on f), d) ∷ recsP l (d + 1))
+      (λ d. recsAny (d + 1) (each pairLabel pairKids on (filterKids f))) (λ d. ap suc (sym (recs-length (d + 1) (planTree l)))) (λ q d. refl) h;
   in-alias = λ n p t C i h. right-behind p C (alias i) (labelP (alias i p)) (λ q. refl) h;
   in-union = λ n ps t C h.
-    stepped 1 1 _ (λ d. (labelP (union ps), d) ∷ []) (λ d. []) (recsP (union ps)) (λ d q. recsP (union (C q)) d) refl (λ d. refl)
-    (λ d. ap (λ r. (labelP (union ps), d) ∷ r) (sym (append-nil (recsPs ps (d + 1)))))
-    (λ d q. ap (λ r. (labelP (union ps), d) ∷ r) (sym (append-nil (recsPs (C q) (d + 1))))) h;
+      stepped 1 1 _ (λ d. (labelP (union ps), d) ∷ []) (λ d. []) (recsP (union ps)) (λ d q. recsP (union (C q)) d) refl (λ d. refl)
+      (λ d. ap (λ r. (labelP (union ps), d) ∷ r) (sym (append-nil (recsPs ps (d + 1)))))
+      (λ d q. ap (λ r. (labelP (union ps), d) ∷ r) (sym (append-nil (recsPs (C q) (d + 1))))) h;
   in-distinct = λ n p t C h. right-behind p C distinct (labelP (distinct p)) (λ q. refl) h;
   in-sort = λ n p t C f ks h. behind-run keyLabel keyKids ks p C (sort f ks) (labelP (sort f ks p)) (λ q. refl) h;
   in-repartition = λ n p t C h. right-behind p C repartition (labelP (repartition p)) (λ q. refl) h;
   in-limit = λ n p t C i j h. right-behind p C (limit i j) (labelP (limit i j p)) (λ q. refl) h;
   in-aggregate = λ n p t C gs ags h.
-    within-plan p C (suc (sizes entryKids gs + sizes aggKids ags)) (aggregate gs ags)
-    (λ d. (labelP (aggregate gs ags p), d) ∷ (recsAny (d + 1) (each entryLabel entryKids gs none) ++ recsAny (d + 1) (each aggLabel aggKids ags none)))
-    (λ d. [])
-    (λ d. omega (arith, run-count entryLabel entryKids gs (d + 1), run-count aggLabel aggKids ags (d + 1),
-      length-append (recsAny (d + 1) (each entryLabel entryKids gs none)) (recsAny (d + 1) (each aggLabel aggKids ags none))))
-    (λ q d. ap (λ r. (labelP (aggregate gs ags p), d) ∷ r)
+      within-plan p C (suc (sizes entryKids gs + sizes aggKids ags)) (aggregate gs ags)
+      (λ d. (labelP (aggregate gs ags p), d) ∷ (recsAny (d + 1) (each entryLabel entryKids gs none) ++ recsAny (d + 1) (each aggLabel aggKids ags none)))
+      (λ d. [])
+      (λ d. omega (
+        arith,
+        run-count entryLabel entryKids gs (d + 1),
+        run-count aggLabel aggKids ags (d + 1),
+        length-append (recsAny (d + 1) (each entryLabel entryKids gs none)) (recsAny (d + 1) (each aggLabel aggKids ags none)),
+      ))
+      (λ q d. ap (λ r. (labelP (aggregate gs ags p), d) ∷ r)
       (run-recs entryLabel entryKids gs (d + 1) (each aggLabel aggKids ags (node (labelP q) (kidsP q) none))
       ∙ ap (λ r. recsAny (d + 1) (each entryLabel entryKids gs none) ++ r) (run-recs aggLabel aggKids ags (d + 1) (node (labelP q) (kidsP q) none))
       ∙ sym (append-assoc (recsAny (d + 1) (each entryLabel entryKids gs none)) (recsAny (d + 1) (each aggLabel aggKids ags none)) (recsP q (d + 1) ++ []))))
-    h;
+      h;
   in-window = λ n p t C ws h. behind-run winLabel winKids ws p C (window ws) (labelP (window ws p)) (λ q. refl) h;
   in-first = λ n p t C ps h.
-    stepped 0 0 n (λ d. []) (λ d. recsPs ps d) (recsPs (pcons p ps)) (λ d q. recsPs (pcons (C q) ps) d) (omega arith) (λ d. refl)
-    (λ d. ap (λ i. recsP p i ++ recsPs ps d) (zeroed d)) (λ d q. ap (λ i. recsP (C q) i ++ recsPs ps d) (zeroed d)) h;
+      stepped 0 0 n (λ d. []) (λ d. recsPs ps d) (recsPs (pcons p ps)) (λ d q. recsPs (pcons (C q) ps) d) (omega arith) (λ d. refl)
+      (λ d. ap (λ i. recsP p i ++ recsPs ps d) (zeroed d)) (λ d q. ap (λ i. recsP (C q) i ++ recsPs ps d) (zeroed d)) h;
   in-later = λ n ps t C p h.
-    stepped 0 (sizeP p) _ (λ d. recsP p d) (λ d. []) (recsPs (pcons p ps)) (λ d q. recsPs (pcons p (C q)) d) refl
-    (λ d. sym (recs-length d (planTree p)))
-    (λ d. ap (λ r. recsP p d ++ r) (sym (append-nil (recsPs ps d)) ∙ ap (λ i. recsPs ps i ++ []) (zeroed d)))
-    (λ d q. ap (λ r. recsP p d ++ r) (sym (append-nil (recsPs (C q) d)) ∙ ap (λ i. recsPs (C q) i ++ []) (zeroed d))) h;
+      stepped 0 (sizeP p) _ (λ d. recsP p d) (λ d. []) (recsPs (pcons p ps)) (λ d q. recsPs (pcons p (C q)) d) refl
+      (λ d. sym (recs-length d (planTree p)))
+      (λ d. ap (λ r. recsP p d ++ r) (sym (append-nil (recsPs ps d)) ∙ ap (λ i. recsPs ps i ++ []) (zeroed d)))
+      (λ d q. ap (λ r. recsP p d ++ r) (sym (append-nil (recsPs (C q) d)) ∙ ap (λ i. recsPs (C q) i ++ []) (zeroed d))) h;
 }
   where
     zeroed : (d : ℕ) → d ≡ d + 0

@@ -1,3 +1,4 @@
 pub mod Settled
 pub mod Paths
 pub mod Over
+pub mod Around
