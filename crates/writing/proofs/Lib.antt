@@ -1,2 +1,4 @@
 pub mod Filling
 pub mod Depths
+pub mod Entries
+pub mod Maps
