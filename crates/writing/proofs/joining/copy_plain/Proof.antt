@@ -1,0 +1,26 @@
+-- `joining::copy_plain` meets its contract.
+use mathlib.Core.Path.{_≡_}
+use Prim.Native.Nat.{_-_}
+use native.Mathlib.Omega.{arith}
+use borrow.Author.Needs.{needs}
+use Rattle.writing.proofs.Written.{wrote-false}
+use Rattle.writing.proofs.Pushing.{standing-readable}
+use Rattle.writing.proofs.joining.copy_plain.Statement.{statement}
+use Rattle.writing.proofs.joining.copy_plain.Tie as tie
+
+pub copy-plain-spec : {M : Type 1} → statement M
+copy-plain-spec =
+    tie.close
+    (tie.spec
+    (λ c κs. search needs)
+    (λ c. search needs)
+    (λ c e h. rw (h .none (c .before .before .before .before .if1 .taken)) (wrote-false (c .before .before .before .before .before .before .before .pre .1 .1) (c .before .before .put-kind .ensures)))
+    (λ c κs. omega (arith, c .before .before .before .pre .0 .item .some (c .if1 .left) .within))
+    (λ c κs. let p = c .before .before .before .before .before .pre in
+    let n = c .before .before .before .before .before .args .n in
+    let z : n - 0 ≡ n = omega arith in
+    (rw (c .before .from-record .ensures, z) (standing-readable (p .0 .item .some (c .before .before .if1 .left))), (omega (arith, p .1), p .1 .1)))
+    (λ c. search needs)
+    (λ c e h. let n = c .before .before .before .before .before .before .before .before .args .n in
+    let z : n - 0 ≡ n = omega arith in
+    c .before .before .copy-tree .ensures _ (rw (c .before .before .before .before .from-record .ensures, z) (h .some (c .before .before .before .before .before .if1 .left) .here))))
