@@ -11,10 +11,10 @@ use native.Mathlib.Omega.{arith}
 use lib.ListN.{length, getD, take, drop}
 use lib.Seq.{take-suc}
 use Rattle.image.specs.Tree.{Readable}
-use Rattle.plan.specs.Syntax.{Name, Expr, bin, and}
-use Rattle.plan.specs.Trees.{exprTree}
-use Rattle.rewrite.specs.Utils.{replace-cols, conjoin}
-use Rattle.conjuncts.specs.Standing.{Standing}
+use Rattle.plan.specs.Syntax.{Name, Expr, bin, and, Plan, filter}
+use Rattle.plan.specs.Trees.{exprTree, planTree}
+use Rattle.rewrite.specs.Utils.{replace-cols, conjoin, with-filters}
+use Rattle.conjuncts.specs.Standing.{Standing, StandingP}
 use Rattle.conjuncts.specs.Items.{Conjuncts, FALSE, most, listed, Holds, Item, Items, inil, icons, Lists}
 use Rattle.conjuncts.proofs.Listed.{count-is, whole}
 use Rattle.writing.specs.Maps.{Maps}
@@ -29,6 +29,10 @@ maps-readable h = record { tree = h .tree; at = h .at; some = h .some; deep = h 
 -- an expression that stands at a record can be read from there
 pub standing-readable : {s : List ℕ} {n : ℕ} {e : Expr} → Standing s n e → Readable 256 (drop (32 * n) s) n
 standing-readable {e = e} h = record { tree = exprTree e; at = h .here; some = omega arith; deep = h .deep }
+
+-- a plan that stands at a record can be read from there
+pub plan-readable : {s : List ℕ} {n : ℕ} {p : Plan} → StandingP s n p → Readable 256 (drop (32 * n) s) n
+plan-readable {p = p} h = record { tree = planTree p; at = h .here; some = omega arith; deep = h .deep }
 
 -- FALSE has no columns
 pub false-stays : (σ : Name → Expr) → replace-cols σ FALSE ≡ FALSE
@@ -101,6 +105,14 @@ module _ {s : List ℕ} {σ : Name → Expr} where
 -- an item of a list that is written
 pub one-of : {s : List ℕ} {c : Conjuncts} (h : Some s c) (i n : ℕ) → i < c .len → n ≡ getD (listed c) i 0 → One s n
 one-of h i n lt e = record { map = h .map; expr = getD (h .exprs) i FALSE; pushed = pushes-at (h .pushes) (h .most) i n lt e }
+
+-- ---- under a Filter
+
+-- nothing where the list is empty
+pub filters-none : (es : List Expr) (p : Plan) → length es ≡ 0 → with-filters es p ≡ p
+unfolding with-filters
+filters-none [] p h = refl
+filters-none (e ∷ es) p h = absurd (omega arith)
 
 -- ---- joined left-deep
 

@@ -4,9 +4,9 @@ use crate::joining::copy_predicate;
 use crate::kinds::FILTER;
 use crate::kinds::put_kind;
 use conjuncts::lists::Conjuncts;
+use conjuncts::reading::record_at;
 use image::copying::copy_tree;
 use image::limits::MAX_DEPTH;
-use image::records::from_record;
 ghost use mathlib.Core.Path.{_≡_};
 ghost use mathlib.Core.List.{List};
 ghost use Prim.Native.Nat.{_+_, _<_};
@@ -28,7 +28,7 @@ pub fn copy_plan(s: &[u8], x: usize, out: &mut [u8], at: usize, level: usize) ->
     requires { ⌜ (level < 3800) × (length (now out) ≡ workBytes) ⌝ }
     ensures { λ r. ⌜ ((p : Plan) → StandingP (now (s .entry)) x p → Wrote (now (out .entry)) (now (out .exit)) at level r (planTree p)) ⌝ }
 {
-    let part = from_record(s, 0, x);
+    let part = record_at(s, x);
     copy_tree(part, x, MAX_DEPTH, out, at, level)
 }
 

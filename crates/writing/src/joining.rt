@@ -6,10 +6,10 @@ use crate::kinds::put_kind;
 use crate::replacing::copy_replaced;
 use conjuncts::lists::Conjuncts;
 use conjuncts::lists::item_at;
+use conjuncts::reading::record_at;
 use image::copying::copy_tree;
 use image::limits::MAX_DEPTH;
 use image::limits::MAX_RECORDS;
-use image::records::from_record;
 ghost use mathlib.Core.Path.{_≡_};
 ghost use mathlib.Core.List.{List, _∷_, map};
 ghost use Prim.Native.Nat.{_+_, _-_, _≤_, _<_};
@@ -36,7 +36,7 @@ fn copy_plain(s: &[u8], n: usize, out: &mut [u8], at: usize, level: usize) -> us
     if n == 0 {
         return put_kind(out, at, BOOLEAN, 0, level);
     }
-    let part = from_record(s, 0, n);
+    let part = record_at(s, n);
     copy_tree(part, n, MAX_DEPTH, out, at, level)
 }
 
@@ -60,7 +60,7 @@ fn copy_changed(
     if n == 0 {
         return put_kind(out, at, BOOLEAN, 0, level);
     }
-    let part = from_record(s, 0, n);
+    let part = record_at(s, n);
     copy_replaced(part, n, MAX_DEPTH, m, of, room, out, at, level)
 }
 

@@ -1,48 +1,19 @@
+-- `filtering::copy_filter` meets its contract.
+use mathlib.Core.Path.{_∙_}
+use native.Mathlib.Omega.{arith}
 use borrow.Author.Needs.{needs}
+use Rattle.writing.proofs.Written.{wrote-filter}
 use Rattle.writing.proofs.filtering.copy_filter.Statement.{statement}
 use Rattle.writing.proofs.filtering.copy_filter.Tie as tie
-use Rattle.writing.proofs.filtering.copy_filter.Reads as reads
-use Rattle.writing.proofs.filtering.copy_filter.Lts as lts
-use Rattle.writing.proofs.filtering.copy_plan.Reads as copy-plan-reads
-use Rattle.writing.proofs.joining.copy_predicate.Reads as copy-predicate-reads
-use Rattle.writing.proofs.kinds.put_kind.Reads as put-kind-reads
-
--- src/filtering.rt:83:9
-put-kind-requires : tie.Need-put-kind-requires
-put-kind-requires c κs = search needs
-
--- src/filtering.rt:84:76
-add-copy-predicate : tie.Need-add-copy-predicate
-add-copy-predicate c = search needs
-
--- src/filtering.rt:84:9
-copy-predicate-requires : tie.Need-copy-predicate-requires
-copy-predicate-requires c κs = ?
-
--- src/filtering.rt:85:33
-add-copy-plan : tie.Need-add-copy-plan
-add-copy-plan c = search needs
-
--- src/filtering.rt:85:5
-copy-plan-requires : tie.Need-copy-plan-requires
-copy-plan-requires c κs = search needs
-
--- src/filtering.rt:64:1
-same-length : tie.Need-same-length
-same-length c = search needs
-
--- src/filtering.rt:64:1
-returns : tie.Need-returns
-returns c = ?
 
 pub copy-filter-spec : {M : Type 1} → statement M
 copy-filter-spec =
     tie.close
     (tie.spec
-    put-kind-requires
-    add-copy-predicate
-    copy-predicate-requires
-    add-copy-plan
-    copy-plan-requires
-    same-length
-    returns)
+    (λ c κs. search needs)
+    (λ c. search needs)
+    (λ c κs. let p = c .before .before .before .before .before .before .before .before .pre in (p .0, (p .1 .0, (omega (arith, p .1 .1 .1), c .before .before .before .put-kind .kept .0 ∙ p .1 .1 .1 .1))))
+    (λ c. search needs)
+    (λ c κs. search needs)
+    (λ c. search needs)
+    (λ c σ g e h p k. wrote-filter (c .before .before .before .before .before .before .before .before .before .before .before .before .before .before .before .pre .1 .1 .1 .1) e p (c .before .before .before .before .before .before .before .before .before .before .put-kind .ensures) (c .before .before .before .before .before .before .copy-predicate .ensures σ g e h) (c .before .before .copy-plan .ensures p k)))

@@ -1,63 +1,27 @@
+-- `filtering::copy_filtered` meets its contract.
+use mathlib.Core.Path.{_∙_}
+use native.Mathlib.Omega.{arith}
 use borrow.Author.Needs.{needs}
+use Rattle.writing.proofs.Written.{wrote-filtered}
+use Rattle.writing.proofs.Pushing.{pushes-length, filters-none}
 use Rattle.writing.proofs.filtering.copy_filtered.Statement.{statement}
 use Rattle.writing.proofs.filtering.copy_filtered.Tie as tie
-use Rattle.writing.proofs.filtering.copy_filtered.Reads as reads
-use Rattle.writing.proofs.filtering.copy_filtered.Lts as lts
-use Rattle.writing.proofs.filtering.copy_plan.Reads as copy-plan-reads
-use Rattle.writing.proofs.joining.copy_joined.Reads as copy-joined-reads
-use Rattle.writing.proofs.kinds.put_kind.Reads as put-kind-reads
-
--- src/filtering.rt:56:9
-copy-plan-requires : tie.Need-copy-plan-requires
-copy-plan-requires c κs = search needs
-
--- src/filtering.rt:56:9
-same-length : tie.Need-same-length
-same-length c = search needs
-
--- src/filtering.rt:56:9
-returns : tie.Need-returns
-returns c = ?
-
--- src/filtering.rt:58:9
-put-kind-requires : tie.Need-put-kind-requires
-put-kind-requires c κs = search needs
-
--- src/filtering.rt:59:64
-add-copy-joined : tie.Need-add-copy-joined
-add-copy-joined c = search needs
-
--- src/filtering.rt:59:9
-copy-joined-requires : tie.Need-copy-joined-requires
-copy-joined-requires c κs = ?
-
--- src/filtering.rt:60:33
-add-copy-plan : tie.Need-add-copy-plan
-add-copy-plan c = search needs
-
--- src/filtering.rt:60:5
-copy-plan-requires-2 : tie.Need-copy-plan-requires-2
-copy-plan-requires-2 c κs = search needs
-
--- src/filtering.rt:36:1
-same-length-2 : tie.Need-same-length-2
-same-length-2 c = search needs
-
--- src/filtering.rt:36:1
-returns-2 : tie.Need-returns-2
-returns-2 c = ?
 
 pub copy-filtered-spec : {M : Type 1} → statement M
 copy-filtered-spec =
     tie.close
     (tie.spec
-    copy-plan-requires
-    same-length
-    returns
-    put-kind-requires
-    add-copy-joined
-    copy-joined-requires
-    add-copy-plan
-    copy-plan-requires-2
-    same-length-2
-    returns-2)
+    (λ c κs. search needs)
+    (λ c. search needs)
+    (λ c σ g es h p k. rw (filters-none es p (omega (arith, pushes-length h (c .before .before .before .before .before .before .before .before .pre .0 .most), c .before .before .before .before .if1 .taken))) (c .before .before .copy-plan .ensures p k))
+    (λ c κs. search needs)
+    (λ c. search needs)
+    (λ c κs. let p = c .before .before .before .before .before .before .before .before .before .pre in
+    (p .0, (p .1 .0, (omega (arith, c .before .before .before .before .before .if1 .left), (omega (arith, p .1 .1 .1), c .before .before .before .put-kind .kept .0 ∙ p .1 .1 .1 .1)))))
+    (λ c. search needs)
+    (λ c κs. search needs)
+    (λ c. search needs)
+    (λ c σ g es h p k. let q = c .before .before .before .before .before .before .before .before .before .before .before .before .before .before .before .before .pre in
+    wrote-filtered (q .1 .1 .1 .1) es p (λ z. omega (arith, pushes-length h (q .0 .most), c .before .before .before .before .before .before .before .before .before .before .before .before .if1 .left)) (c .before .before .before .before .before .before .before .before .before .before .put-kind .ensures)
+    (λ e rest same. c .before .before .before .before .before .before .copy-joined .ensures σ g e rest (rw same at h))
+    (c .before .before .copy-plan2 .ensures p k)))

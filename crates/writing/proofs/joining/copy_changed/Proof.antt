@@ -1,6 +1,4 @@
 -- `joining::copy_changed` meets its contract.
-use mathlib.Core.Path.{_≡_}
-use Prim.Native.Nat.{_-_}
 use native.Mathlib.Omega.{arith}
 use borrow.Author.Needs.{needs}
 use Rattle.plan.specs.Trees.{exprTree}
@@ -18,11 +16,7 @@ copy-changed-spec =
     (λ c σ g e h. rw (h .none (c .before .before .before .before .if1 .taken), false-stays σ) (wrote-false (c .before .before .before .before .before .before .before .before .pre .1 .1 .1) (c .before .before .put-kind .ensures)))
     (λ c κs. omega (arith, c .before .before .before .before .pre .0 .item .some (c .if1 .left) .within))
     (λ c κs. let p = c .before .before .before .before .before .before .pre in
-    let n = c .before .before .before .before .before .before .args .n in
-    let z : n - 0 ≡ n = omega arith in
-    (rw (c .before .from-record .ensures, z) (standing-readable (p .0 .item .some (c .before .before .if1 .left))), (p .1 .0, (omega (arith, p .1 .1), p .1 .1 .1))))
+    (rw (c .before .record-at .ensures) (standing-readable (p .0 .item .some (c .before .before .if1 .left))), (p .1 .0, (omega (arith, p .1 .1), p .1 .1 .1))))
     (λ c. search needs)
-    (λ c σ g e h. let n = c .before .before .before .before .before .before .before .before .before .args .n in
-    let z : n - 0 ≡ n = omega arith in
-    rw (← g .is e)
-    (c .before .before .copy-replaced .ensures (g .tree) (g .at) (exprTree e) (rw (c .before .before .before .before .from-record .ensures, z) (h .some (c .before .before .before .before .before .if1 .left) .here)))))
+    (λ c σ g e h. rw (← g .is e)
+    (c .before .before .copy-replaced .ensures (g .tree) (g .at) (exprTree e) (rw (c .before .before .before .before .record-at .ensures) (h .some (c .before .before .before .before .before .if1 .left) .here)))))
