@@ -11,7 +11,7 @@ use mathlib.Core.List.{List, [], _∷_, _++_, append-nil}
 use Prim.Native.Nat.{ℕ, zero, suc, _+_, _≤_, _<_}
 use native.Mathlib.Omega.{arith}
 use native.Mathlib.Numerals.{add-one}
-use lib.ListN.{length, getD, take, drop, set, length-append, drop-of-length-le}
+use lib.ListN.{length, getD, drop, set, length-append, drop-of-length-le}
 use lib.Seq.{take-all, take-append-le, take-suc-set, drop-cons}
 use Rattle.plan.specs.Syntax.{Expr}
 use Rattle.plan.specs.Lists.{put, keep, any}
@@ -21,7 +21,7 @@ use Rattle.conjuncts.specs.Items.{Conjuncts, FALSE, most, listed, Holds,
 
 module _ {c : Conjuncts} {xs : List ℕ} (h : Holds c xs) where
   -- a list that is whole has as many as it says
-  count-is : c .len ≤ 128 → length xs ≡ c .len
+  pub count-is : c .len ≤ 128 → length xs ≡ c .len
   unfolding most
   count-is small = omega (arith, h .count)
 
@@ -36,7 +36,7 @@ module _ {c : Conjuncts} {xs : List ℕ} (h : Holds c xs) where
   count-over many = omega (arith, h .count)
 
   -- a list that is whole stands in its array
-  whole : c .len ≤ 128 → listed c ≡ xs
+  pub whole : c .len ≤ 128 → listed c ≡ xs
   whole small = h .lists ∙ take-all 128 xs (omega (arith, count-is small))
 
 most-is : (n : ℕ) → n ≤ 129 → most n ≡ n

@@ -1,0 +1,4 @@
+pub mod Replaced
+pub mod Maps
+pub mod Pushed
+pub mod Plans

@@ -1,0 +1,6 @@
+// Writing the answer of a rewrite: expressions and plans written flat into a work buffer, and handed out.
+pub mod filtering;
+pub mod handing_out;
+pub mod joining;
+mod kinds;
+pub mod replacing;
