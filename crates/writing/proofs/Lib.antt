@@ -4,3 +4,4 @@ pub mod Entries
 pub mod Maps
 pub mod Written
 pub mod Pushing
+pub mod Spliced

@@ -1,23 +1,30 @@
 -- Entries replace columns as `replace-cols` does with the expressions that they name.
 --     replaced-expr       an expression of which each column is replaced so
 --     entries-map         entries in front of trees that are none
---     project-map, ..     those of a Projection, and the group entries of an Aggregate
---     maps, ..            the same of bytes
+--     plan-map            those of a plan: of a Projection, and the group entries of an Aggregate
+--     maps, plan-maps     the same of bytes
 -- Assumes nothing.
 use mathlib.Core.Path.{_≡_, refl, ap, _∙_}
 use mathlib.Core.Bool.{Bool, true, false, _&&_, cond}
 use mathlib.Core.List.{List, [], _∷_}
-use Prim.Native.Nat.{ℕ, _-_, _<_}
+use mathlib.Core.Option as O
+use mathlib.Core.Option.{Option, some}
+use Prim.Native.Nat.{ℕ, _-_, _*_, _<_}
+use native.Mathlib.Omega.{arith}
+use lib.ListN.{drop}
 use lib.Dec.{eqb}
 use Rattle.image.specs.Tree.{Label, Forest, none, node, Tree, At, Deep}
 use Rattle.plan.specs.Lists.{_&_}
 use Rattle.plan.specs.Schema.{same}
 use Rattle.plan.specs.Syntax.{Name, nm, Expr, col, num, bool, nul, bin, neg, test, between, inlist, fn, Exprs, enil, econs, Entry, AggEntry}
-use Rattle.plan.specs.Syntax.{Plan, scan, filter, project, join, alias, union, distinct, sort, repartition, limit, aggregate, window}
+use Rattle.plan.specs.Syntax.{Plan, scan, filter, project, join, alias, union, distinct, sort, repartition, limit, aggregate, window, Plans}
+use Rattle.plan.specs.Syntax.{pnil, pcons}
 use Rattle.plan.specs.Trees.{qualifier, ident, columnLabel, labelE, kidsE, forestE, exprTree, each, entryLabel, entryKids, aggLabel, aggKids}
-use Rattle.plan.specs.Trees.{labelP, kidsP, planTree}
+use Rattle.plan.specs.Trees.{nothingBelow, fieldLabel, pairLabel, pairKids, keyLabel, keyKids, winLabel, winKids, filterKids, labelP, kidsP}
+use Rattle.plan.specs.Trees.{forestP, planTree}
 use Rattle.rewrite.specs.Utils.{replace-cols, replace-cols-all}
 use Rattle.rewrite.specs.PushDownFilter.{pick}
+use Rattle.conjuncts.specs.Standing.{StandingP}
 use Rattle.writing.specs.Replaced.{isEntry, either, lookup, valueFor, firstOr, plant, replacedAny, replaced}
 use Rattle.writing.specs.Maps.{Maps}
 
@@ -109,41 +116,96 @@ entries-map (e ∷ es) ns x h = rw (same-entry e x) (one-entry (same (e .name) x
 
 -- ---- plans
 
--- a plan is no entry
-plan-none : (p : Plan) (ns : Forest) → NoEntry ns → NoEntry (node (labelP p) (kidsP p) ns)
-unfolding labelP
-plan-none (scan t fs es) ns h = (refl, h)
-plan-none (filter e p) ns h = (refl, h)
-plan-none (project es p) ns h = (refl, h)
-plan-none (join k l r on f) ns h = (refl, h)
-plan-none (alias q p) ns h = (refl, h)
-plan-none (union ps) ns h = (refl, h)
-plan-none (distinct p) ns h = (refl, h)
-plan-none (sort f ks p) ns h = (refl, h)
-plan-none (repartition p) ns h = (refl, h)
-plan-none (limit n k p) ns h = (refl, h)
-plan-none (aggregate gs ags p) ns h = (refl, h)
-plan-none (window ws p) ns h = (refl, h)
+-- what the entries of a plan replace columns by: those of a Projection, the group entries of an Aggregate, and no others
+abbrev pub mapOf : Plan → Name → Expr
+mapOf (project es p) = pick es
+mapOf (aggregate gs ags p) = pick gs
+mapOf (scan t fs es) = col
+mapOf (filter e p) = col
+mapOf (join k l r on f) = col
+mapOf (alias q p) = col
+mapOf (union ps) = col
+mapOf (distinct p) = col
+mapOf (sort f ks p) = col
+mapOf (repartition p) = col
+mapOf (limit n k p) = col
+mapOf (window ws p) = col
 
--- nor is an aggregate
-aggs-none : (ags : List AggEntry) (ns : Forest) → NoEntry ns → NoEntry (each aggLabel aggKids ags ns)
+-- a run of parts that are no entries
+parts-none : {A : Type 0} (l : A → Label) (k : A → Forest) (xs : List A) (ns : Forest)
+    → ((x : A) → eqb (l x .kind) 49 ≡ false) → NoEntry ns → NoEntry (each l k xs ns)
 unfolding each
-aggs-none [] ns h = h
-aggs-none (a ∷ ags) ns h = (refl, aggs-none ags ns h)
+parts-none l k [] ns f h = h
+parts-none l k (x ∷ xs) ns f h = (f x, parts-none l k xs ns f h)
 
--- the entries of a Projection
-pub project-map : (es : List Entry) (p : Plan) → Gives (planTree (project es p)) (pick es)
-unfolding kidsP
-project-map es p x = entries-map es _ x (plan-none p none tt)
+-- an expression is no entry
+expr-none : (e : Expr) → eqb (labelE e .kind) 49 ≡ false
+unfolding labelE
+expr-none (col x) = refl
+expr-none (num z) = refl
+expr-none (bool b) = refl
+expr-none (nul t) = refl
+expr-none (bin o a b) = refl
+expr-none (neg a) = refl
+expr-none (test t a) = refl
+expr-none (between n a l u) = refl
+expr-none (inlist n a xs) = refl
+expr-none (fn p q r xs) = refl
 
--- the group entries of an Aggregate
-pub aggregate-map : (gs : List Entry) (ags : List AggEntry) (p : Plan) → Gives (planTree (aggregate gs ags p)) (pick gs)
+-- nor is a plan
+plan-none : (p : Plan) → eqb (labelP p .kind) 49 ≡ false
+unfolding labelP
+plan-none (scan t fs es) = refl
+plan-none (filter e p) = refl
+plan-none (project es p) = refl
+plan-none (join k l r on f) = refl
+plan-none (alias q p) = refl
+plan-none (union ps) = refl
+plan-none (distinct p) = refl
+plan-none (sort f ks p) = refl
+plan-none (repartition p) = refl
+plan-none (limit n k p) = refl
+plan-none (aggregate gs ags p) = refl
+plan-none (window ws p) = refl
+
+filter-none : (f : Option Expr) → NoEntry (filterKids f)
+filter-none O.none = tt
+filter-none (some e) = (expr-none e, tt)
+
+plans-none : (ps : Plans) → NoEntry (forestP ps)
+unfolding forestP
+plans-none pnil = tt
+plans-none (pcons p ps) = (plan-none p, plans-none ps)
+
+-- where there is no entry, no column is replaced
+no-map : (m : Tree) → NoEntry (m .below) → Gives m col
+no-map m h x = rw (lookup-none (m .below) (qualifier x) (ident x) h)
+
+-- what the entries of a plan give
+pub plan-map : (p : Plan) → Gives (planTree p) (mapOf p)
 unfolding kidsP
-aggregate-map gs ags p x = entries-map gs _ x (aggs-none ags _ (plan-none p none tt))
+plan-map (project es p) = λ x. entries-map es _ x (plan-none p, tt)
+plan-map (aggregate gs ags p) = λ x. entries-map gs _ x (parts-none aggLabel aggKids ags _ (λ a. refl) (plan-none p, tt))
+plan-map (scan t fs es) =
+    no-map (planTree (scan t fs es)) (parts-none fieldLabel nothingBelow fs _ (λ f. refl) (parts-none labelE kidsE es none expr-none tt))
+plan-map (filter e p) = no-map (planTree (filter e p)) (expr-none e, (plan-none p, tt))
+plan-map (join k l r on f) =
+    no-map (planTree (join k l r on f)) (plan-none l, (plan-none r, parts-none pairLabel pairKids on _ (λ k. refl) (filter-none f)))
+plan-map (alias q p) = no-map (planTree (alias q p)) (plan-none p, tt)
+plan-map (union ps) = no-map (planTree (union ps)) (plans-none ps)
+plan-map (distinct p) = no-map (planTree (distinct p)) (plan-none p, tt)
+plan-map (sort f ks p) = no-map (planTree (sort f ks p)) (parts-none keyLabel keyKids ks _ (λ k. refl) (plan-none p, tt))
+plan-map (repartition p) = no-map (planTree (repartition p)) (plan-none p, tt)
+plan-map (limit n k p) = no-map (planTree (limit n k p)) (plan-none p, tt)
+plan-map (window ws p) = no-map (planTree (window ws p)) (parts-none winLabel winKids ws _ (λ w. refl) (plan-none p, tt))
 
 -- ---- bytes
 
 -- a tree that stands there is a map
 pub maps : {t : Tree} {m : List ℕ} {of room : ℕ} {σ : Name → Expr}
     → Gives t σ → At t m of → 0 < room → Deep (t .below) (room - 1) → Maps m of room σ
-maps {t} {σ = σ} g h some deep = record { tree = t; at = h; some = some; deep = deep; is = replaced-expr t σ g }
+maps {t} {σ = σ} g h pos deep = record { tree = t; at = h; some = pos; deep = deep; is = replaced-expr t σ g }
+
+-- a plan that stands in an image is a map
+pub plan-maps : {s : List ℕ} {n : ℕ} {p : Plan} → StandingP s n p → Maps (drop (32 * n) s) n 256 (mapOf p)
+plan-maps {p = p} h = maps (plan-map p) (h .here) (omega arith) (h .deep)
