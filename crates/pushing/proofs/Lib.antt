@@ -7,6 +7,6 @@ pub mod Naming
 pub mod Scoped
 pub mod Root
 pub mod Marked
-pub mod Over
+pub mod Framing
 pub mod Splicing
 pub mod Windows

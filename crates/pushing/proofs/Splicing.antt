@@ -89,14 +89,14 @@ module _ {A : Type 0} where
 -- ---- the records of forests
 
 -- a run of parts, and then the records of the rest
-run-recs : {A : Type 0} (l : A → Label) (k : A → Forest) (xs : List A) (d : ℕ) (ns : Forest) → recsAny d (each l k xs ns) ≡ recsAny d (each l k xs none) ++ recsAny d ns
+pub run-recs : {A : Type 0} (l : A → Label) (k : A → Forest) (xs : List A) (d : ℕ) (ns : Forest) → recsAny d (each l k xs ns) ≡ recsAny d (each l k xs none) ++ recsAny d ns
 unfolding each
 run-recs l k [] d ns = refl
 run-recs l k (x ∷ xs) d ns =
     ap (λ t. (l x, d) ∷ (recsAny (d + 1) (k x) ++ t)) (run-recs l k xs d ns)
     ∙ ap (λ t. (l x, d) ∷ t) (sym (append-assoc (recsAny (d + 1) (k x)) (recsAny d (each l k xs none)) (recsAny d ns)))
 
-run-count : {A : Type 0} (l : A → Label) (k : A → Forest) (xs : List A) (d : ℕ) → length (recsAny d (each l k xs none)) ≡ sizes k xs
+pub run-count : {A : Type 0} (l : A → Label) (k : A → Forest) (xs : List A) (d : ℕ) → length (recsAny d (each l k xs none)) ≡ sizes k xs
 unfolding each sizes
 run-count l k [] d = refl
 run-count l k (x ∷ xs) d =

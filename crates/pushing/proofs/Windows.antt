@@ -12,9 +12,9 @@ use borrow.Author.Tests.{le-leb, lt-leb, le-ltb, lt-ltb}
 use Rattle.image.specs.Limits.{workBytes}
 use Rattle.image.specs.Tree.{Label, Forest, none, node, Tree, size, link}
 use Rattle.image.specs.Flat.{bytesOf}
-use Rattle.image.specs.Room.{cap, Put}
+use Rattle.image.specs.Room.{cap, Put, Wrote}
 use Rattle.image.proofs.Room.{cap-le, cap-is, cap-add, sets-next}
-use Rattle.image.proofs.Relinking.{Rec, recs, recsAny, flats, flats-length, recs-length, recs-any-length}
+use Rattle.image.proofs.Relinking.{Rec, recs, recsAny, flats, flats-length, flats-flat, recs-length, recs-any-length}
 use Rattle.plan.specs.Lists.{_&_, put}
 use Rattle.plan.proofs.Lists.{and-true}
 use Rattle.pushing.specs.Around.{window, WroteAll}
@@ -51,18 +51,19 @@ window-past first end b [] h = refl
 window-past first end b (x ∷ xs) h =
     none-put _ x _ (ap (λ t. leb first b & t) (le-ltb b end h) ∙ and-false (leb first b)) ∙ window-past first end (b + 1) xs (omega arith)
 
--- the first n records
-pub window-take : (n b : ℕ) (xs : List Rec) → window 0 (b + n) b xs ≡ take n xs
+-- the first n records, where none stands before `first`
+pub window-take : (first n b : ℕ) (xs : List Rec) → first ≤ b → window first (b + n) b xs ≡ take n xs
 unfolding window put _&_
-window-take n b [] = go n
+window-take first n b [] h = go n
   where
     go : (n : ℕ) → [] ≡ take {A = Rec} n []
     go zero = refl
     go (suc n) = refl
-window-take zero b (x ∷ xs) = window-past 0 (b + 0) b (x ∷ xs) (omega arith)
-window-take (suc n) b (x ∷ xs) =
+window-take first zero b (x ∷ xs) h = window-past first (b + 0) b (x ∷ xs) (omega arith)
+window-take first (suc n) b (x ∷ xs) h =
     let e : b + suc n ≡ b + 1 + n = omega arith in
-    rw (le-leb 0 b (omega arith), lt-ltb b (b + suc n) (omega arith)) (ap (λ i. x ∷ window 0 i (b + 1) xs) e ∙ ap (λ l. x ∷ l) (window-take n (b + 1) xs))
+    rw (le-leb first b h, lt-ltb b (b + suc n) (omega arith))
+    (ap (λ i. x ∷ window first i (b + 1) xs) e ∙ ap (λ l. x ∷ l) (window-take first n (b + 1) xs (omega arith)))
 
 -- all but the first n
 pub window-drop : (n b end : ℕ) (xs : List Rec) → b + length xs ≤ end → window (b + n) end b xs ≡ drop n xs
@@ -187,3 +188,17 @@ wrote-no x true e h = cc-out e
   where
     cc-out : {A : Type 0} → true ≡ false → A
     cc-out e = let z : _≡_ {A = ℕ} 0 1 = cc in absurd (omega arith)
+
+-- a tree is written: its records are
+pub wrote-tree : {out out₁ : List ℕ} {at level r : ℕ} {t : Tree} → Wrote out out₁ at level r t → WroteAll out out₁ at r (recs level t)
+wrote-tree {out} {at = at} {level} {t = t} h = record {
+  next = h .next ∙ ap (λ i. cap (at + i)) (sym (recs-length level t));
+  bytes = h .bytes ∙ ap (sets out (32 * at)) (sym (flats-flat level t));
+}
+
+-- and the other way
+pub tree-wrote : {out out₁ : List ℕ} {at level r : ℕ} {t : Tree} {xs : List Rec} → recs level t ≡ xs → WroteAll out out₁ at r xs → Wrote out out₁ at level r t
+tree-wrote {out} {at = at} {level} {t = t} e h = record {
+  next = h .next ∙ ap (λ l. cap (at + length l)) (sym e) ∙ ap (λ i. cap (at + i)) (recs-length level t);
+  bytes = h .bytes ∙ ap (λ l. sets out (32 * at) (flats l)) (sym e) ∙ ap (sets out (32 * at)) (flats-flat level t);
+}

@@ -2,3 +2,4 @@ pub mod Settled
 pub mod Paths
 pub mod Over
 pub mod Around
+pub mod Frames
