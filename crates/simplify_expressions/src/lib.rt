@@ -1,0 +1,2 @@
+// Lists of predicates put in order and simplified: src/simplify_expressions of the source.
+pub mod reorder_predicates;
