@@ -89,6 +89,6 @@ pub wrote-framed : {f : Plan → Plan} {k : ℕ} {out out₁ out₂ : List ℕ} 
     → Wrote out out₂ at level r₂ (planTree (f q))
 wrote-framed {f} {k} {out} {out₁} {at = at} {level} {y} {r₁} x p q h long e w v =
     let i : run x y x (recs level (planTree (f p))) ≡ h .own level =
-        ap (λ j. run x j x (recs level (planTree (f p)))) e ∙ window-take x k x (recs level (planTree (f p))) (omega arith)
-        ∙ ap (take k) (h .is level p) ∙ take-at (h .own level) (recs (level + 1) (planTree p)) k (sym (h .count level)) in
+    ap (λ j. run x j x (recs level (planTree (f p)))) e ∙ window-take x k x (recs level (planTree (f p))) (omega arith)
+    ∙ ap (take k) (h .is level p) ∙ take-at (h .own level) (recs (level + 1) (planTree p)) k (sym (h .count level)) in
     tree-wrote (h .is level q) (wrote-then long (subst (λ l. WroteAll out out₁ at r₁ l) i w) (wrote-tree v))

@@ -10,3 +10,4 @@ pub mod Marked
 pub mod Framing
 pub mod Splicing
 pub mod Windows
+pub mod Perhapsing

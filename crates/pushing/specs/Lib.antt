@@ -3,3 +3,4 @@ pub mod Paths
 pub mod Over
 pub mod Around
 pub mod Frames
+pub mod Predicates

@@ -2,5 +2,5 @@
 pub mod filtering;
 pub mod handing_out;
 pub mod joining;
-mod kinds;
+pub mod kinds;
 pub mod replacing;
