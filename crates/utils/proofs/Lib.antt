@@ -6,3 +6,4 @@ pub mod Inputting
 pub mod Making
 pub mod Shapes
 pub mod Appending
+pub mod Answering

@@ -18,6 +18,10 @@ pub record Masks (m : ℕ) (ns : List Name) (c : Name → Bool) : Type 0 where
   pub marks : (i : ℕ) → i < length ns → member m i ≡ c (nameAt ns i)
   pub beyond : (i : ℕ) → length ns ≤ i → member m i ≡ false
 
--- v is the set of the places of the columns of e: it is within the set of any test exactly if every column passes that
-pub record Refers (v : ℕ) (ns : List Name) (e : Expr) : Type 0 where
-  pub says : (m : ℕ) (c : Name → Bool) → Masks m ns c → within 64 v m ≡ on-cols c e
+-- v is a set of places: it is within the set of any test exactly if what `on` asks of that test holds
+pub record Answers (v : ℕ) (ns : List Name) (on : (Name → Bool) → Bool) : Type 0 where
+  pub says : (m : ℕ) (c : Name → Bool) → Masks m ns c → within 64 v m ≡ on c
+
+-- v is the set of the places of the columns of e: every column passes a test exactly if v is within the set of that test
+abbrev pub Refers : ℕ → List Name → Expr → Type 0
+Refers v ns e = Answers v ns (λ c. on-cols c e)
