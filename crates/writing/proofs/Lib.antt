@@ -5,3 +5,5 @@ pub mod Maps
 pub mod Written
 pub mod Pushing
 pub mod Spliced
+pub mod Whole
+pub mod Splice

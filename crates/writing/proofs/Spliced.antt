@@ -25,22 +25,25 @@ use Rattle.rewrite.specs.RewriteAt.{Focus, FocusAll, here, inside, inside-all, 
 
 -- ---- what stands before a plan, how deep it is, and what stands behind it
 
-pub record Split (n : ℕ) (whole : List ℕ) (old : Plan) (new : Plan → List ℕ) : Type 0 where
+pub record Split (d n : ℕ) (whole : List ℕ) (old : Plan) (new : Plan → List ℕ) : Type 0 where
   pub level : ℕ
   pub before : List ℕ
   pub after : List ℕ
+  pub small : level ≤ d + n
   pub count : length before ≡ 32 * n
   pub is : whole ≡ before ++ (flat level (planTree old) ++ after)
   pub again : (q : Plan) → new q ≡ before ++ (flat level (planTree q) ++ after)
 
 -- more before it and behind it
-framed : {n m : ℕ} {w w′ : List ℕ} {old : Plan} {new new′ : Plan → List ℕ} (k : ℕ) (pre post : List ℕ) → length pre ≡ 32 * k → n ≡ k + m
-    → w′ ≡ pre ++ (w ++ post) → ((q : Plan) → new′ q ≡ pre ++ (new q ++ post)) → Split m w old new → Split n w′ old new′
-framed k pre post count e f g h =
+framed : {d e n m : ℕ} {w w′ : List ℕ} {old : Plan} {new new′ : Plan → List ℕ} (k : ℕ) (pre post : List ℕ) → length pre ≡ 32 * k → n ≡ k + m
+    → e ≤ d + k
+    → w′ ≡ pre ++ (w ++ post) → ((q : Plan) → new′ q ≡ pre ++ (new q ++ post)) → Split e m w old new → Split d n w′ old new′
+framed k pre post count e deep f g h =
     record {
       level = h .level;
       before = pre ++ h .before;
       after = h .after ++ post;
+      small = omega (arith, h .small);
       count = simp length-append (omega (arith, h .count));
       is = f ∙ rw (h .is) (simp append-assoc);
       again = λ q. g q ∙ rw (h .again q) (simp append-assoc);
@@ -52,28 +55,29 @@ framed k pre post count e f g h =
 record Frame (d k : ℕ) (f : Plan → Plan) : Type 0 where
   pre : List ℕ
   post : List ℕ
+  some : 1 ≤ k
   count : length pre ≡ 32 * k
   is : (x : Plan) → flat d (planTree (f x)) ≡ pre ++ (flat (d + 1) (planTree x) ++ post)
 
 -- what is found in a plan, or nothing
 data Splits (d n : ℕ) (p : Plan) : Option Focus → Type 0 where
   nowhere : Splits d n p O.none
-  found : {c : Focus} → Split n (flat d (planTree p)) (c .plan) (λ q. flat d (planTree (c .back q))) → Splits d n p (some c)
+  found : {c : Focus} → Split d n (flat d (planTree p)) (c .plan) (λ q. flat d (planTree (c .back q))) → Splits d n p (some c)
 
 data SplitsAll (d n : ℕ) (ps : Plans) : Option FocusAll → Type 0 where
   nowhere : SplitsAll d n ps O.none
-  found : {c : FocusAll} → Split n (flatAny d (forestP ps)) (c .plan) (λ q. flatAny d (forestP (c .back q))) → SplitsAll d n ps (some c)
+  found : {c : FocusAll} → Split d n (flatAny d (forestP ps)) (c .plan) (λ q. flatAny d (forestP (c .back q))) → SplitsAll d n ps (some c)
 
 -- the plan itself
 split-here : (d n : ℕ) (p : Plan) → n ≡ 0 → Splits d n p (here p)
 split-here d n p z =
-    found (record { level = d; before = []; after = []; count = omega arith; is = sym (append-nil _); again = λ q. sym (append-nil _) })
+    found (record { level = d; before = []; after = []; small = omega arith; count = omega arith; is = sym (append-nil _); again = λ q. sym (append-nil _) })
 
 -- in the input
 split-inside : {d n m k : ℕ} {p : Plan} {o : Option Focus} (f : Plan → Plan) → Frame d k f → n ≡ k + m → Splits (d + 1) m p o
     → Splits d n (f p) (inside f o)
 split-inside f a e nowhere = nowhere
-split-inside {k = k} {p = p} f a e (found {c = c} h) = found (framed k (a .pre) (a .post) (a .count) e (a .is p) (λ q. a .is (c .back q)) h)
+split-inside {k = k} {p = p} f a e (found {c = c} h) = found (framed k (a .pre) (a .post) (a .count) e (omega (arith, a .some)) (a .is p) (λ q. a .is (c .back q)) h)
 
 -- the bytes of a Union
 union-flat : (d : ℕ) (ps qs : Plans) → flat d (planTree (union qs)) ≡ bytesOf (labelP (union ps)) d 0 ++ (flatAny (d + 1) (forestP qs) ++ [])
@@ -85,7 +89,7 @@ split-union : {d n m : ℕ} {ps : Plans} {o : Option FocusAll} → n ≡ 1 + m �
     → Splits d n (union ps) (inside-all union o)
 split-union e nowhere = nowhere
 split-union {d} {ps = ps} e (found {c = c} h) =
-    found (framed 1 (bytesOf (labelP (union ps)) d 0) [] (bytesOf-length (labelP (union ps)) d 0) e (union-flat d ps ps)
+    found (framed 1 (bytesOf (labelP (union ps)) d 0) [] (bytesOf-length (labelP (union ps)) d 0) e (omega arith) (union-flat d ps ps)
     (λ q. union-flat d ps (c .back q)) h)
 
 -- the bytes of an input and of the later ones
@@ -97,7 +101,7 @@ pcons-flat d p ps = simp append-assoc
 split-first : {d n : ℕ} {p : Plan} (ps : Plans) {o : Option Focus} → Splits d n p o → SplitsAll d n (pcons p ps) (first-of ps o)
 split-first ps nowhere = nowhere
 split-first {d} {n} {p} ps (found {c = c} h) =
-    found (framed 0 [] (flatAny d (forestP ps)) refl (omega arith) (pcons-flat d p ps) (λ q. pcons-flat d (c .back q) ps) h)
+    found (framed 0 [] (flatAny d (forestP ps)) refl (omega arith) (omega arith) (pcons-flat d p ps) (λ q. pcons-flat d (c .back q) ps) h)
 
 -- in the later ones
 split-later : {d n m : ℕ} (p : Plan) {ps : Plans} {o : Option FocusAll} → n ≡ sizeP p + m → SplitsAll d m ps o
@@ -105,7 +109,7 @@ split-later : {d n m : ℕ} (p : Plan) {ps : Plans} {o : Option FocusAll} → n 
 unfolding sizeP
 split-later p e nowhere = nowhere
 split-later {d} p {ps} e (found {c = c} h) =
-    found (framed (sizeP p) (flat d (planTree p)) [] (flat-length d (planTree p)) e (pcons-flat d p ps ∙ ap (flat d (planTree p) ++_) (sym (append-nil _)))
+    found (framed (sizeP p) (flat d (planTree p)) [] (flat-length d (planTree p)) e (omega arith) (pcons-flat d p ps ∙ ap (flat d (planTree p) ++_) (sym (append-nil _)))
     (λ q. pcons-flat d p (c .back q) ∙ ap (flat d (planTree p) ++_) (sym (append-nil _))) h)
 
 -- ---- tests
@@ -141,6 +145,7 @@ frame l d k f a b count e g =
     record {
       pre = bytesOf l d 0 ++ a;
       post = b;
+      some = omega arith;
       count = simp (length-append, bytesOf-length) (omega arith);
       is = λ x. rw (e x, g x) (simp append-assoc);
     }
@@ -240,8 +245,8 @@ mutual
 
 -- the plan at a record, and another in its place
 pub split-at : (p : Plan) (n d : ℕ) (c : Focus) → focus n p ≡ some c
-    → Split n (flat d (planTree p)) (c .plan) (λ q. flat d (planTree (c .back q)))
+    → Split d n (flat d (planTree p)) (c .plan) (λ q. flat d (planTree (c .back q)))
 split-at p n d c e = take-out (subst (Splits d n p) e (splits p n d))
   where
-    take-out : Splits d n p (some c) → Split n (flat d (planTree p)) (c .plan) (λ q. flat d (planTree (c .back q)))
+    take-out : Splits d n p (some c) → Split d n (flat d (planTree p)) (c .plan) (λ q. flat d (planTree (c .back q)))
     take-out (found h) = h

@@ -2,3 +2,4 @@ pub mod Replaced
 pub mod Maps
 pub mod Pushed
 pub mod Plans
+pub mod Splicing

@@ -4,3 +4,4 @@ pub mod handing_out;
 pub mod joining;
 pub mod kinds;
 pub mod replacing;
+pub mod splicing;
