@@ -11,3 +11,4 @@ pub mod Framing
 pub mod Splicing
 pub mod Windows
 pub mod Perhapsing
+pub mod Selecting

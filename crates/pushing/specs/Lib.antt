@@ -4,3 +4,5 @@ pub mod Over
 pub mod Around
 pub mod Frames
 pub mod Predicates
+pub mod Arms
+pub mod Parting
