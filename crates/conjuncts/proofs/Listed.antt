@@ -1,21 +1,22 @@
 -- Laws of lists of conjuncts. A user of a list needs these, and never the numbers inside:
 --     lists-none, lists-add, item-false  an empty list, an item appended, the item 0
 --     lists-length, -room, -at           of a whole list: how many, that each can be read, what the number read at i stands for
+--     known-of                           a list of few enough expressions is whole
 --     lists-full                         past the end nothing changes
---     next, at-end                       a walk along a list of expressions, and for a test of each:
+--     next, next-back, at-end            a walk along a list of expressions, and for a test of each:
 --     any-next, keep-next, put-then      what it does to `any` and `keep`
 -- Assumes nothing.
 use mathlib.Core.Path.{_≡_, refl, sym, ap, _∙_}
 use mathlib.Core.Bool.{Bool, true, false, _||_}
 use mathlib.Core.List.{List, [], _∷_, _++_, append-nil}
-use Prim.Native.Nat.{ℕ, zero, suc, _+_, _≤_, _<_}
+use Prim.Native.Nat.{ℕ, zero, suc, _+_, _-_, _≤_, _<_}
 use native.Mathlib.Omega.{arith}
 use native.Mathlib.Numerals.{add-one}
 use lib.ListN.{length, getD, drop, set, length-append, drop-of-length-le}
 use lib.Seq.{take-all, take-append-le, take-suc-set, drop-cons}
 use Rattle.plan.specs.Syntax.{Expr}
 use Rattle.plan.specs.Lists.{put, keep, any}
-use Rattle.conjuncts.specs.Items.{Conjuncts, FALSE, most, listed, Holds, Item, Items, inil, icons, Lists}
+use Rattle.conjuncts.specs.Items.{Conjuncts, FALSE, most, listed, Holds, Item, Items, inil, icons, Lists, Known}
 
 -- ---- the numbers of a list
 
@@ -24,6 +25,10 @@ module _ {c : Conjuncts} {xs : List ℕ} (h : Holds c xs) where
   pub count-is : c .len ≤ 128 → length xs ≡ c .len
   unfolding most
   count-is small = omega (arith, h .count)
+
+  count-small : length xs ≤ 128 → c .len ≤ 128
+  unfolding most
+  count-small small = omega (arith, h .count)
 
   -- one that is full is full of what it holds
   count-more : 128 ≤ c .len → (128 ≤ length xs) × (most (length xs + 1) ≡ 129)
@@ -108,6 +113,10 @@ module _ {s : List ℕ} where
   lists-full {n = n} true h k many = lists-add n h k (λ xs g. holds-full n g many)
   lists-full {es = es} false h k many = rw (append-nil es) h
 
+  -- a list of few enough is whole
+  pub known-of : {c : Conjuncts} {es : List Expr} → Lists s c es → length es ≤ 128 → Known s c
+  known-of {c} {es} h small = record { exprs = es; lists = h; most = count-small (h .holds) (rw (← items-length (h .items)) small) }
+
   -- of a list that is whole
   module _ {c : Conjuncts} {es : List Expr} (h : Lists s c es) (small : c .len ≤ 128) where
     pub lists-length : length es ≡ c .len
@@ -123,6 +132,12 @@ module _ {s : List ℕ} where
 
 pub next : (es : List Expr) (i : ℕ) → i < length es → drop i es ≡ getD es i FALSE ∷ drop (i + 1) es
 next es i h = rw (add-one, drop-cons es i FALSE h)
+
+-- the same from the end
+pub next-back : (es : List Expr) (i : ℕ) → (i ≡ 0 → ⊥) → i ≤ length es → drop (i - 1) es ≡ getD es (i - 1) FALSE ∷ drop i es
+next-back es i nz h =
+    let e : i - 1 + 1 ≡ i = omega arith in
+    next es (i - 1) (omega arith) ∙ rw e
 
 pub at-end : (es : List Expr) (i : ℕ) → length es ≤ i → drop i es ≡ []
 at-end es i h = drop-of-length-le es h

@@ -3,8 +3,8 @@
 --     not-binary, not-compared, binary, operands      which expressions are comparisons, and where their operands stand
 --     two-columns .. neither   the cases of `matchedIn`
 -- Assumes nothing.
-use mathlib.Core.Path.{_≡_, refl, sym, ap, ap₂, subst, _∙_}
-use mathlib.Core.Bool.{Bool, true, false, not, _&&_, _||_, cond}
+use mathlib.Core.Path.{_≡_, refl, sym, ap₂, subst, _∙_}
+use mathlib.Core.Bool.{Bool, true, false, not, _&&_, cond}
 use mathlib.Core.List.{List}
 use mathlib.Core.Option.{Option, none, some}
 use Prim.Native.Nat.{ℕ, _+_, _-_, _*_, _≤_, _<_}
@@ -14,7 +14,7 @@ use lib.ListN.{length, drop}
 use Rattle.image.specs.Word.{word}
 use Rattle.image.specs.Tree.{Label, At, labelAt}
 use Rattle.plan.specs.Syntax.{Cmp, eq, ne, lt, le, gt, ge, and, or, cmp, Expr, col, num, bool, nul, bin, neg, test, between, inlist, fn, nm, Name}
-use Rattle.plan.specs.Trees.{opNumber, labelE, kidsE, exprTree}
+use Rattle.plan.specs.Trees.{opNumber, labelE, exprTree}
 use Rattle.plan.specs.Integers.{FitsE}
 use Rattle.plan.specs.Values.{ValueRecord, literalOf, literalIn, literal?}
 use Rattle.plan.specs.declared.values.Literal as L

@@ -2,7 +2,9 @@
 use mathlib.Core.Bool.{Bool, true, false, not, _&&_, _||_, Bool·beq, cond}
 use mathlib.Core.List.{List}
 use mathlib.Core.Option.{Option, none, some}
-use Prim.Native.Nat.{ℕ}
+use Prim.Native.Nat.{ℕ, _<_}
+use mathlib.Core.Path.{_≡_}
+use lib.ListN.{length, getD}
 use lib.Dec.{eqb, leb}
 use lib.IntN.{ℤ}
 use lib.Signed.{ltZ}
@@ -14,6 +16,7 @@ use Rattle.plan.specs.Integers.{FitsE}
 use Rattle.plan.specs.Values.{ValueRecord, nullOf, literalOf}
 use Rattle.plan.specs.declared.values.Literal as L
 use Rattle.plan.specs.declared.values.Literal.the-variants as LV
+use Rattle.conjuncts.specs.Items.{FALSE}
 use Rattle.rewrite.specs.SimplifyPredicates.{Rel, same-as, above, below, Side, Item, make, or-item, view, gtZ}
 use Rattle.simplify_expressions.specs.declared.comparisons.Name.{Name}
 use Rattle.simplify_expressions.specs.declared.comparisons.Operand.{Operand}
@@ -98,3 +101,7 @@ pub record Reading (s : List ℕ) (base : ℕ) : Type 0 where
   pub expr : Expr
   pub at : At (exprTree expr) s base
   pub fits : FitsE expr
+
+-- each expression of a list is what its side is written as
+abbrev pub Spelled : (Side → Expr) → List Expr → Type 0
+Spelled spell es = (i : ℕ) → i < length es → spell (sideIn (getD es i FALSE)) ≡ getD es i FALSE

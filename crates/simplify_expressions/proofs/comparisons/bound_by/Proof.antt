@@ -1,6 +1,5 @@
 -- `comparisons::bound_by` meets its contract.
-use borrow.Author.Needs.{needs}
-use borrow.Author.Tests.{eq-eqb, ne-eqb, le-leb, lt-leb}
+use borrow.Author.Tests.{eq-eqb, ne-eqb}
 use Rattle.rewrite.specs.SimplifyPredicates.{make}
 use Rattle.simplify_expressions.proofs.comparisons.bound_by.Statement.{statement}
 use Rattle.simplify_expressions.proofs.comparisons.bound_by.Tie as tie

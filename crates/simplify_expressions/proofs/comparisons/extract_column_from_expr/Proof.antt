@@ -1,5 +1,4 @@
 -- `comparisons::extract_column_from_expr` meets its contract.
-use mathlib.Core.Path.{sym, _∙_}
 use borrow.Author.Needs.{needs}
 use borrow.Author.Tests.{eq-eqb, ne-eqb}
 use Rattle.simplify_expressions.proofs.comparisons.extract_column_from_expr.Statement.{statement}

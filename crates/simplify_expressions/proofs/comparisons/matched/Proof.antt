@@ -1,9 +1,6 @@
 -- `comparisons::matched` meets its contract.
 use borrow.Author.Needs.{needs}
-use mathlib.Core.Path.{_≡_, refl, sym, ap, _∙_}
-use native.Mathlib.Omega.{arith}
-use Rattle.rewrite.specs.SimplifyPredicates.{make, or-item}
-use Rattle.simplify_expressions.specs.Seen.{relNo}
+use mathlib.Core.Path.{sym, _∙_}
 use Rattle.simplify_expressions.proofs.Comparing.{two-columns, column-literal, column-neither, literal-column, two-literals, literal-neither, neither}
 use Rattle.simplify_expressions.proofs.comparisons.matched.Statement.{statement}
 use Rattle.simplify_expressions.proofs.comparisons.matched.Tie as tie

@@ -1,7 +1,6 @@
 -- `comparisons::side_at` meets its contract.
-use mathlib.Core.Path.{_≡_, refl, sym, ap, _∙_}
 use borrow.Author.Needs.{needs}
-use Rattle.simplify_expressions.specs.Seen.{seen, sideOf?}
+use Rattle.simplify_expressions.specs.Seen.{sideOf?}
 use Rattle.simplify_expressions.proofs.Comparing.{strict-is}
 use Rattle.simplify_expressions.proofs.comparisons.side_at.Statement.{statement}
 use Rattle.simplify_expressions.proofs.comparisons.side_at.Tie as tie
