@@ -4,6 +4,7 @@ pub mod Entries
 pub mod Maps
 pub mod Written
 pub mod Pushing
+pub mod Renaming
 pub mod Spliced
 pub mod Whole
 pub mod Splice

@@ -3,3 +3,4 @@ pub mod Maps
 pub mod Pushed
 pub mod Plans
 pub mod Splicing
+pub mod Renames

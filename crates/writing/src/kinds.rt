@@ -14,6 +14,8 @@ pub const BINARY: usize = 5;
 
 pub const FILTER: usize = 33;
 
+pub const PROJECTION: usize = 34;
+
 pub const ENTRY: usize = 49;
 
 // Writes a record of this kind, with the word p and no other.
