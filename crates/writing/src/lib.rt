@@ -2,11 +2,7 @@
 pub mod filtering;
 pub mod handing_out;
 pub mod joining;
-<<<<<<< HEAD
-pub mod kinds;
-=======
 pub mod kinds;
 pub mod renames;
->>>>>>> writing
 pub mod replacing;
 pub mod splicing;
