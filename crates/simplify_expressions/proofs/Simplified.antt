@@ -1,5 +1,6 @@
 -- The list that simplify_predicates makes, column by column.
 --     eq-none, eq-last, eq-false      what a column's equalities come to
+--     one-simplified                  a list of one stays as it is
 --     Going                           the invariant of the loop over the columns: `going-start`, `going-next`, `going-end`, `going-zero`
 -- Assumes nothing.
 use mathlib.Core.Path.{_≡_, refl, sym, ap, _∙_}
@@ -8,12 +9,16 @@ use mathlib.Core.List.{List, [], _∷_, _++_, map, append-assoc, append-nil}
 use mathlib.Core.Option.{Option, none, some}
 use Prim.Native.Nat.{ℕ, suc, _-_, _≤_, _<_}
 use native.Mathlib.Omega.{arith}
+use lib.Signed.{ltZ}
 use lib.ListN.{length, getD, drop}
 use Rattle.plan.specs.Syntax.{Expr, Name, nm}
 use Rattle.plan.specs.Lists.{choose, all, keep, flat}
 use Rattle.plan.proofs.Lists.{keep-all}
 use Rattle.meaning.specs.Meaning.{sameV}
-use Rattle.rewrite.specs.SimplifyPredicates.{val, Group, eq-expr, final, eq-part, simplify-column-predicates, sort-out, simplify-predicates}
+use Rattle.rewrite.specs.SimplifyPredicates.{Rel, same-as, above, below, bound-of, Side, val, Item, Group, eq-expr, up-expr, down-expr}
+use Rattle.rewrite.specs.SimplifyPredicates.{final, eq-part, first-kind, of-kind, most-restrictive, simplify-column-predicates, fresh, enter, view, add, sort-out, simplify-predicates}
+use Rattle.rewrite.proofs.Simplify.{view-back}
+use Rattle.plan.specs.Values.{ValueRecord}
 use Rattle.conjuncts.specs.Items.{Conjuncts, FALSE, Lists, Known}
 use Rattle.conjuncts.proofs.Listed.{known-of}
 use Rattle.simplify_expressions.specs.Seen.{sideIn, Spelled}
@@ -55,6 +60,35 @@ known-kept f es h small = known-of h (omega (arith, keep-few f es))
 
 pub regroup : (a b c d : List Expr) → a ++ (b ++ (c ++ d)) ≡ ((a ++ b) ++ c) ++ d
 regroup a b c d = sym (append-assoc (a ++ b) c d ∙ append-assoc a b (c ++ d))
+
+-- ---- a list of one
+
+either-way : (b : Bool) (l : List Side) → choose b l l ≡ l
+unfolding choose
+either-way true l = refl
+either-way false l = refl
+
+-- a comparison alone is what its column comes to
+alone : (x : Name) (l : ValueRecord) (f : Bool) (r : Rel)
+    → simplify-column-predicates (fresh (record { key = x; rel = r; lit = l; flipped = f })) ≡ bound-of f r x l ∷ []
+unfolding choose all
+alone x l f same-as = refl
+alone x l f (above s) =
+    let d : List Side = record { strict = s; lit = l; flipped = f } ∷ [] in
+    append-nil (map (up-expr x) (most-restrictive ltZ d)) ∙ ap (map (up-expr x)) (either-way (all (of-kind (first-kind d)) d) d)
+alone x l f (below s) =
+    let d : List Side = record { strict = s; lit = l; flipped = f } ∷ [] in
+    ap (map (down-expr x)) (either-way (all (of-kind (first-kind d)) d) d)
+
+pub one-simplified : (es : List Expr) → length es ≤ 1 → simplify-predicates es ≡ es
+unfolding simplify-predicates sort-out enter flat
+one-simplified [] h = refl
+one-simplified (e ∷ d ∷ es) h = absurd (omega arith)
+one-simplified (e ∷ []) h = go (view e) refl
+  where
+    go : (o : Option Item) → view e ≡ o → let s = add e o (sort-out []) in s .others ++ flat simplify-column-predicates (s .groups) ≡ e ∷ []
+    go none v = refl
+    go (some i) v = append-nil (simplify-column-predicates (fresh i)) ∙ (alone (i .key) (i .lit) (i .flipped) (i .rel) ∙ ap (λ (x : Expr). x ∷ []) (view-back e v))
 
 -- ---- all columns
 

@@ -103,6 +103,10 @@ pub fn simplify_predicates(s: &[u8], c: Conjuncts) -> Conjuncts
     requires { ⌜ Known (now s) c ⌝ }
     ensures { λ r. ⌜ ((es : List Expr) → Lists (now (s .entry)) c es → Lists (now (s .entry)) r (simplify-predicates es)) ⌝ }
 {
+    // Early return for simple cases.
+    if c.len <= 1 {
+        return c;
+    }
     let mut r = other_predicates(s, c);
     let mut key = next_column(
         s,
