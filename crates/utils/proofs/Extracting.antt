@@ -11,7 +11,7 @@ use Prim.Native.Nat.{ℕ, suc, _+_, _-_, _*_, _≤_, _<_}
 use native.Mathlib.Omega.{arith}
 use lib.Dec.{eqb}
 use borrow.Author.Tests.{eq-eqb, ne-eqb, le-leb, lt-leb}
-use lib.ListN.{length, drop}
+use lib.ListN.{length, drop, length-drop}
 use Rattle.image.specs.Flat.{sizeT}
 use Rattle.image.specs.Limits.{workBytes}
 use Rattle.image.specs.Word.{word}
@@ -19,19 +19,19 @@ use Rattle.image.specs.Room.{Wrote}
 use Rattle.image.specs.Tree as T
 use Rattle.image.specs.Tree.{Label, node, At, Deep, Readable, labelAt}
 use Rattle.plan.specs.Columns.{on-cols}
-use Rattle.plan.specs.Lists.{_&_}
+use Rattle.plan.specs.Lists.{when, flat}
 use Rattle.plan.specs.Measure.{sizeE}
 use Rattle.plan.specs.Schema.{has}
 use Rattle.plan.specs.Syntax.{Name, Op, and, or, cmp, eq, ne, lt, le, gt, ge, Expr, col, num, bool, nul, bin, neg, test, between, inlist, fn}
 use Rattle.plan.specs.Trees.{labelE, kidsE, exprTree}
-use Rattle.plan.proofs.Lists.{and-l, and-r}
+use Rattle.plan.proofs.Lists.{and-l, and-r, all-of, flat-keep, flat-cong}
 use Rattle.plan.proofs.Measure.{size-bin}
-use Rattle.rewrite.specs.PushDownFilter.{both-or, either-and, guarded, extract-or-clause}
-use Rattle.conjuncts.specs.Standing.{ReadableE}
+use Rattle.rewrite.specs.PushDownFilter.{both-or, either-and, guarded, extract-or-clause, is-or, listed, extract-or-clauses-for-join}
+use Rattle.conjuncts.specs.Standing.{Standing, ReadableE}
 use Rattle.conjuncts.proofs.Operands.{Operands, operands, AndParts, readable-left, readable-right}
 use Rattle.utils.specs.declared.clauses.Clause.{Clause}
 use Rattle.utils.specs.declared.clauses.Clause.the-variants.{Made, Nothing}
-use Rattle.utils.specs.Clauses.{operatorOf, clauseOf, recordsOf, eitherAnd, yields, kept}
+use Rattle.utils.specs.Clauses.{operatorOf, clauseOf, recordsOf, eitherAnd, yields, kept, or-clause}
 
 -- ---- an AND, an OR, or any other expression
 
@@ -208,19 +208,19 @@ module _ (c : Name → Bool) (e : Expr) where
       go false k = cc
 
 module _ (c : Name → Bool) {e : Expr} {x y : ℕ} {left right : List ℕ} where
-  or-clause : (u : Sides or e x y left right) → extract-or-clause c e ≡ both-or (extract-or-clause c (u .lhs)) (extract-or-clause c (u .rhs))
+  of-or : (u : Sides or e x y left right) → extract-or-clause c e ≡ both-or (extract-or-clause c (u .lhs)) (extract-or-clause c (u .rhs))
   unfolding extract-or-clause
-  or-clause u = ap (extract-or-clause c) (u .is)
+  of-or u = ap (extract-or-clause c) (u .is)
 
-  and-clause : (u : Sides and e x y left right) → extract-or-clause c e ≡ either-and (extract-or-clause c (u .lhs)) (extract-or-clause c (u .rhs))
+  of-and : (u : Sides and e x y left right) → extract-or-clause c e ≡ either-and (extract-or-clause c (u .lhs)) (extract-or-clause c (u .rhs))
   unfolding extract-or-clause
-  and-clause u = ap (extract-or-clause c) (u .is)
+  of-and u = ap (extract-or-clause c) (u .is)
 
   module _ (u : Sides or e x y left right) where
     -- on nothing the OR ends there
     pub or-nothing-left : {r : Clause} → r ≡ clauseOf (extract-or-clause c (u .lhs)) → r ≡ Nothing → Nothing ≡ clauseOf (extract-or-clause c e)
     unfolding both-or
-    or-nothing-left p q = rw (or-clause u) (go (extract-or-clause c (u .lhs)) (extract-or-clause c (u .rhs)) (sym p ∙ q))
+    or-nothing-left p q = rw (of-or u) (go (extract-or-clause c (u .lhs)) (extract-or-clause c (u .rhs)) (sym p ∙ q))
       where
         go : (a b : Option Expr) → clauseOf a ≡ Nothing → Nothing ≡ clauseOf (both-or a b)
         go none b h = refl
@@ -229,7 +229,7 @@ module _ (c : Name → Bool) {e : Expr} {x y : ℕ} {left right : List ℕ} wher
 
     pub or-nothing-right : {r : Clause} → r ≡ clauseOf (extract-or-clause c (u .rhs)) → r ≡ Nothing → Nothing ≡ clauseOf (extract-or-clause c e)
     unfolding both-or
-    or-nothing-right p q = rw (or-clause u) (go (extract-or-clause c (u .lhs)) (extract-or-clause c (u .rhs)) (sym p ∙ q))
+    or-nothing-right p q = rw (of-or u) (go (extract-or-clause c (u .lhs)) (extract-or-clause c (u .rhs)) (sym p ∙ q))
       where
         go : (a b : Option Expr) → clauseOf b ≡ Nothing → Nothing ≡ clauseOf (both-or a b)
         go none b h = refl
@@ -239,7 +239,7 @@ module _ (c : Name → Bool) {e : Expr} {x y : ℕ} {left right : List ℕ} wher
     pub or-made : {r s : Clause} {m n : ℕ} → r ≡ clauseOf (extract-or-clause c (u .lhs)) → r ≡ Made m → s ≡ clauseOf (extract-or-clause c (u .rhs))
         → s ≡ Made n → Made (1 + m + n) ≡ clauseOf (extract-or-clause c e)
     unfolding both-or
-    or-made {m = m} {n = n} p q h k = rw (or-clause u) (go (extract-or-clause c (u .lhs)) (extract-or-clause c (u .rhs)) (sym p ∙ q) (sym h ∙ k))
+    or-made {m = m} {n = n} p q h k = rw (of-or u) (go (extract-or-clause c (u .lhs)) (extract-or-clause c (u .rhs)) (sym p ∙ q) (sym h ∙ k))
       where
         go : (a b : Option Expr) → clauseOf a ≡ Made m → clauseOf b ≡ Made n → Made (1 + m + n) ≡ clauseOf (both-or a b)
         go none b h k = cc
@@ -253,7 +253,7 @@ module _ (c : Name → Bool) {e : Expr} {x y : ℕ} {left right : List ℕ} wher
   pub and-made : {r a b : Clause} (u : Sides and e x y left right) → r ≡ eitherAnd a b → a ≡ clauseOf (extract-or-clause c (u .lhs))
       → b ≡ clauseOf (extract-or-clause c (u .rhs)) → r ≡ clauseOf (extract-or-clause c e)
   unfolding either-and
-  and-made u p q h = p ∙ rw (q, h, and-clause u) (go (extract-or-clause c (u .lhs)) (extract-or-clause c (u .rhs)))
+  and-made u p q h = p ∙ rw (q, h, of-and u) (go (extract-or-clause c (u .lhs)) (extract-or-clause c (u .rhs)))
     where
       go : (a b : Option Expr) → eitherAnd (clauseOf a) (clauseOf b) ≡ clauseOf (either-and a b)
       go none b = refl
@@ -349,7 +349,7 @@ module _ {part left right : List ℕ} {base x y op : ℕ} (p : x ≡ word part 2
   unfolding either-and
   only-last f =
       by-op (λ one u. last-of u (go (extract-or-clause c (u .lhs)) (extract-or-clause c (u .rhs))
-      (f (u .lhs) (u .at-left) (held-left u (has ns) held)) (sym (and-clause c u) ∙ gives)))
+      (f (u .lhs) (u .at-left) (held-left u (has ns) held)) (sym (of-and c u) ∙ gives)))
       (λ two u. differ (kept-or (extract-or-clause c (u .lhs)) two) (f (u .lhs) (u .at-left) (held-left u (has ns) held)))
     where
       go : (a b : Option Expr) → false ≡ kept op a → either-and a b ≡ some d → b ≡ some d
@@ -361,7 +361,7 @@ module _ {part left right : List ℕ} {base x y op : ℕ} (p : x ≡ word part 2
   unfolding either-and
   only-first f =
       by-op (λ one u. first-of u (go (extract-or-clause c (u .lhs)) (extract-or-clause c (u .rhs))
-      (f (u .rhs) (u .at-right) (held-right u (has ns) held)) (sym (and-clause c u) ∙ gives)))
+      (f (u .rhs) (u .at-right) (held-right u (has ns) held)) (sym (of-and c u) ∙ gives)))
       (λ two u. differ (kept-or (extract-or-clause c (u .rhs)) two) (f (u .rhs) (u .at-right) (held-right u (has ns) held)))
     where
       go : (a b : Option Expr) → false ≡ kept op b → either-and a b ≡ some d → a ≡ some d
@@ -375,8 +375,8 @@ module _ {part left right : List ℕ} {base x y op : ℕ} (p : x ≡ word part 2
   unfolding either-and both-or labelE
   both-of f g =
       by-op (λ one u. anded one u (extract-or-clause c (u .lhs)) (extract-or-clause c (u .rhs)) refl refl
-      (f (u .lhs) (u .at-left) (held-left u (has ns) held)) (g (u .rhs) (u .at-right) (held-right u (has ns) held)) (sym (and-clause c u) ∙ gives))
-      (λ two u. ored u (extract-or-clause c (u .lhs)) (extract-or-clause c (u .rhs)) refl refl (sym (or-clause c u) ∙ gives))
+      (f (u .lhs) (u .at-left) (held-left u (has ns) held)) (g (u .rhs) (u .at-right) (held-right u (has ns) held)) (sym (of-and c u) ∙ gives))
+      (λ two u. ored u (extract-or-clause c (u .lhs)) (extract-or-clause c (u .rhs)) refl refl (sym (of-or c u) ∙ gives))
     where
       none-kept : op ≡ 1 → kept op none ≡ false
       none-kept one = rw one
@@ -401,3 +401,58 @@ pub wrote-clause : {out₀ out₁ : List ℕ} {at level n : ℕ} {l : Label} (o 
     → l ≡ labelE (bin o a b) → k ≡ bin o a b → Wrote out₀ out₁ at level n (exprTree k)
 unfolding kidsE
 wrote-clause o a b k w e is = rw (is, ← e) w
+
+-- ---- the conjuncts that are an OR at their top
+
+-- an expression that stands in an image of at most 2,048 records can be read
+pub standing-readable : {s : List ℕ} {n : ℕ} {e : Expr} → Standing s n e → length s ≤ workBytes → ReadableE 256 (drop (32 * n) s) n
+standing-readable {s} {n} {e} h small =
+    record { expr = e; at = h .here; some = omega arith; deep = h .deep; room = rw length-drop (omega (arith, h .within)) }
+
+or-operator : (e : Expr) → is-or e ≡ eqb (operatorOf (labelE e)) 2
+unfolding labelE operatorOf is-or
+or-operator (bin and a b) = refl
+or-operator (bin or a b) = refl
+or-operator (bin (cmp eq) a b) = refl
+or-operator (bin (cmp ne) a b) = refl
+or-operator (bin (cmp lt) a b) = refl
+or-operator (bin (cmp le) a b) = refl
+or-operator (bin (cmp gt) a b) = refl
+or-operator (bin (cmp ge) a b) = refl
+or-operator (col x) = refl
+or-operator (num z) = refl
+or-operator (bool b) = refl
+or-operator (nul t) = refl
+or-operator (neg a) = refl
+or-operator (test t a) = refl
+or-operator (between n a l u) = refl
+or-operator (inlist n a xs) = refl
+or-operator (fn p q r xs) = refl
+
+module _ (c : Name → Bool) (e : Expr) {op : ℕ} (is : op ≡ operatorOf (labelE e)) where
+  pub or-top : op ≡ 2 → extract-or-clause c e ≡ or-clause c e
+  or-top z = rw (or-operator e, ← is, eq-eqb op 2 z)
+
+  pub no-or-top : (op ≡ 2 → ⊥) → Nothing ≡ clauseOf (or-clause c e)
+  no-or-top nz = rw (or-operator e, ← is, ne-eqb op 2 nz)
+
+pub or-false : (c : Name → Bool) (e : Expr) → e ≡ bool false → Nothing ≡ clauseOf (or-clause c e)
+unfolding is-or
+or-false c e is = rw is
+
+-- such a clause is that of the expression
+pub or-whole : (c : Name → Bool) (e : Expr) {k : Expr} → or-clause c e ≡ some k → extract-or-clause c e ≡ some k
+or-whole c e {k} h = go (is-or e) h
+  where
+    go : (b : Bool) → cond b (extract-or-clause c e) none ≡ some k → extract-or-clause c e ≡ some k
+    go true h = h
+    go false h = never h
+
+-- the clauses of a list, one conjunct after another
+pub clauses-each : (c : Name → Bool) (es : List Expr) → extract-or-clauses-for-join c es ≡ flat (λ e. listed (or-clause c e)) es
+unfolding extract-or-clauses-for-join when listed
+clauses-each c es = flat-keep (λ e. listed (extract-or-clause c e)) is-or es ∙ flat-cong _ _ (all-of (λ e. each (is-or e) (extract-or-clause c e)) es)
+  where
+    each : (b : Bool) (o : Option Expr) → when b (listed o) ≡ listed (cond b o none)
+    each true o = refl
+    each false o = refl

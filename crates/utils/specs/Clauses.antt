@@ -5,7 +5,8 @@ use Prim.Native.Nat.{ℕ, _+_}
 use lib.Dec.{eqb, leb}
 use Rattle.image.specs.Tree.{Label}
 use Rattle.plan.specs.Measure.{sizeE}
-use Rattle.plan.specs.Syntax.{Expr}
+use Rattle.plan.specs.Syntax.{Name, Expr}
+use Rattle.rewrite.specs.PushDownFilter.{extract-or-clause, is-or}
 use Rattle.utils.specs.declared.clauses.Clause.{Clause}
 use Rattle.utils.specs.declared.clauses.Clause.the-variants.{Made, Nothing}
 
@@ -36,3 +37,7 @@ yields (some e) = true
 -- an operand of an Or (2) is part of its clause, one of an And if it yields
 abbrev pub kept : ℕ → Option Expr → Bool
 kept op x = eqb op 2 || yields x
+
+-- the clause of a conjunct that is an OR at its top
+abbrev pub or-clause : (Name → Bool) → Expr → Option Expr
+or-clause c e = cond (is-or e) (extract-or-clause c e) none

@@ -27,10 +27,11 @@ ghost use Rattle.plan.specs.Schema.{has};
 ghost use Rattle.plan.specs.Syntax.{Name, Expr};
 ghost use Rattle.plan.specs.Trees.{exprTree};
 ghost use Rattle.rewrite.specs.PushDownFilter.{extract-or-clause};
-ghost use Rattle.conjuncts.specs.Standing.{ReadableE};
+ghost use Rattle.conjuncts.specs.Items.{Item, Present};
+ghost use Rattle.conjuncts.specs.Standing.{Standing, There, ReadableE};
 ghost use Rattle.utils.specs.Masks.{Masks};
 ghost use Rattle.utils.specs.Fields.{Names};
-ghost use Rattle.utils.specs.Clauses.{operatorOf, clauseOf, recordsOf, eitherAnd, kept};
+ghost use Rattle.utils.specs.Clauses.{operatorOf, clauseOf, recordsOf, eitherAnd, kept, or-clause};
 
 // A clause, of as many records, or nothing.
 pub enum Clause {
@@ -172,4 +173,44 @@ pub fn copy_clause(
     let next = put_label(part, out, at, level);
     let to = copy_clause(left, x, depth - 1, f, side, out, next, level + 1);
     copy_clause(right, y, depth - 1, f, side, out, to, level + 1)
+}
+
+// The clause of the conjunct at record n, if it is an OR at its top: 0 stands for FALSE, which is none.
+pub fn or_clause_at(s: &[u8], n: usize, f: Fields, side: u64) -> Clause
+    requires { ⌜ Present (now s) n ⌝ }
+    requires { ⌜ length (now s) ≤ workBytes ⌝ }
+    requires { ⌜ f .len ≤ 64 ⌝ }
+    ensures { λ r. ⌜ ((e : Expr) (ns : List Name) (c : Name → Bool) → Item (now (s .entry)) n e → Names f ns
+        → on-cols (has ns) e ≡ true → Masks side ns c → r ≡ clauseOf (or-clause c e)) ⌝ }
+{
+    if n == 0 {
+        return Clause::Nothing;
+    }
+    let part = record_at(s, n);
+    if operator(part) == 2 {
+        return extract_or_clause(part, n, MAX_DEPTH, f, side);
+    }
+    Clause::Nothing
+}
+
+// Writes that clause flat, from record `at` on, and returns the record after it. There must be one.
+pub fn copy_or_clause(
+    s: &[u8],
+    n: usize,
+    f: Fields,
+    side: u64,
+    out: &mut [u8],
+    at: usize,
+    level: usize,
+) -> usize
+    requires { ⌜ There (now s) n ⌝ }
+    requires { ⌜ length (now s) ≤ workBytes ⌝ }
+    requires { ⌜ f .len ≤ 64 ⌝ }
+    requires { ⌜ level < 3840 ⌝ }
+    requires { ⌜ length (now out) ≡ workBytes ⌝ }
+    ensures { λ r. ⌜ ((e clause : Expr) (ns : List Name) (c : Name → Bool) → Standing (now (s .entry)) n e → Names f ns
+        → on-cols (has ns) e ≡ true → Masks side ns c → or-clause c e ≡ some clause
+        → Wrote (now (out .entry)) (now (out .exit)) at level r (exprTree clause)) ⌝ }
+{
+    copy_clause(record_at(s, n), n, MAX_DEPTH, f, side, out, at, level)
 }
