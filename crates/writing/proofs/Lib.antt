@@ -5,6 +5,8 @@ pub mod Maps
 pub mod Written
 pub mod Pushing
 pub mod Renaming
+pub mod Focused
 pub mod Spliced
 pub mod Whole
 pub mod Splice
+pub mod Fitting

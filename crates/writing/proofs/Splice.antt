@@ -37,7 +37,7 @@ pub record Begun (out : List ℕ) (n : ℕ) (t : Tree) : Type 0 where
   pub bytes : n ≤ 2048 → out ≡ flat 1 t ++ rest
 
 -- a count that is no more than 2,048 is what was counted
-counted : (m n : ℕ) → n ≡ cap m → n ≤ 2048 → m ≤ 2048
+pub counted : (m n : ℕ) → n ≡ cap m → n ≤ 2048 → m ≤ 2048
 unfolding cap
 counted m n e h = omega arith
 
