@@ -40,6 +40,12 @@ pub record Rests (s : List ℕ) (x : ℕ) (p : Predicate) (e : Expr) (q : Plan) 
   pub shaped : Shaped s p e
   pub scope : reads (schema q) e ≡ true
 
+-- some predicate rests there
+pub record Resting (s : List ℕ) (x : ℕ) (p : Predicate) : Type 0 where
+  pub expr : Expr
+  pub plan : Plan
+  pub rests : Rests s x p expr plan
+
 -- what a rewrite answers: the record after the plan that it wrote, and whether it raised the flag
 abbrev pub Written : Type 0
 Written = declared.Written
