@@ -14,3 +14,4 @@ pub mod Perhapsing
 pub mod Selecting
 pub mod Shaping
 pub mod Answering
+pub mod LastChild

@@ -2,5 +2,6 @@
 pub mod arms;
 pub mod around;
 pub mod below;
+pub mod inputs;
 pub mod parting;
 pub mod predicates;
