@@ -14,7 +14,7 @@ use Rattle.rewrite.specs.Limits.{listP}
 use Rattle.rewrite.specs.PushDownFilter.{Transformed}
 use Rattle.conjuncts.proofs.Listed.{lists-length}
 use Rattle.pushing.specs.Predicates.{Predicate}
-use Rattle.pushing.specs.Arms.{Shaped, Written, Answers}
+use Rattle.pushing.specs.Arms.{Shaped, Rests, Written, Answers, Takes}
 
 pub answers : {before after : List ℕ} {at level : ℕ} {r : Written} {t : Transformed} → r .flag ≡ t .transformed → listP (t .plan) ≤ maxList
     → Wrote before after at level (r .next) (planTree (t .plan)) → Answers before after at level r t
@@ -28,3 +28,9 @@ few h = le-trans (le-of-eq (lists-length (h .listed) (h .most))) (h .most)
 pub filter-few : {s : List ℕ} {p : Predicate} {e : Expr} (q : Plan) → Shaped s p e → listP q ≤ maxList → listP (filter e q) ≤ maxList
 unfolding listP
 filter-few q h k = max-le (few h) k
+
+-- .. nor are those of a plan that takes it whole
+pub taken-few : {s : List ℕ} {x : ℕ} {p : Predicate} {e : Expr} {f : Plan → Plan} {q : Plan} → Takes s x f q → Rests s x p e (f q)
+    → listP (f (filter e q)) ≤ maxList
+taken-few {e = e} {q = q} t h =
+    le-trans (le-of-eq (t .lists (filter e q))) (filter-few q (h .shaped) (le-trans (le-of-eq (sym (t .lists q))) (h .placed .lists)))

@@ -3,13 +3,13 @@ use mathlib.Core.Path.{_≡_}
 use mathlib.Core.Bool.{true}
 use mathlib.Core.List.{List}
 use mathlib.Core.Option.{some}
-use Prim.Native.Nat.{ℕ, _≤_, _<_}
+use Prim.Native.Nat.{ℕ, _+_, _≤_, _<_}
 use lib.ListN.{length}
 use Rattle.image.specs.Limits.{workBytes, maxList}
 use Rattle.image.specs.Room.{Wrote}
 use Rattle.plan.specs.Syntax.{Expr, Plan}
 use Rattle.plan.specs.Schema.{schema}
-use Rattle.plan.specs.Trees.{planTree}
+use Rattle.plan.specs.Trees.{planTree, kidsP}
 use Rattle.acceptance.proofs.NamesRule.{reads, ok}
 use Rattle.rewrite.specs.Utils.{split-conjunction, conjunction}
 use Rattle.rewrite.specs.Limits.{listP}
@@ -17,6 +17,8 @@ use Rattle.rewrite.specs.PushDownFilter.{Transformed}
 use Rattle.conjuncts.specs.Standing.{Standing, StandingP}
 use Rattle.conjuncts.specs.Items.{Lists}
 use Rattle.pushing.specs.Predicates.{Predicate}
+use Rattle.pushing.specs.Frames.{Frame}
+use Rattle.pushing.specs.Inputs.{lastOf}
 use Rattle.pushing.specs.declared.predicates.Written as declared
 
 -- the code's predicate p is e: as it is written at a record, or its conjuncts joined left-deep
@@ -55,3 +57,19 @@ pub record Answers (before after : List ℕ) (at level : ℕ) (r : Written) (t :
   pub flag : r .flag ≡ t .transformed
   pub fits : listP (t .plan) ≤ maxList → Wrote before after at level (r .next) (planTree (t .plan))
   pub over : maxList < listP (t .plan) → (r .next ≡ 2049) × (after ≡ before)
+
+-- the plan at record x is f q: a frame around its input q, which is its last child, and with no list of its own
+pub record Takes (s : List ℕ) (x : ℕ) (f : Plan → Plan) (q : Plan) : Type 0 where
+  pub own : ℕ
+  pub frame : Frame f own
+  pub last : lastOf 0 (x + 1) (kidsP (f q)) ≡ x + own
+  pub input : StandingP s (x + own) q
+  pub lists : (r : Plan) → listP (f r) ≡ listP r
+
+-- some predicate rests on such a plan
+pub record Taken (s : List ℕ) (x : ℕ) (p : Predicate) : Type 0 where
+  pub expr : Expr
+  pub plan : Plan
+  pub above : Plan → Plan
+  pub rests : Rests s x p expr (above plan)
+  pub takes : Takes s x above plan
