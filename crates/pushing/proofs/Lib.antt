@@ -15,3 +15,4 @@ pub mod Selecting
 pub mod Shaping
 pub mod Answering
 pub mod LastChild
+pub mod Changes

@@ -4,6 +4,7 @@ use mathlib.Core.List.{List}
 use mathlib.Core.Option.{Option, none, some}
 use Prim.Native.Nat.{ℕ, _≤_, _<_}
 use Rattle.plan.specs.Syntax.{Name, Expr}
+use Rattle.conjuncts.specs.Items.{Conjuncts, Known}
 use Rattle.writing.specs.Maps.{Maps}
 use Rattle.writing.specs.Pushed as W
 use Rattle.pushing.specs.declared.predicates.Predicate as declared
@@ -24,3 +25,8 @@ pub record Writable (s m : List ℕ) (of room : ℕ) (p : Predicate) : Type 0 wh
   pub expr : Option Expr
   pub perhaps : Perhaps s map p expr
   pub most : p .list .len ≤ 128
+
+-- c is a list of items of some image
+pub record Listing (c : Conjuncts) : Type 0 where
+  pub image : List ℕ
+  pub known : Known image c

@@ -2,6 +2,7 @@
 pub mod arms;
 pub mod around;
 pub mod below;
+pub mod changing;
 pub mod inputs;
 pub mod parting;
 pub mod predicates;
