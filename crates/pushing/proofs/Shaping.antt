@@ -37,7 +37,7 @@ list-perhaps c (e ∷ es) small h =
 pub standing-item : {s : List ℕ} {n : ℕ} {e : Expr} → Standing s n e → (n ≡ 0 → ⊥) → Item s n e
 standing-item h nz = record { none = λ z. absurd (nz z); some = λ f. h; small = h .small }
 
-joins-back : {e : Expr} (x : Expr) (xs : List Expr) → conjunction (x ∷ xs) ≡ some e → e ≡ conjoin x xs
+pub joins-back : {e : Expr} (x : Expr) (xs : List Expr) → conjunction (x ∷ xs) ≡ some e → e ≡ conjoin x xs
 unfolding conjunction
 joins-back x xs h = cc
 

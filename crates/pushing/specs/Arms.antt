@@ -28,6 +28,12 @@ pub record Shaped (s : List ℕ) (p : Predicate) (e : Expr) : Type 0 where
   pub stands : (p .written ≡ 0 → ⊥) → Standing s (p .written) e
   pub joined : p .written ≡ 0 → conjunction (split-conjunction e) ≡ some e
 
+-- p is some predicate of some image
+pub record Shapely (p : Predicate) : Type 0 where
+  pub image : List ℕ
+  pub expr : Expr
+  pub shaped : Shaped image p expr
+
 -- the plan q stands at record x of the image, keeps the name rules, and has no list that is too long
 pub record Placed (s : List ℕ) (x : ℕ) (q : Plan) : Type 0 where
   pub short : length s ≤ workBytes
