@@ -70,7 +70,8 @@ same-turned x y h = go (same x y) refl
     go false e = refl
 
 -- where no name stands twice, the place of a name is the only one that has it
-place-same : (ns : List Name) (x : Name) (i : ℕ) → nodup ns ≡ true → has ns x ≡ true → i < length ns → eqb (placeIn ns x) i ≡ same x (nameAt ns i)
+place-same : (ns : List Name) (x : Name) (i : ℕ) → nodup ns ≡ true → has ns x ≡ true → i < length ns
+    → eqb (placeIn ns x) i ≡ same x (nameAt ns i)
 unfolding placeIn any
 place-same [] x i single h l = absurd (omega arith)
 place-same (y ∷ ns) x i single h l = go (same y x) refl i l (λ k j m. place-same ns x j (and-r (not (has ns y)) _ single) k m) h
@@ -81,7 +82,8 @@ place-same (y ∷ ns) x i single h l = go (same y x) refl i l (λ k j m. place-s
         sym (not-true (has ns y) (and-l _ _ single)) ∙ z
     later e j m false k = refl
 
-    go : (b : Bool) → same y x ≡ b → (i : ℕ) → i < length (y ∷ ns) → (has ns x ≡ true → (j : ℕ) → j < length ns → eqb (placeIn ns x) j ≡ same x (nameAt ns j))
+    go : (b : Bool) → same y x ≡ b → (i : ℕ) → i < length (y ∷ ns)
+        → (has ns x ≡ true → (j : ℕ) → j < length ns → eqb (placeIn ns x) j ≡ same x (nameAt ns j))
         → (b || has ns x) ≡ true → eqb (cond b 0 (suc (placeIn ns x))) i ≡ same x (nameAt (y ∷ ns) i)
     go true e zero l ih k = rw (same-eq y x e) (sym (same-refl x))
     go true e (suc j) l ih k = rw (eqb·zero-suc j) (later (same-eq y x e) j (omega arith) (same x (nameAt ns j)) refl)
@@ -118,7 +120,8 @@ module _ {f : Fields} (ns : List Name) (h : Names f ns) (small : f .len ≤ 64) 
   masks-add m r xs single fits w k = record {
     small = fits;
     marks = λ i l. w i ∙ rw (place-same ns x i single held l, k .marks i l) (sym (has-add xs x (nameAt ns i)));
-    beyond = λ i l. w i ∙ rw (ne-eqb (placeIn ns x) i (λ (e : placeIn ns x ≡ i). absurd (omega (arith, place-has ns x held .0)))) (k .beyond i l);
+    beyond = λ i l. w i ∙ rw (ne-eqb (placeIn ns x) i (λ (e : placeIn ns x ≡ i). absurd (omega (arith, place-has ns x held .0))))
+        (k .beyond i l);
   }
 
 -- ---- the columns of the children
@@ -144,7 +147,8 @@ module _ (ns : List Name) (t : Tree) where
   unfolding onAny onTree
   so-held u h = and-l _ _ (h .held)
 
-  pub so-next : {set : ℕ} (v : ℕ) (u : Tree) {after : Forest} → So set ns t (node (u .label) (u .below) after) → Answers v ns (λ c. onTree c u)
+  pub so-next : {set : ℕ} (v : ℕ) (u : Tree) {after : Forest} → So set ns t (node (u .label) (u .below) after)
+      → Answers v ns (λ c. onTree c u)
       → So (bitOr set v) ns t after
   unfolding onAny onTree
   so-next {set} v u {after} h k = record {
@@ -158,7 +162,8 @@ module _ (ns : List Name) (t : Tree) where
   so-end h = record { says = λ m c g. sym (and-true _) ∙ h .says m c g }
 
   -- a column has no children that count
-  pub so-column : {v : ℕ} → eqb (t .label .kind) 1 ≡ true → Answers v ns (λ c. c (nm (t .label .p) (t .label .q))) → Answers v ns (λ c. onTree c t)
+  pub so-column : {v : ℕ} → eqb (t .label .kind) 1 ≡ true → Answers v ns (λ c. c (nm (t .label .p) (t .label .q)))
+      → Answers v ns (λ c. onTree c t)
   unfolding onTree
   so-column k h = rw k h
 

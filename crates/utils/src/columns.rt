@@ -43,7 +43,8 @@ pub fn add_column(set: u64, f: Fields, q: usize, n: usize) -> u64
 pub fn columns(part: &[u8], base: usize, depth: usize, f: Fields) -> u64
     requires { ⌜ Readable depth (now part) base ⌝ }
     requires { ⌜ f .len ≤ 64 ⌝ }
-    ensures { λ r. ⌜ ((t : Tree) (ns : List Name) → At t (now (part .entry)) base → Names f ns → onTree (has ns) t ≡ true → Answers r ns (λ c. onTree c t)) ⌝ }
+    ensures { λ r. ⌜ ((t : Tree) (ns : List Name) → At t (now (part .entry)) base → Names f ns → onTree (has ns) t ≡ true
+        → Answers r ns (λ c. onTree c t)) ⌝ }
 {
     if word_at(part, 0) == 1 {
         return add_column(0, f, word_at(part, 4), word_at(part, 8));

@@ -61,21 +61,28 @@ pub +columns-spec : {M : Type 1} → statement M
     (λ c κs. omega (arith, c .before .before .before .pre .1 .0 .at .head .room))
     (λ c κs. omega (arith, c .before .before .before .before .pre .1 .0 .at .head .room))
     (λ c κs. c .before .before .before .before .before .pre .1 .1)
-    (λ c t ns h g held. let is = eq-eqb _ _ (sym (ap (λ (l : Label). l .kind) (h .head .label)) ∙ (sym (c .before .before .before .before .word-at .ensures .0) ∙ c .before .before .before .if1 .taken)) in
+    (λ c t ns h g held. let is = eq-eqb _ _ (sym (ap (λ (l : Label). l .kind) (h .head .label))
+    ∙ (sym (c .before .before .before .before .word-at .ensures .0) ∙ c .before .before .before .if1 .taken)) in
     let p = c .before .before .word-at2 .ensures .0 ∙ ap (λ (l : Label). l .p) (h .head .label) in
     let q = c .before .word-at3 .ensures .0 ∙ ap (λ (l : Label). l .q) (h .head .label) in
-    so-column ns t is (rw (← p, ← q) (answers-one ns g (c .before .before .before .before .before .before .pre .1 .1) _ (rw (p, q) (column-held ns t is held)) _
+    so-column ns t is (rw (← p, ← q) (answers-one ns g (c .before .before .before .before .before .before .pre .1 .1) _
+    (rw (p, q) (column-held ns t is held)) _
     (c .add-column .ensures ns g (rw (p, q) (column-held ns t is held))))))
     (λ c κs. omega (arith, c .before .before .before .pre .1 .0 .at .head .room))
     (λ c. let h = c .before .before .before .before .pre .1 .0 in
-    let is = ne-eqb _ _ (λ k. c .before .if1 .left (c .before .before .word-at .ensures .0 ∙ (ap (λ (l : Label). l .kind) (h .at .head .label) ∙ k))) in
+    let is = ne-eqb _ _ (λ k. c .before .if1 .left (c .before .before .word-at .ensures .0
+    ∙ (ap (λ (l : Label). l .kind) (h .at .head .label) ∙ k))) in
     rw (c .word-at4 .ensures .0) (chain _ h (λ ns _ held. so-start ns (h .tree) is held)))
     (λ c κs. let u = round _ (c .before .loop .inv) (c .loop-test .taken) in omega (arith, u .turn .past, u .turn .fits))
     (λ c. omega (arith, c .before .before .loop .inv .some))
-    (λ c κs. let u = round _ (c .before .before .loop .inv) (c .before .loop-test .taken) in
-    (omega (arith, c .before .before .loop .inv .some, c .before .before .before .before .before .before .before .pre .0), (rw (c .from-record .ensures) (u .readable), c .before .before .before .before .before .before .before .pre .1 .1)))
-    (λ c κs. let u = round _ (c .before .before .before .loop .inv) (c .before .before .loop-test .taken) in rw (c .before .from-record .ensures, length-drop) (omega (arith, u .turn .fits)))
-    (λ c. let u = round _ (c .before .before .before .before .loop .inv) (c .before .before .before .loop-test .taken) in rw (c .word-at5 .ensures .0, c .before .before .from-record .ensures) (u .turn .less))
+    (λ c κs. let u = round _ (c .before .before .loop .inv) (c .before .loop-test .taken) in (
+      omega (arith, c .before .before .loop .inv .some, c .before .before .before .before .before .before .before .pre .0),
+      (rw (c .from-record .ensures) (u .readable), c .before .before .before .before .before .before .before .pre .1 .1),
+    ))
+    (λ c κs. let u = round _ (c .before .before .before .loop .inv) (c .before .before .loop-test .taken) in
+    rw (c .before .from-record .ensures, length-drop) (omega (arith, u .turn .fits)))
+    (λ c. let u = round _ (c .before .before .before .before .loop .inv) (c .before .before .before .loop-test .taken) in
+    rw (c .word-at5 .ensures .0, c .before .before .from-record .ensures) (u .turn .less))
     (λ c. let k = c .before .before .before .before .loop .inv in
     let u = round _ (c .before .before .before .before .loop .inv) (c .before .before .before .loop-test .taken) in
     let part = c .before .before .from-record .ensures in

@@ -1,5 +1,4 @@
 -- `columns::add_column` meets its contract: a name that the schema has is at its place, below 64.
-use mathlib.Core.Path.{sym}
 use native.Mathlib.Omega.{arith}
 use borrow.Author.Needs.{needs}
 use Rattle.utils.proofs.Answering.{place-small}
@@ -13,4 +12,10 @@ add-column-spec =
     (λ c κs. search needs)
     (λ c κs. search needs)
     (λ c ns h held j. rw (← c .before .before .place-of .ensures ns h) (c .with .ensures j))
-    (λ c ns h held. absurd (omega (arith, place-small ns h (c .before .before .pre) _ held, c .before .place-of .ensures ns h, c .if1 .left))))
+    (λ c ns h held. absurd (omega (
+      arith,
+      place-small ns h
+          (c .before .before .pre) _ held,
+      c .before .place-of .ensures ns h,
+      c .if1 .left,
+    ))))
