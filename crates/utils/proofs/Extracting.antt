@@ -3,7 +3,7 @@
 --     parts-of, ..    where the operands stand
 --     or-nothing, ..  what the operands' clauses make
 -- Assumes nothing.
-use mathlib.Core.Path.{_≡_, refl, sym, ap, ap₂, subst, _∙_}
+use mathlib.Core.Path.{_≡_, refl, sym, ap, subst, _∙_}
 use mathlib.Core.Bool.{Bool, true, false, _||_, cond}
 use mathlib.Core.List.{List}
 use mathlib.Core.Option.{Option, none, some}
@@ -28,7 +28,7 @@ use Rattle.plan.proofs.Lists.{and-l, and-r, all-of, flat-keep, flat-cong}
 use Rattle.plan.proofs.Measure.{size-bin}
 use Rattle.rewrite.specs.PushDownFilter.{both-or, either-and, guarded, extract-or-clause, is-or, listed, extract-or-clauses-for-join}
 use Rattle.conjuncts.specs.Standing.{Standing, ReadableE}
-use Rattle.conjuncts.proofs.Operands.{Operands, operands, AndParts, readable-left, readable-right}
+use Rattle.conjuncts.proofs.Operands.{operands, AndParts, readable-left, readable-right}
 use Rattle.utils.specs.declared.clauses.Clause.{Clause}
 use Rattle.utils.specs.declared.clauses.Clause.the-variants.{Made, Nothing}
 use Rattle.utils.specs.Clauses.{operatorOf, clauseOf, recordsOf, eitherAnd, yields, kept, or-clause}
@@ -93,7 +93,8 @@ pub readable-expr : {d : ℕ} {part : List ℕ} {base : ℕ} → ReadableE d par
 readable-expr h = record { tree = exprTree (h .expr); at = h .at; some = h .some; deep = h .deep }
 
 -- the operands of a binary expression that can be read
-binary-parts : {d : ℕ} {part : List ℕ} {base : ℕ} (o : Op) (a b : Expr) → At (exprTree (bin o a b)) part base → Deep (kidsE (bin o a b)) (d - 1)
+binary-parts : {d : ℕ} {part : List ℕ} {base : ℕ} (o : Op) (a b : Expr) → At (exprTree (bin o a b)) part base
+    → Deep (kidsE (bin o a b)) (d - 1)
     → 32 * base + length part ≤ workBytes → AndParts d part base
 binary-parts {d} o a b at deep room =
     let u = operands o at in
@@ -107,14 +108,17 @@ binary-parts {d} o a b at deep room =
     }
 
 -- the operator that was read is that of the expression
-pub op-is : {part : List ℕ} {base op : ℕ} (e : Expr) → op ≡ operatorOf (labelAt part) → At (exprTree e) part base → op ≡ operatorOf (labelE e)
+pub op-is : {part : List ℕ} {base op : ℕ} (e : Expr) → op ≡ operatorOf (labelAt part) → At (exprTree e) part base
+    → op ≡ operatorOf (labelE e)
 op-is e is h = is ∙ ap operatorOf (h .head .label)
 
 -- an expression with an operator has two operands
-pub parts-of : {d : ℕ} {part : List ℕ} {base op : ℕ} → ReadableE d part base → op ≡ operatorOf (labelAt part) → (op ≡ 0 → ⊥) → AndParts d part base
+pub parts-of : {d : ℕ} {part : List ℕ} {base op : ℕ} → ReadableE d part base → op ≡ operatorOf (labelAt part) → (op ≡ 0 → ⊥)
+    → AndParts d part base
 parts-of {d} {part} {base} {op} h is nz = go (h .expr) (h .at) (h .deep) (op-is (h .expr) is (h .at)) (operated (h .expr))
   where
-    go : (e : Expr) → At (exprTree e) part base → Deep (kidsE e) (d - 1) → op ≡ operatorOf (labelE e) → Operated e (operatorOf (labelE e)) → AndParts d part base
+    go : (e : Expr) → At (exprTree e) part base → Deep (kidsE e) (d - 1) → op ≡ operatorOf (labelE e)
+        → Operated e (operatorOf (labelE e)) → AndParts d part base
     go e at deep q (conj a b k is) = binary-parts and a b (rw is at at) (rw is at deep) (h .room)
     go e at deep q (disj a b k is) = binary-parts or a b (rw is at at) (rw is at deep) (h .room)
     go e at deep q (other k is) = absurd (nz (q ∙ k))
@@ -124,7 +128,8 @@ pub record Halves (d x y : ℕ) (left right : List ℕ) : Type 0 where
   pub first : ReadableE (d - 1) left x
   pub last : ReadableE (d - 1) right y
 
-pub halves : {d : ℕ} {part left right : List ℕ} {base x y : ℕ} → AndParts d part base → x ≡ word part 24 → left ≡ drop (32 * (x - base)) part
+pub halves : {d : ℕ} {part left right : List ℕ} {base x y : ℕ} → AndParts d part base → x ≡ word part 24
+    → left ≡ drop (32 * (x - base)) part
     → y ≡ word left 28 → right ≡ drop (32 * (y - base)) part → Halves d x y left right
 halves u p q r s = rw (s, r, q, p) (record { first = u .left; last = u .right })
 
@@ -151,7 +156,8 @@ module _ {part left right : List ℕ} {base x y : ℕ} (p : x ≡ word part 24) 
       go q (disj a b k is) = absurd (omega arith)
       go q (other k is) = absurd (omega arith)
 
-  pub sides-or : {op : ℕ} (e : Expr) → At (exprTree e) part base → op ≡ operatorOf (labelAt part) → (op ≡ 0 → ⊥) → (op ≡ 1 → ⊥) → Sides or e x y left right
+  pub sides-or : {op : ℕ} (e : Expr) → At (exprTree e) part base → op ≡ operatorOf (labelAt part) → (op ≡ 0 → ⊥) → (op ≡ 1 → ⊥)
+      → Sides or e x y left right
   sides-or {op} e h is nz ny = go (op-is e is h) (operated e)
     where
       go : op ≡ operatorOf (labelE e) → Operated e (operatorOf (labelE e)) → Sides or e x y left right
@@ -191,7 +197,8 @@ module _ (c : Name → Bool) (e : Expr) where
       go (other k is) = is c
 
   -- it reads the side alone, or not
-  pub other-made : {n op : ℕ} → op ≡ operatorOf (labelE e) → op ≡ 0 → true ≡ on-cols c e → n ≡ sizeT (exprTree e) → Made n ≡ clauseOf (extract-or-clause c e)
+  pub other-made : {n op : ℕ} → op ≡ operatorOf (labelE e) → op ≡ 0 → true ≡ on-cols c e → n ≡ sizeT (exprTree e)
+      → Made n ≡ clauseOf (extract-or-clause c e)
   unfolding guarded sizeE
   other-made is z k size = rw (other-clause (sym is ∙ z), ← k, size)
 
@@ -212,13 +219,15 @@ module _ (c : Name → Bool) {e : Expr} {x y : ℕ} {left right : List ℕ} wher
   unfolding extract-or-clause
   of-or u = ap (extract-or-clause c) (u .is)
 
-  of-and : (u : Sides and e x y left right) → extract-or-clause c e ≡ either-and (extract-or-clause c (u .lhs)) (extract-or-clause c (u .rhs))
+  of-and : (u : Sides and e x y left right) → extract-or-clause c e ≡ either-and (extract-or-clause c (u .lhs))
+      (extract-or-clause c (u .rhs))
   unfolding extract-or-clause
   of-and u = ap (extract-or-clause c) (u .is)
 
   module _ (u : Sides or e x y left right) where
     -- on nothing the OR ends there
-    pub or-nothing-left : {r : Clause} → r ≡ clauseOf (extract-or-clause c (u .lhs)) → r ≡ Nothing → Nothing ≡ clauseOf (extract-or-clause c e)
+    pub or-nothing-left : {r : Clause} → r ≡ clauseOf (extract-or-clause c (u .lhs)) → r ≡ Nothing
+        → Nothing ≡ clauseOf (extract-or-clause c e)
     unfolding both-or
     or-nothing-left p q = rw (of-or u) (go (extract-or-clause c (u .lhs)) (extract-or-clause c (u .rhs)) (sym p ∙ q))
       where
@@ -227,7 +236,8 @@ module _ (c : Name → Bool) {e : Expr} {x y : ℕ} {left right : List ℕ} wher
         go (some a) none h = refl
         go (some a) (some b) h = cc
 
-    pub or-nothing-right : {r : Clause} → r ≡ clauseOf (extract-or-clause c (u .rhs)) → r ≡ Nothing → Nothing ≡ clauseOf (extract-or-clause c e)
+    pub or-nothing-right : {r : Clause} → r ≡ clauseOf (extract-or-clause c (u .rhs)) → r ≡ Nothing
+        → Nothing ≡ clauseOf (extract-or-clause c e)
     unfolding both-or
     or-nothing-right p q = rw (of-or u) (go (extract-or-clause c (u .lhs)) (extract-or-clause c (u .rhs)) (sym p ∙ q))
       where
@@ -236,10 +246,12 @@ module _ (c : Name → Bool) {e : Expr} {x y : ℕ} {left right : List ℕ} wher
         go (some a) none h = refl
         go (some a) (some b) h = cc
 
-    pub or-made : {r s : Clause} {m n : ℕ} → r ≡ clauseOf (extract-or-clause c (u .lhs)) → r ≡ Made m → s ≡ clauseOf (extract-or-clause c (u .rhs))
+    pub or-made : {r s : Clause} {m n : ℕ} → r ≡ clauseOf (extract-or-clause c (u .lhs)) → r ≡ Made m
+        → s ≡ clauseOf (extract-or-clause c (u .rhs))
         → s ≡ Made n → Made (1 + m + n) ≡ clauseOf (extract-or-clause c e)
     unfolding both-or
-    or-made {m = m} {n = n} p q h k = rw (of-or u) (go (extract-or-clause c (u .lhs)) (extract-or-clause c (u .rhs)) (sym p ∙ q) (sym h ∙ k))
+    or-made {m = m} {n = n} p q h k = rw (of-or u) (go (extract-or-clause c (u .lhs)) (extract-or-clause c (u .rhs)) (sym p ∙ q)
+        (sym h ∙ k))
       where
         go : (a b : Option Expr) → clauseOf a ≡ Made m → clauseOf b ≡ Made n → Made (1 + m + n) ≡ clauseOf (both-or a b)
         go none b h k = cc
@@ -325,7 +337,8 @@ pub record Both (x y : ℕ) (left right : List ℕ) (ns : List Name) (c : Name �
   pub is : clause ≡ bin op lhs rhs
   pub label : labelE e ≡ labelE (bin op lhs rhs)
 
-module _ {part left right : List ℕ} {base x y op : ℕ} (p : x ≡ word part 24) (q : left ≡ drop (32 * (x - base)) part) (r : y ≡ word left 28)
+module _ {part left right : List ℕ} {base x y op : ℕ} (p : x ≡ word part 24) (q : left ≡ drop (32 * (x - base)) part)
+    (r : y ≡ word left 28)
     (s : right ≡ drop (32 * (y - base)) part) (is : op ≡ operatorOf (labelAt part)) (nz : op ≡ 0 → ⊥)
     (ns : List Name) (c : Name → Bool) (e d : Expr) (h : At (exprTree e) part base) (held : on-cols (has ns) e ≡ true)
     (gives : extract-or-clause c e ≡ some d) where
@@ -345,7 +358,8 @@ module _ {part left right : List ℕ} {base x y op : ℕ} (p : x ≡ word part 2
       go n (other k z) = absurd (nz (n ∙ k))
 
   -- the first is not: it is an AND, and the clause is that of the second
-  pub only-last : ((a : Expr) → At (exprTree a) left x → on-cols (has ns) a ≡ true → false ≡ kept op (extract-or-clause c a)) → Half right y ns c d
+  pub only-last : ((a : Expr) → At (exprTree a) left x → on-cols (has ns) a ≡ true → false ≡ kept op (extract-or-clause c a))
+      → Half right y ns c d
   unfolding either-and
   only-last f =
       by-op (λ one u. last-of u (go (extract-or-clause c (u .lhs)) (extract-or-clause c (u .rhs))
@@ -357,7 +371,8 @@ module _ {part left right : List ℕ} {base x y op : ℕ} (p : x ≡ word part 2
       go (some a) b k m = differ (sym (kept-some op a)) k
 
   -- the second is not: it is an AND, and the clause is that of the first
-  pub only-first : ((b : Expr) → At (exprTree b) right y → on-cols (has ns) b ≡ true → false ≡ kept op (extract-or-clause c b)) → Half left x ns c d
+  pub only-first : ((b : Expr) → At (exprTree b) right y → on-cols (has ns) b ≡ true → false ≡ kept op (extract-or-clause c b))
+      → Half left x ns c d
   unfolding either-and
   only-first f =
       by-op (λ one u. first-of u (go (extract-or-clause c (u .lhs)) (extract-or-clause c (u .rhs))
@@ -371,17 +386,20 @@ module _ {part left right : List ℕ} {base x y op : ℕ} (p : x ≡ word part 2
 
   -- both are
   pub both-of : ((a : Expr) → At (exprTree a) left x → on-cols (has ns) a ≡ true → true ≡ kept op (extract-or-clause c a))
-      → ((b : Expr) → At (exprTree b) right y → on-cols (has ns) b ≡ true → true ≡ kept op (extract-or-clause c b)) → Both x y left right ns c e d
+      → ((b : Expr) → At (exprTree b) right y → on-cols (has ns) b ≡ true → true ≡ kept op (extract-or-clause c b))
+      → Both x y left right ns c e d
   unfolding either-and both-or labelE
   both-of f g =
       by-op (λ one u. anded one u (extract-or-clause c (u .lhs)) (extract-or-clause c (u .rhs)) refl refl
-      (f (u .lhs) (u .at-left) (held-left u (has ns) held)) (g (u .rhs) (u .at-right) (held-right u (has ns) held)) (sym (of-and c u) ∙ gives))
+      (f (u .lhs) (u .at-left) (held-left u (has ns) held)) (g (u .rhs) (u .at-right) (held-right u (has ns) held))
+      (sym (of-and c u) ∙ gives))
       (λ two u. ored u (extract-or-clause c (u .lhs)) (extract-or-clause c (u .rhs)) refl refl (sym (of-or c u) ∙ gives))
     where
       none-kept : op ≡ 1 → kept op none ≡ false
       none-kept one = rw one
 
-      anded : op ≡ 1 → (u : Sides and e x y left right) (a b : Option Expr) → extract-or-clause c (u .lhs) ≡ a → extract-or-clause c (u .rhs) ≡ b
+      anded : op ≡ 1 → (u : Sides and e x y left right) (a b : Option Expr) → extract-or-clause c (u .lhs) ≡ a
+          → extract-or-clause c (u .rhs) ≡ b
           → true ≡ kept op a → true ≡ kept op b → either-and a b ≡ some d → Both x y left right ns c e d
       anded one u none b i j k l m = differ k (sym (none-kept one))
       anded one u (some a) none i j k l m = differ l (sym (none-kept one))
@@ -451,7 +469,8 @@ or-whole c e {k} h = go (is-or e) h
 -- the clauses of a list, one conjunct after another
 pub clauses-each : (c : Name → Bool) (es : List Expr) → extract-or-clauses-for-join c es ≡ flat (λ e. listed (or-clause c e)) es
 unfolding extract-or-clauses-for-join when listed
-clauses-each c es = flat-keep (λ e. listed (extract-or-clause c e)) is-or es ∙ flat-cong _ _ (all-of (λ e. each (is-or e) (extract-or-clause c e)) es)
+clauses-each c es = flat-keep (λ e. listed (extract-or-clause c e)) is-or es
+    ∙ flat-cong _ _ (all-of (λ e. each (is-or e) (extract-or-clause c e)) es)
   where
     each : (b : Bool) (o : Option Expr) → when b (listed o) ≡ listed (cond b o none)
     each true o = refl

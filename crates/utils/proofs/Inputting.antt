@@ -1,19 +1,19 @@
 -- Laws of a plan's inputs, looked for among its children.
 --     Seek            the invariant of a search for the plan with a place
 -- Assumes nothing.
-use mathlib.Core.Path.{_≡_, refl, sym, ap, subst, _∙_}
+use mathlib.Core.Path.{_≡_, refl, ap, _∙_}
 use mathlib.Core.Bool.{Bool, true, false, _&&_, cond}
-use mathlib.Core.List.{List, [], _∷_}
-use Prim.Native.Nat.{ℕ, zero, suc, _+_, _-_, _*_, _≤_, _<_}
+use mathlib.Core.List.{List}
+use Prim.Native.Nat.{ℕ, zero, suc, _-_, _*_, _≤_, _<_}
 use native.Mathlib.Omega.{arith}
 use lib.Dec.{eqb, ltb, leb}
 use lib.ListN.{length, getD, drop}
 use borrow.Author.Tests.{eqb-true, ltb-true, ltb-false, leb-true, leb-false}
-use Rattle.image.specs.Tree.{Label, Forest, none, node, Tree, At, Deep}
+use Rattle.image.specs.Tree.{Label, Forest, none, node, Tree}
 use Rattle.image.specs.Word.{word}
 use Rattle.image.proofs.Walking.{Turn}
 use Rattle.plan.specs.Lists.{put}
-use Rattle.utils.specs.Inputs.{isPlan, plansIn, Below, nothing, Input}
+use Rattle.utils.specs.Inputs.{isPlan, plansIn, nothing, Input}
 
 pub less-some : (n : ℕ) (b : Bool) → (b && ltb 0 n) ≡ true → 1 ≤ n
 less-some n true h = ltb-true 0 n h
@@ -28,7 +28,8 @@ less-left n true h = omega (arith, ltb-false 0 n h)
 less-left n false h = refl
 
 -- the plans of a forest, the first tree being one or not
-pub plans-node : (t : Tree) (after : Forest) (b : Bool) → b ≡ isPlan (t .label .kind) → plansIn (node (t .label) (t .below) after) ≡ put b t (plansIn after)
+pub plans-node : (t : Tree) (after : Forest) (b : Bool) → b ≡ isPlan (t .label .kind)
+    → plansIn (node (t .label) (t .below) after) ≡ put b t (plansIn after)
 unfolding plansIn
 plans-node t after b e = rw e
 
@@ -69,8 +70,10 @@ pub kind-here : {rest : Forest} {s : List ℕ} {b at : ℕ} (u : Turn rest s b a
 kind-here u e r = r ∙ rw e (ap (λ (l : Label). l .kind) (u .here .head .label))
 
 -- it stands at the record that was found
-pub input-here : {s : List ℕ} {b at : ℕ} {f rest : Forest} (place to : ℕ) (u : Turn rest s b at) (p : Bool) → p ≡ isPlan (u .child .label .kind)
-    → Seek (plansIn f) place (plansIn (node (u .child .label) (u .child .below) (u .after))) to → (p && eqb to 0) ≡ true → Input s b f place at
+pub input-here : {s : List ℕ} {b at : ℕ} {f rest : Forest} (place to : ℕ) (u : Turn rest s b at) (p : Bool)
+    → p ≡ isPlan (u .child .label .kind)
+    → Seek (plansIn f) place (plansIn (node (u .child .label) (u .child .below) (u .after))) to → (p && eqb to 0) ≡ true
+    → Input s b f place at
 input-here {s} {b} {at} {f} place to u p e h k =
     let q = seek-here (plansIn f) place to p (u .child) (plansIn (u .after)) (rw (plans-node (u .child) (u .after) p e) at h) k in
     record {

@@ -3,8 +3,8 @@
 --     Sum             the invariant of a loop that appends the fields of the children
 -- Assumes nothing.
 use mathlib.Core.Path.{_≡_, refl, sym, ap, subst, _∙_}
-use mathlib.Core.Bool.{Bool, true, false, not, _&&_, _||_, cond}
-use mathlib.Core.List.{List, [], _∷_, _++_, map, append-assoc, append-nil, map-append}
+use mathlib.Core.Bool.{Bool, true, false}
+use mathlib.Core.List.{List, [], _∷_, _++_, append-assoc, append-nil, map-append}
 use Prim.Native.Nat.{ℕ}
 use Rattle.image.specs.Tree.{Label, Forest, none, node, Tree}
 use Rattle.plan.specs.Lists.{put}
@@ -54,12 +54,15 @@ sum-start {ns = ns} h = record { got = ns; names = h; is = refl }
 
 module _ (set : Bool) (q : ℕ) where
   -- the fields of a child are appended
-  pub sum-next : {f g : Fields} {all : List Name} (t : Tree) (after : Forest) → Sum f (called set q (made (node (t .label) (t .below) after))) all
+  pub sum-next : {f g : Fields} {all : List Name} (t : Tree) (after : Forest)
+      → Sum f (called set q (made (node (t .label) (t .below) after))) all
       → ((ns : List Name) → Names f ns → Names g (ns ++ called set q (calledLabel (t .label)))) → Sum g (called set q (made after)) all
   sum-next t after h step = record {
     got = h .got ++ called set q (calledLabel (t .label));
     names = step (h .got) (h .names);
-    is = append-assoc (h .got) (called set q (calledLabel (t .label))) (called set q (made after)) ∙ (ap (h .got ++_) (sym (called-append set q (calledLabel (t .label)) (made after)) ∙ ap (called set q) (sym (made-node t after))) ∙ h .is);
+    is = append-assoc (h .got) (called set q (calledLabel (t .label))) (called set q (made after))
+        ∙ (ap (h .got ++_) (sym (called-append set q (calledLabel (t .label)) (made after)) ∙ ap (called set q) (sym (made-node t after)))
+        ∙ h .is);
   }
 
   -- all fields are

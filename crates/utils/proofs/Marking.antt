@@ -12,7 +12,7 @@ use mathlib.Core.List.{List, [], _∷_, _++_}
 use Prim.Native.Nat.{ℕ, zero, suc, _+_, _-_, _≤_, _<_}
 use native.Mathlib.Omega.{arith}
 use lib.Dec.{eqb, ltb}
-use lib.ListN.{length, getD, length-append, List·getD-append}
+use lib.ListN.{length, length-append, List·getD-append}
 use lib.Bits.{bitXor, xor-lt}
 use lib.Seq.{getD-append-add, getD-append-seam}
 use borrow.Author.Tests.{ltb-true, ltb-false, lt-ltb, le-ltb, eqb-true, eqb-false, eq-eqb, ne-eqb}
@@ -20,7 +20,7 @@ use Rattle.plan.specs.Lists.{any}
 use Rattle.plan.specs.Schema.{has, same}
 use Rattle.plan.specs.Syntax.{Name, nm}
 use Rattle.plan.proofs.Names.{nodup, apart, same-refl}
-use Rattle.utils.specs.Sets.{member, within}
+use Rattle.utils.specs.Sets.{member}
 use Rattle.utils.specs.Masks.{nameAt, Masks}
 use Rattle.utils.proofs.Members.{member-none, member-xor}
 
@@ -112,7 +112,8 @@ masks-next m r ns c x small other here h =
     record {
       small = small;
       marks = λ i l. at i l (eqb i (length ns)) refl;
-      beyond = λ i l. let n = length-append ns (x ∷ []) in other i (λ (e : i ≡ length ns). absurd (omega arith)) ∙ h .beyond i (omega arith);
+      beyond = λ i l. let n = length-append ns (x ∷ []) in
+          other i (λ (e : i ≡ length ns). absurd (omega arith)) ∙ h .beyond i (omega arith);
     }
   where
     at : (i : ℕ) → i < length (ns ++ (x ∷ [])) → (b : Bool) → eqb i (length ns) ≡ b → member r i ≡ c (nameAt (ns ++ (x ∷ [])) i)

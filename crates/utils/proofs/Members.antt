@@ -3,7 +3,7 @@
 --     within-count    all of v is in m exactly if v has as many places in common with m as it has
 --     within-or, ..   when a sum of sets, a set of one place and the empty set are within another
 -- Assumes nothing.
-use mathlib.Core.Path.{_≡_, refl, sym, ap, ap₂, _∙_}
+use mathlib.Core.Path.{_≡_, refl, sym, ap, _∙_}
 use mathlib.Core.Bool.{Bool, true, false, not, _||_, cond}
 use Prim.Native.Nat.{ℕ, zero, suc, _+_, _-_, _*_, _/_, _%_, _^_, _≤_, _<_, min, max}
 use native.Mathlib.Nat.{mod-lt, zero-lt-suc, min-le-left, min-zero, zero-min, suc-min-suc, zero-add, suc-add, div-one, one-mul, pow-suc}
@@ -211,4 +211,11 @@ within-count zero v m h = rw (lt-one h) (eq-eqb (ones (bitAnd 0 m)) (ones 0) ref
 within-count (suc k) v m h =
     let small : v / 2 < 2 ^ k = shr-lt k 1 (rw add-one h) in
     let le = common-le k (v / 2) (m / 2) small in
-    rw (ones-and v m, ones-step v, count-digit (v % 2) (m % 2) _ _ (two v) (two m) le, within-low k v m, within-count k (v / 2) (m / 2) small)
+    rw (
+      ones-and v m,
+      ones-step v,
+      count-digit (v % 2) (m % 2) _ _ (two v) (two m) le,
+      within-low k v m,
+      within-count k (v / 2)
+          (m / 2) small,
+    )

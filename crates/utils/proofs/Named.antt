@@ -3,22 +3,22 @@
 --     names-none, ..   none, and one more
 --     place-next, ..   the place of a name, looked for from the front
 -- Assumes nothing.
-use mathlib.Core.Path.{_≡_, refl, sym, ap, ap₂, _∙_}
+use mathlib.Core.Path.{_≡_, refl, sym, ap₂, _∙_}
 use mathlib.Core.Bool.{Bool, true, false, _&&_, _||_, cond}
 use mathlib.Core.List.{List, [], _∷_, _++_}
-use Prim.Native.Nat.{ℕ, zero, suc, _+_, _-_, _≤_, _<_}
+use Prim.Native.Nat.{ℕ, suc, _+_, _≤_, _<_}
 use native.Mathlib.Omega.{arith}
 use native.Mathlib.Numerals.{add-one}
 use lib.Dec.{eqb}
 use lib.ListN.{length, getD, set, drop, length-append, List·getD-append, drop-of-length-le}
 use lib.Seq.{getD-append-seam, getD-set-same, getD-set-other, drop-cons}
-use borrow.Author.Tests.{eqb-true, eqb-false, ne-eqb}
+use borrow.Author.Tests.{eqb-true, eqb-false}
 use Rattle.plan.specs.Lists.{_&_, any}
 use Rattle.plan.specs.Schema.{has, same}
 use Rattle.plan.specs.Syntax.{Name, nm}
 use Rattle.plan.proofs.Names.{same-eq}
 use Rattle.utils.specs.Masks.{nameAt}
-use Rattle.utils.specs.Fields.{Fields, most, fieldAt, Names, placeIn}
+use Rattle.utils.specs.Fields.{Fields, most, Names, placeIn}
 
 module _ {f : Fields} {ns : List Name} (h : Names f ns) where
   -- how many names there are
@@ -50,7 +50,8 @@ stored l i j v e h = rw e (getD-set-same l i v 0 h)
 
 -- a name is appended
 module _ (f : Fields) (q n : ℕ) (ns : List Name) (h : Names f ns) (long : length (f .q) ≡ 64) (long′ : length (f .n) ≡ 64) where
-  pub added : f .len < 64 → Names (record { q = set (f .q) (f .len) q; n = set (f .n) (f .len) n; len = f .len + 1 }) (ns ++ (nm q n ∷ []))
+  pub added : f .len < 64 → Names (record { q = set (f .q) (f .len) q; n = set (f .n) (f .len) n; len = f .len + 1 })
+      (ns ++ (nm q n ∷ []))
   added small =
       let c : length ns ≡ f .len = names-count h (omega arith) in
       record {
@@ -85,7 +86,8 @@ module _ (f : Fields) (ns : List Name) (h : Names f ns) (small : f .len ≤ 64) 
   -- the field i has the name or not
   pub field-is : (eqb (getD (f .q) i 0) q && eqb (getD (f .n) i 0) n) ≡ same (nameAt ns i) (nm q n)
   unfolding _&_
-  field-is = rw (← h .names i (omega arith) (omega (arith, names-count h small))) (both (eqb (getD (f .q) i 0) q) (eqb (getD (f .n) i 0) n))
+  field-is = rw (← h .names i (omega arith) (omega (arith, names-count h small)))
+      (both (eqb (getD (f .q) i 0) q) (eqb (getD (f .n) i 0) n))
     where
       both : (a b : Bool) → (a && b) ≡ a & b
       both true b = refl
@@ -112,7 +114,8 @@ unfolding any placeIn
 place-has [] x h = let z : _≡_ {A = ℕ} 0 1 = cc in absurd (omega arith)
 place-has (y ∷ ns) x h = go (same y x) refl h (place-has ns x)
   where
-    go : (b : Bool) → same y x ≡ b → (b || has ns x) ≡ true → (has ns x ≡ true → (placeIn ns x < length ns) × (nameAt ns (placeIn ns x) ≡ x))
+    go : (b : Bool) → same y x ≡ b → (b || has ns x) ≡ true
+        → (has ns x ≡ true → (placeIn ns x < length ns) × (nameAt ns (placeIn ns x) ≡ x))
         → (cond b 0 (suc (placeIn ns x)) < length (y ∷ ns)) × (nameAt (y ∷ ns) (cond b 0 (suc (placeIn ns x))) ≡ x)
     go true e k rest = (omega arith, same-eq y x e)
     go false e k rest = let r = rest k in (omega (arith, r .0), r .1)

@@ -2,7 +2,7 @@
 --     shape           its parts alone, no input, or an input with what comes behind its fields
 --     deep-input      an input is one level less deep
 -- Assumes nothing.
-use mathlib.Core.Path.{_≡_, refl, sym, ap, ap₂, _∙_}
+use mathlib.Core.Path.{_≡_, refl, sym, ap, _∙_}
 use mathlib.Core.Bool.{Bool, true, false, _&&_}
 use mathlib.Core.List.{List, [], _∷_, _++_, map, append-nil}
 use mathlib.Core.Option as O
@@ -13,10 +13,10 @@ use lib.Dec.{eqb, leb}
 use lib.ListN.{length, getD}
 use Rattle.image.specs.Tree.{Label, Forest, none, node, Tree, Deep}
 use Rattle.plan.specs.Lists.{put}
-use Rattle.plan.specs.Schema.{schema, schema-first, requalify}
-use Rattle.plan.specs.Syntax.{Name, nm, Expr, col, num, bool, nul, bin, neg, test, between, inlist, fn, Field, Entry, Pair, Key, AggEntry}
+use Rattle.plan.specs.Schema.{schema, schema-first}
+use Rattle.plan.specs.Syntax.{Name, nm, Expr, col, num, bool, nul, bin, neg, test, between, inlist, fn, Field, Entry, Pair, AggEntry}
 use Rattle.plan.specs.Syntax.{WinEntry, Kind, inner, left, right, full, leftSemi, rightSemi, leftAnti, rightAnti, Plan, scan, filter}
-use Rattle.plan.specs.Syntax.{project, join, alias, union, distinct, sort, repartition, limit, aggregate, window, Plans, pnil, pcons}
+use Rattle.plan.specs.Syntax.{project, join, alias, union, distinct, sort, repartition, limit, aggregate, window, pnil, pcons}
 use Rattle.plan.specs.Trees.{labelE, kidsE, before, each, nothingBelow, fieldLabel, entryLabel, entryKids, pairLabel, pairKids, keyLabel}
 use Rattle.plan.specs.Trees.{keyKids, aggLabel, aggKids, winLabel, winKids, filterKids, labelP, kidsP, forestP, planTree}
 use Rattle.plan.proofs.Written.{name-back}
@@ -94,7 +94,8 @@ pub data Rest (p i : Plan) : Type 0 where
       → schema p ≡ called (eqb (labelP p .kind) 36) (labelP p .p) (schema i) → Rest p i
   parts : eqb (labelP p .kind) 43 ≡ true → eqb (labelP p .kind) 36 ≡ false → schema p ≡ schema i ++ made (kidsP p) → Rest p i
   second : eqb (labelP p .kind) 43 ≡ false → eqb (labelP p .kind) 36 ≡ false → (eqb (labelP p .kind) 35 && leb (labelP p .p) 4) ≡ true
-      → (j : Plan) → 1 < length (plansIn (kidsP p)) → getD (plansIn (kidsP p)) 1 nothing ≡ planTree j → schema p ≡ schema i ++ schema j → Rest p i
+      → (j : Plan) → 1 < length (plansIn (kidsP p)) → getD (plansIn (kidsP p)) 1 nothing ≡ planTree j → schema p ≡ schema i ++ schema j
+      → Rest p i
 
 pub data Shape (p : Plan) : Type 0 where
   own-parts : makesAll (labelP p .kind) ≡ true → schema p ≡ made (kidsP p) → Shape p
@@ -125,11 +126,13 @@ plans-join : (k : Kind) (l r : Plan) (on : List Pair) (f : Option Expr) → plan
 unfolding kidsP
 plans-join k l r on f =
     plans-plan l _
-    ∙ ap (planTree l ∷_) (plans-plan r _ ∙ ap (planTree r ∷_) (plans-each pairLabel pairKids (λ x. refl) on (filterKids f) ∙ plans-filter f))
+    ∙ ap (planTree l ∷_) (plans-plan r _ ∙ ap (planTree r ∷_)
+    (plans-each pairLabel pairKids (λ x. refl) on (filterKids f) ∙ plans-filter f))
 
 -- the fields of an Aggregate
 made-aggregate : (gs : List Entry) (ags : List AggEntry) (p : Plan)
-    → map (λ (e : Entry). e .name) gs ++ map (λ (a : AggEntry). a .name) ags ≡ made (each entryLabel entryKids gs (each aggLabel aggKids ags (stand p none)))
+    → map (λ (e : Entry). e .name) gs ++ map (λ (a : AggEntry). a .name) ags ≡ made
+    (each entryLabel entryKids gs (each aggLabel aggKids ags (stand p none)))
 made-aggregate gs ags p =
     sym (made-each entryLabel entryKids (λ (e : Entry). e .name) (λ x. refl) (λ x. name-back (x .name)) gs _
     ∙ ap (map (λ (e : Entry). e .name) gs ++_)
@@ -141,7 +144,8 @@ unfolding labelP schema
 join-shape k l r on f = go k (there (plans-join k l r on f)) (there-second (plans-join k l r on f))
   where
     go : (k : Kind) → (0 < length (plansIn (kidsP (join k l r on f)))) × (getD (plansIn (kidsP (join k l r on f))) 0 nothing ≡ planTree l)
-        → (1 < length (plansIn (kidsP (join k l r on f)))) × (getD (plansIn (kidsP (join k l r on f))) 1 nothing ≡ planTree r) → Shape (join k l r on f)
+        → (1 < length (plansIn (kidsP (join k l r on f)))) × (getD (plansIn (kidsP (join k l r on f))) 1 nothing ≡ planTree r)
+        → Shape (join k l r on f)
     go inner h g = over refl l (h .0) (h .1) (second refl refl refl r (g .0) (g .1) refl)
     go left h g = over refl l (h .0) (h .1) (second refl refl refl r (g .0) (g .1) refl)
     go right h g = over refl l (h .0) (h .1) (second refl refl refl r (g .0) (g .1) refl)
@@ -168,14 +172,16 @@ shape (union pnil) = no-input refl (rw plans-none (omega arith)) refl
 shape (union (pcons p ps)) = let h = there (plans-plan p (forestP ps)) in over refl p (h .0) (h .1) (nothing-more refl refl refl)
 shape (distinct p) = let h = there (plans-one p) in over refl p (h .0) (h .1) (nothing-more refl refl refl)
 shape (sort f ks p) =
-    let h = there (plans-each keyLabel keyKids (λ x. refl) ks (stand p none) ∙ plans-one p) in over refl p (h .0) (h .1) (nothing-more refl refl refl)
+    let h = there (plans-each keyLabel keyKids (λ x. refl) ks (stand p none) ∙ plans-one p) in
+    over refl p (h .0) (h .1) (nothing-more refl refl refl)
 shape (repartition p) = let h = there (plans-one p) in over refl p (h .0) (h .1) (nothing-more refl refl refl)
 shape (limit n k p) = let h = there (plans-one p) in over refl p (h .0) (h .1) (nothing-more refl refl refl)
 shape (aggregate gs ags p) = own-parts refl (made-aggregate gs ags p)
 shape (window ws p) =
     let h = there (plans-each winLabel winKids (λ x. refl) ws (stand p none) ∙ plans-one p) in
     over refl p (h .0) (h .1)
-    (parts refl refl (ap (schema p ++_) (sym (made-each winLabel winKids (λ (w : WinEntry). w .name) (λ x. refl) (λ x. name-back (x .name)) ws _
+    (parts refl refl (ap (schema p ++_) (sym (made-each winLabel winKids (λ (w : WinEntry). w .name) (λ x. refl)
+    (λ x. name-back (x .name)) ws _
     ∙ (ap (map (λ (w : WinEntry). w .name) ws ++_) (made-plan p) ∙ append-nil _)))))
 
 -- ---- depth

@@ -1,7 +1,7 @@
 -- The columns of a tree of records.
 use mathlib.Core.Bool.{Bool, true, cond}
 use lib.Dec.{eqb}
-use Rattle.image.specs.Tree.{Label, Forest, none, node, Tree}
+use Rattle.image.specs.Tree.{Forest, none, node, Tree}
 use Rattle.plan.specs.Lists.{_&_}
 use Rattle.plan.specs.Syntax.{Name, nm}
 

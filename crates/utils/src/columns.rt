@@ -11,40 +11,43 @@ use image::records::NEXT_LINK;
 use image::records::from_record;
 use image::words::word_at;
 ghost use mathlib.Core.Path.{_≡_};
-ghost use mathlib.Core.Bool.{Bool, true};
+ghost use mathlib.Core.Bool.{Bool, true, _||_};
 ghost use mathlib.Core.List.{List};
 ghost use Prim.Native.Nat.{_≤_, _<_, ℕ};
-ghost use lib.ListN.{length};
+ghost use lib.Dec.{eqb};
 ghost use Rattle.image.specs.Tree.{Tree, At, Readable, labelAt};
 ghost use Rattle.plan.specs.Columns.{on-cols};
 ghost use Rattle.plan.specs.Schema.{has};
 ghost use Rattle.plan.specs.Syntax.{Name, nm, Expr};
 ghost use Rattle.plan.specs.Trees.{exprTree};
 ghost use Rattle.conjuncts.specs.Items.{Item, Present};
+ghost use Rattle.utils.specs.Sets.{member};
 ghost use Rattle.utils.specs.Masks.{Masks, Answers, Refers};
-ghost use Rattle.utils.specs.Fields.{Names};
+ghost use Rattle.utils.specs.Fields.{Names, placeIn};
 ghost use Rattle.utils.specs.Referring.{onTree};
 
-// The set of the field with this name.
-fn column(f: Fields, q: usize, n: usize) -> u64
+// The set with the place of this name besides.
+pub fn add_column(set: u64, f: Fields, q: usize, n: usize) -> u64
     requires { ⌜ f .len ≤ 64 ⌝ }
-    ensures { λ r. ⌜ ((ns : List Name) → Names f ns → has ns (nm q n) ≡ true → Answers r ns (λ c. c (nm q n))) ⌝ }
+    ensures { λ r. ⌜ ((ns : List Name) → Names f ns → has ns (nm q n) ≡ true
+        → (j : ℕ) → member r j ≡ (eqb (placeIn ns (nm q n)) j || member set j)) ⌝ }
 {
     let i = place_of(f, q, n);
     if i < MAX_FIELDS {
-        return with(0, i);
+        return with(set, i);
     }
-    0
+    set
 }
 
 // The set of the fields that the tree at the start of `part` refers to.
 pub fn columns(part: &[u8], base: usize, depth: usize, f: Fields) -> u64
     requires { ⌜ Readable depth (now part) base ⌝ }
     requires { ⌜ f .len ≤ 64 ⌝ }
-    ensures { λ r. ⌜ ((t : Tree) (ns : List Name) → At t (now (part .entry)) base → Names f ns → onTree (has ns) t ≡ true → Answers r ns (λ c. onTree c t)) ⌝ }
+    ensures { λ r. ⌜ ((t : Tree) (ns : List Name) → At t (now (part .entry)) base → Names f ns → onTree (has ns) t ≡ true
+        → Answers r ns (λ c. onTree c t)) ⌝ }
 {
     if word_at(part, 0) == 1 {
-        return column(f, word_at(part, 4), word_at(part, 8));
+        return add_column(0, f, word_at(part, 4), word_at(part, 8));
     }
     let mut set = 0u64;
     let mut at = word_at(part, FIRST_LINK);

@@ -1,4 +1,6 @@
 // The fields of a plan's schema, by their names, in order.
+use conjuncts::reading::record_at;
+use image::limits::MAX_DEPTH;
 use image::limits::MAX_FIELDS;
 use image::records::FIRST_LINK;
 use image::records::NEXT_LINK;
@@ -15,6 +17,7 @@ ghost use Rattle.image.specs.Tree.{Label, Tree, At, Readable, labelAt};
 ghost use Rattle.plan.specs.Schema.{schema};
 ghost use Rattle.plan.specs.Syntax.{Name, nm, Plan};
 ghost use Rattle.plan.specs.Trees.{planTree};
+ghost use Rattle.conjuncts.specs.Standing.{StandingP};
 ghost use Rattle.utils.specs.Fields.{Names, placeIn};
 ghost use Rattle.utils.specs.Inputs.{makesField, makesAll, isPlan, own, called, below, calledLabel, made, PlanHere, Input};
 
@@ -184,7 +187,8 @@ fn add_part(s: &[u8], into: Fields, set: bool, q: usize) -> Fields
 // Appends the fields that the children of the record at the start of `part` make.
 fn add_parts(part: &[u8], base: usize, into: Fields, set: bool, q: usize) -> Fields
     requires { ⌜ ((d : ℕ) × Readable d (now part) base) × (q < 4294967296) ⌝ }
-    ensures { λ r. ⌜ ((t : Tree) (ns : List Name) → At t (now (part .entry)) base → Names into ns → Names r (ns ++ called set q (made (t .below)))) ⌝ }
+    ensures { λ r. ⌜ ((t : Tree) (ns : List Name) → At t (now (part .entry)) base → Names into ns
+        → Names r (ns ++ called set q (made (t .below)))) ⌝ }
 {
     let mut r = into;
     let mut at = word_at(part, FIRST_LINK);
@@ -206,7 +210,8 @@ pub fn add_schema(
     q: usize,
 ) -> Fields
     requires { ⌜ PlanHere (now part) base depth × (q < 4294967296) ⌝ }
-    ensures { λ r. ⌜ ((p : Plan) (ns : List Name) → At (planTree p) (now (part .entry)) base → Names into ns → Names r (ns ++ called set q (schema p))) ⌝ }
+    ensures { λ r. ⌜ ((p : Plan) (ns : List Name) → At (planTree p) (now (part .entry)) base → Names into ns
+        → Names r (ns ++ called set q (schema p))) ⌝ }
 {
     let l = label_at(part);
     if makes_all(l.kind) {
@@ -242,4 +247,12 @@ pub fn schema_columns(part: &[u8], base: usize, depth: usize, into: Fields) -> F
     ensures { λ r. ⌜ ((p : Plan) (ns : List Name) → At (planTree p) (now (part .entry)) base → Names into ns → Names r (ns ++ schema p)) ⌝ }
 {
     add_schema(part, base, depth, into, false, 0)
+}
+
+// Appends the fields of the plan at record n of the image.
+pub fn schema_at(s: &[u8], n: usize, into: Fields) -> Fields
+    requires { ⌜ ((p : Plan) × StandingP (now s) n p) ⌝ }
+    ensures { λ r. ⌜ ((p : Plan) (ns : List Name) → StandingP (now (s .entry)) n p → Names into ns → Names r (ns ++ schema p)) ⌝ }
+{
+    schema_columns(record_at(s, n), n, MAX_DEPTH, into)
 }

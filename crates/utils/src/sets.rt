@@ -54,7 +54,8 @@ pub fn all_but(set: u64, k: usize) -> u64
 // The set with the next place k besides, if told.
 pub fn mark(set: u64, k: usize, yes: bool) -> u64
     requires { ⌜ k < 64 ⌝ }
-    ensures { λ r. ⌜ ((ns : List Name) (c : Name → Bool) (x : Name) → k ≡ length ns → yes ≡ c x → Masks set ns c → Masks r (ns ++ (x ∷ [])) c) ⌝ }
+    ensures { λ r. ⌜ ((ns : List Name) (c : Name → Bool) (x : Name) → k ≡ length ns → yes ≡ c x → Masks set ns c
+        → Masks r (ns ++ (x ∷ [])) c) ⌝ }
 {
     if yes {
         return with(set, k);

@@ -55,29 +55,63 @@ pub +copy-clause-spec : {M : Type 1} → statement M
     copy-clause.Post
     (λ c e k ns d h g held m gives. wrote-past _ _ _ (exprTree k) (c .before .before .before .pre .1 .1 .1 .1) (c .if1 .taken))
     (λ c κs. omega (arith, c .before .before .before .pre .1 .0 .at .head .room))
-    (λ c κs. (readable-expr (c .before .before .before .before .before .before .pre .1 .0), (c .before .before .before .before .before .before .pre .1 .1 .1 .0, c .before .before .before .before .before .before .pre .1 .1 .1 .1)))
+    (λ c κs. (
+      readable-expr (c .before .before .before .before .before .before .pre .1 .0),
+      (
+        c .before .before .before .before .before .before .pre .1 .1 .1 .0,
+        c .before .before .before .before .before .before .pre .1 .1 .1 .1,
+      ),
+    ))
     (λ c. search needs)
-    (λ c e k ns d h g held m gives. rw (← other-whole d e (op-is e (c .before .before .before .before .before .operator .ensures) h) (c .before .before .before .before .if2 .taken) gives)
+    (λ c e k ns d h g held m gives. rw (← other-whole d e (op-is e (c .before .before .before .before .before .operator .ensures) h)
+    (c .before .before .before .before .if2 .taken) gives)
     (c .before .before .copy-tree .ensures (exprTree e) h))
     (λ c κs. omega (arith, c .before .before .before .before .before .pre .1 .0 .at .head .room))
-    (λ c κs. let u = parts-of (c .before .before .before .before .before .before .pre .1 .0) (c .before .before .operator .ensures) (c .before .if2 .left) in rw (c .word-at .ensures .0) (omega (arith, u .past), omega (arith, u .fits)))
-    (λ c κs. let u = parts-of (c .before .before .before .before .before .before .before .pre .1 .0) (c .before .before .before .operator .ensures) (c .before .before .if2 .left) in rw (c .from-record .ensures, length-drop, c .before .word-at .ensures .0) (omega (arith, u .fits)))
-    (λ c κs. let u = parts-of (c .before .before .before .before .before .before .before .before .pre .1 .0) (c .before .before .before .before .operator .ensures) (c .before .before .before .if2 .left) in rw (c .word-at2 .ensures .0, c .before .from-record .ensures, c .before .before .word-at .ensures .0) (omega (arith, u .past₂), omega (arith, u .fits₂)))
+    (λ c κs. let u = parts-of (c .before .before .before .before .before .before .pre .1 .0) (c .before .before .operator .ensures)
+    (c .before .if2 .left) in rw (c .word-at .ensures .0) (omega (arith, u .past), omega (arith, u .fits)))
+    (λ c κs. let u = parts-of (c .before .before .before .before .before .before .before .pre .1 .0)
+    (c .before .before .before .operator .ensures) (c .before .before .if2 .left) in
+    rw (c .from-record .ensures, length-drop, c .before .word-at .ensures .0) (omega (arith, u .fits)))
+    (λ c κs. let u = parts-of (c .before .before .before .before .before .before .before .before .pre .1 .0)
+    (c .before .before .before .before .operator .ensures) (c .before .before .before .if2 .left) in
+    rw (c .word-at2 .ensures .0, c .before .from-record .ensures, c .before .before .word-at .ensures .0)
+    (omega (arith, u .past₂), omega (arith, u .fits₂)))
     (λ c. omega (arith, c .before .before .before .before .before .before .before .before .before .pre .1 .0 .some))
-    (λ c κs. let u = parts-of (c .before .before .before .before .before .before .before .before .before .pre .1 .0) (c .before .before .before .before .before .operator .ensures) (c .before .before .before .before .if2 .left) in let v = halves u (c .before .before .before .word-at .ensures .0) (c .before .before .from-record .ensures) (c .before .word-at2 .ensures .0) (c .from-record2 .ensures) in (v .first, c .before .before .before .before .before .before .before .before .before .pre .1 .1 .0))
+    (λ c κs. let u = parts-of (c .before .before .before .before .before .before .before .before .before .pre .1 .0)
+    (c .before .before .before .before .before .operator .ensures) (c .before .before .before .before .if2 .left) in
+    let v = halves u (c .before .before .before .word-at .ensures .0) (c .before .before .from-record .ensures)
+    (c .before .word-at2 .ensures .0) (c .from-record2 .ensures) in
+    (v .first, c .before .before .before .before .before .before .before .before .before .pre .1 .1 .0))
     (λ c. omega (arith, c .before .before .before .before .before .before .before .before .before .before .before .pre .1 .0 .some))
     (λ c κs. let u = parts-of (c .before .before .before .before .before .before .before .before .before .before .before .before .pre .1 .0) (c .before .before .before .before .before .before .before .before .operator .ensures) (c .before .before .before .before .before .before .before .if2 .left) in let v = halves u (c .before .before .before .before .before .before .word-at .ensures .0) (c .before .before .before .before .before .from-record .ensures) (c .before .before .before .before .word-at2 .ensures .0) (c .before .before .before .from-record2 .ensures) in (omega (arith, c .before .before .before .before .before .before .before .before .before .before .before .before .pre .0, c .before .before .before .before .before .before .before .before .before .before .before .before .pre .1 .0 .some), (v .last, (c .before .before .before .before .before .before .before .before .before .before .before .before .pre .1 .1 .0, (omega (arith, c .before .before .before .before .before .before .before .before .before .before .before .before .pre .1 .1 .1 .0, c .before .before .before .before .before .before .before .before .before .before .before .before .pre .1 .0 .some), c .before .before .before .before .before .before .before .before .before .before .before .before .pre .1 .1 .1 .1)))))
     (λ c. search needs)
     (λ c e k ns d h g held m gives. let x = only-last (c .before .before .before .before .before .before .before .before .before .word-at .ensures .0) (c .before .before .before .before .before .before .before .before .from-record .ensures) (c .before .before .before .before .before .before .before .word-at2 .ensures .0) (c .before .before .before .before .before .before .from-record2 .ensures) (c .before .before .before .before .before .before .before .before .before .before .before .operator .ensures) (c .before .before .before .before .before .before .before .before .before .before .if2 .left) ns d e k h held gives
-    (λ a at on. sym (not-true _ (c .before .before .before .before .if3 .taken)) ∙ c .before .before .before .before .before .is-kept .ensures a ns d at g on m) in
+    (λ a at on. sym (not-true _ (c .before .before .before .before .if3 .taken))
+    ∙ c .before .before .before .before .before .is-kept .ensures a ns d at g on m) in
     c .before .before .copy-clause .ensures (x .expr) k ns d (x .at) g (x .held) m (x .yields))
     (λ c. omega (arith, c .before .before .before .before .before .before .before .before .before .before .before .pre .1 .0 .some))
-    (λ c κs. let u = parts-of (c .before .before .before .before .before .before .before .before .before .before .before .pre .1 .0) (c .before .before .before .before .before .before .before .operator .ensures) (c .before .before .before .before .before .before .if2 .left) in let v = halves u (c .before .before .before .before .before .word-at .ensures .0) (c .before .before .before .before .from-record .ensures) (c .before .before .before .word-at2 .ensures .0) (c .before .before .from-record2 .ensures) in (v .last, c .before .before .before .before .before .before .before .before .before .before .before .pre .1 .1 .0))
+    (λ c κs. let u = parts-of (c .before .before .before .before .before .before .before .before .before .before .before .pre .1 .0)
+    (c .before .before .before .before .before .before .before .operator .ensures)
+    (c .before .before .before .before .before .before .if2 .left) in
+    let v = halves u (c .before .before .before .before .before .word-at .ensures .0)
+    (c .before .before .before .before .from-record .ensures) (c .before .before .before .word-at2 .ensures .0)
+    (c .before .before .from-record2 .ensures) in (
+      v .last,
+      c .before .before .before .before .before .before .before .before .before .before .before .pre .1 .1 .0,
+    ))
     (λ c. omega (arith, c .before .before .before .before .before .before .before .before .before .before .before .before .before .pre .1 .0 .some))
     (λ c κs. let u = parts-of (c .before .before .before .before .before .before .before .before .before .before .before .before .before .before .pre .1 .0) (c .before .before .before .before .before .before .before .before .before .before .operator .ensures) (c .before .before .before .before .before .before .before .before .before .if2 .left) in let v = halves u (c .before .before .before .before .before .before .before .before .word-at .ensures .0) (c .before .before .before .before .before .before .before .from-record .ensures) (c .before .before .before .before .before .before .word-at2 .ensures .0) (c .before .before .before .before .before .from-record2 .ensures) in (omega (arith, c .before .before .before .before .before .before .before .before .before .before .before .before .before .before .pre .0, c .before .before .before .before .before .before .before .before .before .before .before .before .before .before .pre .1 .0 .some), (v .first, (c .before .before .before .before .before .before .before .before .before .before .before .before .before .before .pre .1 .1 .0, (omega (arith, c .before .before .before .before .before .before .before .before .before .before .before .before .before .before .pre .1 .1 .1 .0, c .before .before .before .before .before .before .before .before .before .before .before .before .before .before .pre .1 .0 .some), c .before .before .before .before .before .before .before .before .before .before .before .before .before .before .pre .1 .1 .1 .1)))))
     (λ c. search needs)
-    (λ c e k ns d h g held m gives. let x = only-first (c .before .before .before .before .before .before .before .before .before .before .before .word-at .ensures .0) (c .before .before .before .before .before .before .before .before .before .before .from-record .ensures) (c .before .before .before .before .before .before .before .before .before .word-at2 .ensures .0) (c .before .before .before .before .before .before .before .before .from-record2 .ensures) (c .before .before .before .before .before .before .before .before .before .before .before .before .before .operator .ensures) (c .before .before .before .before .before .before .before .before .before .before .before .before .if2 .left) ns d e k h held gives
-    (λ a at on. sym (not-true _ (c .before .before .before .before .if4 .taken)) ∙ c .before .before .before .before .before .is-kept2 .ensures a ns d at g on m) in
+    (λ c e k ns d h g held m gives. let x = only-first
+    (c .before .before .before .before .before .before .before .before .before .before .before .word-at .ensures .0)
+    (c .before .before .before .before .before .before .before .before .before .before .from-record .ensures)
+    (c .before .before .before .before .before .before .before .before .before .word-at2 .ensures .0)
+    (c .before .before .before .before .before .before .before .before .from-record2 .ensures)
+    (c .before .before .before .before .before .before .before .before .before .before .before .before .before .operator .ensures)
+    (c .before .before .before .before .before .before .before .before .before .before .before .before .if2 .left) ns d e k h held
+    gives
+    (λ a at on. sym (not-true _ (c .before .before .before .before .if4 .taken))
+    ∙ c .before .before .before .before .before .is-kept2 .ensures a ns d at g on m) in
     c .before .before .copy-clause2 .ensures (x .expr) k ns d (x .at) g (x .held) m (x .yields))
     (λ c κs. (omega (arith, c .before .before .before .before .before .before .before .before .before .before .before .before .before .before .pre .1 .0 .at .head .room), c .before .before .before .before .before .before .before .before .before .before .before .before .before .before .pre .1 .1 .1 .1))
     (λ c. omega (arith, c .before .before .before .before .before .before .before .before .before .before .before .before .before .before .before .before .before .pre .1 .0 .some))
@@ -89,6 +123,8 @@ pub +copy-clause-spec : {M : Type 1} → statement M
     (λ c. search needs)
     (λ c e k ns d h g held m gives. let x = both-of (c .before .before .before .before .before .before .before .before .before .before .before .before .before .before .before .before .before .before .before .word-at .ensures .0) (c .before .before .before .before .before .before .before .before .before .before .before .before .before .before .before .before .before .before .from-record .ensures) (c .before .before .before .before .before .before .before .before .before .before .before .before .before .before .before .before .before .word-at2 .ensures .0) (c .before .before .before .before .before .before .before .before .before .before .before .before .before .before .before .before .from-record2 .ensures) (c .before .before .before .before .before .before .before .before .before .before .before .before .before .before .before .before .before .before .before .before .before .operator .ensures) (c .before .before .before .before .before .before .before .before .before .before .before .before .before .before .before .before .before .before .before .before .if2 .left) ns d e k h held gives
     (λ a at on. sym (not-false _ (c .before .before .before .before .before .before .before .before .before .before .before .before .before .before .if3 .left)) ∙ c .before .before .before .before .before .before .before .before .before .before .before .before .before .before .before .is-kept .ensures a ns d at g on m) (λ a at on. sym (not-false _ (c .before .before .before .before .before .before .before .before .before .before .before .before .if4 .left)) ∙ c .before .before .before .before .before .before .before .before .before .before .before .before .before .is-kept2 .ensures a ns d at g on m) in
-    let a = c .before .before .before .before .before .before .copy-clause3 .ensures (x .first .expr) (x .lhs) ns d (x .first .at) g (x .first .held) m (x .first .yields) in
+    let a = c .before .before .before .before .before .before .copy-clause3 .ensures (x .first .expr) (x .lhs) ns d (x .first .at) g
+    (x .first .held) m (x .first .yields) in
     let b = c .before .before .copy-clause4 .ensures (x .last .expr) (x .rhs) ns d (x .last .at) g (x .last .held) m (x .last .yields) in
-    wrote-clause (x .op) (x .lhs) (x .rhs) k (wrote-two (c .before .before .before .before .before .before .before .before .before .before .before .before .before .before .before .before .before .before .before .before .before .before .before .before .before .pre .1 .1 .1 .1) (c .before .before .before .before .before .before .before .before .before .before .put-label .ensures) a b) (h .head .label ∙ x .label) (x .is))
+    wrote-clause (x .op) (x .lhs) (x .rhs) k (wrote-two
+    (c .before .before .before .before .before .before .before .before .before .before .before .before .before .before .before .before .before .before .before .before .before .before .before .before .before .pre .1 .1 .1 .1) (c .before .before .before .before .before .before .before .before .before .before .put-label .ensures) a b) (h .head .label ∙ x .label) (x .is))

@@ -64,8 +64,10 @@ pub +extract-or-clause-spec : {M : Type 1} → statement M
     (λ c κs. (readable-expr (c .before .before .before .pre .1 .0), c .before .before .before .pre .1 .1))
     (λ c κs. readable-expr (c .before .before .before .before .before .pre .1 .0))
     (λ c. (
-      λ e ns d h g held k. other-made d e (op-is e (c .before .before .before .before .operator .ensures) h) (c .before .before .before .if1 .taken)
-          (sym (c .before .if2 .taken) ∙ c .before .before .has-all-column-refs .ensures e ns d h g held k) (c .records .ensures (exprTree e) h),
+      λ e ns d h g held k. other-made d e (op-is e (c .before .before .before .before .operator .ensures) h)
+          (c .before .before .before .if1 .taken)
+          (sym (c .before .if2 .taken) ∙ c .before .before .has-all-column-refs .ensures e ns d h g held k)
+          (c .records .ensures (exprTree e) h),
       λ e h. records-small e (c .records .ensures (exprTree e) h),
     ))
     (λ c. (
@@ -74,15 +76,46 @@ pub +extract-or-clause-spec : {M : Type 1} → statement M
       λ e h. omega arith,
     ))
     (λ c κs. omega (arith, c .before .before .before .pre .1 .0 .at .head .room))
-    (λ c κs. let u = parts-of (c .before .before .before .before .pre .1 .0) (c .before .before .operator .ensures) (c .before .if1 .left) in rw (c .word-at .ensures .0) (omega (arith, u .past), omega (arith, u .fits)))
-    (λ c κs. let u = parts-of (c .before .before .before .before .before .pre .1 .0) (c .before .before .before .operator .ensures) (c .before .before .if1 .left) in rw (c .from-record .ensures, length-drop, c .before .word-at .ensures .0) (omega (arith, u .fits)))
-    (λ c κs. let u = parts-of (c .before .before .before .before .before .before .pre .1 .0) (c .before .before .before .before .operator .ensures) (c .before .before .before .if1 .left) in rw (c .word-at2 .ensures .0, c .before .from-record .ensures, c .before .before .word-at .ensures .0) (omega (arith, u .past₂), omega (arith, u .fits₂)))
+    (λ c κs. let u = parts-of (c .before .before .before .before .pre .1 .0) (c .before .before .operator .ensures)
+    (c .before .if1 .left) in rw (c .word-at .ensures .0) (omega (arith, u .past), omega (arith, u .fits)))
+    (λ c κs. let u = parts-of (c .before .before .before .before .before .pre .1 .0) (c .before .before .before .operator .ensures)
+    (c .before .before .if1 .left) in rw (c .from-record .ensures, length-drop, c .before .word-at .ensures .0)
+    (omega (arith, u .fits)))
+    (λ c κs. let u = parts-of (c .before .before .before .before .before .before .pre .1 .0)
+    (c .before .before .before .before .operator .ensures) (c .before .before .before .if1 .left) in
+    rw (c .word-at2 .ensures .0, c .before .from-record .ensures, c .before .before .word-at .ensures .0)
+    (omega (arith, u .past₂), omega (arith, u .fits₂)))
     (λ c. omega (arith, c .before .before .before .before .before .before .before .before .pre .1 .0 .some))
-    (λ c κs. let u = parts-of (c .before .before .before .before .before .before .before .before .pre .1 .0) (c .before .before .before .before .before .before .operator .ensures) (c .before .before .before .before .before .if1 .left) in let v = halves u (c .before .before .before .before .word-at .ensures .0) (c .before .before .before .from-record .ensures) (c .before .before .word-at2 .ensures .0) (c .before .from-record2 .ensures) in (omega (arith, c .before .before .before .before .before .before .before .before .pre .0, c .before .before .before .before .before .before .before .before .pre .1 .0 .some), (v .first, c .before .before .before .before .before .before .before .before .pre .1 .1)))
+    (λ c κs. let u = parts-of (c .before .before .before .before .before .before .before .before .pre .1 .0)
+    (c .before .before .before .before .before .before .operator .ensures) (c .before .before .before .before .before .if1 .left) in
+    let v = halves u (c .before .before .before .before .word-at .ensures .0) (c .before .before .before .from-record .ensures)
+    (c .before .before .word-at2 .ensures .0) (c .before .from-record2 .ensures) in (
+      omega (
+        arith,
+        c .before .before .before .before .before .before .before .before .pre .0,
+        c .before .before .before .before .before .before .before .before .pre .1 .0 .some,
+      ),
+      (v .first, c .before .before .before .before .before .before .before .before .pre .1 .1),
+    ))
     (λ c. omega (arith, c .before .before .before .before .before .before .before .before .before .pre .1 .0 .some))
-    (λ c κs. let u = parts-of (c .before .before .before .before .before .before .before .before .before .pre .1 .0) (c .before .before .before .before .before .before .before .operator .ensures) (c .before .before .before .before .before .before .if1 .left) in let v = halves u (c .before .before .before .before .before .word-at .ensures .0) (c .before .before .before .before .from-record .ensures) (c .before .before .before .word-at2 .ensures .0) (c .before .before .from-record2 .ensures) in (omega (arith, c .before .before .before .before .before .before .before .before .before .pre .0, c .before .before .before .before .before .before .before .before .before .pre .1 .0 .some), (v .last, c .before .before .before .before .before .before .before .before .before .pre .1 .1)))
+    (λ c κs. let u = parts-of (c .before .before .before .before .before .before .before .before .before .pre .1 .0)
+    (c .before .before .before .before .before .before .before .operator .ensures)
+    (c .before .before .before .before .before .before .if1 .left) in
+    let v = halves u (c .before .before .before .before .before .word-at .ensures .0)
+    (c .before .before .before .before .from-record .ensures) (c .before .before .before .word-at2 .ensures .0)
+    (c .before .before .from-record2 .ensures) in (
+      omega (
+        arith,
+        c .before .before .before .before .before .before .before .before .before .pre .0,
+        c .before .before .before .before .before .before .before .before .before .pre .1 .0 .some,
+      ),
+      (v .last, c .before .before .before .before .before .before .before .before .before .pre .1 .1),
+    ))
     (λ c κs. let h = c .before .before .before .before .before .before .before .before .before .before .pre .1 .0 in
-    let u = sides-and (c .before .before .before .before .before .before .word-at .ensures .0) (c .before .before .before .before .before .from-record .ensures) (c .before .before .before .before .word-at2 .ensures .0) (c .before .before .before .from-record2 .ensures) (h .expr) (h .at) (c .before .before .before .before .before .before .before .before .operator .ensures) (c .before .before .if3 .taken) in
+    let u = sides-and (c .before .before .before .before .before .before .word-at .ensures .0)
+    (c .before .before .before .before .before .from-record .ensures) (c .before .before .before .before .word-at2 .ensures .0)
+    (c .before .before .before .from-record2 .ensures) (h .expr) (h .at)
+    (c .before .before .before .before .before .before .before .before .operator .ensures) (c .before .before .if3 .taken) in
     omega (
       arith,
       size-room h,
@@ -91,11 +124,19 @@ pub +extract-or-clause-spec : {M : Type 1} → statement M
       c .extract-or-clause2 .ensures .1 (u .rhs) (u .at-right),
     ))
     (λ c. (
-      λ e ns d h g held k. let u = sides-and (c .before .before .before .before .before .before .before .word-at .ensures .0) (c .before .before .before .before .before .before .from-record .ensures) (c .before .before .before .before .before .word-at2 .ensures .0) (c .before .before .before .before .from-record2 .ensures) e h (c .before .before .before .before .before .before .before .before .before .operator .ensures) (c .before .before .before .if3 .taken) in
+      λ e ns d h g held k. let u = sides-and (c .before .before .before .before .before .before .before .word-at .ensures .0)
+          (c .before .before .before .before .before .before .from-record .ensures)
+          (c .before .before .before .before .before .word-at2 .ensures .0) (c .before .before .before .before .from-record2 .ensures) e h
+          (c .before .before .before .before .before .before .before .before .before .operator .ensures)
+          (c .before .before .before .if3 .taken) in
           and-made d u (c .either-and .ensures)
           (c .before .before .extract-or-clause .ensures .0 (u .lhs) ns d (u .at-left) g (held-left u (has ns) held) k)
           (c .before .extract-or-clause2 .ensures .0 (u .rhs) ns d (u .at-right) g (held-right u (has ns) held) k),
-      λ e h. let u = sides-and (c .before .before .before .before .before .before .before .word-at .ensures .0) (c .before .before .before .before .before .before .from-record .ensures) (c .before .before .before .before .before .word-at2 .ensures .0) (c .before .before .before .before .from-record2 .ensures) e h (c .before .before .before .before .before .before .before .before .before .operator .ensures) (c .before .before .before .if3 .taken) in
+      λ e h. let u = sides-and (c .before .before .before .before .before .before .before .word-at .ensures .0)
+          (c .before .before .before .before .before .before .from-record .ensures)
+          (c .before .before .before .before .before .word-at2 .ensures .0) (c .before .before .before .before .from-record2 .ensures) e h
+          (c .before .before .before .before .before .before .before .before .before .operator .ensures)
+          (c .before .before .before .if3 .taken) in
           rw (c .either-and .ensures) (omega (
             arith,
             sides-size u,
@@ -105,12 +146,27 @@ pub +extract-or-clause-spec : {M : Type 1} → statement M
           )),
     ))
     (λ c. omega (arith, c .before .before .before .before .before .before .before .before .pre .1 .0 .some))
-    (λ c κs. let u = parts-of (c .before .before .before .before .before .before .before .before .pre .1 .0) (c .before .before .before .before .before .before .operator .ensures) (c .before .before .before .before .before .if1 .left) in let v = halves u (c .before .before .before .before .word-at .ensures .0) (c .before .before .before .from-record .ensures) (c .before .before .word-at2 .ensures .0) (c .before .from-record2 .ensures) in (omega (arith, c .before .before .before .before .before .before .before .before .pre .0, c .before .before .before .before .before .before .before .before .pre .1 .0 .some), (v .first, c .before .before .before .before .before .before .before .before .pre .1 .1)))
+    (λ c κs. let u = parts-of (c .before .before .before .before .before .before .before .before .pre .1 .0)
+    (c .before .before .before .before .before .before .operator .ensures) (c .before .before .before .before .before .if1 .left) in
+    let v = halves u (c .before .before .before .before .word-at .ensures .0) (c .before .before .before .from-record .ensures)
+    (c .before .before .word-at2 .ensures .0) (c .before .from-record2 .ensures) in (
+      omega (
+        arith,
+        c .before .before .before .before .before .before .before .before .pre .0,
+        c .before .before .before .before .before .before .before .before .pre .1 .0 .some,
+      ),
+      (v .first, c .before .before .before .before .before .before .before .before .pre .1 .1),
+    ))
     (λ c. search needs)
     (λ c. search needs)
     (λ c. (
-      λ e ns d h g held k. let u = sides-or (c .before .before .before .before .before .before .before .word-at .ensures .0) (c .before .before .before .before .before .before .from-record .ensures) (c .before .before .before .before .before .word-at2 .ensures .0) (c .before .before .before .before .from-record2 .ensures) e h (c .before .before .before .before .before .before .before .before .before .operator .ensures) (c .before .before .before .before .before .before .before .before .if1 .left) (c .before .before .before .if3 .left) in
-          or-nothing-left d u (c .before .before .extract-or-clause3 .ensures .0 (u .lhs) ns d (u .at-left) g (held-left u (has ns) held) k) (c .enum-told .given .1),
+      λ e ns d h g held k. let u = sides-or (c .before .before .before .before .before .before .before .word-at .ensures .0)
+          (c .before .before .before .before .before .before .from-record .ensures)
+          (c .before .before .before .before .before .word-at2 .ensures .0) (c .before .before .before .before .from-record2 .ensures) e h
+          (c .before .before .before .before .before .before .before .before .before .operator .ensures)
+          (c .before .before .before .before .before .before .before .before .if1 .left) (c .before .before .before .if3 .left) in
+          or-nothing-left d u (c .before .before .extract-or-clause3 .ensures .0 (u .lhs) ns d (u .at-left) g
+          (held-left u (has ns) held) k) (c .enum-told .given .1),
       λ e h. omega arith,
     ))
     (λ c. omega (arith, c .before .before .before .before .before .before .before .before .before .before .before .before .pre .1 .0 .some))
@@ -119,7 +175,8 @@ pub +extract-or-clause-spec : {M : Type 1} → statement M
     (λ c. search needs)
     (λ c. (
       λ e ns d h g held k. let u = sides-or (c .before .before .before .before .before .before .before .before .before .before .before .word-at .ensures .0) (c .before .before .before .before .before .before .before .before .before .before .from-record .ensures) (c .before .before .before .before .before .before .before .before .before .word-at2 .ensures .0) (c .before .before .before .before .before .before .before .before .from-record2 .ensures) e h (c .before .before .before .before .before .before .before .before .before .before .before .before .before .operator .ensures) (c .before .before .before .before .before .before .before .before .before .before .before .before .if1 .left) (c .before .before .before .before .before .before .before .if3 .left) in
-          or-nothing-right d u (c .before .before .extract-or-clause4 .ensures .0 (u .rhs) ns d (u .at-right) g (held-right u (has ns) held) k) (c .enum-told2 .given .1),
+          or-nothing-right d u (c .before .before .extract-or-clause4 .ensures .0 (u .rhs) ns d (u .at-right) g
+          (held-right u (has ns) held) k) (c .enum-told2 .given .1),
       λ e h. omega arith,
     ))
     (λ c. let h = c .before .before .before .before .before .before .before .before .before .before .before .before .before .before .before .before .pre .1 .0 in
@@ -128,7 +185,8 @@ pub +extract-or-clause-spec : {M : Type 1} → statement M
       arith,
       size-room h,
       sides-size u,
-      made-small (c .before .before .before .before .before .before .before .extract-or-clause3 .ensures .1 (u .lhs) (u .at-left)) (c .before .before .before .before .before .m .given .1),
+      made-small (c .before .before .before .before .before .before .before .extract-or-clause3 .ensures .1 (u .lhs) (u .at-left))
+          (c .before .before .before .before .before .m .given .1),
       made-small (c .before .before .before .extract-or-clause4 .ensures .1 (u .rhs) (u .at-right)) (c .before .n .given .1),
     ))
     (λ c. let h = c .before .before .before .before .before .before .before .before .before .before .before .before .before .before .before .before .pre .1 .0 in
@@ -137,18 +195,22 @@ pub +extract-or-clause-spec : {M : Type 1} → statement M
       arith,
       size-room h,
       sides-size u,
-      made-small (c .before .before .before .before .before .before .before .extract-or-clause3 .ensures .1 (u .lhs) (u .at-left)) (c .before .before .before .before .before .m .given .1),
+      made-small (c .before .before .before .before .before .before .before .extract-or-clause3 .ensures .1 (u .lhs) (u .at-left))
+          (c .before .before .before .before .before .m .given .1),
       made-small (c .before .before .before .extract-or-clause4 .ensures .1 (u .rhs) (u .at-right)) (c .before .n .given .1),
     ))
     (λ c. (
       λ e ns d h g held k. let u = sides-or (c .before .before .before .before .before .before .before .before .before .before .before .before .word-at .ensures .0) (c .before .before .before .before .before .before .before .before .before .before .before .from-record .ensures) (c .before .before .before .before .before .before .before .before .before .before .word-at2 .ensures .0) (c .before .before .before .before .before .before .before .before .before .from-record2 .ensures) e h (c .before .before .before .before .before .before .before .before .before .before .before .before .before .before .operator .ensures) (c .before .before .before .before .before .before .before .before .before .before .before .before .before .if1 .left) (c .before .before .before .before .before .before .before .before .if3 .left) in
-          or-made d u (c .before .before .before .before .before .before .before .extract-or-clause3 .ensures .0 (u .lhs) ns d (u .at-left) g (held-left u (has ns) held) k) (c .before .before .before .before .before .m .given .1)
-          (c .before .before .before .extract-or-clause4 .ensures .0 (u .rhs) ns d (u .at-right) g (held-right u (has ns) held) k) (c .before .n .given .1),
+          or-made d u (c .before .before .before .before .before .before .before .extract-or-clause3 .ensures .0 (u .lhs) ns d
+          (u .at-left) g (held-left u (has ns) held) k) (c .before .before .before .before .before .m .given .1)
+          (c .before .before .before .extract-or-clause4 .ensures .0 (u .rhs) ns d (u .at-right) g (held-right u (has ns) held) k)
+          (c .before .n .given .1),
       λ e h. let u = sides-or (c .before .before .before .before .before .before .before .before .before .before .before .before .word-at .ensures .0) (c .before .before .before .before .before .before .before .before .before .before .before .from-record .ensures) (c .before .before .before .before .before .before .before .before .before .before .word-at2 .ensures .0) (c .before .before .before .before .before .before .before .before .before .from-record2 .ensures) e h (c .before .before .before .before .before .before .before .before .before .before .before .before .before .before .operator .ensures) (c .before .before .before .before .before .before .before .before .before .before .before .before .before .if1 .left) (c .before .before .before .before .before .before .before .before .if3 .left) in
           omega (
             arith,
             sides-size u,
-            made-small (c .before .before .before .before .before .before .before .extract-or-clause3 .ensures .1 (u .lhs) (u .at-left)) (c .before .before .before .before .before .m .given .1),
+            made-small (c .before .before .before .before .before .before .before .extract-or-clause3 .ensures .1 (u .lhs) (u .at-left))
+                (c .before .before .before .before .before .m .given .1),
             made-small (c .before .before .before .extract-or-clause4 .ensures .1 (u .rhs) (u .at-right)) (c .before .n .given .1),
           ),
     ))

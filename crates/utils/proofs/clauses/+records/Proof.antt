@@ -48,14 +48,27 @@ pub +records-spec : {M : Type 1} → statement M
     (λ c. rw (c .word-at .ensures .0) (chain _ (c .before .before .pre .1) (omega arith)))
     (λ c κs. let u = round _ (c .before .loop .inv) (c .loop-test .taken) in omega (arith, u .turn .past, u .turn .fits))
     (λ c. omega (arith, c .before .before .loop .inv .some))
-    (λ c κs. let u = round _ (c .before .before .loop .inv) (c .before .loop-test .taken) in (omega (arith, c .before .before .loop .inv .some, c .before .before .before .before .before .pre .0), rw (c .from-record .ensures) (u .readable)))
+    (λ c κs. let u = round _ (c .before .before .loop .inv) (c .before .loop-test .taken) in (
+      omega (arith, c .before .before .loop .inv .some, c .before .before .before .before .before .pre .0),
+      rw
+          (c .from-record .ensures) (u .readable),
+    ))
     (λ c. let u = round _ (c .before .before .before .loop .inv) (c .before .before .loop-test .taken) in
-    omega (arith, c .records .ensures (u .turn .child) (rw (c .before .from-record .ensures) (u .turn .here)), u .so-far, c .before .before .before .loop .inv .stands .head .room))
-    (λ c κs. let u = round _ (c .before .before .before .loop .inv) (c .before .before .loop-test .taken) in rw (c .before .from-record .ensures, length-drop) (omega (arith, u .turn .fits)))
-    (λ c. let u = round _ (c .before .before .before .before .loop .inv) (c .before .before .before .loop-test .taken) in rw (c .word-at2 .ensures .0, c .before .before .from-record .ensures) (u .turn .less))
+    omega (
+      arith,
+      c .records .ensures (u .turn .child)
+          (rw (c .before .from-record .ensures) (u .turn .here)),
+      u .so-far,
+      c .before .before .before .loop .inv .stands .head .room,
+    ))
+    (λ c κs. let u = round _ (c .before .before .before .loop .inv) (c .before .before .loop-test .taken) in
+    rw (c .before .from-record .ensures, length-drop) (omega (arith, u .turn .fits)))
+    (λ c. let u = round _ (c .before .before .before .before .loop .inv) (c .before .before .before .loop-test .taken) in
+    rw (c .word-at2 .ensures .0, c .before .before .from-record .ensures) (u .turn .less))
     (λ c. let k = c .before .before .before .before .loop .inv in
     let u = round _ (c .before .before .before .before .loop .inv) (c .before .before .before .loop-test .taken) in
     let part = c .before .before .from-record .ensures in
     let n = c .before .records .ensures (u .turn .child) (rw part (u .turn .here)) in
     rw (c .word-at2 .ensures .0, part) (again _ k u (omega (arith, n, u .so-far))))
-    (λ c. let k = c .before .loop .inv in for-all (λ t. c .before .loop .n ≡ sizeT t) (k .stands) (omega (arith, done _ k (c .loop-test .left))))
+    (λ c. let k = c .before .loop .inv in for-all (λ t. c .before .loop .n ≡ sizeT t) (k .stands)
+    (omega (arith, done _ k (c .loop-test .left))))

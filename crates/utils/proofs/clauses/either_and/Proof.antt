@@ -3,7 +3,7 @@ use mathlib.Core.Path.{ap}
 use native.Mathlib.Omega.{arith}
 use borrow.Author.Needs.{needs}
 use Rattle.utils.specs.Clauses.{recordsOf}
-use Rattle.utils.proofs.Extracting.{either-first, either-both, either-second}
+use Rattle.utils.proofs.Extracting.{either-first, either-both}
 use Rattle.utils.proofs.clauses.either_and.Statement.{statement}
 use Rattle.utils.proofs.clauses.either_and.Tie as tie
 

@@ -14,7 +14,7 @@ use Rattle.plan.specs.Syntax.{Name}
 use Rattle.utils.specs.Masks.{Answers}
 use Rattle.utils.specs.Fields.{Names}
 use Rattle.utils.specs.Referring.{onTree}
-use Rattle.utils.proofs.Answering.{So, so-start, so-held, so-next, so-end, so-column, column-held}
+use Rattle.utils.proofs.Answering.{answers-one, So, so-start, so-held, so-next, so-end, so-column, column-held}
 use borrow.Fn.Kinds.{In}
 use borrow.Fn.PlainCycle.{Measures, is, falls, and}
 use Rattle.utils.proofs.columns.columns.Reads as columns
@@ -22,7 +22,7 @@ use Rattle.utils.proofs.columns.columns.Kinds as columns-kinds
 use Rattle.utils.proofs.columns.+columns.Lts-columns as columns-lts
 use Rattle.image.proofs.records.from_record.Reads as from-record-reads
 use Rattle.image.proofs.words.word_at.Reads as word-at-reads
-use Rattle.utils.proofs.columns.column.Reads as column-reads
+use Rattle.utils.proofs.columns.add_column.Reads as add-column-reads
 use Rattle.utils.proofs.columns.+columns.{statement}
 use Rattle.utils.proofs.columns.+columns.Tie.{close}
 
@@ -46,8 +46,8 @@ pub +columns-spec : {M : Type 1} → statement M
 +columns-spec = close μ-columns λ t. columns-lts.spec (
   word-at-reads.Asked,
   word-at-reads.Learnt,
-  column-reads.Asked,
-  column-reads.Learnt,
+  add-column-reads.Asked,
+  add-column-reads.Learnt,
   from-record-reads.Asked,
   from-record-reads.Learnt,
   columns-below t,
@@ -61,20 +61,28 @@ pub +columns-spec : {M : Type 1} → statement M
     (λ c κs. omega (arith, c .before .before .before .pre .1 .0 .at .head .room))
     (λ c κs. omega (arith, c .before .before .before .before .pre .1 .0 .at .head .room))
     (λ c κs. c .before .before .before .before .before .pre .1 .1)
-    (λ c t ns h g held. let is = eq-eqb _ _ (sym (ap (λ (l : Label). l .kind) (h .head .label)) ∙ (sym (c .before .before .before .before .word-at .ensures .0) ∙ c .before .before .before .if1 .taken)) in
+    (λ c t ns h g held. let is = eq-eqb _ _ (sym (ap (λ (l : Label). l .kind) (h .head .label))
+    ∙ (sym (c .before .before .before .before .word-at .ensures .0) ∙ c .before .before .before .if1 .taken)) in
     let p = c .before .before .word-at2 .ensures .0 ∙ ap (λ (l : Label). l .p) (h .head .label) in
     let q = c .before .word-at3 .ensures .0 ∙ ap (λ (l : Label). l .q) (h .head .label) in
-    so-column ns t is (rw (← p, ← q) (c .column .ensures ns g (rw (p, q) (column-held ns t is held)))))
+    so-column ns t is (rw (← p, ← q) (answers-one ns g (c .before .before .before .before .before .before .pre .1 .1) _
+    (rw (p, q) (column-held ns t is held)) _
+    (c .add-column .ensures ns g (rw (p, q) (column-held ns t is held))))))
     (λ c κs. omega (arith, c .before .before .before .pre .1 .0 .at .head .room))
     (λ c. let h = c .before .before .before .before .pre .1 .0 in
-    let is = ne-eqb _ _ (λ k. c .before .if1 .left (c .before .before .word-at .ensures .0 ∙ (ap (λ (l : Label). l .kind) (h .at .head .label) ∙ k))) in
+    let is = ne-eqb _ _ (λ k. c .before .if1 .left (c .before .before .word-at .ensures .0
+    ∙ (ap (λ (l : Label). l .kind) (h .at .head .label) ∙ k))) in
     rw (c .word-at4 .ensures .0) (chain _ h (λ ns _ held. so-start ns (h .tree) is held)))
     (λ c κs. let u = round _ (c .before .loop .inv) (c .loop-test .taken) in omega (arith, u .turn .past, u .turn .fits))
     (λ c. omega (arith, c .before .before .loop .inv .some))
-    (λ c κs. let u = round _ (c .before .before .loop .inv) (c .before .loop-test .taken) in
-    (omega (arith, c .before .before .loop .inv .some, c .before .before .before .before .before .before .before .pre .0), (rw (c .from-record .ensures) (u .readable), c .before .before .before .before .before .before .before .pre .1 .1)))
-    (λ c κs. let u = round _ (c .before .before .before .loop .inv) (c .before .before .loop-test .taken) in rw (c .before .from-record .ensures, length-drop) (omega (arith, u .turn .fits)))
-    (λ c. let u = round _ (c .before .before .before .before .loop .inv) (c .before .before .before .loop-test .taken) in rw (c .word-at5 .ensures .0, c .before .before .from-record .ensures) (u .turn .less))
+    (λ c κs. let u = round _ (c .before .before .loop .inv) (c .before .loop-test .taken) in (
+      omega (arith, c .before .before .loop .inv .some, c .before .before .before .before .before .before .before .pre .0),
+      (rw (c .from-record .ensures) (u .readable), c .before .before .before .before .before .before .before .pre .1 .1),
+    ))
+    (λ c κs. let u = round _ (c .before .before .before .loop .inv) (c .before .before .loop-test .taken) in
+    rw (c .before .from-record .ensures, length-drop) (omega (arith, u .turn .fits)))
+    (λ c. let u = round _ (c .before .before .before .before .loop .inv) (c .before .before .before .loop-test .taken) in
+    rw (c .word-at5 .ensures .0, c .before .before .from-record .ensures) (u .turn .less))
     (λ c. let k = c .before .before .before .before .loop .inv in
     let u = round _ (c .before .before .before .before .loop .inv) (c .before .before .before .loop-test .taken) in
     let part = c .before .before .from-record .ensures in

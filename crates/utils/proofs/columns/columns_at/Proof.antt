@@ -13,6 +13,8 @@ columns-at-spec =
     (tie.spec
     (λ c e ns h g held. answers-false ns e (h .none (c .if1 .taken)))
     (λ c κs. c .before .before .pre .0 .item .some (c .if1 .left) .within)
-    (λ c κs. let p = c .before .before .before .pre in (rw (c .record-at .ensures) (readable-of (p .0 .item .some (c .before .if1 .left))), p .1))
+    (λ c κs. let p = c .before .before .before .pre in
+    (rw (c .record-at .ensures) (readable-of (p .0 .item .some (c .before .if1 .left))), p .1))
     (λ c e ns h g held. let k = h .some (c .before .before .if1 .left) in
-    answers-expr e (c .columns .ensures (exprTree e) ns (rw (c .before .record-at .ensures) (k .here)) g (tree-columns (has ns) e ∙ held))))
+    answers-expr e (c .columns .ensures (exprTree e) ns (rw (c .before .record-at .ensures) (k .here)) g
+    (tree-columns (has ns) e ∙ held))))

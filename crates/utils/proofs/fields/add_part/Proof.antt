@@ -14,11 +14,24 @@ add-part-spec =
     (λ c κs. search needs)
     (λ c κs. search needs)
     (λ c ns h. let a = c .before .before .before .before .before .before .args in
-    rw (← c .before .before .before .before .label-at .ensures .0, part-set (a .set) (a .q) _ (c .before .if2 .taken) (sym (c .before .before .before .makes-field .ensures) ∙ c .before .before .if1 .taken))
+    rw (
+      ← c .before .before .before .before .label-at .ensures .0,
+      part-set (a .set) (a .q) _ (c .before .if2 .taken)
+          (sym (c .before .before .before .makes-field .ensures) ∙ c .before .before .if1 .taken),
+    )
     (c .add-field .ensures ns h))
     (λ c κs. search needs)
     (λ c ns h. let a = c .before .before .before .before .before .before .args in
-    rw (← c .before .before .before .before .label-at .ensures .0, part-kept (a .set) (a .q) _ (c .before .if2 .left) (sym (c .before .before .before .makes-field .ensures) ∙ c .before .before .if1 .taken))
+    rw (
+      ← c .before .before .before .before .label-at .ensures .0,
+      part-kept (a .set) (a .q) _ (c .before .if2 .left)
+          (sym (c .before .before .before .makes-field .ensures) ∙ c .before .before .if1 .taken),
+    )
     (c .add-field2 .ensures ns h))
     (λ c ns h. let a = c .before .before .before .before .args in
-    rw (← c .before .before .label-at .ensures .0, part-none (a .set) (a .q) _ (sym (c .before .makes-field .ensures) ∙ c .if1 .left), append-nil) h))
+    rw (
+      ← c .before .before .label-at .ensures .0,
+      part-none (a .set) (a .q) _
+          (sym (c .before .makes-field .ensures) ∙ c .if1 .left),
+      append-nil,
+    ) h))

@@ -1,5 +1,4 @@
 -- `fields::add_parts` meets its contract. The loop's invariant: what was appended, and what the children that are left make, is all.
-use mathlib.Core.Path.{sym}
 use mathlib.Core.List.{List, _++_}
 use Prim.Native.Nat.{ℕ}
 use native.Mathlib.Omega.{arith}
@@ -15,7 +14,8 @@ use Rattle.utils.proofs.fields.add_parts.Tie as tie
 abbrev Inv-loop : tie.InvT-loop
 Inv-loop part base set q r₀ at₀ r at =
     (d : ℕ)
-    × Chain (λ t rest. (ns : List Name) → Names r₀ ns → Sum r (called set q (made rest)) (ns ++ called set q (made (t .below)))) d part base at
+    × Chain (λ t rest. (ns : List Name) → Names r₀ ns → Sum r (called set q (made rest)) (ns ++ called set q (made (t .below)))) d part
+    base at
 
 abbrev μ-loop : tie.MeasureT-loop
 μ-loop part base set q r₀ at₀ r at = left part base at
@@ -41,7 +41,12 @@ add-parts-spec =
       c .before .before .before .before .loop .inv .0,
       rw (c .word-at2 .ensures .0, part)
           (again _ k u
-          (λ ns h. sum-next (c .before .before .before .before .before .before .before .args .set) (c .before .before .before .before .before .before .before .args .q) (u .turn .child) (u .turn .after) (u .so-far ns h)
+          (λ ns h. sum-next (c .before .before .before .before .before .before .before .args .set)
+          (c .before .before .before .before .before .before .before .args .q) (u .turn .child) (u .turn .after) (u .so-far ns h)
           (λ ms g. rw (← u .turn .here .head .label, ← part) (c .before .add-part .ensures ms g)))),
     ))
-    (λ c t ns h g. let k = c .before .loop .inv .1 in for-all (λ t. Names (c .before .loop .r) (ns ++ called (c .before .before .before .before .args .set) (c .before .before .before .before .args .q) (made (t .below)))) (k .stands) (sum-end (c .before .before .before .before .args .set) (c .before .before .before .before .args .q) (done _ k (c .loop-test .left) ns g)) t h))
+    (λ c t ns h g. let k = c .before .loop .inv .1 in for-all
+    (λ t. Names (c .before .loop .r) (ns ++ called (c .before .before .before .before .args .set)
+    (c .before .before .before .before .args .q) (made (t .below)))) (k .stands)
+    (sum-end (c .before .before .before .before .args .set) (c .before .before .before .before .args .q)
+    (done _ k (c .loop-test .left) ns g)) t h))

@@ -10,7 +10,8 @@ use Rattle.utils.proofs.fields.input_at.Statement.{statement}
 use Rattle.utils.proofs.fields.input_at.Tie as tie
 
 abbrev Inv-loop : tie.InvT-loop
-Inv-loop part base place left₀ at₀ left at = (d : ℕ) × Chain (λ t rest. Seek (plansIn (t .below)) place (plansIn rest) left) d part base at
+Inv-loop part base place left₀ at₀ left at = (d : ℕ) × Chain
+    (λ t rest. Seek (plansIn (t .below)) place (plansIn rest) left) d part base at
 
 abbrev μ-loop : tie.MeasureT-loop
 μ-loop part base place left₀ at₀ left′ at = left part base at
@@ -32,16 +33,20 @@ input-at-spec =
     let kind = kind-here (u .turn) (c .before .before .before .from-record .ensures) (c .before .before .word-at2 .ensures .0) in
     for-all _ (k .stands) (input-here _ _ (u .turn) _ (c .before .is-plan .ensures ∙ ap isPlan kind) (u .so-far) (c .if1 .taken)))
     (λ c κs. tt)
-    (λ c κs. let u = round _ (c .before .before .before .before .before .before .loop .inv .1) (c .before .before .before .before .before .loop-test .taken) in
+    (λ c κs. let u = round _ (c .before .before .before .before .before .before .loop .inv .1)
+    (c .before .before .before .before .before .loop-test .taken) in
     rw (c .before .before .before .before .from-record .ensures, length-drop) (omega (arith, u .turn .fits)))
-    (λ c. let u = round _ (c .before .before .before .before .before .before .before .loop .inv .1) (c .before .before .before .before .before .before .loop-test .taken) in
+    (λ c. let u = round _ (c .before .before .before .before .before .before .before .loop .inv .1)
+    (c .before .before .before .before .before .before .loop-test .taken) in
     rw (c .word-at3 .ensures .0, c .before .before .before .before .before .from-record .ensures) (u .turn .less))
     (λ c. let k = c .before .before .before .before .before .before .before .loop .inv .1 in
     let u = round _ k (c .before .before .before .before .before .before .loop-test .taken) in
-    let kind = kind-here (u .turn) (c .before .before .before .before .before .from-record .ensures) (c .before .before .before .before .word-at2 .ensures .0) in
+    let kind = kind-here (u .turn) (c .before .before .before .before .before .from-record .ensures)
+    (c .before .before .before .before .word-at2 .ensures .0) in
     let e = plans-node (u .turn .child) (u .turn .after) _ (c .before .before .before .is-plan .ensures ∙ ap isPlan kind) in (
       c .before .before .before .before .before .before .before .loop .inv .0,
       rw (c .word-at3 .ensures .0, c .before .before .before .before .before .from-record .ensures)
-          (again _ k u (rw (c .before .less-if .ensures) (seek-next _ _ (u .turn .child) _ (rw e at (u .so-far)) (c .before .before .if1 .left)))),
+          (again _ k u (rw (c .before .less-if .ensures) (seek-next _ _ (u .turn .child) _ (rw e at (u .so-far))
+          (c .before .before .if1 .left)))),
     ))
     (λ c. let k = c .before .loop .inv .1 in for-all _ (k .stands) (input-none (done _ k (c .loop-test .left)))))

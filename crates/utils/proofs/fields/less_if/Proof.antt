@@ -1,7 +1,4 @@
 -- `fields::less_if` meets its contract.
-use mathlib.Core.Bool.{true}
-use mathlib.Core.Path.{_≡_}
-use native.Mathlib.Omega.{arith}
 use Rattle.utils.proofs.Inputting.{less-some, less-taken, less-left}
 use Rattle.utils.proofs.fields.less_if.Statement.{statement}
 use Rattle.utils.proofs.fields.less_if.Tie as tie

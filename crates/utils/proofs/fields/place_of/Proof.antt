@@ -27,8 +27,11 @@ place-of-spec =
     (λ c κs. omega arith)
     (λ c ns h. let a = c .before .before .before .before .before .args in
     let i = c .before .before .before .before .loop .i in
-    let e = field-is (a .f) ns h (c .before .before .before .before .before .pre) (a .q) (a .n) i (c .before .before .before .loop-test .taken) in
-    let z = place-here (a .f) ns h (c .before .before .before .before .before .pre) (a .q) (a .n) i (c .before .before .before .loop-test .taken) (sym e ∙ rw (← c .before .before .q-at .ensures .0, ← c .before .n-at .ensures .0) (c .if1 .taken)) in
+    let e = field-is (a .f) ns h (c .before .before .before .before .before .pre) (a .q) (a .n) i
+    (c .before .before .before .loop-test .taken) in
+    let z = place-here (a .f) ns h (c .before .before .before .before .before .pre) (a .q) (a .n) i
+    (c .before .before .before .loop-test .taken) (sym e
+    ∙ rw (← c .before .before .q-at .ensures .0, ← c .before .n-at .ensures .0) (c .if1 .taken)) in
     omega (arith, c .before .before .before .before .loop .inv .1 ns h))
     (λ c. omega arith)
     (λ c. omega arith)
@@ -36,9 +39,13 @@ place-of-spec =
       omega arith,
       λ ns h. let a = c .before .before .before .before .before .args in
           let i = c .before .before .before .before .loop .i in
-          let e = field-is (a .f) ns h (c .before .before .before .before .before .pre) (a .q) (a .n) i (c .before .before .before .loop-test .taken) in
-          let z = place-next (a .f) ns h (c .before .before .before .before .before .pre) (a .q) (a .n) i (c .before .before .before .loop-test .taken) (sym e ∙ rw (← c .before .before .q-at .ensures .0, ← c .before .n-at .ensures .0) (c .if1 .left)) in
+          let e = field-is (a .f) ns h (c .before .before .before .before .before .pre) (a .q) (a .n) i
+          (c .before .before .before .loop-test .taken) in
+          let z = place-next (a .f) ns h (c .before .before .before .before .before .pre) (a .q) (a .n) i
+          (c .before .before .before .loop-test .taken) (sym e
+          ∙ rw (← c .before .before .q-at .ensures .0, ← c .before .n-at .ensures .0) (c .if1 .left)) in
           omega (arith, c .before .before .before .before .loop .inv .1 ns h),
     ))
-    (λ c ns h. let z = place-end ns (c .before .loop .i) (nm (c .before .before .args .q) (c .before .before .args .n)) (omega (arith, names-count h (c .before .before .pre))) in
+    (λ c ns h. let z = place-end ns (c .before .loop .i) (nm (c .before .before .args .q) (c .before .before .args .n))
+    (omega (arith, names-count h (c .before .before .pre))) in
     omega (arith, c .before .loop .inv .1 ns h)))
