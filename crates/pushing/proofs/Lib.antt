@@ -16,3 +16,4 @@ pub mod Shaping
 pub mod Answering
 pub mod LastChild
 pub mod Changes
+pub mod Renames

@@ -7,7 +7,7 @@ use Prim.Native.Nat.{ℕ, _+_, _≤_, _<_}
 use lib.ListN.{length}
 use Rattle.image.specs.Limits.{workBytes, maxList}
 use Rattle.image.specs.Room.{Wrote}
-use Rattle.plan.specs.Syntax.{Expr, Plan}
+use Rattle.plan.specs.Syntax.{Expr, Plan, alias}
 use Rattle.plan.specs.Schema.{schema}
 use Rattle.plan.specs.Trees.{planTree, kidsP}
 use Rattle.acceptance.proofs.NamesRule.{reads, ok}
@@ -79,3 +79,10 @@ pub record Taken (s : List ℕ) (x : ℕ) (p : Predicate) : Type 0 where
   pub above : Plan → Plan
   pub rests : Rests s x p expr (above plan)
   pub takes : Takes s x above plan
+
+-- some predicate rests on a SubqueryAlias
+pub record OverAlias (s : List ℕ) (x : ℕ) (p : Predicate) : Type 0 where
+  pub expr : Expr
+  pub qualifier : ℕ
+  pub plan : Plan
+  pub rests : Rests s x p expr (alias qualifier plan)

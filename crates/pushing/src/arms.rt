@@ -16,7 +16,14 @@ ghost use Rattle.rewrite.specs.PushDownFilter.{Transformed·no, Transformed·ye
 ghost use Rattle.pushing.specs.Arms.{Rests, Resting, Answers, Takes, Taken};
 
 // Filter over a plan that takes nothing: both stay as they are.
-pub fn keep_filter(s: &[u8], x: usize, p: Predicate, out: &mut [u8], at: usize, level: usize) -> Written
+pub fn keep_filter(
+    s: &[u8],
+    x: usize,
+    p: Predicate,
+    out: &mut [u8],
+    at: usize,
+    level: usize,
+) -> Written
     requires { ⌜ Resting (now s) x p ⌝ }
     requires { ⌜ (level < 3000) × (length (now out) ≡ workBytes) × (at ≤ 2049) ⌝ }
     ensures { λ r. ⌜ ((e : Expr) (q : Plan) → Rests (now (s .entry)) x p e q →
@@ -29,7 +36,14 @@ pub fn keep_filter(s: &[u8], x: usize, p: Predicate, out: &mut [u8], at: usize, 
 }
 
 // Filter over a plan that takes it whole: the predicate goes below, in its shape, over the plan's input.
-pub fn push_filter(s: &[u8], x: usize, p: Predicate, out: &mut [u8], at: usize, level: usize) -> Written
+pub fn push_filter(
+    s: &[u8],
+    x: usize,
+    p: Predicate,
+    out: &mut [u8],
+    at: usize,
+    level: usize,
+) -> Written
     requires { ⌜ Taken (now s) x p ⌝ }
     requires { ⌜ (level < 3000) × (length (now out) ≡ workBytes) × (at ≤ 2049) ⌝ }
     ensures { λ r. ⌜ ((e : Expr) (q : Plan) (f : Plan → Plan) → Rests (now (s .entry)) x p e (f q) → Takes (now (s .entry)) x f q →

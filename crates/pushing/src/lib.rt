@@ -6,3 +6,4 @@ pub mod changing;
 pub mod inputs;
 pub mod parting;
 pub mod predicates;
+pub mod renaming;

@@ -15,9 +15,10 @@ keep-filter-spec =
     (λ c κs. c .before .before .pre .0 .rests .placed .standing .within)
     (λ c κs. let p = c .before .before .before .before .before .pre in
     let h = p .0 .rests in
-    let k = h .placed .standing in
-    (record { map = mapOf (p .0 .plan); expr = p .0 .expr; predicate = shaped-predicate (mapOf (p .0 .plan)) (h .shaped); most = h .shaped .most },
-    (rw (c .before .before .record-at .ensures) (plan-readable k), (record { plan = p .0 .plan; standing = k }, (omega (arith, p .1 .0), p .1 .1)))))
+    let k = h .placed .standing in (
+      record { map = mapOf (p .0 .plan); expr = p .0 .expr; predicate = shaped-predicate (mapOf (p .0 .plan)) (h .shaped); most = h .shaped .most },
+      (rw (c .before .before .record-at .ensures) (plan-readable k), (record { plan = p .0 .plan; standing = k }, (omega (arith, p .1 .0), p .1 .1))),
+    ))
     (λ c. search needs)
     (λ c e q h. answers refl (filter-few q (h .shaped) (h .placed .lists))
     (c .before .before .copy-filter .ensures (mapOf q) (rw (c .before .before .before .before .before .record-at .ensures) (plan-maps (h .placed .standing))) e (shaped-predicate (mapOf q) (h .shaped)) q
