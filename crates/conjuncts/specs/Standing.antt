@@ -1,0 +1,38 @@
+-- Where expressions and plans stand in the bytes of an image. Record numbers are counted from the image's start.
+use mathlib.Core.List.{List}
+use Prim.Native.Nat.{ℕ, _+_, _-_, _*_, _≤_, _<_}
+use lib.ListN.{length, drop}
+use Rattle.image.specs.Limits.{workBytes}
+use Rattle.image.specs.Tree.{At, Deep}
+use Rattle.plan.specs.Syntax.{Expr, Plan}
+use Rattle.plan.specs.Integers.{FitsE, FitsP}
+use Rattle.plan.specs.Trees.{exprTree, kidsE, planTree, kidsP}
+
+-- e stands at record n of the image s
+pub record Standing (s : List ℕ) (n : ℕ) (e : Expr) : Type 0 where
+  pub within : 32 * n ≤ length s
+  pub here : At (exprTree e) (drop (32 * n) s) n
+  pub deep : Deep (kidsE e) 255
+  pub fits : FitsE e
+  pub small : n < 2048
+
+-- p stands at record n of the image s
+pub record StandingP (s : List ℕ) (n : ℕ) (p : Plan) : Type 0 where
+  pub within : 32 * n ≤ length s
+  pub here : At (planTree p) (drop (32 * n) s) n
+  pub deep : Deep (kidsP p) 255
+  pub fits : FitsP p
+  pub small : n < 2048
+
+-- some expression stands at record n
+pub record There (s : List ℕ) (n : ℕ) : Type 0 where
+  pub expr : Expr
+  pub standing : Standing s n expr
+
+-- some expression stands at the start of `part`, which begins at record `base` of an image, no deeper than d
+pub record ReadableE (d : ℕ) (part : List ℕ) (base : ℕ) : Type 0 where
+  pub expr : Expr
+  pub at : At (exprTree expr) part base
+  pub some : 0 < d
+  pub deep : Deep (kidsE expr) (d - 1)
+  pub room : 32 * base + length part ≤ workBytes

@@ -1,0 +1,10 @@
+pub mod Settled
+pub mod Paths
+pub mod Over
+pub mod Around
+pub mod Frames
+pub mod Predicates
+pub mod Arms
+pub mod Parting
+pub mod Inputs
+pub mod Renaming

@@ -1,0 +1,60 @@
+// The arms of the match on a Filter's input that take the predicate in its shape, or leave it where it is.
+use crate::below::write_over;
+use crate::inputs::last_child;
+use crate::predicates::Predicate;
+use crate::predicates::Written;
+use conjuncts::lists::empty;
+use conjuncts::reading::record_at;
+use image::limits::MAX_DEPTH;
+use writing::filtering::copy_filter;
+ghost use mathlib.Core.Path.{_≡_};
+ghost use Prim.Native.Nat.{_≤_, _<_};
+ghost use lib.ListN.{length};
+ghost use Rattle.image.specs.Limits.{workBytes};
+ghost use Rattle.plan.specs.Syntax.{Expr, Plan, filter};
+ghost use Rattle.rewrite.specs.PushDownFilter.{Transformed·no, Transformed·yes};
+ghost use Rattle.pushing.specs.Arms.{Rests, Resting, Answers, Takes, Taken};
+
+// Filter over a plan that takes nothing: both stay as they are.
+pub fn keep_filter(
+    s: &[u8],
+    x: usize,
+    p: Predicate,
+    out: &mut [u8],
+    at: usize,
+    level: usize,
+) -> Written
+    requires { ⌜ Resting (now s) x p ⌝ }
+    requires { ⌜ (level < 3000) × (length (now out) ≡ workBytes) × (at ≤ 2049) ⌝ }
+    ensures { λ r. ⌜ ((e : Expr) (q : Plan) → Rests (now (s .entry)) x p e q →
+        Answers (now (out .entry)) (now (out .exit)) at level r (Transformed·no (filter e q))) ⌝ }
+{
+    let part = record_at(s, x);
+    let list = p.list;
+    let next = copy_filter(s, part, x, MAX_DEPTH, p.written, list, x, out, at, level);
+    Written { next, flag: false }
+}
+
+// Filter over a plan that takes it whole: the predicate goes below, in its shape, over the plan's input.
+pub fn push_filter(
+    s: &[u8],
+    x: usize,
+    p: Predicate,
+    out: &mut [u8],
+    at: usize,
+    level: usize,
+) -> Written
+    requires { ⌜ Taken (now s) x p ⌝ }
+    requires { ⌜ (level < 3000) × (length (now out) ≡ workBytes) × (at ≤ 2049) ⌝ }
+    ensures { λ r. ⌜ ((e : Expr) (q : Plan) (f : Plan → Plan) → Rests (now (s .entry)) x p e (f q) → Takes (now (s .entry)) x f q →
+        Answers (now (out .entry)) (now (out .exit)) at level r (Transformed·yes (f (filter e q)))) ⌝ }
+{
+    let part = record_at(s, x);
+    let y = last_child(part, x, MAX_DEPTH);
+    let nothing = Predicate {
+        written: 0,
+        list: empty(),
+    };
+    let next = write_over(s, part, x, MAX_DEPTH, nothing, p, x, y, out, at, level);
+    Written { next, flag: true }
+}

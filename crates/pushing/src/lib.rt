@@ -1,0 +1,9 @@
+// The port of push_down_filter.rs: what is decided about a Filter or a Join, and the plan that is written for it.
+pub mod arms;
+pub mod around;
+pub mod below;
+pub mod changing;
+pub mod inputs;
+pub mod parting;
+pub mod predicates;
+pub mod renaming;

@@ -1,0 +1,15 @@
+-- `simplify_predicates::same_value` meets its contract.
+use borrow.Author.Needs.{needs}
+use Rattle.simplify_expressions.proofs.Sides.{and-is}
+use Rattle.simplify_expressions.proofs.simplify_predicates.same_value.Statement.{statement}
+use Rattle.simplify_expressions.proofs.simplify_predicates.same_value.Tie as tie
+
+pub same-value-spec : {M : Type 1} → statement M
+same-value-spec =
+    tie.close
+    (tie.spec
+    (λ c κs. search needs)
+    (λ c κs. search needs)
+    (λ c κs. search needs)
+    (λ c κs. search needs)
+    (λ c. rw (← c .kind-of2 .ensures, ← c .before .kind-of .ensures, ← c .before .before .code-of2 .ensures, ← c .before .before .before .code-of .ensures, and-is, and-is) (search needs)))

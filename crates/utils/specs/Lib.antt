@@ -1,0 +1,6 @@
+pub mod Sets
+pub mod Masks
+pub mod Fields
+pub mod Inputs
+pub mod Referring
+pub mod Clauses

@@ -1,0 +1,156 @@
+-- A whole image written flat, record by record.
+--     begun           what was written from the start on
+--     word-left       a word of the first of two lists
+--     record-step     the record i of the flat tree: the label at record i of the image, and its depth
+-- Assumes nothing.
+use mathlib.Core.Path.{_≡_, refl, sym, ap, subst, _∙_}
+use mathlib.Core.Bool.{Bool, true, false}
+use mathlib.Core.List.{List, [], _∷_, _++_, append-nil}
+use Prim.Native.Nat.{ℕ, zero, suc, _+_, _-_, _*_, _≤_, _<_}
+use native.Mathlib.Nat.{zero-add}
+use native.Mathlib.Omega.{arith}
+use lib.Dec.{leb}
+use lib.ListN.{length, getD, drop, set, List·getD-append, drop-of-length-le}
+use lib.Seq.{sets, sets-eq, drop-at, drop-drop, drop-append-add, getD-append-add, getD-set-same, getD-set-other}
+use borrow.Author.Count.{below-more}
+use borrow.Author.Tests.{leb-true, leb-false}
+use Rattle.image.specs.Limits.{workBytes}
+use Rattle.image.specs.Word.{word}
+use Rattle.image.specs.Tree.{Label, Forest, none, node, Tree, size, labelAt, Stands, At}
+use Rattle.image.specs.Flat.{sizeT, bytesOf, flat}
+use Rattle.image.specs.Room.{cap, Put, Wrote}
+use Rattle.image.proofs.Writing.{bytesOf-length, flat-length}
+use Rattle.image.proofs.Room.{cap-is, cap-le, cap-add, sets-next}
+use Rattle.image.proofs.Relinking.{Rec, recsAny, recs, flats, flats-flat, recs-any-length, recs-length}
+use Rattle.writing.proofs.Depths.{first, depth-at}
+use Rattle.writing.specs.Splicing.{Levels, Ran}
+
+-- no count is more than 2,049
+pub wrote-small : {before after : List ℕ} {at level r : ℕ} {t : Tree} → Wrote before after at level r t → r ≤ 2049
+wrote-small {at = at} {t = t} w = rw (w .next) (cap-le (at + sizeT t))
+
+-- ---- what was written from the start on
+
+module _ {out out′ : List ℕ} {n : ℕ} {t : Tree} (w : Wrote out out′ 0 1 n t) where
+  -- a tree that has room is counted
+  pub begun-size : sizeT t ≤ 2048 → n ≡ sizeT t
+  begun-size few = w .next ∙ (ap cap (zero-add (sizeT t)) ∙ cap-is (sizeT t) (omega arith))
+
+  -- and its bytes are in front
+  pub begun : length out ≡ workBytes → sizeT t ≤ 2048 → out′ ≡ flat 1 t ++ drop (32 * sizeT t) out
+  begun long few = w .bytes ∙ (sets-eq (flat 1 t) out 0 (omega (arith, flat-length 1 t)) ∙ rw (zero-add, flat-length))
+
+-- a word of the first of two lists
+pub word-left : (xs ys : List ℕ) (i : ℕ) → i + 4 ≤ length xs → word (xs ++ ys) i ≡ word xs i
+unfolding word
+word-left xs ys i h =
+    rw (
+      List·getD-append xs ys 0 i (omega arith),
+      List·getD-append xs ys 0 (i + 1) (omega arith),
+      List·getD-append xs ys 0 (i + 2) (omega arith),
+      List·getD-append xs ys 0 (i + 3) (omega arith),
+    )
+
+-- ---- depths
+
+-- one more is stored
+pub levels-more : (f : ℕ → ℕ) (l : List ℕ) (i v : ℕ) → i < length l → ((j : ℕ) → j < i → getD l j 0 ≡ f j) → v ≡ f i
+    → (j : ℕ) → j < i + 1 → getD (set l i v) j 0 ≡ f j
+levels-more f l i v lt h e =
+    below-more (λ (j : ℕ). getD (set l i v) j 0 ≡ f j) i
+    (λ j k. getD-set-other l i j v 0 (λ q. omega arith) ∙ h j k)
+    (getD-set-same l i v 0 lt ∙ e)
+
+-- all are stored
+pub levels-all : {t : Tree} {n : ℕ} {l : List ℕ} (out rest : List ℕ) → out ≡ flat 1 t ++ rest → n ≡ sizeT t
+    → ((j : ℕ) → j < n → getD l j 0 ≡ word out (32 * j + 24)) → Levels l t
+levels-all {t} out rest e all h = record {
+  each = λ j lt. h j (omega arith) ∙ rw e (word-left (flat 1 t) rest (32 * j + 24) (omega (arith, flat-length 1 t)));
+}
+
+-- ---- the records of a flat tree
+
+-- what holds of the element in either of two lists
+either-side : (P : Rec → Type 0) (xs ys : List Rec) (j : ℕ) (z : Rec) → (j < length xs → P (getD xs j z))
+    → (length xs ≤ j → P (getD ys (j - length xs) z)) → P (getD (xs ++ ys) j z)
+either-side P xs ys j z f g = go (leb (length xs) j) refl
+  where
+    go : (b : Bool) → leb (length xs) j ≡ b → P (getD (xs ++ ys) j z)
+    go false e =
+        let lt : j < length xs = leb-false (length xs) j e in
+        subst P (sym (List·getD-append xs ys z j lt)) (f lt)
+    go true e =
+        let le : length xs ≤ j = leb-true (length xs) j e in
+        let q : j ≡ length xs + (j - length xs) = omega arith in
+        subst P (sym (ap (λ (i : ℕ). getD (xs ++ ys) i z) q ∙ getD-append-add xs ys (j - length xs) z)) (g le)
+
+-- the label of a record is that at the same record of the image
+labels-any : (f : Forest) (s : List ℕ) (b d : ℕ) → Stands f s b → (i : ℕ) (z : Rec) → i < size f → labelAt (drop (32 * i) s) ≡ getD (recsAny d f) i z .0
+labels-any none s b d h i z lt = absurd (omega arith)
+labels-any (node l cs ns) s b d h zero z lt = h .head .label
+labels-any (node l cs ns) s b d h (suc j) z lt =
+    let n : length (recsAny (d + 1) cs) ≡ size cs = recs-any-length (d + 1) cs in
+    either-side (λ r. labelAt (drop (32 * suc j) s) ≡ r .0) (recsAny (d + 1) cs) (recsAny d ns) j z
+    (λ a. let e : 32 + 32 * j ≡ 32 * suc j = omega arith in
+    rw (drop-drop, e) at (labels-any cs (drop 32 s) (b + 1) (d + 1) (h .below) j z (omega arith)))
+    (λ a. let e : 32 * suc (size cs) + 32 * (j - length (recsAny (d + 1) cs)) ≡ 32 * suc j = omega arith in
+    rw (drop-drop, e) at
+    (labels-any ns (drop (32 * suc (size cs)) s) (b + 1 + size cs) d (h .after) (j - length (recsAny (d + 1) cs)) z (omega arith)))
+
+labels : (t : Tree) (s : List ℕ) → At t s 0 → (i : ℕ) (z : Rec) → i < sizeT t → labelAt (drop (32 * i) s) ≡ getD (recs 1 t) i z .0
+labels t s h zero z lt = h .head .label
+labels t s h (suc j) z lt =
+    let e : 32 + 32 * j ≡ 32 * suc j = omega arith in
+    rw (drop-drop, e) at (labels-any (t .below) (drop 32 s) 1 2 (h .below) j z (omega arith))
+
+-- the record i of records that are written flat
+flats-drop : (xs : List Rec) (i : ℕ) (z : Rec) → i < length xs
+    → drop (32 * i) (flats xs) ≡ bytesOf (getD xs i z .0) (getD xs i z .1) 0 ++ drop (32 * (i + 1)) (flats xs)
+flats-drop [] i z lt = absurd (omega arith)
+flats-drop (x ∷ xs) zero z lt = let b = bytesOf (x .0) (x .1) 0 in rw (drop-at b (flats xs) 32 (bytesOf-length (x .0) (x .1) 0))
+flats-drop (x ∷ xs) (suc i) z lt =
+    let b : List ℕ = bytesOf (x .0) (x .1) 0 in
+    let e : 32 * suc i ≡ length b + 32 * i = omega (arith, bytesOf-length (x .0) (x .1) 0) in
+    let e′ : 32 * (suc i + 1) ≡ length b + 32 * (i + 1) = omega (arith, bytesOf-length (x .0) (x .1) 0) in
+    rw (e, e′, drop-append-add b (flats xs) (32 * i), drop-append-add b (flats xs) (32 * (i + 1))) (flats-drop xs i z (omega arith))
+
+-- the record i of the flat tree
+pub record-step : (t : Tree) (s : List ℕ) → At t s 0 → sizeT t ≤ 2048 → (i : ℕ) → i < sizeT t
+    → drop (32 * i) (flat 1 t)
+    ≡ bytesOf (labelAt (drop (32 * i) s)) (word (flat 1 t) (32 * i + 24)) 0 ++ drop (32 * (i + 1)) (flat 1 t)
+record-step t s h few i lt =
+    let z = first t in
+    let depth : word (flat 1 t) (32 * i + 24) ≡ getD (recs 1 t) i z .1 = depth-at t i (flat 1 t) [] (sym (append-nil (flat 1 t))) few lt in
+    let l : labelAt (drop (32 * i) s) ≡ getD (recs 1 t) i z .0 = labels t s h i z lt in
+    rw (depth, l, ← flats-flat 1 t) (flats-drop (recs 1 t) i z (rw recs-length lt))
+
+-- ---- records that are written one by one
+
+-- the records from `from` on, of n, were to be written from record `at` on, and those from i on are left, to be written from record `to` on
+pub record Run (t : Tree) (n from : ℕ) (out₀ : List ℕ) (at i : ℕ) (out : List ℕ) (to : ℕ) : Type 0 where
+  pub count : cap (to + (n - i)) ≡ cap (at + (n - from))
+  pub same : sets out (32 * to) (drop (32 * i) (flat 1 t)) ≡ sets out₀ (32 * at) (drop (32 * from) (flat 1 t))
+
+-- one more is written
+pub run-next : {t : Tree} {s l : List ℕ} {n from : ℕ} {out₀ : List ℕ} {at i : ℕ} {out : List ℕ} {to : ℕ} {out′ : List ℕ} {to′ level : ℕ}
+    → At t s 0 → n ≡ sizeT t → n ≤ 2048 → i < n → length out ≡ workBytes → Levels l t → level ≡ getD l i 0
+    → Put out out′ to level to′ (labelAt (drop (32 * i) s)) → Run t n from out₀ at i out to → Run t n from out₀ at (i + 1) out′ to′
+run-next {t} {s} {l} {n} {i = i} {out} {to} {out′} {to′} {level} h all few lt long lv d p r =
+    let e = record-step t s h (omega arith) i (omega arith) in
+    let depth : level ≡ word (flat 1 t) (32 * i + 24) = d ∙ lv .each i (omega arith) in
+    let b : List ℕ = bytesOf (labelAt (drop (32 * i) s)) (word (flat 1 t) (32 * i + 24)) 0 in
+    let bytes : out′ ≡ sets out (32 * to) b = rw depth at (p .bytes) in
+    record {
+      count = rw (p .next, cap-add) (ap cap (omega arith) ∙ r .count);
+      same = rw bytes
+          (sets-next out b (drop (32 * (i + 1)) (flat 1 t)) to 1 to′ long (bytesOf-length _ _ 0) (p .next)
+          ∙ ap (sets out (32 * to)) (sym e) ∙ r .same);
+    }
+
+-- all are written
+pub run-end : {t : Tree} {n from : ℕ} {out₀ : List ℕ} {at i : ℕ} {out : List ℕ} {to : ℕ} → n ≡ sizeT t → n ≤ i → to ≤ 2049
+    → Run t n from out₀ at i out to → Ran out₀ out at (n - from) to (drop (32 * from) (flat 1 t))
+run-end {t} {n} {i = i} {out} {to} e le small r =
+    let z : to + (n - i) ≡ to = omega arith in
+    let none : drop (32 * i) (flat 1 t) ≡ [] = drop-of-length-le (flat 1 t) {i = 32 * i} (omega (arith, flat-length 1 t)) in
+    record { next = sym (ap cap z ∙ cap-is to small) ∙ r .count; bytes = ap (sets out (32 * to)) (sym none) ∙ r .same }

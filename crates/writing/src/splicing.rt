@@ -1,0 +1,97 @@
+// Splicing: the whole image written flat, with another tree in the place of one plan's.
+//     write_before writes the image as it is, and says where the new tree goes;
+//     the caller writes the new tree there;
+//     write_after writes again what stands behind the old tree, behind the new one.
+use crate::filtering::copy_plan;
+use conjuncts::reading::record_at;
+use image::copying::copy_tree;
+use image::copying::put_label;
+use image::limits::MAX_DEPTH;
+use image::limits::RECORD_BYTES;
+use image::records::FIRST_LINK;
+use image::words::word_at;
+ghost use mathlib.Core.Path.{_≡_};
+ghost use mathlib.Core.Option.{some};
+ghost use Prim.Native.Nat.{_-_, _*_, _≤_, _<_};
+ghost use lib.ListN.{length, drop};
+ghost use Rattle.image.specs.Limits.{maxRecords, workBytes};
+ghost use Rattle.image.specs.Tree.{Tree, At};
+ghost use Rattle.image.specs.Flat.{sizeT, flat};
+ghost use Rattle.image.specs.Room.{Wrote};
+ghost use Rattle.plan.specs.Syntax.{Plan};
+ghost use Rattle.rewrite.specs.RewriteAt.{Focus, focus};
+ghost use Rattle.conjuncts.specs.Standing.{StandingP};
+ghost use Rattle.writing.specs.Plans.{ThereP};
+ghost use Rattle.writing.specs.Splicing.{Levels, Sized, Before, Ran};
+
+// Where a new tree goes: at what depth, and what record stands behind the old one; and how many records there are.
+pub struct Spot {
+    pub level: usize,
+    pub end: usize,
+    pub records: usize,
+}
+
+// A level as a number: the index is then all that a read of it asks for.
+fn wide(x: u32) -> usize
+    ensures { λ r. ⌜ (r ≡ x) × (r < 4294967296) ⌝ }
+{
+    x as usize
+}
+
+// Writes the whole image flat, and says of each record how deep it is. Returns how many there are.
+fn write_whole(s: &[u8], out: &mut [u8], levels: &mut [u32]) -> usize
+    requires { ⌜ Sized (now s) ⌝ }
+    requires { ⌜ (length (now out) ≡ workBytes) × (length (now levels) ≡ maxRecords) ⌝ }
+    ensures { λ n. ⌜ ((t : Tree) → At t (now (s .entry)) 0 →
+        Wrote (now (out .entry)) (now (out .exit)) 0 1 n t × (n ≡ sizeT t) × Levels (now (levels .exit)) t) ⌝ }
+{
+    let n = copy_tree(s, 0, MAX_DEPTH, out, 0, 1);
+    let mut i = 0;
+    while i < n {
+        levels[i] = word_at(out, RECORD_BYTES * i + FIRST_LINK) as u32;
+        i += 1;
+    }
+    n
+}
+
+// Writes the whole image flat; the new tree goes to the record `node`, at the depth that is returned.
+pub fn write_before(s: &[u8], node: usize, out: &mut [u8], levels: &mut [u32]) -> Spot
+    requires { ⌜ Sized (now s) ⌝ }
+    requires { ⌜ ThereP (now s) node ⌝ }
+    requires { ⌜ (length (now out) ≡ workBytes) × (length (now levels) ≡ maxRecords) ⌝ }
+    ensures { λ r. ⌜ ((p : Plan) (c : Focus) → StandingP (now (s .entry)) 0 p → focus node p ≡ some c → StandingP (now (s .entry)) node (c .plan) →
+        Before (now (out .exit)) (now (levels .exit)) p node (c .plan) r) ⌝ }
+{
+    // The old tree is written only to count its records.
+    let size = copy_plan(s, node, out, 0, 1);
+    let records = write_whole(s, out, levels);
+    Spot {
+        level: wide(levels[node]),
+        end: node + size,
+        records,
+    }
+}
+
+// Writes the records from `from` on, of n, with their depths.
+pub fn write_after(
+    s: &[u8],
+    levels: &[u32],
+    from: usize,
+    n: usize,
+    out: &mut [u8],
+    at: usize,
+) -> usize
+    requires { ⌜ (n ≤ maxRecords) × (32 * n ≤ length (now s)) × (length (now levels) ≡ maxRecords) ⌝ }
+    requires { ⌜ (from ≤ n) × (at ≤ 2049) × (length (now out) ≡ workBytes) ⌝ }
+    ensures { λ r. ⌜ ((t : Tree) → At t (now (s .entry)) 0 → n ≡ sizeT t → Levels (now (levels .entry)) t →
+        Ran (now (out .entry)) (now (out .exit)) at (n - from) r (drop (32 * from) (flat 1 t))) ⌝ }
+{
+    let mut to = at;
+    let mut i = from;
+    while i < n {
+        let part = record_at(s, i);
+        to = put_label(part, out, to, wide(levels[i]));
+        i += 1;
+    }
+    to
+}
