@@ -38,12 +38,6 @@ pub after-next : (es : List Expr) (i : ℕ) → i < length es → (b v : Bool) �
     → after-cost b (drop i es) ≡ ((b & not v) || after-cost v (drop (i + 1) es))
 after-next es i h b v e = rw (next es i h, needs-one (getD es i FALSE) (drop (i + 1) es), not-not, e)
 
--- the code's test of both is the definitions'
-pub and-is : (a b : Bool) {v : Bool} → (a && b) ≡ v → a & b ≡ v
-unfolding _&_
-and-is true b h = h
-and-is false b h = h
-
 pub cost-is : (costly v : Bool) (e : Expr) → v ≡ any-fn (marked false) e → ofCost costly e ≡ Bool·beq v costly
 cost-is true true e h = rw (← h)
 cost-is true false e h = rw (← h)
