@@ -99,8 +99,8 @@ enter-head last i (g ∷ gs) h = go (same (g .key) (i .key)) refl (name-under (i
     equal e false f = let a : after last (i .key) ≡ false = subst (λ (x : Name). after last x ≡ false) e f in rw a
 
     first : All (λ k. name-under (i .key) (k .key) ≡ true) (g ∷ gs) → (b : Bool) → after last (i .key) ≡ b
-        → headKey (put b (fresh i) (rest last (g ∷ gs))) ≡ choose b
-        (choose (before (headKey (rest last (g ∷ gs))) (i .key)) (headKey (rest last (g ∷ gs))) (some (i .key))) (headKey (rest last (g ∷ gs)))
+        → headKey (put b (fresh i) (rest last (g ∷ gs)))
+        ≡ choose b (choose (before (headKey (rest last (g ∷ gs))) (i .key)) (headKey (rest last (g ∷ gs))) (some (i .key))) (headKey (rest last (g ∷ gs)))
     first l true f = rw (not-before (i .key) (All-keep (λ k. after last (k .key)) l)) (ap some (fresh-key i))
     first l false f = refl
 
@@ -115,8 +115,8 @@ enter-head last i (g ∷ gs) h = go (same (g .key) (i .key)) refl (name-under (i
 
     go : (b : Bool) → same (g .key) (i .key) ≡ b → (c : Bool) → name-under (i .key) (g .key) ≡ c
         → headKey (rest last (enter i gs)) ≡ lesser last (some i) (headKey (rest last gs))
-        → headKey (rest last (choose b (put-in i g ∷ gs) (choose c (fresh i ∷ g ∷ gs) (g ∷ enter i gs)))) ≡ lesser last (some i)
-        (headKey (rest last (g ∷ gs)))
+        → headKey (rest last (choose b (put-in i g ∷ gs) (choose c (fresh i ∷ g ∷ gs) (g ∷ enter i gs))))
+        ≡ lesser last (some i) (headKey (rest last (g ∷ gs)))
     go true e c f m =
         ap (λ (x : Name). headKey (put (after last x) (put-in i g) (rest last gs))) (key-put i g)
         ∙ equal (same-eq (g .key) (i .key) e) (after last (g .key)) refl
@@ -180,8 +180,9 @@ rest-next last x (g ∷ gs) h e = go (after last (g .key)) refl e (λ k. rest-ne
         let e₁ = here-all (λ (y : Group). y .eqs) g q l in
         let e₂ = here-all (λ (y : Group). y .ups) g q l in
         let e₃ = here-all (λ (y : Group). y .downs) g q l in
-        rw n (ap (λ (y : Name × List Side × List Side × List Side × List Group). record { key = y .0; eqs = y .1; ups = y .2; downs = y .3 }
-        ∷ y .4) (cc))
+        rw n
+        (ap (λ (y : Name × List Side × List Side × List Side × List Group). record { key = y .0; eqs = y .1; ups = y .2; downs = y .3 } ∷ y .4)
+        (cc))
     go false f k m =
         let u : name-under (g .key) x ≡ true = head-all (λ y. name-under (g .key) y ≡ true) (All-keep (λ y. after last (y .key)) (h .0)) k in
         rw (under-asym (g .key) x u, under-apart (g .key) x u) (m k)

@@ -64,7 +64,8 @@ pub +has-function-spec : {M : Type 1} → statement M
     (λ c κs. let u = round _ (c .before .before .loop .inv) (c .before .loop-test .taken) in
     (omega arith, rw (c .from-record .ensures) (u .readable)))
     (λ c. let u = round _ (c .before .before .before .before .loop .inv) (c .before .before .before .loop-test .taken) in
-    let e : true ≡ fnIn (marked (c .before .before .before .before .before .before .before .before .before .args .volatile)) (u .turn .child) = sym (c .if2 .taken) ∙ c .before .has-function .ensures (u .turn .child) (rw (c .before .before .from-record .ensures) (u .turn .here)) in
+    let e : true ≡ fnIn (marked (c .before .before .before .before .before .before .before .before .before .args .volatile)) (u .turn .child) =
+    sym (c .if2 .taken) ∙ c .before .has-function .ensures (u .turn .child) (rw (c .before .before .from-record .ensures) (u .turn .here)) in
     for-all (λ t. _ ≡ fnIn (marked (c .before .before .before .before .before .before .before .before .before .args .volatile)) t)
     (c .before .before .before .before .loop .inv .stands) (rw (u .so-far, ← e)))
     (λ c κs. let u = round _ (c .before .before .before .before .loop .inv) (c .before .before .before .loop-test .taken) in
@@ -72,7 +73,8 @@ pub +has-function-spec : {M : Type 1} → statement M
     (λ c. let u = round _ (c .before .before .before .before .before .loop .inv) (c .before .before .before .before .loop-test .taken) in
     rw (c .word-at2 .ensures .0, c .before .before .before .from-record .ensures) (u .turn .less))
     (λ c. let u = round _ (c .before .before .before .before .before .loop .inv) (c .before .before .before .before .loop-test .taken) in
-    let e : false ≡ fnIn (marked (c .before .before .before .before .before .before .before .before .before .before .args .volatile)) (u .turn .child) = sym (c .before .if2 .left) ∙ c .before .before .has-function .ensures (u .turn .child) (rw (c .before .before .before .from-record .ensures) (u .turn .here)) in
+    let e : false ≡ fnIn (marked (c .before .before .before .before .before .before .before .before .before .before .args .volatile)) (u .turn .child) =
+    sym (c .before .if2 .left) ∙ c .before .before .has-function .ensures (u .turn .child) (rw (c .before .before .before .from-record .ensures) (u .turn .here)) in
     rw (c .word-at2 .ensures .0, c .before .before .before .from-record .ensures)
     (again _ (c .before .before .before .before .before .loop .inv) u (u .so-far ∙ rw (← e))))
     (λ c. let k = c .before .loop .inv in

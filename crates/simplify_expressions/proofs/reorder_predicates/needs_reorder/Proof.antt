@@ -1,4 +1,5 @@
--- `reorder_predicates::needs_reorder` meets its contract. The loop's invariant: what is left to say of the rest, and of whether the one before it is expensive.
+-- `reorder_predicates::needs_reorder` meets its contract.
+-- The loop's invariant: what is left to say of the rest, and of whether the one before it is expensive.
 use mathlib.Core.Path.{_≡_, sym, _∙_}
 use mathlib.Core.List.{List}
 use Prim.Native.Nat.{_-_, _≤_}

@@ -1,4 +1,5 @@
--- `restrictive::find_most_restrictive_predicate` meets its contract. The loop's invariant: the most restrictive of all is that of the best so far and the rest.
+-- `restrictive::find_most_restrictive_predicate` meets its contract.
+-- The loop's invariant: the most restrictive of all is that of the best so far and the rest.
 use mathlib.Core.Path.{_≡_, refl, sym, _∙_}
 use mathlib.Core.List.{List, map}
 use Prim.Native.Nat.{_+_, _-_, _≤_, _<_}

@@ -1,4 +1,5 @@
--- `simplify_predicates::simplify_predicates` meets its contract. The loop's invariant: what is listed, and then the columns that are left, is all.
+-- `simplify_predicates::simplify_predicates` meets its contract.
+-- The loop's invariant: what is listed, and then the columns that are left, is all.
 use mathlib.Core.Path.{_≡_}
 use mathlib.Core.List.{List}
 use mathlib.Core.Option.{some}
