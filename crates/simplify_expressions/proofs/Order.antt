@@ -1,7 +1,7 @@
 -- Laws of cheap and expensive predicates, for a walk along a list.
 -- Assumes nothing.
 use mathlib.Core.Path.{_≡_, refl}
-use mathlib.Core.Bool.{Bool, true, false, _||_, _&&_, not, Bool·beq}
+use mathlib.Core.Bool.{Bool, true, false, _||_, not, Bool·beq}
 use mathlib.Core.List.{List, [], _∷_}
 use Prim.Native.Nat.{ℕ, _+_, _<_}
 use lib.ListN.{length, getD, drop}

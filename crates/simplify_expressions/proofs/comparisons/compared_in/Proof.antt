@@ -1,6 +1,6 @@
 -- `comparisons::compared_in` meets its contract.
 use borrow.Author.Needs.{needs}
-use mathlib.Core.Path.{_≡_, sym, ap, _∙_}
+use mathlib.Core.Path.{sym, ap, _∙_}
 use native.Mathlib.Omega.{arith}
 use lib.ListN.{length-drop}
 use Rattle.image.specs.Tree.{Label}
