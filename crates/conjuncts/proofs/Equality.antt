@@ -26,20 +26,21 @@ use Rattle.conjuncts.specs.Standing.{Standing}
 use Rattle.conjuncts.specs.Items.{FALSE}
 use Rattle.conjuncts.specs.Equality.{sameLabel, sameAny, same}
 
-pub for-both : (P : Tree → Tree → Type 0) {t u : Tree} {s v : List ℕ} {b d : ℕ} → At t s b → At u v d → P t u → (t′ u′ : Tree) → At t′ s b → At u′ v d → P t′ u′
+pub for-both : (P : Tree → Tree → Type 0) {t u : Tree} {s v : List ℕ} {b d : ℕ} → At t s b → At u v d → P t u → (t′ u′ : Tree) → At t′ s b
+    → At u′ v d → P t′ u′
 for-both P h k p t′ u′ h′ k′ = rw (only h′ h, only k′ k) p
 
-and-true : (a b : Bool) → (a && b) ≡ true → (a ≡ true) × (b ≡ true)
-and-true true b e = (refl, e)
-and-true false b e = let z : _≡_ {A = ℕ} 0 1 = cc in absurd (omega arith)
+pub and-both : (a b : Bool) → (a && b) ≡ true → (a ≡ true) × (b ≡ true)
+and-both true b e = (refl, e)
+and-both false b e = let z : _≡_ {A = ℕ} 0 1 = cc in absurd (omega arith)
 
 label-is : (l k : Label) → sameLabel l k ≡ true → l ≡ k
 label-is l k e =
-    let a = and-true _ _ e in
-    let b = and-true _ _ (a .0) in
-    let c = and-true _ _ (b .0) in
-    let d = and-true _ _ (c .0) in
-    let f = and-true _ _ (d .0) in
+    let a = and-both _ _ e in
+    let b = and-both _ _ (a .0) in
+    let c = and-both _ _ (b .0) in
+    let d = and-both _ _ (c .0) in
+    let f = and-both _ _ (d .0) in
     let hi : l .hi ≡ k .hi = eqb-true _ _ (a .1) in
     let lo : l .lo ≡ k .lo = eqb-true _ _ (b .1) in
     let r : l .r ≡ k .r = eqb-true _ _ (c .1) in
@@ -53,19 +54,27 @@ any-is none none e = refl
 any-is none (node l cs ns) e = let z : _≡_ {A = ℕ} 0 1 = cc in absurd (omega arith)
 any-is (node l cs ns) none e = let z : _≡_ {A = ℕ} 0 1 = cc in absurd (omega arith)
 any-is (node l cs ns) (node l′ cs′ ns′) e =
-    let a = and-true _ _ e in
-    let b = and-true _ _ (a .0) in
+    let a = and-both _ _ e in
+    let b = and-both _ _ (a .0) in
     rw (label-is l l′ (b .0), any-is cs cs′ (b .1), any-is ns ns′ (a .1))
 
 pub same-is : (t u : Tree) → same t u ≡ true → t ≡ u
 same-is t u e =
-    let a = and-true _ _ e in
+    let a = and-both _ _ e in
     let l = label-is (t .label) (u .label) (a .0) in
     let b = any-is (t .below) (u .below) (a .1) in
     ap (λ (x : Label × Forest). record { label = x .0; below = x .1 }) (cc)
 
 label-same : (l : Label) → sameLabel l l ≡ true
-label-same l = rw (eq-eqb (l .kind) _ refl, eq-eqb (l .p) _ refl, eq-eqb (l .q) _ refl, eq-eqb (l .r) _ refl, eq-eqb (l .lo) _ refl, eq-eqb (l .hi) _ refl)
+label-same l = rw (
+  eq-eqb (l .kind) _ refl,
+  eq-eqb (l .p) _ refl,
+  eq-eqb (l .q) _ refl,
+  eq-eqb (l .r) _ refl,
+  eq-eqb (l .lo) _ refl,
+  eq-eqb
+      (l .hi) _ refl,
+)
 
 any-same : (f : Forest) → sameAny f f ≡ true
 any-same none = refl
@@ -130,5 +139,6 @@ false-is e =
     (λ h. eq-same (says-false e h))
     (λ h. subst (λ (f : Expr). (eqb (labelE f .kind) 3 && eqb (labelE f .p) 0) ≡ true) (sameE-eq FALSE e h) false-says)
 
-pub false-label : {s : List ℕ} {n : ℕ} {e : Expr} → Standing s n e → (eqb (word (drop (32 * n) s) 0) 3 && eqb (word (drop (32 * n) s) 4) 0) ≡ sameE FALSE e
+pub false-label : {s : List ℕ} {n : ℕ} {e : Expr} → Standing s n e
+    → (eqb (word (drop (32 * n) s) 0) 3 && eqb (word (drop (32 * n) s) 4) 0) ≡ sameE FALSE e
 false-label {e = e} h = ap (λ (l : Label). eqb (l .kind) 3 && eqb (l .p) 0) (h .here .head .label) ∙ false-is e

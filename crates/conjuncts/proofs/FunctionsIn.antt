@@ -8,7 +8,7 @@ use Rattle.plan.specs.Trees.{exprTree, labelE, kidsE, forestE}
 use Rattle.rewrite.specs.Utils.{any-fn, any-fn-all}
 use Rattle.conjuncts.specs.Functions.{fnAny, fnIn}
 
-or-nil : (a : Bool) → (a || false) ≡ a
+pub or-nil : (a : Bool) → (a || false) ≡ a
 or-nil true = refl
 or-nil false = refl
 

@@ -1,4 +1,5 @@
 pub mod Listed
+pub mod Kept
 pub mod Operands
 pub mod FunctionsIn
 pub mod Equality

@@ -108,7 +108,8 @@ module _ {s : List ℕ} where
   lists-add n h k f = record { numbers = h .numbers ++ (n ∷ []); holds = f (h .numbers) (h .holds); items = items-add (h .items) k }
 
   -- an item or none is appended to a list that is too long, by doing nothing
-  pub lists-full : {c : Conjuncts} {es : List Expr} {e : Expr} {n : ℕ} (b : Bool) → Lists s c es → Item s n e → 128 < c .len → Lists s c (es ++ put b e [])
+  pub lists-full : {c : Conjuncts} {es : List Expr} {e : Expr} {n : ℕ} (b : Bool) → Lists s c es → Item s n e → 128 < c .len
+      → Lists s c (es ++ put b e [])
   unfolding put
   lists-full {n = n} true h k many = lists-add n h k (λ xs g. holds-full n g many)
   lists-full {es = es} false h k many = rw (append-nil es) h

@@ -15,6 +15,7 @@ use Rattle.rewrite.proofs.Exprs.{sameE-eq}
 use Rattle.conjuncts.specs.Items.{FALSE}
 use Rattle.conjuncts.specs.Onto.{isIn, onto}
 use Rattle.conjuncts.proofs.Listed.{next}
+use Rattle.conjuncts.proofs.FunctionsIn.{or-nil}
 
 pub onto-next : (fs es : List Expr) (i : ℕ) → i < length es
     → onto fs (drop i es) ≡ onto (fs ++ put (not (isIn fs (getD es i FALSE))) (getD es i FALSE) []) (drop (i + 1) es)
@@ -37,10 +38,6 @@ not-or true true = refl
 not-or true false = refl
 not-or false true = refl
 not-or false false = refl
-
-or-nil : (a : Bool) → (a || false) ≡ a
-or-nil true = refl
-or-nil false = refl
 
 or-assoc : (a b c : Bool) → ((a || b) || c) ≡ (a || (b || c))
 or-assoc true b c = refl

@@ -37,7 +37,8 @@ pub record Operands (part : List ℕ) (base : ℕ) (a b : Expr) : Type 0 where
   pub left : At (exprTree a) (drop (32 * (word part 24 - base)) part) (word part 24)
   pub past₂ : base < word (drop (32 * (word part 24 - base)) part) 28
   pub fits₂ : 32 * (word (drop (32 * (word part 24 - base)) part) 28 - base) + 32 ≤ length part
-  pub right : At (exprTree b) (drop (32 * (word (drop (32 * (word part 24 - base)) part) 28 - base)) part) (word (drop (32 * (word part 24 - base)) part) 28)
+  pub right : At (exprTree b) (drop (32 * (word (drop (32 * (word part 24 - base)) part) 28 - base)) part)
+      (word (drop (32 * (word part 24 - base)) part) 28)
 
 pub operands : {part : List ℕ} {base : ℕ} (o : Op) {a b : Expr} → At (exprTree (bin o a b)) part base → Operands part base a b
 unfolding labelE kidsE
@@ -48,7 +49,8 @@ operands {part} {base} o {a} {b} h =
     let af : l .after ≡ node (labelE b) (kidsE b) none = cc (l .is) in
     let n2 : word (drop (32 * (word part 24 - base)) part) 28 ≡ word part 24 + 1 + size (l .child .below) =
     l .number ∙ ap (link (word part 24 + 1 + size (l .child .below))) af in
-    let r : Turn (l .after) part base (word (drop (32 * (word part 24 - base)) part) 28) = turn (l .after) (l .next) (λ z. absurd (omega (arith, n2))) in
+    let r : Turn (l .after) part base (word (drop (32 * (word part 24 - base)) part) 28) = turn (l .after) (l .next)
+    (λ z. absurd (omega (arith, n2))) in
     let lb : r .child ≡ exprTree b = ap (λ (x : Label × Forest). record { label = x .0; below = x .1 }) (cc (r .is, af)) in
     record {
       past = l .past;
@@ -56,7 +58,8 @@ operands {part} {base} o {a} {b} h =
       left = subst (λ (t : Tree). At t (drop (32 * (word part 24 - base)) part) (word part 24)) la (l .here);
       past₂ = r .past;
       fits₂ = r .fits;
-      right = subst (λ (t : Tree). At t (drop (32 * (word (drop (32 * (word part 24 - base)) part) 28 - base)) part) (word (drop (32 * (word part 24 - base)) part) 28)) lb (r .here);
+      right = subst (λ (t : Tree). At t (drop (32 * (word (drop (32 * (word part 24 - base)) part) 28 - base)) part)
+          (word (drop (32 * (word part 24 - base)) part) 28)) lb (r .here);
     }
 
 -- the part that begins at a later record is a part of the image
@@ -83,7 +86,8 @@ deep-parts : (d : ℕ) (o : Op) (a b : Expr) → Deep (kidsE (bin o a b)) d → 
 unfolding kidsE
 deep-parts d o a b deep = deep
 
-module _ {s part : List ℕ} {base : ℕ} (o : Op) (a b : Expr) (e : part ≡ drop (32 * base) s) (h : Standing s base (bin o a b)) (room : 32 * base + length part ≤ workBytes) where
+module _ {s part : List ℕ} {base : ℕ} (o : Op) (a b : Expr) (e : part ≡ drop (32 * base) s) (h : Standing s base (bin o a b))
+    (room : 32 * base + length part ≤ workBytes) where
   here : At (exprTree (bin o a b)) part base
   here = rw e (h .here)
 
@@ -93,10 +97,12 @@ module _ {s part : List ℕ} {base : ℕ} (o : Op) (a b : Expr) (e : part ≡ dr
 
   pub standing-right : Standing s (word (drop (32 * (word part 24 - base)) part) 28) b
   standing-right = let u = operands o here in
-      inside b e (h .within) room (omega (arith, u .past₂)) (u .fits₂) (u .right) (deeper (kidsE b) 255 (deep-parts 255 o a b (h .deep) .2 .1)) (h .fits .1)
+      inside b e (h .within) room (omega (arith, u .past₂)) (u .fits₂) (u .right)
+      (deeper (kidsE b) 255 (deep-parts 255 o a b (h .deep) .2 .1)) (h .fits .1)
 
 -- the operands of a binary expression that can be read can be
-module _ {part : List ℕ} {base : ℕ} (d : ℕ) (o : Op) (a b : Expr) (h : At (exprTree (bin o a b)) part base) (deep : Deep (kidsE (bin o a b)) (d - 1)) (room : 32 * base + length part ≤ workBytes) where
+module _ {part : List ℕ} {base : ℕ} (d : ℕ) (o : Op) (a b : Expr) (h : At (exprTree (bin o a b)) part base)
+    (deep : Deep (kidsE (bin o a b)) (d - 1)) (room : 32 * base + length part ≤ workBytes) where
   pub readable-left : ReadableE (d - 1) (drop (32 * (word part 24 - base)) part) (word part 24)
   readable-left = let u = operands o h in
       let k = deep-parts (d - 1) o a b deep in
@@ -108,7 +114,8 @@ module _ {part : List ℕ} {base : ℕ} (d : ℕ) (o : Op) (a b : Expr) (h : At 
         room = rw length-drop (omega (arith, u .past, u .fits));
       }
 
-  pub readable-right : ReadableE (d - 1) (drop (32 * (word (drop (32 * (word part 24 - base)) part) 28 - base)) part) (word (drop (32 * (word part 24 - base)) part) 28)
+  pub readable-right : ReadableE (d - 1) (drop (32 * (word (drop (32 * (word part 24 - base)) part) 28 - base)) part)
+      (word (drop (32 * (word part 24 - base)) part) 28)
   readable-right = let u = operands o h in
       let k = deep-parts (d - 1) o a b deep in
       record {
@@ -171,7 +178,8 @@ pub record AndParts (d : ℕ) (part : List ℕ) (base : ℕ) : Type 0 where
   pub left : ReadableE (d - 1) (drop (32 * (word part 24 - base)) part) (word part 24)
   pub past₂ : base < word (drop (32 * (word part 24 - base)) part) 28
   pub fits₂ : 32 * (word (drop (32 * (word part 24 - base)) part) 28 - base) + 32 ≤ length part
-  pub right : ReadableE (d - 1) (drop (32 * (word (drop (32 * (word part 24 - base)) part) 28 - base)) part) (word (drop (32 * (word part 24 - base)) part) 28)
+  pub right : ReadableE (d - 1) (drop (32 * (word (drop (32 * (word part 24 - base)) part) 28 - base)) part)
+      (word (drop (32 * (word part 24 - base)) part) 28)
 
 pub and-parts : {d : ℕ} {part : List ℕ} {base : ℕ} → ReadableE d part base → isAnd (labelAt part) ≡ true → AndParts d part base
 and-parts {d} {part} {base} h t =
@@ -196,7 +204,8 @@ pub record AndStanding (s part : List ℕ) (base : ℕ) (e : Expr) : Type 0 wher
   pub left : Standing s (word part 24) lhs
   pub left-part : drop (32 * (word part 24 - base)) part ≡ drop (32 * word part 24) s
   pub right : Standing s (word (drop (32 * (word part 24 - base)) part) 28) rhs
-  pub right-part : drop (32 * (word (drop (32 * (word part 24 - base)) part) 28 - base)) part ≡ drop (32 * word (drop (32 * (word part 24 - base)) part) 28) s
+  pub right-part : drop (32 * (word (drop (32 * (word part 24 - base)) part) 28 - base)) part ≡ drop
+      (32 * word (drop (32 * (word part 24 - base)) part) 28) s
 
 pub and-standing : {s part : List ℕ} {base : ℕ} {e : Expr} → part ≡ drop (32 * base) s → Standing s base e → 32 * base + length part ≤ workBytes
     → isAnd (labelAt part) ≡ true → AndStanding s part base e
@@ -216,7 +225,8 @@ and-standing {s} {part} {base} {e} q h room t =
       right-part = part-of s part base (word (drop (32 * (word part 24 - base)) part) 28) q (omega (arith, u .past₂));
     }
 
-pub not-and : {s part : List ℕ} {base : ℕ} {e : Expr} → part ≡ drop (32 * base) s → Standing s base e → isAnd (labelAt part) ≡ false → split-conjunction e ≡ e ∷ []
+pub not-and : {s part : List ℕ} {base : ℕ} {e : Expr} → part ≡ drop (32 * base) s → Standing s base e → isAnd (labelAt part) ≡ false
+    → split-conjunction e ≡ e ∷ []
 not-and {e = e} q h t = single e (rw (← h .here .head .label, ← q) t)
 
 -- an expression that stands, but not at the root, is an item

@@ -80,7 +80,8 @@ head-all : (P : Name → Type 0) {gs : List Group} {x : Name} → All (λ h. P (
 head-all P anil e = let z : _≡_ {A = ℕ} 0 1 = cc in absurd (omega arith)
 head-all P {x = x} (acons {x = g} h hs) e = let k : g .key ≡ x = cc in subst P k h
 
-enter-head : (last : Option Name) (i : Item) (gs : List Group) → Ascends gs → headKey (rest last (enter i gs)) ≡ lesser last (some i) (headKey (rest last gs))
+enter-head : (last : Option Name) (i : Item) (gs : List Group) → Ascends gs
+    → headKey (rest last (enter i gs)) ≡ lesser last (some i) (headKey (rest last gs))
 unfolding enter choose keep put lesser
 enter-head last i [] h = ap (λ (x : Name). headKey (put (after last x) (fresh i) [])) (fresh-key i) ∙ go (after last (i .key))
   where
@@ -98,7 +99,8 @@ enter-head last i (g ∷ gs) h = go (same (g .key) (i .key)) refl (name-under (i
     equal e false f = let a : after last (i .key) ≡ false = subst (λ (x : Name). after last x ≡ false) e f in rw a
 
     first : All (λ k. name-under (i .key) (k .key) ≡ true) (g ∷ gs) → (b : Bool) → after last (i .key) ≡ b
-        → headKey (put b (fresh i) (rest last (g ∷ gs))) ≡ choose b (choose (before (headKey (rest last (g ∷ gs))) (i .key)) (headKey (rest last (g ∷ gs))) (some (i .key))) (headKey (rest last (g ∷ gs)))
+        → headKey (put b (fresh i) (rest last (g ∷ gs)))
+        ≡ choose b (choose (before (headKey (rest last (g ∷ gs))) (i .key)) (headKey (rest last (g ∷ gs))) (some (i .key))) (headKey (rest last (g ∷ gs)))
     first l true f = rw (not-before (i .key) (All-keep (λ k. after last (k .key)) l)) (ap some (fresh-key i))
     first l false f = refl
 
@@ -113,7 +115,8 @@ enter-head last i (g ∷ gs) h = go (same (g .key) (i .key)) refl (name-under (i
 
     go : (b : Bool) → same (g .key) (i .key) ≡ b → (c : Bool) → name-under (i .key) (g .key) ≡ c
         → headKey (rest last (enter i gs)) ≡ lesser last (some i) (headKey (rest last gs))
-        → headKey (rest last (choose b (put-in i g ∷ gs) (choose c (fresh i ∷ g ∷ gs) (g ∷ enter i gs)))) ≡ lesser last (some i) (headKey (rest last (g ∷ gs)))
+        → headKey (rest last (choose b (put-in i g ∷ gs) (choose c (fresh i ∷ g ∷ gs) (g ∷ enter i gs))))
+        ≡ lesser last (some i) (headKey (rest last (g ∷ gs)))
     go true e c f m =
         ap (λ (x : Name). headKey (put (after last x) (put-in i g) (rest last gs))) (key-put i g)
         ∙ equal (same-eq (g .key) (i .key) e) (after last (g .key)) refl
@@ -127,7 +130,8 @@ unfolding sort-out least keep lesser
 least-head last [] = refl
 least-head last (e ∷ es) = go (view e) (least-head last es)
   where
-    go : (o : Option Item) → headKey (rest last (sort-out es .groups)) ≡ least last es → headKey (rest last (add e o (sort-out es) .groups)) ≡ lesser last o (least last es)
+    go : (o : Option Item) → headKey (rest last (sort-out es .groups)) ≡ least last es
+        → headKey (rest last (add e o (sort-out es) .groups)) ≡ lesser last o (least last es)
     go none h = h
     go (some i) h = enter-head last i (sort-out es .groups) (sorted-ascends es) ∙ ap (lesser last (some i)) h
 
@@ -151,13 +155,15 @@ none-there f x (acons {x = g} h hs) =
         sym z ∙ under-self x
     apart false e = refl
 
-here-all : (f : Group → List Side) {x : Name} (g : Group) {gs : List Group} → g .key ≡ x → All (λ h. name-under x (h .key) ≡ true) gs → f g ≡ collect f x (g ∷ gs)
+here-all : (f : Group → List Side) {x : Name} (g : Group) {gs : List Group} → g .key ≡ x → All (λ h. name-under x (h .key) ≡ true) gs
+    → f g ≡ collect f x (g ∷ gs)
 unfolding choose
 here-all f {x} g e h =
     let s : same (g .key) x ≡ true = subst (λ (y : Name). same (g .key) y ≡ true) e (same-refl (g .key)) in
     rw (s, none-there f x h) (sym (append-nil (f g)))
 
-pub rest-next : (last : Option Name) (x : Name) (gs : List Group) → Ascends gs → headKey (rest last gs) ≡ some x → rest last gs ≡ whole x gs ∷ rest (some x) gs
+pub rest-next : (last : Option Name) (x : Name) (gs : List Group) → Ascends gs → headKey (rest last gs) ≡ some x
+    → rest last gs ≡ whole x gs ∷ rest (some x) gs
 unfolding keep put choose
 rest-next last x [] h e = let z : _≡_ {A = ℕ} 0 1 = cc in absurd (omega arith)
 rest-next last x (g ∷ gs) h e = go (after last (g .key)) refl e (λ k. rest-next last x gs (h .1) k)
@@ -174,7 +180,9 @@ rest-next last x (g ∷ gs) h e = go (after last (g .key)) refl e (λ k. rest-ne
         let e₁ = here-all (λ (y : Group). y .eqs) g q l in
         let e₂ = here-all (λ (y : Group). y .ups) g q l in
         let e₃ = here-all (λ (y : Group). y .downs) g q l in
-        rw n (ap (λ (y : Name × List Side × List Side × List Side × List Group). record { key = y .0; eqs = y .1; ups = y .2; downs = y .3 } ∷ y .4) (cc))
+        rw n
+        (ap (λ (y : Name × List Side × List Side × List Side × List Group). record { key = y .0; eqs = y .1; ups = y .2; downs = y .3 } ∷ y .4)
+        (cc))
     go false f k m =
         let u : name-under (g .key) x ≡ true = head-all (λ y. name-under (g .key) y ≡ true) (All-keep (λ y. after last (y .key)) (h .0)) k in
         rw (under-asym (g .key) x u, under-apart (g .key) x u) (m k)
@@ -193,7 +201,8 @@ unfolding enter choose
 enter-few i [] = omega arith
 enter-few i (g ∷ gs) = go (same (g .key) (i .key)) (name-under (i .key) (g .key)) (enter-few i gs)
   where
-    go : (b c : Bool) → length (enter i gs) ≤ suc (length gs) → length (choose b (put-in i g ∷ gs) (choose c (fresh i ∷ g ∷ gs) (g ∷ enter i gs))) ≤ suc (length (g ∷ gs))
+    go : (b c : Bool) → length (enter i gs) ≤ suc (length gs)
+        → length (choose b (put-in i g ∷ gs) (choose c (fresh i ∷ g ∷ gs) (g ∷ enter i gs))) ≤ suc (length (g ∷ gs))
     go true c h = omega arith
     go false true h = omega arith
     go false false h = omega arith

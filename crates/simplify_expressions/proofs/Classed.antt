@@ -15,10 +15,12 @@ use borrow.Author.Tests.{eqb-true}
 use Rattle.plan.specs.Syntax.{Expr, Name, nm}
 use Rattle.plan.specs.Lists.{choose, put, keep}
 use Rattle.plan.proofs.Lists.{All, anil, acons}
-use Rattle.rewrite.specs.SimplifyPredicates.{Rel, same-as, above, below, Side, Item, Sorted, bound-of, eq-expr, up-expr, down-expr, view, add, sort-out}
+use Rattle.rewrite.specs.SimplifyPredicates.{Rel, same-as, above, below, Side, Item, Sorted, bound-of, eq-expr, up-expr, down-expr, view}
+use Rattle.rewrite.specs.SimplifyPredicates.{add, sort-out}
 use Rattle.rewrite.proofs.Simplify.{view-back}
 use Rattle.conjuncts.specs.Items.{FALSE}
 use Rattle.conjuncts.proofs.Listed.{next-back}
+use Rattle.conjuncts.proofs.Equality.{and-both}
 use Rattle.simplify_expressions.specs.declared.comparisons.Compared.{Compared}
 use Rattle.simplify_expressions.specs.declared.comparisons.Compared.the-variants.{Of, Not}
 use Rattle.simplify_expressions.specs.declared.comparisons.Bound.{Bound}
@@ -82,10 +84,6 @@ keep-few f (x ∷ xs) = omega (arith, keep-few f xs, put-few (f x) x (keep f xs)
 
 -- ---- a comparison is what its side says
 
-and-both : (a b : Bool) → (a && b) ≡ true → (a ≡ true) × (b ≡ true)
-and-both true b e = (refl, e)
-and-both false b e = let z : _≡_ {A = ℕ} 0 1 = cc in absurd (omega arith)
-
 name-eq : (x : Name) (q n : ℕ) → isName x q n ≡ true → x ≡ nm q n
 name-eq (nm p m) q n h = let a = and-both _ _ h in ap₂ nm (eqb-true p q (a .0)) (eqb-true m n (a .1))
 
@@ -141,7 +139,8 @@ module _ {x : Compared} (last best : Option Name) where
   unfolding lesser choose
   lesser-out e a = rw (e, a)
 
-  pub lesser-held : {b : Bound} → x ≡ Of b → after last (named (b .column)) ≡ true → before best (named (b .column)) ≡ true → best ≡ lesser last (seen x) best
+  pub lesser-held : {b : Bound} → x ≡ Of b → after last (named (b .column)) ≡ true → before best (named (b .column)) ≡ true
+      → best ≡ lesser last (seen x) best
   unfolding lesser choose
   lesser-held e a h = rw (e, a, h)
 

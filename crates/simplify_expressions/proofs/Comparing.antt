@@ -163,7 +163,8 @@ pub record Operands (s : List ℕ) (base : ℕ) (e : Expr) : Type 0 where
   pub come : FitsE e → matchedIn (labelE e .p) (operandOf (labelAt (drop (32 * (word s 24 - base)) s)))
       (operandOf (labelAt (drop (32 * (word (drop (32 * (word s 24 - base)) s) 28 - base)) s))) ≡ view e
 
-come-to : (c : Cmp) (a b : Expr) → FitsE (bin (cmp c) a b) → matchedIn (opNumber (cmp c)) (operandOf (labelE a)) (operandOf (labelE b)) ≡ view (bin (cmp c) a b)
+come-to : (c : Cmp) (a b : Expr) → FitsE (bin (cmp c) a b)
+    → matchedIn (opNumber (cmp c)) (operandOf (labelE a)) (operandOf (labelE b)) ≡ view (bin (cmp c) a b)
 unfolding view matchedIn
 come-to c a b h = rw (rel-is false c, rel-is true c, column-is a, column-is b, value-is a (h .0), value-is b (h .1))
 
@@ -176,13 +177,15 @@ operands-of s base c x y h =
       fits = u .fits;
       past₂ = omega (arith, u .past₂);
       fits₂ = u .fits₂;
-      come = λ f. ap₂ (λ (p q : Label). matchedIn (opNumber (cmp c)) (operandOf p) (operandOf q)) (u .left .head .label) (u .right .head .label) ∙ come-to c x y f;
+      come = λ f. ap₂ (λ (p q : Label). matchedIn (opNumber (cmp c)) (operandOf p) (operandOf q)) (u .left .head .label)
+          (u .right .head .label) ∙ come-to c x y f;
     }
 
-pub operands : (s : List ℕ) (base : ℕ) (e : Expr) → labelE e .kind ≡ 5 → 3 ≤ labelE e .p → At (exprTree e) s base → Operands s base e
-operands s base e k p h =
-    let u : Binary e = binary e k p in
-    subst (λ (f : Expr). Operands s base f) (sym (u .is)) (operands-of s base (u .op) (u .lhs) (u .rhs) (subst (λ (f : Expr). At (exprTree f) s base) (u .is) h))
+pub operands : {s : List ℕ} {base : ℕ} (e : Expr) → At (exprTree e) s base → word s 0 ≡ 5 → 3 ≤ word s 4 → Operands s base e
+operands {s} {base} e h k p =
+    let u : Binary e = binary e (rw (← h .head .label) k) (rw (← h .head .label) p) in
+    subst (λ (f : Expr). Operands s base f) (sym (u .is))
+    (operands-of s base (u .op) (u .lhs) (u .rhs) (subst (λ (f : Expr). At (exprTree f) s base) (u .is) h))
 
 -- ---- the cases of two operands
 
@@ -207,7 +210,8 @@ module _ (o : ℕ) {a : Operand} (b : Operand) where
   unfolding or-item matchedIn
   two-columns {x} {y} h k = rw (h, k, make-none false (relNo false o) (some (named x)), make-none true (relNo true o) (some (named y)))
 
-  pub column-literal : {x : DeclName.Name} {v : ValueRecord} → a ≡ Column x → b ≡ Literal v → matchedIn o a b ≡ make false (relNo false o) (some (named x)) (some v)
+  pub column-literal : {x : DeclName.Name} {v : ValueRecord} → a ≡ Column x → b ≡ Literal v
+      → matchedIn o a b ≡ make false (relNo false o) (some (named x)) (some v)
   unfolding or-item matchedIn
   column-literal h k = rw (h, k, make-none true (relNo true o) none) (or-none _)
 
@@ -215,7 +219,8 @@ module _ (o : ℕ) {a : Operand} (b : Operand) where
   unfolding or-item matchedIn
   column-neither {x} h k = rw (h, k, make-none false (relNo false o) (some (named x)), make-none true (relNo true o) none)
 
-  pub literal-column : {v : ValueRecord} {x : DeclName.Name} → a ≡ Literal v → b ≡ Column x → matchedIn o a b ≡ make true (relNo true o) (some (named x)) (some v)
+  pub literal-column : {v : ValueRecord} {x : DeclName.Name} → a ≡ Literal v → b ≡ Column x
+      → matchedIn o a b ≡ make true (relNo true o) (some (named x)) (some v)
   unfolding or-item matchedIn
   literal-column h k = rw (h, k, make-none false (relNo false o) none)
 

@@ -103,7 +103,8 @@ module _ (k : ℕ) (f : Group → List Side)
       go true e c h =
           ap (λ (y : Name). choose (same y x) (f (put-in i g)) [] ++ collect f x gs) (key-put i g)
           ∙ (ap (λ (m : List Side). choose (same (g .key) x) m [] ++ collect f x gs) (f-put i g)
-          ∙ (here (same (g .key) x) ∙ ap (λ (y : Name). choose (same y x) (put (is k i) (side i) (collect f x (g ∷ gs))) (collect f x (g ∷ gs))) (same-eq (g .key) (i .key) e)))
+          ∙ (here (same (g .key) x) ∙ ap (λ (y : Name). choose (same y x) (put (is k i) (side i) (collect f x (g ∷ gs)))
+          (collect f x (g ∷ gs))) (same-eq (g .key) (i .key) e)))
       go false e true h = fresh-is x i (collect f x (g ∷ gs))
       go false e false h = ap (λ (m : List Side). choose (same (g .key) x) (f g) [] ++ m) h ∙ later (same (i .key) x) refl e
 
@@ -114,18 +115,21 @@ module _ (k : ℕ) (f : Group → List Side)
   collected three q n (e ∷ es) =
       map-put (ofClass k q n e) e (keep (ofClass k q n) es) ∙ (ap (put (ofClass k q n e) (sideIn e)) (collected three q n es) ∙ go (view e))
     where
-      go : (o : Option Item) → put (inClass k q n o) (sideOf? o) (collect f (nm q n) (sort-out es .groups)) ≡ collect f (nm q n) (add e o (sort-out es) .groups)
+      go : (o : Option Item) → put (inClass k q n o) (sideOf? o) (collect f (nm q n) (sort-out es .groups)) ≡ collect f (nm q n)
+          (add e o (sort-out es) .groups)
       go none = rw three
       go (some i) =
           put-both (is k i) (isName (i .key) q n) (side i) (collect f (nm q n) (sort-out es .groups))
-          ∙ (ap (λ (v : Bool). choose v (put (is k i) (side i) (collect f (nm q n) (sort-out es .groups))) (collect f (nm q n) (sort-out es .groups))) (name-is (i .key) q n)
+          ∙ (ap (λ (v : Bool). choose v (put (is k i) (side i) (collect f (nm q n) (sort-out es .groups)))
+          (collect f (nm q n) (sort-out es .groups))) (name-is (i .key) q n)
           ∙ sym (collect-enter (nm q n) i (sort-out es .groups)))
 
 eqs-put : (i : Item) (g : Group) → put-in i g .eqs ≡ put (is 0 i) (side i) (g .eqs)
 unfolding put sideOf? is side
 eqs-put i g = go (i .rel)
   where
-    go : (r : Rel) → let j : Item = record { key = i .key; rel = r; lit = i .lit; flipped = i .flipped } in put-in j g .eqs ≡ put (is 0 j) (side j) (g .eqs)
+    go : (r : Rel) → let j : Item = record { key = i .key; rel = r; lit = i .lit; flipped = i .flipped } in
+        put-in j g .eqs ≡ put (is 0 j) (side j) (g .eqs)
     go same-as = refl
     go (above s) = refl
     go (below s) = refl
@@ -134,7 +138,8 @@ ups-put : (i : Item) (g : Group) → put-in i g .ups ≡ put (is 1 i) (side i) (
 unfolding put sideOf? is side
 ups-put i g = go (i .rel)
   where
-    go : (r : Rel) → let j : Item = record { key = i .key; rel = r; lit = i .lit; flipped = i .flipped } in put-in j g .ups ≡ put (is 1 j) (side j) (g .ups)
+    go : (r : Rel) → let j : Item = record { key = i .key; rel = r; lit = i .lit; flipped = i .flipped } in
+        put-in j g .ups ≡ put (is 1 j) (side j) (g .ups)
     go same-as = refl
     go (above s) = refl
     go (below s) = refl
@@ -143,7 +148,8 @@ downs-put : (i : Item) (g : Group) → put-in i g .downs ≡ put (is 2 i) (side 
 unfolding put sideOf? is side
 downs-put i g = go (i .rel)
   where
-    go : (r : Rel) → let j : Item = record { key = i .key; rel = r; lit = i .lit; flipped = i .flipped } in put-in j g .downs ≡ put (is 2 j) (side j) (g .downs)
+    go : (r : Rel) → let j : Item = record { key = i .key; rel = r; lit = i .lit; flipped = i .flipped } in
+        put-in j g .downs ≡ put (is 2 j) (side j) (g .downs)
     go same-as = refl
     go (above s) = refl
     go (below s) = refl

@@ -1,7 +1,7 @@
 -- Laws of cheap and expensive predicates, for a walk along a list.
 -- Assumes nothing.
 use mathlib.Core.Path.{_≡_, refl}
-use mathlib.Core.Bool.{Bool, true, false, _||_, _&&_, not, Bool·beq}
+use mathlib.Core.Bool.{Bool, true, false, _||_, not, Bool·beq}
 use mathlib.Core.List.{List, [], _∷_}
 use Prim.Native.Nat.{ℕ, _+_, _<_}
 use lib.ListN.{length, getD, drop}
@@ -37,12 +37,6 @@ not-not false = refl
 pub after-next : (es : List Expr) (i : ℕ) → i < length es → (b v : Bool) → v ≡ any-fn (marked false) (getD es i FALSE)
     → after-cost b (drop i es) ≡ ((b & not v) || after-cost v (drop (i + 1) es))
 after-next es i h b v e = rw (next es i h, needs-one (getD es i FALSE) (drop (i + 1) es), not-not, e)
-
--- the code's test of both is the definitions'
-pub and-is : (a b : Bool) {v : Bool} → (a && b) ≡ v → a & b ≡ v
-unfolding _&_
-and-is true b h = h
-and-is false b h = h
 
 pub cost-is : (costly v : Bool) (e : Expr) → v ≡ any-fn (marked false) e → ofCost costly e ≡ Bool·beq v costly
 cost-is true true e h = rw (← h)

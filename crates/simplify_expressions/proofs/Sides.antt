@@ -48,7 +48,8 @@ better-at past es best i v held d e h k =
     ap (λ (w : Bool). choose w (sideIn (getD es i FALSE)) (sideIn (getD es best FALSE))) (sym (e ∙ ap₂ (λ (x y : Side). is-better past x y) h k))
     ∙ sym (choose-at v (λ j. sideIn (getD es j FALSE)) i best)
 
-pub find-with : (past : ℤ → ℤ → Bool) (l : List Side) {a b : Side} → a ≡ b → find-most-restrictive-predicate past a l ≡ find-most-restrictive-predicate past b l
+pub find-with : (past : ℤ → ℤ → Bool) (l : List Side) {a b : Side} → a ≡ b
+    → find-most-restrictive-predicate past a l ≡ find-most-restrictive-predicate past b l
 find-with past l e = ap (λ (x : Side). find-most-restrictive-predicate past x l) e
 
 -- ---- kinds, from the end of the list
@@ -84,7 +85,8 @@ spelled-all spell [] h = refl
 spelled-all spell (e ∷ es) h = rw (h 0 (omega arith), spelled-all spell es (λ i lt. h (suc i) (omega arith)))
 
 -- none of an empty list
-pub restrict-none : (past : ℤ → ℤ → Bool) (spell : Side → Expr) (es : List Expr) → length es ≡ 0 → map spell (most-restrictive past (map sideIn es)) ≡ []
+pub restrict-none : (past : ℤ → ℤ → Bool) (spell : Side → Expr) (es : List Expr) → length es ≡ 0
+    → map spell (most-restrictive past (map sideIn es)) ≡ []
 restrict-none past spell [] h = refl
 restrict-none past spell (e ∷ es) h = absurd (omega arith)
 

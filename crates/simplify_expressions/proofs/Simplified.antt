@@ -16,7 +16,8 @@ use Rattle.plan.specs.Lists.{choose, all, keep, flat}
 use Rattle.plan.proofs.Lists.{keep-all}
 use Rattle.meaning.specs.Meaning.{sameV}
 use Rattle.rewrite.specs.SimplifyPredicates.{Rel, same-as, above, below, bound-of, Side, val, Item, Group, eq-expr, up-expr, down-expr}
-use Rattle.rewrite.specs.SimplifyPredicates.{final, eq-part, first-kind, of-kind, most-restrictive, simplify-column-predicates, fresh, enter, view, add, sort-out, simplify-predicates}
+use Rattle.rewrite.specs.SimplifyPredicates.{final, eq-part, first-kind, of-kind, most-restrictive, simplify-column-predicates, fresh}
+use Rattle.rewrite.specs.SimplifyPredicates.{enter, view, add, sort-out, simplify-predicates}
 use Rattle.rewrite.proofs.Simplify.{view-back}
 use Rattle.plan.specs.Values.{ValueRecord}
 use Rattle.conjuncts.specs.Items.{Conjuncts, FALSE, Lists, Known}
@@ -46,7 +47,8 @@ eq-last x (e ∷ es) last n h k =
     let m : last ≡ length es = omega arith in
     rw (← k, final-last e es, m) (ap (λ (y : Expr). y ∷ []) (h (length es) (omega arith)))
 
-pub eq-false : (x : Name) (es : List Expr) → 0 < length es → false ≡ all (λ d. sameV (val (sideIn (getD es 0 FALSE))) (val d)) (map sideIn (drop 1 es))
+pub eq-false : (x : Name) (es : List Expr) → 0 < length es
+    → false ≡ all (λ d. sameV (val (sideIn (getD es 0 FALSE))) (val d)) (map sideIn (drop 1 es))
     → eq-part x (map sideIn es) ≡ FALSE ∷ []
 unfolding choose
 eq-false x [] n k = absurd (omega arith)
@@ -88,7 +90,9 @@ one-simplified (e ∷ []) h = go (view e) refl
   where
     go : (o : Option Item) → view e ≡ o → let s = add e o (sort-out []) in s .others ++ flat simplify-column-predicates (s .groups) ≡ e ∷ []
     go none v = refl
-    go (some i) v = append-nil (simplify-column-predicates (fresh i)) ∙ (alone (i .key) (i .lit) (i .flipped) (i .rel) ∙ ap (λ (x : Expr). x ∷ []) (view-back e v))
+    go (some i) v =
+        append-nil (simplify-column-predicates (fresh i))
+        ∙ (alone (i .key) (i .lit) (i .flipped) (i .rel) ∙ ap (λ (x : Expr). x ∷ []) (view-back e v))
 
 -- ---- all columns
 
@@ -121,7 +125,8 @@ module _ {s : List ℕ} {r : Conjuncts} (es : List Expr) where
         lists = h;
         is =
             append-assoc (k .done) (simplify-column-predicates (groupOf q n es)) (flat simplify-column-predicates (rest (some (nm q n)) gs))
-            ∙ (ap (λ (g : Group). k .done ++ (simplify-column-predicates g ++ flat simplify-column-predicates (rest (some (nm q n)) gs))) (group-is q n es)
+            ∙ (ap (λ (g : Group). k .done ++ (simplify-column-predicates g ++ flat simplify-column-predicates (rest (some (nm q n)) gs)))
+            (group-is q n es)
             ∙ (ap (λ (l : List Group). k .done ++ flat simplify-column-predicates l) (sym m) ∙ k .is));
         next = e;
         few = omega (arith, k .few, ap length m);

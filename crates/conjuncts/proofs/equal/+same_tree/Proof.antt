@@ -64,7 +64,8 @@ pub +same-tree-spec : {M : Type 1} → statement M
     (λ c. let p = c .before .before .before .before .before .before .pre .1 in
     let e : c .before .before .before .same-label .result ≡ true = not-false _ (c .before .before .if1 .left) in
     rw (c .before .word-at .ensures .0, c .word-at2 .ensures .0)
-    (chain _ (p .0) (chain (Q (p .0 .tree) (p .0 .tree .below)) (p .1) (rw (← p .0 .at .head .label, ← p .1 .at .head .label, ← c .before .before .before .same-label .ensures, e)))))
+    (chain _ (p .0) (chain (Q (p .0 .tree) (p .0 .tree .below)) (p .1)
+    (rw (← p .0 .at .head .label, ← p .1 .at .head .label, ← c .before .before .before .same-label .ensures, e)))))
     (λ c. let k = c .before .before .loop .inv in
     let u = round _ k (c .before .loop-test .taken) in
     for-both (λ t u. _ ≡ same t u) (k .stands) (u .so-far .stands) (sym (done _ (u .so-far) (c .if2 .taken))))
@@ -76,23 +77,40 @@ pub +same-tree-spec : {M : Type 1} → statement M
     (λ c. omega (arith, c .before .before .before .before .loop .inv .so-far .some))
     (λ c κs. let k = c .before .before .before .before .loop .inv in
     let u = round _ k (c .before .before .before .loop-test .taken) in
-    let w = round _ (u .so-far) (c .before .before .if2 .left) in
-    (omega (arith, k .some, c .before .before .before .before .before .before .before .before .before .before .before .pre .0), (rw (c .before .from-record .ensures) (u .readable), rw (c .from-record2 .ensures) (w .readable))))
+    let w = round _ (u .so-far) (c .before .before .if2 .left) in (
+      omega (arith, k .some, c .before .before .before .before .before .before .before .before .before .before .before .pre .0),
+      (rw (c .before .from-record .ensures) (u .readable), rw (c .from-record2 .ensures) (w .readable)),
+    ))
     (λ c. let k = c .before .before .before .before .before .before .loop .inv in
     let u = round _ k (c .before .before .before .before .before .loop-test .taken) in
     let w = round _ (u .so-far) (c .before .before .before .before .if2 .left) in
-    let e : false ≡ same (u .turn .child) (w .turn .child) = sym (not-true _ (c .if3 .taken)) ∙ c .before .same-tree .ensures (u .turn .child) (w .turn .child) (rw (c .before .before .before .from-record .ensures) (u .turn .here)) (rw (c .before .before .from-record2 .ensures) (w .turn .here)) in
+    let e : false ≡ same (u .turn .child) (w .turn .child) = sym (not-true _ (c .if3 .taken))
+    ∙ c .before .same-tree .ensures (u .turn .child) (w .turn .child) (rw (c .before .before .before .from-record .ensures) (u .turn .here))
+    (rw (c .before .before .from-record2 .ensures) (w .turn .here)) in
     for-both (λ t u. _ ≡ same t u) (k .stands) (u .so-far .stands) (rw (w .so-far, ← e)))
-    (λ c κs. let u = round _ (c .before .before .before .before .before .before .loop .inv) (c .before .before .before .before .before .loop-test .taken) in rw (c .before .before .before .from-record .ensures, length-drop) (omega (arith, u .turn .fits)))
-    (λ c κs. let u = round _ (c .before .before .before .before .before .before .before .loop .inv) (c .before .before .before .before .before .before .loop-test .taken) in
+    (λ c κs. let u = round _ (c .before .before .before .before .before .before .loop .inv)
+    (c .before .before .before .before .before .loop-test .taken) in
+    rw (c .before .before .before .from-record .ensures, length-drop) (omega (arith, u .turn .fits)))
+    (λ c κs. let u = round _ (c .before .before .before .before .before .before .before .loop .inv)
+    (c .before .before .before .before .before .before .loop-test .taken) in
     let w = round _ (u .so-far) (c .before .before .before .before .before .if2 .left) in
     rw (c .before .before .before .from-record2 .ensures, length-drop) (omega (arith, w .turn .fits)))
-    (λ c. let u = round _ (c .before .before .before .before .before .before .before .before .loop .inv) (c .before .before .before .before .before .before .before .loop-test .taken) in rw (c .before .word-at3 .ensures .0, c .before .before .before .before .before .from-record .ensures) (u .turn .less))
+    (λ c. let u = round _ (c .before .before .before .before .before .before .before .before .loop .inv)
+    (c .before .before .before .before .before .before .before .loop-test .taken) in
+    rw (c .before .word-at3 .ensures .0, c .before .before .before .before .before .from-record .ensures) (u .turn .less))
     (λ c. let k = c .before .before .before .before .before .before .before .before .loop .inv in
     let u = round _ k (c .before .before .before .before .before .before .before .loop-test .taken) in
     let w = round _ (u .so-far) (c .before .before .before .before .before .before .if2 .left) in
-    let e : true ≡ same (u .turn .child) (w .turn .child) = sym (not-false _ (c .before .before .if3 .left)) ∙ c .before .before .before .same-tree .ensures (u .turn .child) (w .turn .child) (rw (c .before .before .before .before .before .from-record .ensures) (u .turn .here)) (rw (c .before .before .before .before .from-record2 .ensures) (w .turn .here)) in
-    rw (c .before .word-at3 .ensures .0, c .before .before .before .before .before .from-record .ensures, c .word-at4 .ensures .0, c .before .before .before .before .from-record2 .ensures)
+    let e : true ≡ same (u .turn .child) (w .turn .child) = sym (not-false _ (c .before .before .if3 .left))
+    ∙ c .before .before .before .same-tree .ensures (u .turn .child) (w .turn .child)
+    (rw (c .before .before .before .before .before .from-record .ensures) (u .turn .here))
+    (rw (c .before .before .before .before .from-record2 .ensures) (w .turn .here)) in
+    rw (
+      c .before .word-at3 .ensures .0,
+      c .before .before .before .before .before .from-record .ensures,
+      c .word-at4 .ensures .0,
+      c .before .before .before .before .from-record2 .ensures,
+    )
     (again _ k u (again (Q (k .tree) (u .turn .after)) (u .so-far) w (w .so-far ∙ rw (← e)))))
     (λ c. let k = c .before .before .loop .inv in
     let d = done _ k (c .before .loop-test .left) in

@@ -54,20 +54,29 @@ pub +has-function-spec : {M : Type 1} → statement M
     μ-loop
     (λ c κs. omega arith)
     (λ c. let h = c .before .before .before .pre .1 .at in
-    for-all (λ t. _ ≡ fnIn (marked (c .before .before .before .args .volatile)) t) h (rw (← h .head .label, ← c .before .is-function .ensures, c .if1 .taken)))
+    for-all (λ t. _ ≡ fnIn (marked (c .before .before .before .args .volatile)) t) h
+    (rw (← h .head .label, ← c .before .is-function .ensures, c .if1 .taken)))
     (λ c κs. omega arith)
     (λ c. let h = c .before .before .before .before .pre .1 in
-    rw (c .word-at .ensures .0) (chain (P (c .before .before .before .before .args .volatile)) h (rw (← h .at .head .label, ← c .before .before .is-function .ensures, c .before .if1 .left))))
-    (λ c κs. let u = round (P (c .before .before .before .before .before .before .args .volatile)) (c .before .loop .inv) (c .loop-test .taken) in omega arith)
+    rw (c .word-at .ensures .0) (chain _ h (rw (← h .at .head .label, ← c .before .before .is-function .ensures, c .before .if1 .left))))
+    (λ c κs. let u = round _ (c .before .loop .inv) (c .loop-test .taken) in omega arith)
     (λ c. let i = c .before .before .loop .inv in omega arith)
-    (λ c κs. let u = round (P (c .before .before .before .before .before .before .before .args .volatile)) (c .before .before .loop .inv) (c .before .loop-test .taken) in (omega arith, rw (c .from-record .ensures) (u .readable)))
-    (λ c. let u = round (P (c .before .before .before .before .before .before .before .before .before .args .volatile)) (c .before .before .before .before .loop .inv) (c .before .before .before .loop-test .taken) in
-    let e : true ≡ fnIn (marked (c .before .before .before .before .before .before .before .before .before .args .volatile)) (u .turn .child) = sym (c .if2 .taken) ∙ c .before .has-function .ensures (u .turn .child) (rw (c .before .before .from-record .ensures) (u .turn .here)) in
-    for-all (λ t. _ ≡ fnIn (marked (c .before .before .before .before .before .before .before .before .before .args .volatile)) t) (c .before .before .before .before .loop .inv .stands) (rw (u .so-far, ← e)))
-    (λ c κs. let u = round (P (c .before .before .before .before .before .before .before .before .before .args .volatile)) (c .before .before .before .before .loop .inv) (c .before .before .before .loop-test .taken) in rw (c .before .before .from-record .ensures, length-drop) (omega arith))
-    (λ c. let u = round (P (c .before .before .before .before .before .before .before .before .before .before .args .volatile)) (c .before .before .before .before .before .loop .inv) (c .before .before .before .before .loop-test .taken) in
+    (λ c κs. let u = round _ (c .before .before .loop .inv) (c .before .loop-test .taken) in
+    (omega arith, rw (c .from-record .ensures) (u .readable)))
+    (λ c. let u = round _ (c .before .before .before .before .loop .inv) (c .before .before .before .loop-test .taken) in
+    let e : true ≡ fnIn (marked (c .before .before .before .before .before .before .before .before .before .args .volatile)) (u .turn .child) =
+    sym (c .if2 .taken) ∙ c .before .has-function .ensures (u .turn .child) (rw (c .before .before .from-record .ensures) (u .turn .here)) in
+    for-all (λ t. _ ≡ fnIn (marked (c .before .before .before .before .before .before .before .before .before .args .volatile)) t)
+    (c .before .before .before .before .loop .inv .stands) (rw (u .so-far, ← e)))
+    (λ c κs. let u = round _ (c .before .before .before .before .loop .inv) (c .before .before .before .loop-test .taken) in
+    rw (c .before .before .from-record .ensures, length-drop) (omega arith))
+    (λ c. let u = round _ (c .before .before .before .before .before .loop .inv) (c .before .before .before .before .loop-test .taken) in
     rw (c .word-at2 .ensures .0, c .before .before .before .from-record .ensures) (u .turn .less))
-    (λ c. let u = round (P (c .before .before .before .before .before .before .before .before .before .before .args .volatile)) (c .before .before .before .before .before .loop .inv) (c .before .before .before .before .loop-test .taken) in
-    let e : false ≡ fnIn (marked (c .before .before .before .before .before .before .before .before .before .before .args .volatile)) (u .turn .child) = sym (c .before .if2 .left) ∙ c .before .before .has-function .ensures (u .turn .child) (rw (c .before .before .before .from-record .ensures) (u .turn .here)) in
-    rw (c .word-at2 .ensures .0, c .before .before .before .from-record .ensures) (again (P (c .before .before .before .before .before .before .before .before .before .before .args .volatile)) (c .before .before .before .before .before .loop .inv) u (u .so-far ∙ rw (← e))))
-    (λ c. let k = c .before .loop .inv in for-all (λ t. _ ≡ fnIn (marked (c .before .before .before .before .before .before .args .volatile)) t) (k .stands) (sym (done (P (c .before .before .before .before .before .before .args .volatile)) k (c .loop-test .left))))
+    (λ c. let u = round _ (c .before .before .before .before .before .loop .inv) (c .before .before .before .before .loop-test .taken) in
+    let e : false ≡ fnIn (marked (c .before .before .before .before .before .before .before .before .before .before .args .volatile)) (u .turn .child) =
+    sym (c .before .if2 .left) ∙ c .before .before .has-function .ensures (u .turn .child) (rw (c .before .before .before .from-record .ensures) (u .turn .here)) in
+    rw (c .word-at2 .ensures .0, c .before .before .before .from-record .ensures)
+    (again _ (c .before .before .before .before .before .loop .inv) u (u .so-far ∙ rw (← e))))
+    (λ c. let k = c .before .loop .inv in
+    for-all (λ t. _ ≡ fnIn (marked (c .before .before .before .before .before .before .args .volatile)) t) (k .stands)
+    (sym (done _ k (c .loop-test .left))))

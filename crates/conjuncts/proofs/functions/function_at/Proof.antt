@@ -22,7 +22,9 @@ function-at-spec =
     (λ c κs. let p = c .before .before .before .pre in
     lists-at (p .0 .lists) (p .0 .most) _ _ (p .1) (c .before .item-at .ensures) .some (c .if1 .left) .within)
     (λ c κs. let p = c .before .before .before .before .pre in
-    rw (c .record-at .ensures) (readable-of (lists-at (p .0 .lists) (p .0 .most) _ _ (p .1) (c .before .before .item-at .ensures) .some (c .before .if1 .left))))
+    rw (c .record-at .ensures) (readable-of
+    (lists-at (p .0 .lists) (p .0 .most) _ _ (p .1) (c .before .before .item-at .ensures) .some (c .before .if1 .left))))
     (λ c es h. let p = c .before .before .before .before .before .pre in
     let w = lists-at h (p .0 .most) _ _ (p .1) (c .before .before .before .item-at .ensures) .some (c .before .before .if1 .left) in
-    c .has-function .ensures (exprTree (getD es (c .before .before .before .before .before .args .i) FALSE)) (rw (c .before .record-at .ensures) (w .here)) ∙ fn-tree _ _))
+    c .has-function .ensures (exprTree (getD es (c .before .before .before .before .before .args .i) FALSE))
+    (rw (c .before .record-at .ensures) (w .here)) ∙ fn-tree _ _))

@@ -11,5 +11,10 @@ is-function-spec =
     (λ c κs. search needs)
     (λ c. rw (← c .before .word-at .ensures .0, ne-eqb _ _ (c .if1 .taken)))
     (λ c κs. search needs)
-    (λ c. rw (← c .word-at2 .ensures .0, ← c .before .before .before .word-at .ensures .0, eq-eqb _ _ (c .before .before .if1 .left), c .before .if2 .taken))
+    (λ c. rw (
+      ← c .word-at2 .ensures .0,
+      ← c .before .before .before .word-at .ensures .0,
+      eq-eqb _ _ (c .before .before .if1 .left),
+      c .before .if2 .taken,
+    ))
     (λ c. rw (← c .before .before .word-at .ensures .0, eq-eqb _ _ (c .before .if1 .left), c .if2 .left)))

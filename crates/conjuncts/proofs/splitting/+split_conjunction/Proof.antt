@@ -50,23 +50,45 @@ pub +split-conjunction-spec : {M : Type 1} → statement M
     (λ c κs. let p = c .before .before .before .before .before .pre in
     let u = and-parts (p .1 .0) (sym (c .before .before .before .is-and .ensures) ∙ c .before .before .if1 .taken) in
     (omega (arith, p .0, p .1 .0 .some), rw (c .from-record .ensures, c .before .word-at .ensures .0) (u .left, omega (arith, u .past))))
-    (λ c κs. let u = and-parts (c .before .before .before .before .before .before .pre .1 .0) (sym (c .before .before .before .before .is-and .ensures) ∙ c .before .before .before .if1 .taken) in
+    (λ c κs. let u = and-parts (c .before .before .before .before .before .before .pre .1 .0)
+    (sym (c .before .before .before .before .is-and .ensures) ∙ c .before .before .before .if1 .taken) in
     rw (c .before .from-record .ensures, length-drop, c .before .before .word-at .ensures .0) (omega (arith, u .fits)))
-    (λ c κs. let u = and-parts (c .before .before .before .before .before .before .before .pre .1 .0) (sym (c .before .before .before .before .before .is-and .ensures) ∙ c .before .before .before .before .if1 .taken) in
-    rw (c .word-at2 .ensures .0, c .before .before .from-record .ensures, c .before .before .before .word-at .ensures .0) (omega (arith, u .past₂), omega (arith, u .fits₂)))
+    (λ c κs. let u = and-parts (c .before .before .before .before .before .before .before .pre .1 .0)
+    (sym (c .before .before .before .before .before .is-and .ensures) ∙ c .before .before .before .before .if1 .taken) in
+    rw (c .word-at2 .ensures .0, c .before .before .from-record .ensures, c .before .before .before .word-at .ensures .0)
+    (omega (arith, u .past₂), omega (arith, u .fits₂)))
     (λ c. omega (arith, c .before .before .before .before .before .before .before .before .pre .1 .0 .some))
     (λ c κs. let p = c .before .before .before .before .before .before .before .before .pre in
-    let u = and-parts (p .1 .0) (sym (c .before .before .before .before .before .before .is-and .ensures) ∙ c .before .before .before .before .before .if1 .taken) in
-    (omega (arith, p .0, p .1 .0 .some), rw (c .from-record2 .ensures, c .before .word-at2 .ensures .0, c .before .before .before .from-record .ensures, c .before .before .before .before .word-at .ensures .0) (u .right, omega (arith, u .past₂))))
+    let u = and-parts (p .1 .0) (sym (c .before .before .before .before .before .before .is-and .ensures)
+    ∙ c .before .before .before .before .before .if1 .taken) in (
+      omega (arith, p .0, p .1 .0 .some),
+      rw (
+        c .from-record2 .ensures,
+        c .before .word-at2 .ensures .0,
+        c .before .before .before .from-record .ensures,
+        c .before .before .before .before .word-at .ensures .0,
+      ) (u .right, omega (arith, u .past₂)),
+    ))
     (λ c s e es q h k. let p = c .before .before .before .before .before .before .before .before .before .pre .1 .0 in
-    let u = and-standing q h (p .room) (sym (c .before .before .before .before .before .before .before .is-and .ensures) ∙ c .before .before .before .before .before .before .if1 .taken) in
+    let u = and-standing q h (p .room) (sym (c .before .before .before .before .before .before .before .is-and .ensures)
+    ∙ c .before .before .before .before .before .before .if1 .taken) in
     rw (u .is, ← append-assoc)
     (c .split-conjunction2 .ensures s (u .rhs) _
-    (rw (c .before .from-record2 .ensures, c .before .before .word-at2 .ensures .0, c .before .before .before .before .from-record .ensures, c .before .before .before .before .before .word-at .ensures .0) (u .right-part))
-    (rw (c .before .before .word-at2 .ensures .0, c .before .before .before .before .from-record .ensures, c .before .before .before .before .before .word-at .ensures .0) (u .right))
+    (rw (
+      c .before .from-record2 .ensures,
+      c .before .before .word-at2 .ensures .0,
+      c .before .before .before .before .from-record .ensures,
+      c .before .before .before .before .before .word-at .ensures .0,
+    ) (u .right-part))
+    (rw (
+      c .before .before .word-at2 .ensures .0,
+      c .before .before .before .before .from-record .ensures,
+      c .before .before .before .before .before .word-at .ensures .0,
+    ) (u .right))
     (c .before .before .before .split-conjunction .ensures s (u .lhs) es
     (rw (c .before .before .before .before .from-record .ensures, c .before .before .before .before .before .word-at .ensures .0) (u .left-part))
     (rw (c .before .before .before .before .before .word-at .ensures .0) (u .left))
     k)))
     (λ c κs. let p = c .before .before .before .pre .1 .0 in omega (arith, p .room, p .at .head .room))
-    (λ c s e es q h k. rw (not-and q h (sym (c .before .before .is-and .ensures) ∙ c .before .if1 .left)) (lists-add _ k (item-of h (c .before .before .before .before .pre .1 .1)) (c .add .ensures)))
+    (λ c s e es q h k. rw (not-and q h (sym (c .before .before .is-and .ensures) ∙ c .before .if1 .left))
+    (lists-add _ k (item-of h (c .before .before .before .before .pre .1 .1)) (c .add .ensures)))

@@ -35,7 +35,8 @@ contains-spec =
     let i = c .before .before .before .before .loop .i in
     sym (c .before .before .before .before .loop .inv .1 es e h k
     ∙ any-next (λ x. sameE x e) es i (omega (arith, lists-length h (p .most), c .before .before .before .loop-test .taken)) true
-    (sym (c .before .same-item .ensures _ e (lists-at h (p .most) i _ (c .before .before .before .loop-test .taken) (c .before .before .item-at .ensures)) k) ∙ c .if1 .taken)))
+    (sym (c .before .same-item .ensures _ e
+    (lists-at h (p .most) i _ (c .before .before .before .loop-test .taken) (c .before .before .item-at .ensures)) k) ∙ c .if1 .taken)))
     (λ c. omega (arith, c .before .before .before .before .before .before .pre .0 .most))
     (λ c. omega arith)
     (λ c. (
@@ -44,7 +45,8 @@ contains-spec =
           let i = c .before .before .before .before .loop .i in
           c .before .before .before .before .loop .inv .1 es e h k
           ∙ any-next (λ x. sameE x e) es i (omega (arith, lists-length h (p .most), c .before .before .before .loop-test .taken)) false
-          (sym (c .before .same-item .ensures _ e (lists-at h (p .most) i _ (c .before .before .before .loop-test .taken) (c .before .before .item-at .ensures)) k) ∙ c .if1 .left),
+          (sym (c .before .same-item .ensures _ e
+          (lists-at h (p .most) i _ (c .before .before .before .loop-test .taken) (c .before .before .item-at .ensures)) k) ∙ c .if1 .left),
     ))
     (λ c es e h k. let p = c .before .before .before .pre .0 in
     sym (c .before .loop .inv .1 es e h k ∙ rw (at-end es (c .before .loop .i) (omega (arith, lists-length h (p .most), c .loop-test .left))))))

@@ -10,5 +10,7 @@ unique-spec =
     (tie.spec
     (λ c κs. tt)
     (λ c κs. (record { exprs = _; lists = lists-none (c .empty .ensures) }, c .before .before .pre .0))
-    (λ c κs. let p = c .before .before .before .pre in (record { exprs = _; lists = c .unique-onto .ensures _ _ (lists-none (c .before .empty .ensures)) (p .0 .lists) }, p .1))
-    (λ c xs ys h k. rw (← onto-unique xs ys) (c .unique-onto2 .ensures _ ys (c .before .unique-onto .ensures _ xs (lists-none (c .before .before .empty .ensures)) h) k)))
+    (λ c κs. let p = c .before .before .before .pre in
+    (record { exprs = _; lists = c .unique-onto .ensures _ _ (lists-none (c .before .empty .ensures)) (p .0 .lists) }, p .1))
+    (λ c xs ys h k. rw (← onto-unique xs ys)
+    (c .unique-onto2 .ensures _ ys (c .before .unique-onto .ensures _ xs (lists-none (c .before .before .empty .ensures)) h) k)))

@@ -46,11 +46,13 @@ unique-onto-spec =
           let w = c .before .before .before .loop .inv .1 fs es h k in
           record {
             done = w .done ++ put (not (isIn (w .done) (getD es i FALSE))) (getD es i FALSE) [];
-            lists = c .add-new .ensures (w .done) (getD es i FALSE) (w .lists) (lists-at k (p .most) i _ (c .before .before .loop-test .taken) (c .before .item-at .ensures));
+            lists = c .add-new .ensures (w .done) (getD es i FALSE) (w .lists)
+                (lists-at k (p .most) i _ (c .before .before .loop-test .taken) (c .before .item-at .ensures));
             is = sym (onto-next (w .done) es i (omega (arith, lists-length k (p .most), c .before .before .loop-test .taken))) ∙ w .is;
           },
     ))
     (λ c fs es h k. let p = c .before .before .before .pre .1 in
     let w = c .before .loop .inv .1 fs es h k in
-    let e : w .done ≡ onto fs es = sym (onto-end (w .done)) ∙ (rw (at-end es (c .before .loop .i) (omega (arith, lists-length k (p .most), c .loop-test .left))) at (w .is)) in
+    let e : w .done ≡ onto fs es = sym (onto-end (w .done))
+    ∙ (rw (at-end es (c .before .loop .i) (omega (arith, lists-length k (p .most), c .loop-test .left))) at (w .is)) in
     rw (← e) (w .lists)))

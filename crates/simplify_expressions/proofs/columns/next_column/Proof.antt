@@ -34,6 +34,11 @@ next-column-spec =
       omega arith,
       λ es h. c .first-of .ensures
           ∙ (ap (lesser _ _) (c .before .before .before .loop .inv .1 es h)
-          ∙ least-next _ es (c .before .before .before .loop .i) (c .before .before .loop-test .taken) (omega (arith, lists-length h (c .before .before .before .before .before .pre .most), c .before .before .before .loop .inv .0)) _ (c .before .compared-at .ensures es h)),
+          ∙ least-next _ es (c .before .before .before .loop .i) (c .before .before .loop-test .taken)
+          (omega (
+            arith,
+            lists-length h (c .before .before .before .before .before .pre .most),
+            c .before .before .before .loop .inv .0,
+          )) _ (c .before .compared-at .ensures es h)),
     ))
     (λ c es h. c .before .loop .inv .1 es h ∙ rw (c .loop-test .left)))

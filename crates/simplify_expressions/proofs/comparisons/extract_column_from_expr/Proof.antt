@@ -12,5 +12,9 @@ extract-column-from-expr-spec =
     (λ c κs. search needs)
     (λ c. search needs)
     (λ c. search needs)
-    (λ c. rw (ne-eqb _ _ (c .before .before .before .before .if1 .left), ← c .before .before .before .literal-of .ensures, c .before .literal .given .1))
+    (λ c. rw (
+      ne-eqb _ _ (c .before .before .before .before .if1 .left),
+      ← c .before .before .before .literal-of .ensures,
+      c .before .literal .given .1,
+    ))
     (λ c. rw (ne-eqb _ _ (c .before .before .before .if1 .left), ← c .before .before .literal-of .ensures, c .enum-told .given .1)))

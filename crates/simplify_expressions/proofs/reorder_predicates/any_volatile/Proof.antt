@@ -29,12 +29,18 @@ any-volatile-spec =
     (λ c. (omega arith, λ es h. refl))
     (λ c κs. (c .before .before .before .pre, c .loop-test .taken))
     (λ c es h. let p = c .before .before .before .before .before .pre in
-    sym (c .before .before .before .loop .inv .1 es h ∙ any-next is-volatile es (c .before .before .before .loop .i) (omega (arith, lists-length h (p .most), c .before .before .loop-test .taken)) true (sym (c .before .function-at .ensures es h) ∙ c .if1 .taken)))
+    sym (c .before .before .before .loop .inv .1 es h
+    ∙ any-next is-volatile es (c .before .before .before .loop .i)
+    (omega (arith, lists-length h (p .most), c .before .before .loop-test .taken)) true (sym (c .before .function-at .ensures es h) ∙ c .if1 .taken)))
     (λ c. omega (arith, c .before .before .before .before .before .pre .most))
     (λ c. omega arith)
     (λ c. (
       omega arith,
       λ es h. let p = c .before .before .before .before .before .pre in
-          c .before .before .before .loop .inv .1 es h ∙ any-next is-volatile es (c .before .before .before .loop .i) (omega (arith, lists-length h (p .most), c .before .before .loop-test .taken)) false (sym (c .before .function-at .ensures es h) ∙ c .if1 .left),
+          c .before .before .before .loop .inv .1 es h
+          ∙ any-next is-volatile es (c .before .before .before .loop .i)
+          (omega (arith, lists-length h (p .most), c .before .before .loop-test .taken)) false
+          (sym (c .before .function-at .ensures es h) ∙ c .if1 .left),
     ))
-    (λ c es h. let p = c .before .before .before .pre in sym (c .before .loop .inv .1 es h ∙ rw (at-end es (c .before .loop .i) (omega (arith, lists-length h (p .most), c .loop-test .left))))))
+    (λ c es h. let p = c .before .before .before .pre in
+    sym (c .before .loop .inv .1 es h ∙ rw (at-end es (c .before .loop .i) (omega (arith, lists-length h (p .most), c .loop-test .left))))))

@@ -1,4 +1,5 @@
--- `reorder_predicates::needs_reorder` meets its contract. The loop's invariant: what is left to say of the rest, and of whether the one before it is expensive.
+-- `reorder_predicates::needs_reorder` meets its contract.
+-- The loop's invariant: what is left to say of the rest, and of whether the one before it is expensive.
 use mathlib.Core.Path.{_≡_, sym, _∙_}
 use mathlib.Core.List.{List}
 use Prim.Native.Nat.{_-_, _≤_}
@@ -7,7 +8,8 @@ use lib.ListN.{drop}
 use Rattle.plan.specs.Syntax.{Expr}
 use Rattle.rewrite.specs.ReorderPredicates.{needs-reorder}
 use Rattle.conjuncts.specs.Items.{Lists}
-use Rattle.simplify_expressions.proofs.Order.{after-cost, after-first, after-next, and-is}
+use Rattle.simplify_expressions.proofs.Order.{after-cost, after-first, after-next}
+use Rattle.simplify_expressions.proofs.Sides.{and-is}
 use Rattle.conjuncts.proofs.Listed.{lists-length, at-end}
 use Rattle.simplify_expressions.proofs.reorder_predicates.needs_reorder.Statement.{statement}
 use Rattle.simplify_expressions.proofs.reorder_predicates.needs_reorder.Tie as tie
@@ -26,11 +28,19 @@ needs-reorder-spec =
     μ-loop
     (λ c. (omega arith, λ es h. after-first es))
     (λ c κs. (c .before .before .before .pre, c .loop-test .taken))
-    (λ c es h. let p = c .before .before .before .before .before .pre in sym (c .before .before .before .loop .inv .1 es h ∙ (after-next es (c .before .before .before .loop .i) (omega (arith, lists-length h (p .most), c .before .before .loop-test .taken)) _ _ (c .before .function-at .ensures es h) ∙ rw (and-is _ _ (c .if1 .taken)))))
+    (λ c es h. let p = c .before .before .before .before .before .pre in
+    sym (c .before .before .before .loop .inv .1 es h
+    ∙ (after-next es (c .before .before .before .loop .i) (omega (arith, lists-length h (p .most), c .before .before .loop-test .taken)) _ _
+    (c .before .function-at .ensures es h) ∙ rw (and-is, c .if1 .taken))))
     (λ c. omega (arith, c .before .before .before .before .before .pre .most))
     (λ c. omega arith)
     (λ c. (
       omega arith,
-      λ es h. let p = c .before .before .before .before .before .pre in c .before .before .before .loop .inv .1 es h ∙ (after-next es (c .before .before .before .loop .i) (omega (arith, lists-length h (p .most), c .before .before .loop-test .taken)) _ _ (c .before .function-at .ensures es h) ∙ rw (and-is _ _ (c .if1 .left))),
+      λ es h. let p = c .before .before .before .before .before .pre in
+          c .before .before .before .loop .inv .1 es h
+          ∙ (after-next es (c .before .before .before .loop .i)
+          (omega (arith, lists-length h (p .most), c .before .before .loop-test .taken)) _ _ (c .before .function-at .ensures es h)
+          ∙ rw (and-is, c .if1 .left)),
     ))
-    (λ c es h. let p = c .before .before .before .pre in sym (c .before .loop .inv .1 es h ∙ rw (at-end es (c .before .loop .i) (omega (arith, lists-length h (p .most), c .loop-test .left))))))
+    (λ c es h. let p = c .before .before .before .pre in
+    sym (c .before .loop .inv .1 es h ∙ rw (at-end es (c .before .loop .i) (omega (arith, lists-length h (p .most), c .loop-test .left))))))

@@ -17,6 +17,16 @@ reorder-predicates-spec =
     (λ c κs. tt)
     (λ c κs. c .before .before .before .before .before .before .pre)
     (λ c κs. c .before .before .before .before .before .before .before .pre)
-    (λ c es h. rw (← c .before .before .before .before .before .before .any-volatile .ensures es h, c .before .before .before .before .before .if1 .left, ← c .before .before .before .before .needs-reorder .ensures es h, c .before .before .before .if2 .taken)
+    (λ c es h. rw (
+      ← c .before .before .before .before .before .before .any-volatile .ensures es h,
+      c .before .before .before .before .before .if1 .left,
+      ← c .before .before .before .before .needs-reorder .ensures es h,
+      c .before .before .before .if2 .taken,
+    )
     (c .pick2 .ensures es _ h (c .before .pick .ensures es _ h (lists-none (c .before .before .empty .ensures))), refl))
-    (λ c es h. rw (← c .before .before .before .any-volatile .ensures es h, c .before .before .if1 .left, ← c .before .needs-reorder .ensures es h, c .if2 .left) (h, refl)))
+    (λ c es h. rw (
+      ← c .before .before .before .any-volatile .ensures es h,
+      c .before .before .if1 .left,
+      ← c .before .needs-reorder .ensures es h,
+      c .if2 .left,
+    ) (h, refl)))

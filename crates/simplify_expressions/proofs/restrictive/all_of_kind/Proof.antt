@@ -35,6 +35,12 @@ all-of-kind-spec =
     (λ c. omega arith)
     (λ c. (
       omega arith,
-      λ es h. of-kind-next es (c .before .before .before .before .loop .i) (c .before .before .before .loop-test .taken) (omega (arith, lists-length h (c .before .before .before .before .before .before .pre .most), c .before .before .before .before .loop .inv .0)) _ (c .before .before .side-at .ensures es h) _ (c .before .is-null .ensures) _ (c .kind-of .ensures) _ _ (c .before .before .before .before .loop .inv .1 es h),
+      λ es h. of-kind-next es (c .before .before .before .before .loop .i) (c .before .before .before .loop-test .taken)
+          (omega (
+            arith,
+            lists-length h (c .before .before .before .before .before .before .pre .most),
+            c .before .before .before .before .loop .inv .0,
+          )) _ (c .before .before .side-at .ensures es h) _ (c .before .is-null .ensures) _
+          (c .kind-of .ensures) _ _ (c .before .before .before .before .loop .inv .1 es h),
     ))
     (λ c es h. c .before .loop .inv .1 es h ∙ rw (c .loop-test .left)))

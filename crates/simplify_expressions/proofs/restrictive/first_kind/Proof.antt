@@ -35,6 +35,12 @@ first-kind-spec =
     (λ c. (
       omega arith,
       λ es h. c .either .ensures
-          ∙ kind-next es (c .before .before .before .before .before .loop .i) (c .before .before .before .before .loop-test .taken) (omega (arith, lists-length h (c .before .before .before .before .before .before .before .pre .most), c .before .before .before .before .before .loop .inv .0)) _ (c .before .before .before .side-at .ensures es h) _ (c .before .before .is-null .ensures) _ (c .before .kind-of .ensures) _ (c .before .before .before .before .before .loop .inv .1 es h),
+          ∙ kind-next es (c .before .before .before .before .before .loop .i) (c .before .before .before .before .loop-test .taken)
+          (omega (
+            arith,
+            lists-length h (c .before .before .before .before .before .before .before .pre .most),
+            c .before .before .before .before .before .loop .inv .0,
+          )) _ (c .before .before .before .side-at .ensures es h) _
+          (c .before .before .is-null .ensures) _ (c .before .kind-of .ensures) _ (c .before .before .before .before .before .loop .inv .1 es h),
     ))
     (λ c es h. c .before .loop .inv .1 es h ∙ rw (c .loop-test .left)))

@@ -16,4 +16,15 @@ is-better-spec =
     (λ c κs. search needs)
     (λ c κs. search needs)
     (λ c κs. search needs)
-    (λ c. rw (c .lies-past2 .ensures, c .before .lies-past .ensures, ← c .before .before .before .before .before .before .is-null2 .ensures, ← c .before .before .before .before .before .before .before .is-null .ensures, c .before .before .before .before .before .if1 .left, c .before .before .before .before .if2 .left, ← c .before .before .code-of2 .ensures, ← c .before .before .before .code-of .ensures, and-is, and-is) (search needs)))
+    (λ c. rw (
+      c .lies-past2 .ensures,
+      c .before .lies-past .ensures,
+      ← c .before .before .before .before .before .before .is-null2 .ensures,
+      ← c .before .before .before .before .before .before .before .is-null .ensures,
+      c .before .before .before .before .before .if1 .left,
+      c .before .before .before .before .if2 .left,
+      ← c .before .before .code-of2 .ensures,
+      ← c .before .before .before .code-of .ensures,
+      and-is,
+      and-is,
+    ) (search needs)))

@@ -20,13 +20,16 @@ most-restrictive-spec =
     (λ c κs. search needs)
     (λ c κs. search needs)
     (λ c κs. search needs)
-    (λ c κs. let p = c .before .before .before .before .before .before .before .pre in omega (arith, c .find-most-restrictive-predicate .ensures .0, lists-room (p .lists) (p .most)))
-    (λ c κs. let p = c .before .before .before .before .before .before .before .before .pre in lists-at (p .lists) (p .most) _ _ (c .before .find-most-restrictive-predicate .ensures .0) (c .item-at .ensures) .small)
+    (λ c κs. let p = c .before .before .before .before .before .before .before .pre in
+    omega (arith, c .find-most-restrictive-predicate .ensures .0, lists-room (p .lists) (p .most)))
+    (λ c κs. let p = c .before .before .before .before .before .before .before .before .pre in
+    lists-at (p .lists) (p .most) _ _ (c .before .find-most-restrictive-predicate .ensures .0) (c .item-at .ensures) .small)
     (λ c es fs spell h k sp. let p = c .before .before .before .before .before .before .before .before .before .pre in
     let f = c .before .before .find-most-restrictive-predicate .ensures in
     let best = c .before .before .find-most-restrictive-predicate .result in
     rw (restrict-one _ spell es best (omega (arith, lists-length h (p .most), f .0)) (omega (arith, lists-length h (p .most), f .0)) sp
-    (rw (← c .before .before .before .before .before .first-kind .ensures es h) (sym (c .before .before .before .if2 .taken) ∙ c .before .before .before .before .all-of-kind .ensures es h)) (f .1 es h))
+    (rw (← c .before .before .before .before .before .first-kind .ensures es h) (sym (c .before .before .before .if2 .taken)
+    ∙ c .before .before .before .before .all-of-kind .ensures es h)) (f .1 es h))
     (c .add-if .ensures _ fs (getD es best FALSE) k (lists-at h (p .most) _ _ (f .0) (c .before .item-at .ensures))))
     (λ c κs. search needs)
     (λ c es fs spell h k sp. let p = c .before .before .before .before .before .before .before .pre in

@@ -12,4 +12,11 @@ same-value-spec =
     (λ c κs. search needs)
     (λ c κs. search needs)
     (λ c κs. search needs)
-    (λ c. rw (← c .kind-of2 .ensures, ← c .before .kind-of .ensures, ← c .before .before .code-of2 .ensures, ← c .before .before .before .code-of .ensures, and-is, and-is) (search needs)))
+    (λ c. rw (
+      ← c .kind-of2 .ensures,
+      ← c .before .kind-of .ensures,
+      ← c .before .before .code-of2 .ensures,
+      ← c .before .before .before .code-of .ensures,
+      and-is,
+      and-is,
+    ) (search needs)))

@@ -1,4 +1,5 @@
--- `simplify_predicates::simplify_predicates` meets its contract. The loop's invariant: what is listed, and then the columns that are left, is all.
+-- `simplify_predicates::simplify_predicates` meets its contract.
+-- The loop's invariant: what is listed, and then the columns that are left, is all.
 use mathlib.Core.Path.{_≡_}
 use mathlib.Core.List.{List}
 use mathlib.Core.Option.{some}
@@ -27,7 +28,8 @@ simplify-predicates-spec =
     (λ c es h. rw (one-simplified es (omega (arith, lists-length h (c .before .before .before .pre .most), c .if1 .taken))) h)
     (λ c κs. c .before .before .before .pre)
     (λ c κs. c .before .before .before .before .pre)
-    (λ c es h. going-start es (c .before .other-predicates .ensures es h) (c .next-column .ensures es h) (omega (arith, lists-length h (c .before .before .before .before .before .pre .most))))
+    (λ c es h. going-start es (c .before .other-predicates .ensures es h) (c .next-column .ensures es h)
+    (omega (arith, lists-length h (c .before .before .before .before .before .pre .most))))
     (λ c es h. going-end es (c .before .before .before .loop .inv es h) (rw (not-true (c .before .before .before .loop .key .some) (c .if2 .taken))))
     (λ c κs. c .before .before .before .before .before .before .before .before .before .pre)
     (λ c κs. c .before .before .before .before .before .before .before .before .before .before .pre)
