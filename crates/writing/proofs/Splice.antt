@@ -67,6 +67,10 @@ module _ (p : Plan) (node : ℕ) (c : Focus) (f : focus node p ≡ some c) where
       ap length (at .again q) ∙ length-three (at .before) (new q) (at .after) in
       omega (arith, e, at .count, flat-length 1 (planTree (c .back q)), flat-length (at .level) (planTree q))
 
+  -- its record is one of the whole
+  pub node-small : node < sizeT (planTree p)
+  node-small = omega (arith, within)
+
   -- what `write_before` leaves
   pub before-of : {out₀ out₁ out₂ levels : List ℕ} {size level records : ℕ} → sizeT (planTree p) ≤ 2048 → length out₁ ≡ workBytes
       → Wrote out₀ out₁ 0 1 size (planTree (c .plan)) → Wrote out₁ out₂ 0 1 records (planTree p) → Levels levels (planTree p)
