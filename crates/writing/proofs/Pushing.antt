@@ -5,20 +5,21 @@
 --     conjoin-one, conjoin-more           the first items of a list, joined left-deep
 -- Assumes nothing.
 use mathlib.Core.Path.{_≡_, refl, sym, ap, subst, _∙_}
-use mathlib.Core.List.{List, [], _∷_, _++_}
+use mathlib.Core.List.{List, [], _∷_, _++_, map}
 use Prim.Native.Nat.{ℕ, zero, suc, _+_, _-_, _*_, _≤_, _<_}
 use native.Mathlib.Omega.{arith}
+use native.Mathlib.Numerals.{add-one}
 use lib.ListN.{length, getD, take, drop}
-use lib.Seq.{take-suc}
+use lib.Seq.{take-suc, take-all}
 use Rattle.image.specs.Tree.{Readable}
 use Rattle.plan.specs.Syntax.{Name, Expr, bin, and, Plan, filter}
 use Rattle.plan.specs.Trees.{exprTree, planTree}
 use Rattle.rewrite.specs.Utils.{replace-cols, conjoin, with-filters}
 use Rattle.conjuncts.specs.Standing.{Standing, StandingP}
 use Rattle.conjuncts.specs.Items.{Conjuncts, FALSE, most, listed, Holds, Item, Items, inil, icons, Lists}
-use Rattle.conjuncts.proofs.Listed.{count-is, whole}
+use Rattle.conjuncts.proofs.Listed.{count-is, whole, lists-length, lists-at}
 use Rattle.writing.specs.Maps.{Maps}
-use Rattle.writing.specs.Pushed.{Changed, Pushed, Each, nil, cons, Pushes, One, Some}
+use Rattle.writing.specs.Pushed.{Changed, Pushed, Each, nil, cons, Pushes, Predicate, Shape, ItemOr, One, Some}
 
 -- ---- what is read
 
@@ -134,3 +135,74 @@ conjoin-more e es k nz lt =
     let z : k ≡ suc (k - 1) = omega arith in
     subst (λ (i : ℕ). conjoin e (take i es) ≡ bin and (conjoin e (take (k - 1) es)) (getD (e ∷ es) i FALSE)) (sym z)
     (rw (take-suc es (k - 1) FALSE (omega arith)) (conjoin-snoc e (take (k - 1) es) (getD es (k - 1) FALSE)))
+
+-- ---- columns replaced throughout
+
+-- in a list joined left-deep
+pub replace-conjoin : (σ : Name → Expr) (e : Expr) (es : List Expr) → replace-cols σ (conjoin e es) ≡ conjoin (replace-cols σ e) (map (replace-cols σ) es)
+unfolding conjoin replace-cols
+replace-conjoin σ e [] = refl
+replace-conjoin σ e (x ∷ es) = replace-conjoin σ (bin and e x) es
+
+-- one more of a list
+map-next : (f : Expr → Expr) (es : List Expr) (i : ℕ) → i < length es → map f (take i es) ++ (f (getD es i FALSE) ∷ []) ≡ map f (take (suc i) es)
+map-next f [] i lt = absurd (omega arith)
+map-next f (x ∷ es) zero lt = refl
+map-next f (x ∷ es) (suc i) lt = ap (f x ∷_) (map-next f es i (omega arith))
+
+-- the first i items of a list have their columns replaced
+abbrev pub Replacing : Conjuncts → ℕ → Conjuncts → Type 0
+Replacing c i r = (s : List ℕ) (σ : Name → Expr) (es : List Expr) → Lists s c es → Pushes s σ r (map (replace-cols σ) (take i es))
+
+pub replacing-next : {c r r′ : Conjuncts} {i n : ℕ} → c .len ≤ 128 → i < c .len → n ≡ getD (listed c) i 0
+    → ((xs : List ℕ) → Holds r xs → Holds r′ (xs ++ ((n + 2048) ∷ []))) → Replacing c i r → Replacing c (i + 1) r′
+replacing-next {i = i} {n} few lt e f h s σ es l =
+    let long : length es ≡ _ = lists-length l few in
+    rw (add-one, ← map-next (replace-cols σ) es i (omega arith))
+    (pushes-add (n + 2048) (h s σ es l) (pushed-changed (lists-at l few i n lt e)) f)
+
+pub replacing-end : {c r : Conjuncts} {i : ℕ} → c .len ≤ 128 → c .len ≤ i → Replacing c i r
+    → (s : List ℕ) (σ : Name → Expr) (es : List Expr) → Lists s c es → Pushes s σ r (map (replace-cols σ) es)
+replacing-end {i = i} few le h s σ es l =
+    let long : length es ≡ _ = lists-length l few in
+    rw (take-all i es (omega arith)) at (h s σ es l)
+
+-- as many as there were
+length-of : {s : List ℕ} {σ : Name → Expr} {c : Conjuncts} {es : List Expr} → Pushes s σ c es → length es ≤ 128 → c .len ≡ length es
+unfolding most
+length-of h le = omega (arith, h .holds .count, each-length (h .items))
+
+map-length : (f : Expr → Expr) (es : List Expr) → length (map f es) ≡ length es
+map-length f [] = refl
+map-length f (x ∷ es) = ap suc (map-length f es)
+
+pub replaced-length : {s : List ℕ} {σ : Name → Expr} {c r : Conjuncts} {es : List Expr} → c .len ≤ 128 → Lists s c es
+    → Pushes s σ r (map (replace-cols σ) es) → r .len ≡ c .len
+replaced-length {σ = σ} {es = es} few l h =
+    let long : length es ≡ _ = lists-length l few in
+    let same : length (map (replace-cols σ) es) ≡ length es = map-length (replace-cols σ) es in
+    length-of h (omega arith) ∙ (same ∙ long)
+
+-- a predicate in its shape is written as it is
+pub shape-plain : {s : List ℕ} {σ : Name → Expr} {written : ℕ} {c : Conjuncts} {e : Expr} → Shape s written c e → Predicate s σ written c e
+shape-plain h = record {
+  item = λ nz. let k = h .item nz in pushed-plain (record { none = λ z. absurd (nz z); some = λ f. k; small = k .small });
+  list = λ z. let k = h .list z in record { first = k .first; others = k .others; pushes = pushes-of (k .lists); is = k .is };
+}
+
+-- and with its columns replaced
+pub shape-changed : {s : List ℕ} {σ : Name → Expr} {written r : ℕ} {c c′ : Conjuncts} {e : Expr} → Shape s written c e → ItemOr written r
+    → ((es : List Expr) → Lists s c es → Pushes s σ c′ (map (replace-cols σ) es)) → Predicate s σ r c′ (replace-cols σ e)
+shape-changed {σ = σ} {written} {r} {e = e} h o f = record {
+  item = λ nz.
+      let k = h .item (λ z. nz (o .none z)) in
+      rw (o .other (λ z. nz (o .none z))) (pushed-changed (record { none = λ z. absurd (nz (o .none z)); some = λ g. k; small = k .small }));
+  list = λ z.
+      let k = h .list (o .zero z) in
+      record {
+        first = replace-cols σ (k .first);
+        others = map (replace-cols σ) (k .others);
+        pushes = f (k .first ∷ k .others) (k .lists);
+        is = ap (replace-cols σ) (k .is) ∙ replace-conjoin σ (k .first) (k .others);
+      };
+}

@@ -2,10 +2,11 @@
 -- its columns replaced.
 use mathlib.Core.Path.{_≡_}
 use mathlib.Core.List.{List, [], _∷_}
-use Prim.Native.Nat.{ℕ, _-_, _≤_, _<_}
+use Prim.Native.Nat.{ℕ, _+_, _-_, _≤_, _<_}
 use Rattle.plan.specs.Syntax.{Name, Expr}
 use Rattle.rewrite.specs.Utils.{replace-cols, conjoin}
-use Rattle.conjuncts.specs.Items.{Conjuncts, Holds, Item}
+use Rattle.conjuncts.specs.Standing.{Standing}
+use Rattle.conjuncts.specs.Items.{Conjuncts, Holds, Item, Lists}
 
 -- e is the expression of the item n, its columns replaced by σ
 pub record Changed (s : List ℕ) (σ : Name → Expr) (n : ℕ) (e : Expr) : Type 0 where
@@ -37,10 +38,28 @@ pub record Joined (s : List ℕ) (σ : Name → Expr) (c : Conjuncts) (e : Expr)
   pub pushes : Pushes s σ c (first ∷ others)
   pub is : e ≡ conjoin first others
 
+-- the same where no column is replaced
+pub record Left-deep (s : List ℕ) (c : Conjuncts) (e : Expr) : Type 0 where
+  pub first : Expr
+  pub others : List Expr
+  pub lists : Lists s c (first ∷ others)
+  pub is : e ≡ conjoin first others
+
 -- e is written for the item `written`, or where that is 0 for the list c
 pub record Predicate (s : List ℕ) (σ : Name → Expr) (written : ℕ) (c : Conjuncts) (e : Expr) : Type 0 where
   pub item : (written ≡ 0 → ⊥) → Pushed s σ written e
   pub list : written ≡ 0 → Joined s σ c e
+
+-- e is a predicate in the shape in which it is to be written: the expression at the record `written`, or where that is 0 the list c, joined
+pub record Shape (s : List ℕ) (written : ℕ) (c : Conjuncts) (e : Expr) : Type 0 where
+  pub item : (written ≡ 0 → ⊥) → Standing s written e
+  pub list : written ≡ 0 → Left-deep s c e
+
+-- r is the item n with its columns replaced, or 0 where n is
+pub record ItemOr (n r : ℕ) : Type 0 where
+  pub none : n ≡ 0 → r ≡ 0
+  pub zero : r ≡ 0 → n ≡ 0
+  pub other : (n ≡ 0 → ⊥) → r ≡ n + 2048
 
 -- ---- what functions ask for
 
@@ -62,4 +81,11 @@ pub record Predicated (s : List ℕ) (written : ℕ) (c : Conjuncts) : Type 0 wh
   pub map : Name → Expr
   pub expr : Expr
   pub predicate : Predicate s map written c expr
+  pub most : c .len ≤ 128
+
+-- no item of the list c, which is whole, has its columns replaced
+pub record Plain (c : Conjuncts) : Type 0 where
+  pub image : List ℕ
+  pub exprs : List Expr
+  pub lists : Lists image c exprs
   pub most : c .len ≤ 128

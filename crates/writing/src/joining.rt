@@ -5,6 +5,8 @@ use crate::kinds::BOOLEAN;
 use crate::kinds::put_kind;
 use crate::replacing::copy_replaced;
 use conjuncts::lists::Conjuncts;
+use conjuncts::lists::add;
+use conjuncts::lists::empty;
 use conjuncts::lists::item_at;
 use conjuncts::reading::record_at;
 use image::copying::copy_tree;
@@ -12,7 +14,7 @@ use image::limits::MAX_DEPTH;
 use image::limits::MAX_RECORDS;
 ghost use mathlib.Core.Path.{_≡_};
 ghost use mathlib.Core.List.{List, _∷_, map};
-ghost use Prim.Native.Nat.{_+_, _-_, _≤_, _<_};
+ghost use Prim.Native.Nat.{_+_, _-_, _≤_, _<_, ℕ};
 ghost use lib.ListN.{length, take};
 ghost use Rattle.image.specs.Limits.{workBytes};
 ghost use Rattle.image.specs.Tree.{Readable};
@@ -20,12 +22,38 @@ ghost use Rattle.image.specs.Room.{Wrote};
 ghost use Rattle.plan.specs.Syntax.{Name, Expr};
 ghost use Rattle.plan.specs.Trees.{exprTree};
 ghost use Rattle.rewrite.specs.Utils.{replace-cols, conjoin};
-ghost use Rattle.conjuncts.specs.Items.{Item, Items, Lists, Present};
+ghost use Rattle.conjuncts.specs.Items.{Item, Lists, Present};
 ghost use Rattle.writing.specs.Maps.{Maps};
-ghost use Rattle.writing.specs.Pushed.{Pushed, Pushes, One, Some, Predicate, Predicated};
+ghost use Rattle.writing.specs.Pushed.{Pushed, Pushes, One, Some, Predicate, Predicated, Plain, ItemOr};
 
 // The operator AND.
 const AND: usize = 1;
+
+// The item n with its columns replaced; 0 stays 0.
+pub fn replaced_item(n: usize) -> usize
+    requires { ⌜ n < 2048 ⌝ }
+    ensures { λ r. ⌜ ItemOr n r ⌝ }
+{
+    if n == 0 {
+        return 0;
+    }
+    n + MAX_RECORDS
+}
+
+// The list with the columns of each item replaced.
+pub fn replaced_list(c: Conjuncts) -> Conjuncts
+    requires { ⌜ Plain c ⌝ }
+    ensures { λ r. ⌜ (r .len ≡ c .len) × ((s : List ℕ) (σ : Name → Expr) (es : List Expr) → Lists s c es → Pushes s σ r (map (replace-cols σ) es)) ⌝ }
+{
+    let n = c.len;
+    let mut r = empty();
+    let mut i = 0;
+    while i < n {
+        r = add(r, item_at(c, i) + MAX_RECORDS);
+        i += 1;
+    }
+    r
+}
 
 // Writes what the item n stands for, which is a record or FALSE.
 fn copy_plain(s: &[u8], n: usize, out: &mut [u8], at: usize, level: usize) -> usize
