@@ -7,3 +7,4 @@ pub mod Making
 pub mod Shapes
 pub mod Appending
 pub mod Answering
+pub mod Extracting

@@ -3,3 +3,4 @@ pub mod Masks
 pub mod Fields
 pub mod Inputs
 pub mod Referring
+pub mod Clauses

@@ -1,0 +1,22 @@
+-- `clauses::either_and` meets its contract.
+use mathlib.Core.Path.{ap}
+use native.Mathlib.Omega.{arith}
+use borrow.Author.Needs.{needs}
+use Rattle.utils.specs.Clauses.{recordsOf}
+use Rattle.utils.proofs.Extracting.{either-first, either-both, either-second}
+use Rattle.utils.proofs.clauses.either_and.Statement.{statement}
+use Rattle.utils.proofs.clauses.either_and.Tie as tie
+
+pub either-and-spec : {M : Type 1} → statement M
+either-and-spec =
+    tie.close
+    (tie.spec
+    (λ c. search needs)
+    (λ c. search needs)
+    (λ c. search needs)
+    (λ c. search needs)
+    (λ c. omega (arith, ap recordsOf (c .before .before .before .before .a .given .1)))
+    (λ c. omega (arith, ap recordsOf (c .before .before .before .before .a .given .1), ap recordsOf (c .before .b .given .1)))
+    (λ c. search needs)
+    (λ c. either-first (c .before .before .before .a .given .1) (c .enum-told2 .given .1))
+    (λ c. either-both (c .before .before .before .before .a .given .1) (c .before .b .given .1)))
