@@ -3,6 +3,8 @@ use mathlib.Core.Path.{_≡_}
 use Prim.Native.Nat.{_-_, _≤_, _<_}
 use native.Mathlib.Omega.{arith}
 use borrow.Author.Needs.{needs}
+use mathlib.Core.Bool.{true}
+use mathlib.Core.List.{[]}
 use Rattle.plan.specs.Syntax.{col}
 use Rattle.conjuncts.proofs.Listed.{lists-room, lists-at}
 use Rattle.writing.proofs.Pushing.{Replacing, pushes-none, replacing-next, replacing-end, replaced-length}
@@ -33,4 +35,4 @@ replaced-list-spec =
     (λ c. let p = c .before .before .before .pre in
     let k = c .before .loop .inv in
     let all = replacing-end (p .most) (c .loop-test .left) (k .1) in
-    (replaced-length (p .most) (p .lists) (all (p .image) col (p .exprs) (p .lists)), all)))
+    (replaced-length (p .most) (p .lists) (all (p .image) (record { map = col; names = []; side = λ x. true }) (p .exprs) (p .lists)), all)))
