@@ -4,19 +4,19 @@
 use mathlib.Core.Path.{_≡_, refl, subst}
 use mathlib.Core.List.{List, [], _∷_}
 use mathlib.Core.Option.{some}
-use Prim.Native.Nat.{ℕ, suc, _+_, _-_, _*_, _≤_, _<_}
-use native.Mathlib.Nat.{zero-add, add-zero, add-assoc}
+use Prim.Native.Nat.{ℕ, suc, _+_, _-_, _*_, _≤_}
+use native.Mathlib.Nat.{zero-add, add-zero}
 use native.Mathlib.Omega.{arith}
-use lib.ListN.{length, drop, length-drop}
+use lib.ListN.{drop, length-drop}
 use lib.Seq.{drop-drop}
-use Rattle.image.specs.Tree.{Label, Forest, none, node, Tree, size, Stands, At, Deep}
+use Rattle.image.specs.Tree.{Label, Forest, none, node, size, Stands, At, Deep}
 use Rattle.image.specs.Flat.{sizeT}
-use Rattle.plan.specs.Syntax.{Plan, Plans, project, sort, aggregate, window}
+use Rattle.plan.specs.Syntax.{Plan, aggregate}
 use Rattle.plan.specs.Integers.{FitsP, FitsPs}
-use Rattle.plan.specs.Trees.{labelE, kidsE, each, entryLabel, entryKids, pairLabel, pairKids, keyLabel, keyKids, aggLabel}
+use Rattle.plan.specs.Trees.{kidsE, each, entryLabel, entryKids, pairLabel, pairKids, keyLabel, keyKids, aggLabel}
 use Rattle.plan.specs.Trees.{aggKids, winLabel, winKids, filterKids, labelP, kidsP, forestP, planTree}
 use Rattle.plan.specs.Measure.{sizeE, sizeP, sizes}
-use Rattle.rewrite.specs.RewriteAt.{Focus, FocusAll, focus}
+use Rattle.rewrite.specs.RewriteAt.{Focus, focus}
 use Rattle.conjuncts.specs.Standing.{StandingP}
 use Rattle.writing.proofs.Focused.{Way, through-filter, through-project, through-left, through-right, through-alias, through-distinct}
 use Rattle.writing.proofs.Focused.{through-sort, through-repartition, through-limit, through-aggregate, through-window, Within}
@@ -37,7 +37,8 @@ behind-run l k [] ns s i b h = rw (add-zero, add-zero) h
 behind-run l k (x ∷ xs) ns s i b h =
     let e : i + 32 * suc (size (k x)) + 32 * sizes k xs ≡ i + 32 * (suc (size (k x)) + sizes k xs) = omega arith in
     let f : b + 1 + size (k x) + sizes k xs ≡ b + (suc (size (k x)) + sizes k xs) = omega arith in
-    rw (← e, ← f) (behind-run l k xs ns s (i + 32 * suc (size (k x))) (b + 1 + size (k x)) (part-of (each l k xs ns) s i (32 * suc (size (k x))) (b + 1 + size (k x)) (h .after)))
+    rw (← e, ← f) (behind-run l k xs ns s (i + 32 * suc (size (k x))) (b + 1 + size (k x))
+    (part-of (each l k xs ns) s i (32 * suc (size (k x))) (b + 1 + size (k x)) (h .after)))
 
 -- no deeper than there
 deep-more : (f : Forest) (d e : ℕ) → d ≤ e → Deep f d → Deep f e
@@ -78,7 +79,8 @@ step-run : {A : Type 0} (l : A → Label) (k : A → Forest) (xs : List A) (p : 
     → Deep (each l k xs (node (labelP p) (kidsP p) none)) d → FitsP p → Step (suc (sizes k xs)) s i b d p
 step-run l k xs p s i b d h g q =
     step-of p none s (suc (sizes k xs)) i b d (i + 32 + 32 * sizes k xs) (b + 1 + sizes k xs) (omega arith) (omega arith)
-    (behind-run l k xs (node (labelP p) (kidsP p) none) s (i + 32) (b + 1) (part-of (each l k xs (node (labelP p) (kidsP p) none)) s i 32 (b + 1) h)) (deep-run l k xs _ d g) q
+    (behind-run l k xs (node (labelP p) (kidsP p) none) s (i + 32) (b + 1)
+    (part-of (each l k xs (node (labelP p) (kidsP p) none)) s i 32 (b + 1) h)) (deep-run l k xs _ d g) q
 
 step : {k : ℕ} {f : Plan → Plan} (w : Way k f) (p : Plan) (s : List ℕ) (i b d : ℕ)
     → At (planTree (f p)) (drop i s) b → Deep (kidsP (f p)) d → FitsP (f p) → Step k s i b d p

@@ -14,7 +14,7 @@ use native.Mathlib.Numerals.{add-one}
 use lib.ListN.{length, getD, take, drop}
 use lib.Seq.{take-suc, take-all}
 use Rattle.image.specs.Tree.{Readable}
-use Rattle.plan.specs.Syntax.{Name, Expr, bin, and, Plan, filter}
+use Rattle.plan.specs.Syntax.{Name, Expr, bin, and, Plan}
 use Rattle.plan.specs.Trees.{exprTree, planTree}
 use Rattle.plan.specs.Columns.{on-cols}
 use Rattle.plan.specs.Schema.{has}
@@ -26,7 +26,7 @@ use Rattle.conjuncts.specs.Standing.{Standing, StandingP}
 use Rattle.conjuncts.specs.Items.{Conjuncts, FALSE, most, listed, Holds, Item, Items, inil, icons, Lists}
 use Rattle.conjuncts.proofs.Listed.{count-is, whole, lists-length, lists-at}
 use Rattle.writing.specs.Maps.{Maps, Sense, Means}
-use Rattle.writing.specs.Pushed.{Changed, Pushed, Each, nil, cons, Pushes, Predicate, Shape, ItemOr, One, Some}
+use Rattle.writing.specs.Pushed.{Pushed, Each, nil, cons, Pushes, Predicate, Shape, ItemOr, One, Some}
 
 -- ---- what is read
 
@@ -173,7 +173,8 @@ conjoin-more e es k nz lt =
 -- ---- columns replaced throughout
 
 -- in a list joined left-deep
-pub replace-conjoin : (σ : Name → Expr) (e : Expr) (es : List Expr) → replace-cols σ (conjoin e es) ≡ conjoin (replace-cols σ e) (map (replace-cols σ) es)
+pub replace-conjoin : (σ : Name → Expr) (e : Expr) (es : List Expr)
+    → replace-cols σ (conjoin e es) ≡ conjoin (replace-cols σ e) (map (replace-cols σ) es)
 unfolding conjoin replace-cols
 replace-conjoin σ e [] = refl
 replace-conjoin σ e (x ∷ es) = replace-conjoin σ (bin and e x) es

@@ -52,7 +52,8 @@ pub fn replaced_item(n: usize) -> usize
 // The list with the columns of each item replaced.
 pub fn replaced_list(c: Conjuncts) -> Conjuncts
     requires { ⌜ Plain c ⌝ }
-    ensures { λ r. ⌜ (r .len ≡ c .len) × ((s : List ℕ) (μ : Sense) (es : List Expr) → Lists s c es → Pushes s μ r (map (replace-cols (μ .map)) es)) ⌝ }
+    ensures { λ r. ⌜ (r .len ≡ c .len)
+        × ((s : List ℕ) (μ : Sense) (es : List Expr) → Lists s c es → Pushes s μ r (map (replace-cols (μ .map)) es)) ⌝ }
 {
     let n = c.len;
     let mut r = empty();

@@ -1,9 +1,7 @@
 -- `joining::copy_joined` meets its contract: the first items are all items.
-use mathlib.Core.Path.{_≡_}
 use Prim.Native.Nat.{_-_}
 use native.Mathlib.Omega.{arith}
 use borrow.Author.Needs.{needs}
-use lib.ListN.{take}
 use lib.Seq.{take-all}
 use Rattle.writing.proofs.Pushing.{pushes-length}
 use Rattle.writing.proofs.joining.copy_joined.Statement.{statement}

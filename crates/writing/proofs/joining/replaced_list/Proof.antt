@@ -1,6 +1,5 @@
 -- `joining::replaced_list` meets its contract. The loop's invariant: the first i items have their columns replaced.
-use mathlib.Core.Path.{_≡_}
-use Prim.Native.Nat.{_-_, _≤_, _<_}
+use Prim.Native.Nat.{_-_, _≤_}
 use native.Mathlib.Omega.{arith}
 use borrow.Author.Needs.{needs}
 use mathlib.Core.Bool.{true}
@@ -26,12 +25,17 @@ replaced-list-spec =
     (λ c κs. search needs)
     (λ c. (omega arith, λ s σ es l. pushes-none (c .empty .ensures)))
     (λ c κs. let p = c .before .before .before .pre in omega (arith, lists-room (p .lists) (p .most)))
-    (λ c. let p = c .before .before .before .before .pre in omega (arith, lists-at (p .lists) (p .most) _ _ (c .before .loop-test .taken) (c .item-at .ensures) .small))
-    (λ c κs. let p = c .before .before .before .before .pre in omega (arith, lists-at (p .lists) (p .most) _ _ (c .before .loop-test .taken) (c .item-at .ensures) .small))
+    (λ c. let p = c .before .before .before .before .pre in
+    omega (arith, lists-at (p .lists) (p .most) _ _ (c .before .loop-test .taken) (c .item-at .ensures) .small))
+    (λ c κs. let p = c .before .before .before .before .pre in
+    omega (arith, lists-at (p .lists) (p .most) _ _ (c .before .loop-test .taken) (c .item-at .ensures) .small))
     (λ c. omega arith)
     (λ c. omega arith)
-    (λ c. let p = c .before .before .before .before .before .pre in
-    (omega arith, replacing-next (p .most) (c .before .before .loop-test .taken) (c .before .item-at .ensures) (c .add .ensures) (c .before .before .before .loop .inv .1)))
+    (λ c. let p = c .before .before .before .before .before .pre in (
+      omega arith,
+      replacing-next (p .most) (c .before .before .loop-test .taken) (c .before .item-at .ensures) (c .add .ensures)
+          (c .before .before .before .loop .inv .1),
+    ))
     (λ c. let p = c .before .before .before .pre in
     let k = c .before .loop .inv in
     let all = replacing-end (p .most) (c .loop-test .left) (k .1) in
