@@ -2,7 +2,7 @@
 --     below-child     what stands below a child is linked in the whole
 --     value           what is found for a column
 -- Assumes nothing.
-use mathlib.Core.Path.{_≡_, refl, subst}
+use mathlib.Core.Path.{_≡_, subst}
 use mathlib.Core.Bool.{Bool, true, false}
 use mathlib.Core.List.{List}
 use Prim.Native.Nat.{ℕ, _+_, _-_, _*_, _≤_, _<_}
@@ -11,7 +11,7 @@ use lib.Dec.{eqb}
 use lib.ListN.{length, drop}
 use lib.Seq.{drop-drop}
 use Rattle.image.specs.Word.{word}
-use Rattle.image.specs.Tree.{Label, Forest, none, node, Tree, At, Stands, Deep, Readable, Linked}
+use Rattle.image.specs.Tree.{Label, Forest, none, node, Tree, At, Deep, Readable, Linked}
 use Rattle.image.proofs.Walking.{Turn, turn, ended, readable, linked-first, only}
 use Rattle.writing.specs.Replaced.{Leads, isEntry, either, lookup, valueFor, firstOr}
 
@@ -23,7 +23,10 @@ inner (node l cs ns) s b a x h k =
 
 pub below-child : {f : Forest} {s : List ℕ} {b at : ℕ} (u : Turn f s b at) → Leads (u .child .below) s b (word (drop (32 * (at - b)) s) 24)
 below-child {s = s} {b} {at} u =
-    record { linked = inner (u .child .below) s b at (word (drop (32 * (at - b)) s) 24) (omega (arith, u .past)) (linked-first (u .child) (drop (32 * (at - b)) s) at (u .here)) }
+    record {
+      linked = inner (u .child .below) s b at (word (drop (32 * (at - b)) s) 24) (omega (arith, u .past))
+          (linked-first (u .child) (drop (32 * (at - b)) s) at (u .here));
+    }
 
 deep-or : (t : Bool) (f g : Forest) (d : ℕ) → Deep f d → Deep g d → Deep (either t f g) d
 deep-or true f g d h k = h
@@ -47,7 +50,8 @@ pub record Value (e : Tree) (l : Label) (d : ℕ) (m : List ℕ) (of x : ℕ) : 
   pub readable : Readable (d - 2) (drop (32 * (x - of)) m) x
   pub is : (t : Tree) → firstOr (valueFor e l) t ≡ tree
 
-pub value : (e : Tree) (l : Label) {d : ℕ} {m : List ℕ} {of x : ℕ} → Readable d m of → At e m of → Leads (valueFor e l) m of x → (x ≡ 0 → ⊥) → Value e l d m of x
+pub value : (e : Tree) (l : Label) {d : ℕ} {m : List ℕ} {of x : ℕ} → Readable d m of → At e m of → Leads (valueFor e l) m of x → (x ≡ 0 → ⊥)
+    → Value e l d m of x
 value e l {d} {m} {of} {x} k he h nz =
     let u : Turn (valueFor e l) m of x = turn (valueFor e l) (h .linked) nz in
     let deep : Deep (e .below) (d - 1) = rw (only he (k .at)) (k .deep) in

@@ -3,12 +3,11 @@
 --     fits-over, fits-deep, fits-long, fits-all   when such a plan fits
 --     flattened, answered                         it can be linked, and then its image is there
 -- Assumes nothing.
-use mathlib.Core.Path.{_≡_, refl, sym, ap, _∙_}
+use mathlib.Core.Path.{_≡_, refl, sym, _∙_}
 use mathlib.Core.Bool.{Bool, true, false}
 use mathlib.Core.List.{List, _++_}
 use mathlib.Core.Option.{some}
-use Prim.Native.Nat.{ℕ, suc, _+_, _*_, _≤_, _<_, max as larger}
-use native.Mathlib.Nat.{zero-add}
+use Prim.Native.Nat.{ℕ, _*_, _≤_, _<_, max as larger}
 use native.Mathlib.Omega.{arith}
 use lib.Dec.{leb}
 use lib.ListN.{length, take, length-append}
@@ -20,16 +19,15 @@ use Rattle.image.specs.Flat.{sizeT, flat, enc}
 use Rattle.image.specs.Flattened.{Flattened}
 use Rattle.image.specs.Room.{cap}
 use Rattle.image.proofs.Writing.{bytesOf-length}
-use Rattle.image.proofs.Room.{cap-is, cap-over}
+use Rattle.image.proofs.Room.{cap-is}
 use Rattle.image.proofs.RoundTrip.{enc-length}
 use Rattle.plan.specs.Lists.{_&_}
-use Rattle.plan.specs.Syntax.{Plan, Plans, join}
+use Rattle.plan.specs.Syntax.{Plan}
 use Rattle.plan.specs.Trees.{planTree}
 use Rattle.plan.specs.Measure.{depthT, sizeP, depthP}
 use Rattle.rewrite.specs.Limits.{listP, listPs, fits}
 use Rattle.rewrite.specs.Utils.{split-conjunction, split-conjunction?}
-use Rattle.rewrite.specs.OnBytes.{imageOf}
-use Rattle.rewrite.specs.RewriteAt.{Focus, FocusAll, focus}
+use Rattle.rewrite.specs.RewriteAt.{Focus, focus}
 use Rattle.writing.proofs.Depths.{tested-deep}
 use Rattle.writing.proofs.Focused.{Way, through-filter, through-project, through-left, through-right, through-alias, through-distinct}
 use Rattle.writing.proofs.Focused.{through-sort, through-repartition, through-limit, through-aggregate, through-window, Within}

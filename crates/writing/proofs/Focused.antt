@@ -6,7 +6,7 @@ use mathlib.Core.Bool.{Bool, true, false}
 use mathlib.Core.List.{List}
 use mathlib.Core.Option as O
 use mathlib.Core.Option.{Option, some}
-use Prim.Native.Nat.{ℕ, suc, _+_, _-_, _≤_}
+use Prim.Native.Nat.{ℕ, suc, _+_, _-_}
 use native.Mathlib.Omega.{arith}
 use lib.Dec.{eqb, leb}
 use borrow.Author.Tests.{eqb-true, eqb-false, leb-true}
@@ -123,7 +123,8 @@ mutual
   finds-all : (ps : Plans) (n : ℕ) → FindsAll n ps (focus-all n ps)
   finds-all pnil n = nowhere
   finds-all (pcons p ps) n =
-      finds-either-all (leb (sizeP p) n) (λ e. finds-later p (omega (arith, leb-true (sizeP p) n e)) (finds-all ps _)) (λ e. finds-first ps (finds p n))
+      finds-either-all (leb (sizeP p) n) (λ e. finds-later p (omega (arith, leb-true (sizeP p) n e)) (finds-all ps _))
+      (λ e. finds-first ps (finds p n))
 
 -- The plan that `focus` finds is reached by steps.
 pub focus-within : (p : Plan) (n : ℕ) (c : Focus) → focus n p ≡ some c → Within n (one p c)

@@ -10,3 +10,4 @@ pub mod Spliced
 pub mod Whole
 pub mod Splice
 pub mod Fitting
+pub mod Inside

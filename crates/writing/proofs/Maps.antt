@@ -16,16 +16,16 @@ use lib.Dec.{eqb}
 use Rattle.image.specs.Tree.{Label, Forest, none, node, Tree, At, Deep}
 use Rattle.plan.specs.Lists.{_&_}
 use Rattle.plan.specs.Schema.{same}
-use Rattle.plan.specs.Syntax.{Name, nm, Expr, col, num, bool, nul, bin, neg, test, between, inlist, fn, Exprs, enil, econs, Entry, AggEntry}
+use Rattle.plan.specs.Syntax.{Name, nm, Expr, col, num, bool, nul, bin, neg, test, between, inlist, fn, Exprs, enil, econs, Entry}
 use Rattle.plan.specs.Syntax.{Plan, scan, filter, project, join, alias, union, distinct, sort, repartition, limit, aggregate, window, Plans}
 use Rattle.plan.specs.Syntax.{pnil, pcons}
-use Rattle.plan.specs.Trees.{qualifier, ident, columnLabel, labelE, kidsE, forestE, exprTree, each, entryLabel, entryKids, aggLabel, aggKids}
+use Rattle.plan.specs.Trees.{qualifier, ident, labelE, kidsE, forestE, exprTree, each, entryLabel, entryKids, aggLabel, aggKids}
 use Rattle.plan.specs.Trees.{nothingBelow, fieldLabel, pairLabel, pairKids, keyLabel, keyKids, winLabel, winKids, filterKids, labelP, kidsP}
 use Rattle.plan.specs.Trees.{forestP, planTree}
 use Rattle.rewrite.specs.Utils.{replace-cols, replace-cols-all}
 use Rattle.rewrite.specs.PushDownFilter.{pick}
 use Rattle.conjuncts.specs.Standing.{StandingP}
-use Rattle.writing.specs.Replaced.{isEntry, either, lookup, valueFor, firstOr, plant, replacedAny, replaced}
+use Rattle.writing.specs.Replaced.{isEntry, either, lookup, firstOr, plant, replacedAny, replaced}
 use Rattle.writing.specs.Maps.{Maps}
 
 -- the entries of m give each column what σ does

@@ -12,7 +12,7 @@ use native.Mathlib.Omega.{arith}
 use borrow.Author.Count.{below-more}
 use lib.ListN.{length, drop, length-append}
 use lib.Seq.{sets, sets-eq, length-sets}
-use Rattle.image.specs.Tree.{Label, Forest, none, node, Tree, size, link, At, Stands, Deep, Fits32, Small}
+use Rattle.image.specs.Tree.{Label, Forest, none, node, size, link, At, Stands, Deep, Small}
 use Rattle.image.specs.Flat.{bytesOf, encAny}
 use Rattle.image.proofs.Writing.{sets-after, bytesOf-length}
 use Rattle.image.proofs.RoundTrip.{enc-length, stands-enc}
@@ -23,7 +23,7 @@ use Rattle.rewrite.specs.PushDownFilter.{pick, ren}
 use Rattle.utils.specs.Masks.{nameAt}
 use Rattle.utils.specs.Fields.{Fields, most, fieldAt, Names}
 use Rattle.writing.specs.Maps.{Maps}
-use Rattle.writing.specs.Renames.{namedLabel, SmallName, linkTo, renameBytes, renameOf, renamesFrom, renamesTree}
+use Rattle.writing.specs.Renames.{SmallName, linkTo, renameBytes, renamesFrom, renamesTree}
 use Rattle.writing.proofs.Maps.{entries-map, maps}
 
 -- ---- one rename
@@ -140,7 +140,8 @@ written f g n m m₀ m′ r le long first e h small =
     let rest : List ℕ = drop (0 + length bytes) m in
     let e′ : m₀ ≡ sets m 0 head = rw first at e in
     let is : m′ ≡ bytes ++ rest =
-    h ∙ (rw (e′, ← sets-after m 0 head (encAny 1 es) 32 (zero-add (length head) ∙ bytesOf-length l (linkTo 1 n) 0)) (sets-eq bytes m 0 (omega arith))) in
+    h ∙ (rw (e′, ← sets-after m 0 head (encAny 1 es) 32 (zero-add (length head) ∙ bytesOf-length l (linkTo 1 n) 0))
+    (sets-eq bytes m 0 (omega arith))) in
     let s : Stands top (encAny 0 top ++ rest) 0 =
     stands-enc top 0 rest (
       record { kind = omega arith; p = omega arith; q = omega arith; r = omega arith; lo = omega arith; hi = omega arith },

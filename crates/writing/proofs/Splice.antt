@@ -2,8 +2,8 @@
 --     before-of       what `write_before` leaves
 --     spliced         the whole
 -- Assumes nothing.
-use mathlib.Core.Path.{_≡_, refl, sym, ap, subst, _∙_}
-use mathlib.Core.List.{List, [], _∷_, _++_, append-assoc}
+use mathlib.Core.Path.{_≡_, sym, ap, _∙_}
+use mathlib.Core.List.{List, _++_, append-assoc}
 use mathlib.Core.Option.{some}
 use Prim.Native.Nat.{ℕ, _+_, _-_, _*_, _≤_, _<_}
 use native.Mathlib.Omega.{arith}
@@ -15,7 +15,7 @@ use Rattle.image.specs.Tree.{Tree}
 use Rattle.image.specs.Flat.{sizeT, bytesOf, flatAny, flat}
 use Rattle.image.specs.Room.{cap, Wrote}
 use Rattle.image.proofs.Writing.{flat-length}
-use Rattle.image.proofs.Room.{cap-add, cap-is, cap-le, cap-over, sets-next}
+use Rattle.image.proofs.Room.{cap-add, sets-next}
 use Rattle.image.proofs.Relinking.{word-right, depth-of}
 use Rattle.plan.specs.Syntax.{Plan}
 use Rattle.plan.specs.Trees.{labelP, kidsP, planTree}
@@ -66,6 +66,10 @@ module _ (p : Plan) (node : ℕ) (c : Focus) (f : focus node p ≡ some c) where
       let e : length (flat 1 (planTree (c .back q))) ≡ length (at .before) + (length (new q) + length (at .after)) =
       ap length (at .again q) ∙ length-three (at .before) (new q) (at .after) in
       omega (arith, e, at .count, flat-length 1 (planTree (c .back q)), flat-length (at .level) (planTree q))
+
+  -- its record is one of the whole
+  pub node-small : node < sizeT (planTree p)
+  node-small = omega (arith, within)
 
   -- what `write_before` leaves
   pub before-of : {out₀ out₁ out₂ levels : List ℕ} {size level records : ℕ} → sizeT (planTree p) ≤ 2048 → length out₁ ≡ workBytes

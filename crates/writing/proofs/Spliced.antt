@@ -1,23 +1,23 @@
 -- A plan with another in the place of one of its plans, on flat bytes: what stands before it and behind it stays.
 --     split-at    where the plan at a record stands, and that another in its place leaves the rest as it is
 -- Assumes nothing.
-use mathlib.Core.Path.{_≡_, refl, sym, ap, subst, _∙_}
+use mathlib.Core.Path.{_≡_, refl, sym, ap, _∙_}
 use mathlib.Core.List.{List, [], _∷_, _++_, append-assoc, append-nil}
 use mathlib.Core.Option as O
 use mathlib.Core.Option.{Option, some}
-use Prim.Native.Nat.{ℕ, suc, _+_, _-_, _*_, _≤_}
+use Prim.Native.Nat.{ℕ, suc, _+_, _*_, _≤_}
 use native.Mathlib.Omega.{arith}
 use lib.ListN.{length, length-append}
-use Rattle.image.specs.Tree.{Label, Forest, none, node, size}
+use Rattle.image.specs.Tree.{Label, Forest, none, node}
 use Rattle.image.specs.Flat.{bytesOf, flatAny, flat}
 use Rattle.image.proofs.Writing.{bytesOf-length, flatAny-length, flat-length}
-use Rattle.plan.specs.Syntax.{Expr, Entry, Pair, Key, AggEntry, WinEntry, Kind, Plan, scan, filter, project, join, alias, union, distinct}
-use Rattle.plan.specs.Syntax.{sort, repartition, limit, aggregate, window, Plans, pnil, pcons}
-use Rattle.plan.specs.Trees.{label, labelE, kidsE, exprTree, each, entryLabel, entryKids, pairLabel, pairKids, keyLabel, keyKids, aggLabel}
+use Rattle.plan.specs.Syntax.{Expr, Entry, Pair, AggEntry, Kind, Plan, filter, project, join, alias, union, distinct}
+use Rattle.plan.specs.Syntax.{sort, repartition, limit, aggregate, window, Plans, pcons}
+use Rattle.plan.specs.Trees.{exprTree, each, entryLabel, entryKids, pairLabel, pairKids, keyLabel, keyKids, aggLabel}
 use Rattle.plan.specs.Trees.{aggKids, winLabel, winKids, filterKids, labelP, kidsP, forestP, planTree}
 use Rattle.plan.specs.Measure.{sizeE, sizeP, sizes}
 use Rattle.plan.proofs.Measure.{size-each}
-use Rattle.rewrite.specs.RewriteAt.{Focus, FocusAll, focus}
+use Rattle.rewrite.specs.RewriteAt.{Focus, focus}
 use Rattle.writing.proofs.Focused.{Way, through-filter, through-project, through-left, through-right, through-alias, through-distinct}
 use Rattle.writing.proofs.Focused.{through-sort, through-repartition, through-limit, through-aggregate, through-window, Within}
 use Rattle.writing.proofs.Focused.{Place, one, all, itself, below, input, first, later, focus-within}

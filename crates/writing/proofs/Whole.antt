@@ -16,7 +16,7 @@ use borrow.Author.Count.{below-more}
 use borrow.Author.Tests.{leb-true, leb-false}
 use Rattle.image.specs.Limits.{workBytes}
 use Rattle.image.specs.Word.{word}
-use Rattle.image.specs.Tree.{Label, Forest, none, node, Tree, size, labelAt, Stands, At}
+use Rattle.image.specs.Tree.{Forest, none, node, Tree, size, labelAt, Stands, At}
 use Rattle.image.specs.Flat.{sizeT, bytesOf, flat}
 use Rattle.image.specs.Room.{cap, Put, Wrote}
 use Rattle.image.proofs.Writing.{bytesOf-length, flat-length}
@@ -85,7 +85,8 @@ either-side P xs ys j z f g = go (leb (length xs) j) refl
         subst P (sym (ap (λ (i : ℕ). getD (xs ++ ys) i z) q ∙ getD-append-add xs ys (j - length xs) z)) (g le)
 
 -- the label of a record is that at the same record of the image
-labels-any : (f : Forest) (s : List ℕ) (b d : ℕ) → Stands f s b → (i : ℕ) (z : Rec) → i < size f → labelAt (drop (32 * i) s) ≡ getD (recsAny d f) i z .0
+labels-any : (f : Forest) (s : List ℕ) (b d : ℕ) → Stands f s b → (i : ℕ) (z : Rec) → i < size f
+    → labelAt (drop (32 * i) s) ≡ getD (recsAny d f) i z .0
 labels-any none s b d h i z lt = absurd (omega arith)
 labels-any (node l cs ns) s b d h zero z lt = h .head .label
 labels-any (node l cs ns) s b d h (suc j) z lt =

@@ -2,9 +2,9 @@
 use mathlib.Core.Path.{_≡_}
 use mathlib.Core.List.{List, _++_}
 use Prim.Native.Nat.{ℕ, _+_, _*_, _≤_, _<_}
-use lib.ListN.{length, getD}
+use lib.ListN.{getD}
 use lib.Seq.{sets}
-use Rattle.image.specs.Limits.{maxRecords, workBytes}
+use Rattle.image.specs.Limits.{maxRecords}
 use Rattle.image.specs.Word.{word}
 use Rattle.image.specs.Tree.{Tree, At, Deep}
 use Rattle.image.specs.Flat.{sizeT, flat}

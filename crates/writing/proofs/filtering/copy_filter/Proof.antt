@@ -12,8 +12,11 @@ copy-filter-spec =
     (tie.spec
     (λ c κs. search needs)
     (λ c. search needs)
-    (λ c κs. let p = c .before .before .before .before .before .before .before .before .pre in (p .0, (p .1 .0, (omega (arith, p .1 .1 .1), c .before .before .before .put-kind .kept .0 ∙ p .1 .1 .1 .1))))
+    (λ c κs. let p = c .before .before .before .before .before .before .before .before .pre in
+    (p .0, (p .1 .0, (omega (arith, p .1 .1 .1), c .before .before .before .put-kind .kept .0 ∙ p .1 .1 .1 .1))))
     (λ c. search needs)
     (λ c κs. search needs)
     (λ c. search needs)
-    (λ c σ g e h p k. wrote-filter (c .before .before .before .before .before .before .before .before .before .before .before .before .before .before .before .pre .1 .1 .1 .1) e p (c .before .before .before .before .before .before .before .before .before .before .put-kind .ensures) (c .before .before .before .before .before .before .copy-predicate .ensures σ g e h) (c .before .before .copy-plan .ensures p k)))
+    (λ c μ g e h p k. wrote-filter (c .before .before .before .before .before .before .before .before .before .before .before .before .before .before .before .pre .1 .1 .1 .1) e p
+    (c .before .before .before .before .before .before .before .before .before .before .put-kind .ensures)
+    (c .before .before .before .before .before .before .copy-predicate .ensures μ g e h) (c .before .before .copy-plan .ensures p k)))

@@ -13,15 +13,34 @@ copy-filtered-spec =
     (tie.spec
     (λ c κs. search needs)
     (λ c. search needs)
-    (λ c σ g es h p k. rw (filters-none es p (omega (arith, pushes-length h (c .before .before .before .before .before .before .before .before .pre .0 .most), c .before .before .before .before .if1 .taken))) (c .before .before .copy-plan .ensures p k))
+    (λ c μ g es h p k. rw (filters-none es p (omega (
+      arith,
+      pushes-length h
+          (c .before .before .before .before .before .before .before .before .pre .0 .most),
+      c .before .before .before .before .if1 .taken,
+    )))
+    (c .before .before .copy-plan .ensures p k))
     (λ c κs. search needs)
     (λ c. search needs)
-    (λ c κs. let p = c .before .before .before .before .before .before .before .before .before .pre in
-    (p .0, (p .1 .0, (omega (arith, c .before .before .before .before .before .if1 .left), (omega (arith, p .1 .1 .1), c .before .before .before .put-kind .kept .0 ∙ p .1 .1 .1 .1)))))
+    (λ c κs. let p = c .before .before .before .before .before .before .before .before .before .pre in (
+      p .0,
+      (
+        p .1 .0,
+        (
+          omega (arith, c .before .before .before .before .before .if1 .left),
+          (omega (arith, p .1 .1 .1), c .before .before .before .put-kind .kept .0 ∙ p .1 .1 .1 .1),
+        ),
+      ),
+    ))
     (λ c. search needs)
     (λ c κs. search needs)
     (λ c. search needs)
-    (λ c σ g es h p k. let q = c .before .before .before .before .before .before .before .before .before .before .before .before .before .before .before .before .pre in
-    wrote-filtered (q .1 .1 .1 .1) es p (λ z. omega (arith, pushes-length h (q .0 .most), c .before .before .before .before .before .before .before .before .before .before .before .before .if1 .left)) (c .before .before .before .before .before .before .before .before .before .before .put-kind .ensures)
-    (λ e rest same. c .before .before .before .before .before .before .copy-joined .ensures σ g e rest (rw same at h))
+    (λ c μ g es h p k. let q = c .before .before .before .before .before .before .before .before .before .before .before .before .before .before .before .before .pre in
+    wrote-filtered (q .1 .1 .1 .1) es p (λ z. omega (
+      arith,
+      pushes-length h (q .0 .most),
+      c .before .before .before .before .before .before .before .before .before .before .before .before .if1 .left,
+    ))
+    (c .before .before .before .before .before .before .before .before .before .before .put-kind .ensures)
+    (λ e rest same. c .before .before .before .before .before .before .copy-joined .ensures μ g e rest (rw same at h))
     (c .before .before .copy-plan2 .ensures p k)))

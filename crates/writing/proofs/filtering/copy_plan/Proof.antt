@@ -10,6 +10,7 @@ copy-plan-spec =
     tie.close
     (tie.spec
     (λ c κs. search needs)
-    (λ c κs. let p = c .before .before .before .before .pre in (rw (c .before .record-at .ensures) (plan-readable (p .0 .standing)), (omega (arith, p .1), p .1 .1)))
+    (λ c κs. let p = c .before .before .before .before .pre in
+    (rw (c .before .record-at .ensures) (plan-readable (p .0 .standing)), (omega (arith, p .1), p .1 .1)))
     (λ c. search needs)
     (λ c p h. c .before .before .copy-tree .ensures _ (rw (c .before .before .before .before .record-at .ensures) (h .here))))

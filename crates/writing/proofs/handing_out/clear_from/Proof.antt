@@ -26,8 +26,13 @@ clear-from-spec =
     (λ c. c .loop-test .taken)
     (λ c. omega arith)
     (λ c. simp length-set (omega arith))
-    (λ c. let k = c .before .loop .inv in
-    (omega arith, simp length-set (omega arith), simp length-set (k .2), zero-more (take (c .before .before .args .m) (c .before .before .args .out .now)) _ _ _ (k .0) (c .loop-test .taken) (k .3)))
+    (λ c. let k = c .before .loop .inv in (
+      omega arith,
+      simp length-set (omega arith),
+      simp length-set (k .2),
+      zero-more
+          (take (c .before .before .args .m) (c .before .before .args .out .now)) _ _ _ (k .0) (c .loop-test .taken) (k .3),
+    ))
     (λ c. c .before .loop .inv .2)
     (λ c. let k = c .before .loop .inv in
     let i = c .before .loop .i in

@@ -32,13 +32,21 @@ is-shallow-spec =
     (λ c κs. omega arith)
     (λ c t rest e f. let i = c .before .before .before .loop .i in
     failed t i (omega arith)
-    (omega (arith, depth-at t i _ rest f (omega (arith, c .before .before .before .before .before .pre)) (omega arith), c .before .word-at .ensures .0)))
+    (omega (
+      arith,
+      depth-at t i _ rest f (omega (arith, c .before .before .before .before .before .pre)) (omega arith),
+      c .before .word-at .ensures .0,
+    )))
     (λ c. omega arith)
     (λ c. omega arith)
     (λ c. (
       omega arith,
       λ t rest e f. let i = c .before .before .before .loop .i in
           below-more _ _ (c .before .before .before .loop .inv .1 t rest e f)
-          (omega (arith, depth-at t i _ rest f (omega (arith, c .before .before .before .before .before .pre)) (omega arith), c .before .word-at .ensures .0)),
+          (omega (
+            arith,
+            depth-at t i _ rest f (omega (arith, c .before .before .before .before .before .pre)) (omega arith),
+            c .before .word-at .ensures .0,
+          )),
     ))
     (λ c t rest e f. passed t _ e (λ j lt. c .before .loop .inv .1 t rest e f j (omega arith))))

@@ -13,10 +13,14 @@ copy-changed-spec =
     (tie.spec
     (λ c κs. search needs)
     (λ c. search needs)
-    (λ c σ g e h. rw (h .none (c .before .before .before .before .if1 .taken), false-stays σ) (wrote-false (c .before .before .before .before .before .before .before .before .pre .1 .1 .1) (c .before .before .put-kind .ensures)))
+    (λ c σ g e h. rw (h .none (c .before .before .before .before .if1 .taken), false-stays σ)
+    (wrote-false (c .before .before .before .before .before .before .before .before .pre .1 .1 .1) (c .before .before .put-kind .ensures)))
     (λ c κs. omega (arith, c .before .before .before .before .pre .0 .item .some (c .if1 .left) .within))
-    (λ c κs. let p = c .before .before .before .before .before .before .pre in
-    (rw (c .before .record-at .ensures) (standing-readable (p .0 .item .some (c .before .before .if1 .left))), (p .1 .0, (omega (arith, p .1 .1), p .1 .1 .1))))
+    (λ c κs. let p = c .before .before .before .before .before .before .pre in (
+      rw (c .before .record-at .ensures) (standing-readable (p .0 .item .some (c .before .before .if1 .left))),
+      (p .1 .0, (omega (arith, p .1 .1), p .1 .1 .1)),
+    ))
     (λ c. search needs)
     (λ c σ g e h. rw (← g .is e)
-    (c .before .before .copy-replaced .ensures (g .tree) (g .at) (exprTree e) (rw (c .before .before .before .before .record-at .ensures) (h .some (c .before .before .before .before .before .if1 .left) .here)))))
+    (c .before .before .copy-replaced .ensures (g .tree) (g .at) (exprTree e)
+    (rw (c .before .before .before .before .record-at .ensures) (h .some (c .before .before .before .before .before .if1 .left) .here)))))

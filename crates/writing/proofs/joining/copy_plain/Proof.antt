@@ -12,9 +12,11 @@ copy-plain-spec =
     (tie.spec
     (λ c κs. search needs)
     (λ c. search needs)
-    (λ c e h. rw (h .none (c .before .before .before .before .if1 .taken)) (wrote-false (c .before .before .before .before .before .before .before .pre .1 .1) (c .before .before .put-kind .ensures)))
+    (λ c e h. rw (h .none (c .before .before .before .before .if1 .taken))
+    (wrote-false (c .before .before .before .before .before .before .before .pre .1 .1) (c .before .before .put-kind .ensures)))
     (λ c κs. omega (arith, c .before .before .before .pre .0 .item .some (c .if1 .left) .within))
     (λ c κs. let p = c .before .before .before .before .before .pre in
     (rw (c .before .record-at .ensures) (standing-readable (p .0 .item .some (c .before .before .if1 .left))), (omega (arith, p .1), p .1 .1)))
     (λ c. search needs)
-    (λ c e h. c .before .before .copy-tree .ensures _ (rw (c .before .before .before .before .record-at .ensures) (h .some (c .before .before .before .before .before .if1 .left) .here))))
+    (λ c e h. c .before .before .copy-tree .ensures _
+    (rw (c .before .before .before .before .record-at .ensures) (h .some (c .before .before .before .before .before .if1 .left) .here))))

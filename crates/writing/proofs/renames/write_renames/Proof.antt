@@ -29,13 +29,20 @@ write-renames-spec =
     (λ c. omega arith)
     (λ c. omega arith)
     (λ c κs. search needs)
-    (λ c κs. omega (arith, c .before .before .before .before .before .before .put-record .kept .0, c .before .before .before .loop .inv .long, c .before .before .before .before .before .before .before .before .before .before .pre))
+    (λ c κs. omega (
+      arith,
+      c .before .before .before .before .before .before .put-record .kept .0,
+      c .before .before .before .loop .inv .long,
+      c .before .before .before .before .before .before .before .before .before .before .pre,
+    ))
     (λ c. omega arith)
     (λ c. omega arith)
     (λ c. let e = c .before .before .put-rename .ensures in
-    renames-next _ _ _ _ _ _ _ _ (c .before .before .before .before .before .before .loop .inv) (c .before .before .before .before .before .loop-test .taken) (c .before .before .before .link-to2 .ensures) (e .0) (e .1))
+    renames-next _ _ _ _ _ _ _ _ (c .before .before .before .before .before .before .loop .inv)
+    (c .before .before .before .before .before .loop-test .taken) (c .before .before .before .link-to2 .ensures) (e .0) (e .1))
     (λ c. c .before .loop .inv .long ∙ c .before .before .before .before .put-record .kept .0)
     (λ c s t a b e. let p = c .before .before .before .before .before .before .before .before .pre in
     let k = c .before .loop .inv in
-    renames-map (written _ _ _ _ _ _ _ (p .0) (p .1) (c .before .before .before .before .before .link-to .ensures) (c .before .before .before .before .put-record .ensures) (renames-end k (omega arith)) (λ j lt. k .small j (omega arith)))
+    renames-map (written _ _ _ _ _ _ _ (p .0) (p .1) (c .before .before .before .before .before .link-to .ensures)
+    (c .before .before .before .before .put-record .ensures) (renames-end k (omega arith)) (λ j lt. k .small j (omega arith)))
     (p .0) s t a b e))

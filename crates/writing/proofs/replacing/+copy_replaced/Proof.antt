@@ -1,10 +1,10 @@
 -- `replacing::copy_replaced` meets its contract. The measure is the depth. The loop's invariant: what is left of the children, with its columns
 -- replaced, completes the output.
-use mathlib.Core.Path.{_≡_, sym, _∙_}
-use Prim.Native.Nat.{ℕ, _+_, _-_, _<_}
+use mathlib.Core.Path.{sym, _∙_}
+use Prim.Native.Nat.{ℕ, _+_, _<_}
 use native.Mathlib.Omega.{arith}
 use lib.ListN.{length-drop}
-use Rattle.image.specs.Tree.{Tree, Forest, At, labelAt}
+use Rattle.image.specs.Tree.{Tree, At, labelAt}
 use Rattle.image.proofs.Walking.{Chain, chain, round, again, done, left, for-all}
 use Rattle.image.proofs.Room.{Left, put-start, left-next, left-end, wrote-past}
 use Rattle.writing.specs.Replaced.{replaced, replacedAny}
@@ -60,19 +60,24 @@ pub +copy-replaced-spec : {M : Type 1} → statement M
     (λ c. λ e he t h. wrote-past _ _ _ (replaced e t) (c .before .before .before .before .pre .1 .1 .1 .1) (c .if1 .taken))
     (λ c κs. let p = c .before .before .before .before .pre .1 in (omega (arith, p .0 .at .head .room), p .1 .0))
     (λ c κs. let e = c .before .before .before .before .before .before .pre .1 .1 .0 in
-    let v = value (e .tree) (labelAt (c .before .before .before .before .before .before .args .s .now)) e (e .at) (c .before .value-for .ensures (e .tree) (e .at)) (c .if2 .taken) in
+    let v = value (e .tree) (labelAt (c .before .before .before .before .before .before .args .s .now)) e (e .at)
+    (c .before .value-for .ensures (e .tree) (e .at)) (c .if2 .taken) in
     omega (arith, v .past, v .fits))
     (λ c. let e = c .before .before .before .before .before .before .before .pre .1 .1 .0 in
-    let v = value (e .tree) (labelAt (c .before .before .before .before .before .before .before .args .s .now)) e (e .at) (c .before .before .value-for .ensures (e .tree) (e .at)) (c .before .if2 .taken) in
+    let v = value (e .tree) (labelAt (c .before .before .before .before .before .before .before .args .s .now)) e (e .at)
+    (c .before .before .value-for .ensures (e .tree) (e .at)) (c .before .if2 .taken) in
     omega (arith, v .readable .some))
     (λ c κs. let p = c .before .before .before .before .before .before .before .before .pre .1 in
     let e = p .1 .0 in
-    let v = value (e .tree) (labelAt (c .before .before .before .before .before .before .before .before .args .s .now)) e (e .at) (c .before .before .before .value-for .ensures (e .tree) (e .at)) (c .before .before .if2 .taken) in
+    let v = value (e .tree) (labelAt (c .before .before .before .before .before .before .before .before .args .s .now)) e (e .at)
+    (c .before .before .before .value-for .ensures (e .tree) (e .at)) (c .before .before .if2 .taken) in
     (rw (c .before .from-record .ensures) (v .readable), (omega (arith, p .1 .1 .0), p .1 .1 .1)))
     (λ c. c .before .before .copy-tree .kept .1 .1 .1 .0)
     (λ c. λ e he t h. let k = c .before .before .before .before .before .before .before .before .before .before .before .pre .1 .1 .0 in
-    let v = value e (labelAt (c .before .before .before .before .before .before .before .before .before .before .before .args .s .now)) k he (c .before .before .before .before .before .before .value-for .ensures e he) (c .before .before .before .before .before .if2 .taken) in
-    rw (← h .head .label, v .is) (c .before .before .copy-tree .ensures (v .tree) (rw (c .before .before .before .before .from-record .ensures) (v .here))))
+    let v = value e (labelAt (c .before .before .before .before .before .before .before .before .before .before .before .args .s .now)) k he
+    (c .before .before .before .before .before .before .value-for .ensures e he) (c .before .before .before .before .before .if2 .taken) in
+    rw (← h .head .label, v .is) (c .before .before .copy-tree .ensures (v .tree)
+    (rw (c .before .before .before .before .from-record .ensures) (v .here))))
     (λ c κs. let p = c .before .before .before .before .before .before .before .pre .1 in (omega (arith, p .0 .at .head .room), p .1 .1 .1))
     (λ c κs. let p = c .before .before .before .before .before .before .before .before .before .before .pre .1 in omega (arith, p .0 .at .head .room))
     (λ c. let p = c .before .before .before .before .before .before .before .before .before .before .before .pre .1 in
@@ -83,15 +88,31 @@ pub +copy-replaced-spec : {M : Type 1} → statement M
     (λ c κs. let k = c .before .before .before .loop .inv in
     let u = round _ k (c .before .before .loop-test .taken) in
     let p = c .before .before .before .before .before .before .before .before .before .before .before .before .before .before .before .pre in
-    let e = p .1 .1 .0 in
-    (omega (arith, k .some, p .0), (rw (c .before .from-record2 .ensures) (u .readable), (e, (omega (arith, p .1 .1 .1 .0, k .some), k .so-far (e .tree) (e .at) .long)))))
-    (λ c κs. let u = round _ (c .before .before .before .before .before .before .loop .inv) (c .before .before .before .before .before .loop-test .taken) in rw (c .before .before .before .before .from-record2 .ensures, length-drop) (omega (arith, u .turn .fits)))
-    (λ c. let u = round _ (c .before .before .before .before .before .before .before .loop .inv) (c .before .before .before .before .before .before .loop-test .taken) in rw (c .word-at2 .ensures .0, c .before .before .before .before .before .from-record2 .ensures) (u .turn .less))
+    let e = p .1 .1 .0 in (
+      omega (arith, k .some, p .0),
+      (
+        rw (c .before .from-record2 .ensures) (u .readable),
+        (e, (omega (arith, p .1 .1 .1 .0, k .some), k .so-far (e .tree) (e .at) .long)),
+      ),
+    ))
+    (λ c κs. let u = round _ (c .before .before .before .before .before .before .loop .inv)
+    (c .before .before .before .before .before .loop-test .taken) in
+    rw (c .before .before .before .before .from-record2 .ensures, length-drop) (omega (arith, u .turn .fits)))
+    (λ c. let u = round _ (c .before .before .before .before .before .before .before .loop .inv)
+    (c .before .before .before .before .before .before .loop-test .taken) in
+    rw (c .word-at2 .ensures .0, c .before .before .before .before .before .from-record2 .ensures) (u .turn .less))
     (λ c. let k = c .before .before .before .before .before .before .before .loop .inv in
     let u = round _ k (c .before .before .before .before .before .before .loop-test .taken) in
     rw (c .word-at2 .ensures .0, c .before .before .before .before .before .from-record2 .ensures)
-    (again _ k u (λ e he. left-next (replaced e (u .turn .child)) (u .so-far e he) (c .before .before .before .copy-replaced .ensures e he (u .turn .child) (rw (c .before .before .before .before .before .from-record2 .ensures) (u .turn .here))))))
-    (λ c. let e = c .before .before .before .before .before .before .before .before .before .before .before .before .before .pre .1 .1 .0 in c .before .loop .inv .so-far (e .tree) (e .at) .long ∙ sym (c .before .before .before .before .before .before .before .before .before .before .before .before .before .pre .1 .1 .1 .1))
+    (again _ k u (λ e he. left-next (replaced e (u .turn .child)) (u .so-far e he)
+    (c .before .before .before .copy-replaced .ensures e he (u .turn .child)
+    (rw (c .before .before .before .before .before .from-record2 .ensures) (u .turn .here))))))
+    (λ c. let e = c .before .before .before .before .before .before .before .before .before .before .before .before .before .pre .1 .1 .0 in
+    c .before .loop .inv .so-far (e .tree) (e .at) .long ∙ sym
+    (c .before .before .before .before .before .before .before .before .before .before .before .before .before .pre .1 .1 .1 .1))
     (λ c. λ e he. let k = c .before .loop .inv in
-    let z = no-value e (labelAt (c .before .before .before .before .before .before .before .before .before .before .before .before .before .args .s .now)) (c .before .before .before .before .before .before .before .before .value-for .ensures e he) (c .before .before .before .before .before .before .before .if2 .left) in
-    for-all _ (k .stands) (rw (← k .stands .head .label, z) (left-end (c .before .before .before .before .before .before .before .before .before .before .before .before .before .pre .1 .1 .1 .1) (c .before .before .before .before .before .put-label .ensures) (done _ k (c .loop-test .left) e he))))
+    let z = no-value e (labelAt (c .before .before .before .before .before .before .before .before .before .before .before .before .before .args .s .now))
+    (c .before .before .before .before .before .before .before .before .value-for .ensures e he) (c .before .before .before .before .before .before .before .if2 .left) in
+    for-all _ (k .stands) (rw (← k .stands .head .label, z)
+    (left-end (c .before .before .before .before .before .before .before .before .before .before .before .before .before .pre .1 .1 .1 .1)
+    (c .before .before .before .before .before .put-label .ensures) (done _ k (c .loop-test .left) e he))))

@@ -14,4 +14,9 @@ value-for-spec =
     (λ c κs. search needs)
     (λ c κs. search needs)
     (λ c κs. search needs)
-    (λ c t h. rw (← c .before .before .before .before .word-at .ensures .0, eq-eqb _ 1 (c .before .before .before .if1 .left), ← c .before .before .word-at2 .ensures .0, ← c .before .word-at3 .ensures .0) (c .find .ensures t h)))
+    (λ c t h. rw (
+      ← c .before .before .before .before .word-at .ensures .0,
+      eq-eqb _ 1 (c .before .before .before .if1 .left),
+      ← c .before .before .word-at2 .ensures .0,
+      ← c .before .word-at3 .ensures .0,
+    ) (c .find .ensures t h)))

@@ -39,7 +39,9 @@ write-after-spec =
       c .before .before .put-label .kept .1 .0 ∙ k .0,
       rw (put .next) (cap-le _),
       λ t h e l.
-          run-next h e (omega arith) (c .before .before .before .before .before .before .before .loop-test .taken) (k .0) l (c .before .before .before .wide .ensures .0) (rw (c .before .before .before .before .before .before .record-at .ensures) at put) (k .2 t h e l),
+          run-next h e (omega arith) (c .before .before .before .before .before .before .before .loop-test .taken) (k .0) l
+          (c .before .before .before .wide .ensures .0) (rw (c .before .before .before .before .before .before .record-at .ensures) at put)
+          (k .2 t h e l),
     ))
     (λ c. c .before .loop .inv .0 ∙ sym (c .before .before .before .before .before .pre .1 .2))
     (λ c t h e l. let k = c .before .loop .inv in run-end e (omega arith) (k .1) (k .2 t h e l)))

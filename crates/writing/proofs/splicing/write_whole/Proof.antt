@@ -1,9 +1,8 @@
 -- `splicing::write_whole` meets its contract. The loop's invariant: the depths of the records passed are known.
-use mathlib.Core.Path.{_≡_, refl, sym, ap, _∙_}
+use mathlib.Core.Path.{_≡_, sym, _∙_}
 use Prim.Native.Nat.{ℕ, _+_, _-_, _*_, _≤_, _<_}
 use native.Mathlib.Omega.{arith}
 use borrow.Author.Needs.{needs}
-use borrow.Author.Count.{below-more}
 use lib.ListN.{length, getD, length-set}
 use Rattle.image.specs.Limits.{maxRecords, workBytes}
 use Rattle.image.specs.Word.{word}
@@ -14,7 +13,8 @@ use Rattle.writing.proofs.splicing.write_whole.Tie as tie
 
 abbrev Inv-loop : tie.InvT-loop
 Inv-loop s out levels₀ n i₀ levels i =
-    (i ≤ n) × (n ≤ maxRecords) × (length out ≡ workBytes) × (length levels ≡ maxRecords) × ((j : ℕ) → j < i → getD levels j 0 ≡ word out (32 * j + 24))
+    (i ≤ n) × (n ≤ maxRecords) × (length out ≡ workBytes) × (length levels ≡ maxRecords) ×
+    ((j : ℕ) → j < i → getD levels j 0 ≡ word out (32 * j + 24))
 
 abbrev μ-loop : tie.MeasureT-loop
 μ-loop s out levels₀ n i₀ levels i = n - i
@@ -38,8 +38,15 @@ write-whole-spec =
     (λ c. omega arith)
     (λ c. omega arith)
     (λ c. omega arith)
-    (λ c. let k = c .before .before .before .loop .inv in
-    (omega arith, k .1, k .2, simp length-set (k .3), levels-more (λ (j : ℕ). word (c .before .before .before .before .before .before .copy-tree .last .1 .1 .1 .0) (32 * j + 24)) (c .before .before .before .loop .levels) (c .before .before .before .loop .i) _ (omega arith) (k .4) (c .word-at .ensures .0)))
+    (λ c. let k = c .before .before .before .loop .inv in (
+      omega arith,
+      k .1,
+      k .2,
+      simp length-set (k .3),
+      levels-more
+          (λ (j : ℕ). word (c .before .before .before .before .before .before .copy-tree .last .1 .1 .1 .0) (32 * j + 24))
+          (c .before .before .before .loop .levels) (c .before .before .before .loop .i) _ (omega arith) (k .4) (c .word-at .ensures .0),
+    ))
     (λ c. c .before .loop .inv .2 ∙ sym (c .before .before .before .before .before .before .before .before .before .pre .1 .0))
     (λ c. c .before .loop .inv .3 ∙ sym (c .before .before .before .before .before .before .before .before .before .pre .1 .1))
     (λ c t h. let p = c .before .before .before .before .before .before .before .before .before .pre in
