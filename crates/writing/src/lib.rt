@@ -2,7 +2,7 @@
 pub mod filtering;
 pub mod handing_out;
 pub mod joining;
-mod kinds;
+pub mod kinds;
 pub mod renames;
 pub mod replacing;
 pub mod splicing;
