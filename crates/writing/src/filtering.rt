@@ -7,18 +7,18 @@ use conjuncts::lists::Conjuncts;
 use conjuncts::reading::record_at;
 use image::copying::copy_tree;
 use image::limits::MAX_DEPTH;
-use utils::fields::Fields;
 ghost use mathlib.Core.Path.{_≡_};
 ghost use mathlib.Core.List.{List};
 ghost use Prim.Native.Nat.{_+_, _<_};
 ghost use lib.ListN.{length};
 ghost use Rattle.image.specs.Limits.{workBytes};
+ghost use Rattle.image.specs.Tree.{Readable};
 ghost use Rattle.image.specs.Room.{Wrote};
-ghost use Rattle.plan.specs.Syntax.{Expr, Plan, filter};
+ghost use Rattle.plan.specs.Syntax.{Name, Expr, Plan, filter};
 ghost use Rattle.plan.specs.Trees.{planTree};
 ghost use Rattle.rewrite.specs.Utils.{with-filters};
 ghost use Rattle.conjuncts.specs.Standing.{StandingP};
-ghost use Rattle.writing.specs.Maps.{Sense, Means, Ready};
+ghost use Rattle.writing.specs.Maps.{Maps};
 ghost use Rattle.writing.specs.Pushed.{Pushes, Some, Predicate, Predicated};
 ghost use Rattle.writing.specs.Plans.{ThereP};
 
@@ -38,8 +38,6 @@ pub fn copy_filtered(
     m: &[u8],
     of: usize,
     room: usize,
-    f: Fields,
-    side: u64,
     c: Conjuncts,
     x: usize,
     out: &mut [u8],
@@ -47,10 +45,10 @@ pub fn copy_filtered(
     level: usize,
 ) -> usize
     requires { ⌜ Some (now s) c ⌝ }
-    requires { ⌜ Ready (now s) (now m) of room f ⌝ }
+    requires { ⌜ Readable room (now m) of ⌝ }
     requires { ⌜ ThereP (now s) x ⌝ }
     requires { ⌜ (level + room < 3500) × (length (now out) ≡ workBytes) ⌝ }
-    ensures { λ r. ⌜ ((μ : Sense) → Means (now (m .entry)) of room f side μ → (es : List Expr) → Pushes (now (s .entry)) μ c es →
+    ensures { λ r. ⌜ ((σ : Name → Expr) → Maps (now (m .entry)) of room σ → (es : List Expr) → Pushes (now (s .entry)) σ c es →
         (p : Plan) → StandingP (now (s .entry)) x p → Wrote (now (out .entry)) (now (out .exit)) at level r (planTree (with-filters es p))) ⌝ }
 {
     let n = c.len;
@@ -58,7 +56,7 @@ pub fn copy_filtered(
         return copy_plan(s, x, out, at, level);
     }
     let predicate = put_kind(out, at, FILTER, 0, level);
-    let input = copy_joined(s, m, of, room, f, side, c, out, predicate, level + 1);
+    let input = copy_joined(s, m, of, room, c, out, predicate, level + 1);
     copy_plan(s, x, out, input, level + 1)
 }
 
@@ -68,8 +66,6 @@ pub fn copy_filter(
     m: &[u8],
     of: usize,
     room: usize,
-    f: Fields,
-    side: u64,
     written: usize,
     c: Conjuncts,
     x: usize,
@@ -78,25 +74,13 @@ pub fn copy_filter(
     level: usize,
 ) -> usize
     requires { ⌜ Predicated (now s) written c ⌝ }
-    requires { ⌜ Ready (now s) (now m) of room f ⌝ }
+    requires { ⌜ Readable room (now m) of ⌝ }
     requires { ⌜ ThereP (now s) x ⌝ }
     requires { ⌜ (level + room < 3500) × (length (now out) ≡ workBytes) ⌝ }
-    ensures { λ r. ⌜ ((μ : Sense) → Means (now (m .entry)) of room f side μ → (e : Expr) → Predicate (now (s .entry)) μ written c e →
+    ensures { λ r. ⌜ ((σ : Name → Expr) → Maps (now (m .entry)) of room σ → (e : Expr) → Predicate (now (s .entry)) σ written c e →
         (p : Plan) → StandingP (now (s .entry)) x p → Wrote (now (out .entry)) (now (out .exit)) at level r (planTree (filter e p))) ⌝ }
 {
     let predicate = put_kind(out, at, FILTER, 0, level);
-    let input = copy_predicate(
-        s,
-        m,
-        of,
-        room,
-        f,
-        side,
-        written,
-        c,
-        out,
-        predicate,
-        level + 1,
-    );
+    let input = copy_predicate(s, m, of, room, written, c, out, predicate, level + 1);
     copy_plan(s, x, out, input, level + 1)
 }

@@ -1,23 +1,18 @@
 // Joining: the items of a list written as one predicate, left-deep.
-// An item is 0 for FALSE, or the record of an expression; 2,048 more for the same with its columns replaced, and 4,096 more for
-// the clause of it that reads one side of a join only.
+// An item is 0 for FALSE, or the record of an expression; 2,048 more for the same with its columns replaced.
 use crate::kinds::BINARY;
 use crate::kinds::BOOLEAN;
 use crate::kinds::put_kind;
 use crate::replacing::copy_replaced;
 use conjuncts::lists::Conjuncts;
-use conjuncts::lists::add;
-use conjuncts::lists::empty;
 use conjuncts::lists::item_at;
 use conjuncts::reading::record_at;
 use image::copying::copy_tree;
 use image::limits::MAX_DEPTH;
 use image::limits::MAX_RECORDS;
-use utils::clauses::copy_or_clause;
-use utils::fields::Fields;
 ghost use mathlib.Core.Path.{_≡_};
 ghost use mathlib.Core.List.{List, _∷_, map};
-ghost use Prim.Native.Nat.{_+_, _-_, _≤_, _<_, ℕ};
+ghost use Prim.Native.Nat.{_+_, _-_, _≤_, _<_};
 ghost use lib.ListN.{length, take};
 ghost use Rattle.image.specs.Limits.{workBytes};
 ghost use Rattle.image.specs.Tree.{Readable};
@@ -25,45 +20,12 @@ ghost use Rattle.image.specs.Room.{Wrote};
 ghost use Rattle.plan.specs.Syntax.{Name, Expr};
 ghost use Rattle.plan.specs.Trees.{exprTree};
 ghost use Rattle.rewrite.specs.Utils.{replace-cols, conjoin};
-ghost use Rattle.conjuncts.specs.Items.{Item, Lists, Present};
-ghost use Rattle.writing.specs.Maps.{Maps, Sense, Means, Ready};
-ghost use Rattle.writing.specs.Pushed.{Pushed, Pushes, One, Some, Predicate, Predicated, Plain, ItemOr};
-
-// What is added to the number of a record for the expression there with its columns replaced,
-pub const REPLACED: usize = MAX_RECORDS;
-
-// and for the clause of it that reads one side of a join only.
-pub const CLAUSE: usize = 2 * MAX_RECORDS;
+ghost use Rattle.conjuncts.specs.Items.{Item, Items, Lists, Present};
+ghost use Rattle.writing.specs.Maps.{Maps};
+ghost use Rattle.writing.specs.Pushed.{Pushed, Pushes, One, Some, Predicate, Predicated};
 
 // The operator AND.
 const AND: usize = 1;
-
-// The item n with its columns replaced; 0 stays 0.
-pub fn replaced_item(n: usize) -> usize
-    requires { ⌜ n < 2048 ⌝ }
-    ensures { λ r. ⌜ ItemOr n r ⌝ }
-{
-    if n == 0 {
-        return 0;
-    }
-    n + REPLACED
-}
-
-// The list with the columns of each item replaced.
-pub fn replaced_list(c: Conjuncts) -> Conjuncts
-    requires { ⌜ Plain c ⌝ }
-    ensures { λ r. ⌜ (r .len ≡ c .len)
-        × ((s : List ℕ) (μ : Sense) (es : List Expr) → Lists s c es → Pushes s μ r (map (replace-cols (μ .map)) es)) ⌝ }
-{
-    let n = c.len;
-    let mut r = empty();
-    let mut i = 0;
-    while i < n {
-        r = add(r, item_at(c, i) + REPLACED);
-        i += 1;
-    }
-    r
-}
 
 // Writes what the item n stands for, which is a record or FALSE.
 fn copy_plain(s: &[u8], n: usize, out: &mut [u8], at: usize, level: usize) -> usize
@@ -108,26 +70,21 @@ pub fn copy_item(
     m: &[u8],
     of: usize,
     room: usize,
-    f: Fields,
-    side: u64,
     n: usize,
     out: &mut [u8],
     at: usize,
     level: usize,
 ) -> usize
     requires { ⌜ One (now s) n ⌝ }
-    requires { ⌜ Ready (now s) (now m) of room f ⌝ }
+    requires { ⌜ Readable room (now m) of ⌝ }
     requires { ⌜ (level + room < 3800) × (length (now out) ≡ workBytes) ⌝ }
-    ensures { λ r. ⌜ ((μ : Sense) → Means (now (m .entry)) of room f side μ → (e : Expr) → Pushed (now (s .entry)) μ n e →
+    ensures { λ r. ⌜ ((σ : Name → Expr) → Maps (now (m .entry)) of room σ → (e : Expr) → Pushed (now (s .entry)) σ n e →
         Wrote (now (out .entry)) (now (out .exit)) at level r (exprTree e)) ⌝ }
 {
-    if n < REPLACED {
+    if n < MAX_RECORDS {
         return copy_plain(s, n, out, at, level);
     }
-    if n < CLAUSE {
-        return copy_changed(s, m, of, room, n - REPLACED, out, at, level);
-    }
-    copy_or_clause(s, n - CLAUSE, f, side, out, at, level)
+    copy_changed(s, m, of, room, n - MAX_RECORDS, out, at, level)
 }
 
 // Writes the first k items of a list, joined left-deep.
@@ -136,8 +93,6 @@ fn copy_first(
     m: &[u8],
     of: usize,
     room: usize,
-    f: Fields,
-    side: u64,
     c: Conjuncts,
     k: usize,
     out: &mut [u8],
@@ -145,20 +100,20 @@ fn copy_first(
     level: usize,
 ) -> usize
     requires { ⌜ Some (now s) c ⌝ }
-    requires { ⌜ Ready (now s) (now m) of room f ⌝ }
+    requires { ⌜ Readable room (now m) of ⌝ }
     requires { ⌜ (0 < k) × (k ≤ c .len) ⌝ }
     requires { ⌜ (level + k + room < 3800) × (length (now out) ≡ workBytes) ⌝ }
-    ensures { λ r. ⌜ ((μ : Sense) → Means (now (m .entry)) of room f side μ → (e : Expr) (es : List Expr) → Pushes (now (s .entry)) μ c (e ∷ es) →
+    ensures { λ r. ⌜ ((σ : Name → Expr) → Maps (now (m .entry)) of room σ → (e : Expr) (es : List Expr) → Pushes (now (s .entry)) σ c (e ∷ es) →
         Wrote (now (out .entry)) (now (out .exit)) at level r (exprTree (conjoin e (take (k - 1) es)))) ⌝ }
 {
     let last = k - 1;
     let item = item_at(c, last);
     if last == 0 {
-        return copy_item(s, m, of, room, f, side, item, out, at, level);
+        return copy_item(s, m, of, room, item, out, at, level);
     }
     let first = put_kind(out, at, BINARY, AND, level);
-    let next = copy_first(s, m, of, room, f, side, c, last, out, first, level + 1);
-    copy_item(s, m, of, room, f, side, item, out, next, level + 1)
+    let next = copy_first(s, m, of, room, c, last, out, first, level + 1);
+    copy_item(s, m, of, room, item, out, next, level + 1)
 }
 
 // Writes the items of a list, joined left-deep.
@@ -167,22 +122,20 @@ pub fn copy_joined(
     m: &[u8],
     of: usize,
     room: usize,
-    f: Fields,
-    side: u64,
     c: Conjuncts,
     out: &mut [u8],
     at: usize,
     level: usize,
 ) -> usize
     requires { ⌜ Some (now s) c ⌝ }
-    requires { ⌜ Ready (now s) (now m) of room f ⌝ }
+    requires { ⌜ Readable room (now m) of ⌝ }
     requires { ⌜ 0 < c .len ⌝ }
     requires { ⌜ (level + room < 3600) × (length (now out) ≡ workBytes) ⌝ }
-    ensures { λ r. ⌜ ((μ : Sense) → Means (now (m .entry)) of room f side μ → (e : Expr) (es : List Expr) → Pushes (now (s .entry)) μ c (e ∷ es) →
+    ensures { λ r. ⌜ ((σ : Name → Expr) → Maps (now (m .entry)) of room σ → (e : Expr) (es : List Expr) → Pushes (now (s .entry)) σ c (e ∷ es) →
         Wrote (now (out .entry)) (now (out .exit)) at level r (exprTree (conjoin e es))) ⌝ }
 {
     let n = c.len;
-    copy_first(s, m, of, room, f, side, c, n, out, at, level)
+    copy_first(s, m, of, room, c, n, out, at, level)
 }
 
 // Writes a predicate: the item `written` as it is, or where that is 0 the items of a list, joined left-deep.
@@ -191,8 +144,6 @@ pub fn copy_predicate(
     m: &[u8],
     of: usize,
     room: usize,
-    f: Fields,
-    side: u64,
     written: usize,
     c: Conjuncts,
     out: &mut [u8],
@@ -200,13 +151,13 @@ pub fn copy_predicate(
     level: usize,
 ) -> usize
     requires { ⌜ Predicated (now s) written c ⌝ }
-    requires { ⌜ Ready (now s) (now m) of room f ⌝ }
+    requires { ⌜ Readable room (now m) of ⌝ }
     requires { ⌜ (level + room < 3600) × (length (now out) ≡ workBytes) ⌝ }
-    ensures { λ r. ⌜ ((μ : Sense) → Means (now (m .entry)) of room f side μ → (e : Expr) → Predicate (now (s .entry)) μ written c e →
+    ensures { λ r. ⌜ ((σ : Name → Expr) → Maps (now (m .entry)) of room σ → (e : Expr) → Predicate (now (s .entry)) σ written c e →
         Wrote (now (out .entry)) (now (out .exit)) at level r (exprTree e)) ⌝ }
 {
     if written != 0 {
-        return copy_item(s, m, of, room, f, side, written, out, at, level);
+        return copy_item(s, m, of, room, written, out, at, level);
     }
-    copy_joined(s, m, of, room, f, side, c, out, at, level)
+    copy_joined(s, m, of, room, c, out, at, level)
 }

@@ -59,7 +59,7 @@ pub fn write_before(s: &[u8], node: usize, out: &mut [u8], levels: &mut [u32]) -
     requires { ⌜ Sized (now s) ⌝ }
     requires { ⌜ ThereP (now s) node ⌝ }
     requires { ⌜ (length (now out) ≡ workBytes) × (length (now levels) ≡ maxRecords) ⌝ }
-    ensures { λ r. ⌜ ((p : Plan) (c : Focus) → StandingP (now (s .entry)) 0 p → focus node p ≡ some c →
+    ensures { λ r. ⌜ ((p : Plan) (c : Focus) → StandingP (now (s .entry)) 0 p → focus node p ≡ some c → StandingP (now (s .entry)) node (c .plan) →
         Before (now (out .exit)) (now (levels .exit)) p node (c .plan) r) ⌝ }
 {
     // The old tree is written only to count its records.

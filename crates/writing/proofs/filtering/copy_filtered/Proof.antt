@@ -13,7 +13,7 @@ copy-filtered-spec =
     (tie.spec
     (λ c κs. search needs)
     (λ c. search needs)
-    (λ c μ g es h p k. rw (filters-none es p (omega (
+    (λ c σ g es h p k. rw (filters-none es p (omega (
       arith,
       pushes-length h
           (c .before .before .before .before .before .before .before .before .pre .0 .most),
@@ -35,12 +35,12 @@ copy-filtered-spec =
     (λ c. search needs)
     (λ c κs. search needs)
     (λ c. search needs)
-    (λ c μ g es h p k. let q = c .before .before .before .before .before .before .before .before .before .before .before .before .before .before .before .before .pre in
+    (λ c σ g es h p k. let q = c .before .before .before .before .before .before .before .before .before .before .before .before .before .before .before .before .pre in
     wrote-filtered (q .1 .1 .1 .1) es p (λ z. omega (
       arith,
       pushes-length h (q .0 .most),
       c .before .before .before .before .before .before .before .before .before .before .before .before .if1 .left,
     ))
     (c .before .before .before .before .before .before .before .before .before .before .put-kind .ensures)
-    (λ e rest same. c .before .before .before .before .before .before .copy-joined .ensures μ g e rest (rw same at h))
+    (λ e rest same. c .before .before .before .before .before .before .copy-joined .ensures σ g e rest (rw same at h))
     (c .before .before .copy-plan2 .ensures p k)))

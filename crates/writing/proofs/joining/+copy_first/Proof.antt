@@ -20,7 +20,7 @@ use Rattle.writing.proofs.joining.+copy_first.{statement}
 use Rattle.writing.proofs.joining.+copy_first.Tie.{close}
 
 abbrev μ : Measures 3 kinds.ps ℕ
-μ κs a = a .1 .1 .1 .1 .1 .1 .1 .0
+μ κs a = a .1 .1 .1 .1 .1 .0
 
 abbrev at-measure : ℕ → In 3 kinds.ps
 at-measure t = and 3 kinds.ps (is 3 kinds.ps μ t) copy-first.Pre
@@ -45,11 +45,11 @@ pub +copy-first-spec : {M : Type 1} → statement M
     (λ c κs. let p = c .before .before .before .pre .1 in omega (arith, p .1 .1 .0, pushes-room (p .0 .pushes) (p .0 .most)))
     (λ c κs. let p = c .before .before .before .before .before .before .pre .1 in
     (one-of (p .0) _ _ (omega (arith, p .1 .1 .0)) (c .before .before .item-at .ensures), (p .1 .0, (omega (arith, p .1 .1), p .1 .1 .1 .1))))
-    (λ c. c .before .before .copy-item .kept .1 .1 .1 .1 .1 .1 .1 .0)
-    (λ c μ g e es h. let p = c .before .before .before .before .before .before .before .before .before .pre .1 in
+    (λ c. c .before .before .copy-item .kept .1 .1 .1 .1 .1 .0)
+    (λ c σ g e es h. let p = c .before .before .before .before .before .before .before .before .before .pre .1 in
     let k = c .before .before .before .before .before .before .before .before .before .args .k - 1 in
     rw (conjoin-one e es k (c .before .before .before .before .if1 .taken))
-    (c .before .before .copy-item .ensures μ g (getD (e ∷ es) k FALSE)
+    (c .before .before .copy-item .ensures σ g (getD (e ∷ es) k FALSE)
     (pushes-at h (p .0 .most) k _ (omega (arith, p .1 .1 .0)) (c .before .before .before .before .before .item-at .ensures))))
     (λ c κs. c .before .before .before .before .before .before .pre .1 .1 .1 .1 .1)
     (λ c. omega (arith, c .before .before .before .before .before .before .before .before .before .before .pre .1 .1 .1 .1 .0))
@@ -67,27 +67,19 @@ pub +copy-first-spec : {M : Type 1} → statement M
       ),
     ))
     (λ c. omega (arith, c .before .before .before .before .before .before .before .before .before .before .before .before .before .before .pre .1 .1 .1 .1 .0))
-    (λ c κs. let p = c .before .before .before .before .before .before .before .before .before .before .before .before .before .before .pre .1 in (
-      one-of (p .0) _ _ (omega (arith, p .1 .1 .0)) (c .before .before .before .before .before .before .before .before .before .before .item-at .ensures),
-      (
-        p .1 .0,
-        (
-          omega (arith, p .1 .1, c .before .before .before .before .before .before .before .before .before .if1 .left),
-          c .before .before .before .copy-first .kept .1 .1 .1 .1 .1 .1 .1 .1 .0 ∙ (c .before .before .before .before .before .before .before .put-kind .kept .0 ∙ p .1 .1 .1 .1),
-        ),
-      ),
-    ))
-    (λ c. c .before .before .copy-item2 .kept .1 .1 .1 .1 .1 .1 .1 .0 ∙
-    (c .before .before .before .before .before .before .copy-first .kept .1 .1 .1 .1 .1 .1 .1 .1 .0
+    (λ c κs. let p = c .before .before .before .before .before .before .before .before .before .before .before .before .before .before .pre .1 in
+    (one-of (p .0) _ _ (omega (arith, p .1 .1 .0)) (c .before .before .before .before .before .before .before .before .before .before .item-at .ensures), (p .1 .0, (omega (arith, p .1 .1, c .before .before .before .before .before .before .before .before .before .if1 .left), c .before .before .before .copy-first .kept .1 .1 .1 .1 .1 .1 .0 ∙ (c .before .before .before .before .before .before .before .put-kind .kept .0 ∙ p .1 .1 .1 .1)))))
+    (λ c. c .before .before .copy-item2 .kept .1 .1 .1 .1 .1 .0 ∙
+    (c .before .before .before .before .before .before .copy-first .kept .1 .1 .1 .1 .1 .1 .0
     ∙ c .before .before .before .before .before .before .before .before .before .before .put-kind .kept .0))
-    (λ c μ g e es h. let p = c .before .before .before .before .before .before .before .before .before .before .before .before .before .before .before .before .before .pre .1 in
+    (λ c σ g e es h. let p = c .before .before .before .before .before .before .before .before .before .before .before .before .before .before .before .before .before .pre .1 in
     let k = c .before .before .before .before .before .before .before .before .before .before .before .before .before .before .before .before .before .args .k - 1 in
     let long = pushes-length h (p .0 .most) in
     rw (conjoin-more e es k (c .before .before .before .before .before .before .before .before .before .before .before .before .if1 .left)
     (omega (arith, p .1 .1 .0)))
     (wrote-and (p .1 .1 .1 .1) (conjoin e (take (k - 1) es)) (getD (e ∷ es) k FALSE)
     (c .before .before .before .before .before .before .before .before .before .before .put-kind .ensures)
-    (c .before .before .before .before .before .before .copy-first .ensures μ g e es h)
-    (c .before .before .copy-item2 .ensures μ g (getD (e ∷ es) k FALSE)
+    (c .before .before .before .before .before .before .copy-first .ensures σ g e es h)
+    (c .before .before .copy-item2 .ensures σ g (getD (e ∷ es) k FALSE)
     (pushes-at h (p .0 .most) k _ (omega (arith, p .1 .1 .0))
     (c .before .before .before .before .before .before .before .before .before .before .before .before .before .item-at .ensures)))))

@@ -14,7 +14,7 @@ copy-joined-spec =
     (λ c κs. let p = c .before .before .before .before .pre in
     (p .0, (p .1 .0, ((p .1 .1 .0, omega arith), (omega (arith, p .0 .most, p .1 .1 .1), p .1 .1 .1 .1)))))
     (λ c. search needs)
-    (λ c μ g e es h. let p = c .before .before .before .before .before .before .before .pre in
+    (λ c σ g e es h. let p = c .before .before .before .before .before .before .before .pre in
     let k = c .before .before .before .before .before .before .before .args .c .len - 1 in
     let long = pushes-length h (p .0 .most) in
-    rw (take-all k es (omega arith)) at (c .before .before .copy-first .ensures μ g e es h)))
+    rw (take-all k es (omega arith)) at (c .before .before .copy-first .ensures σ g e es h)))

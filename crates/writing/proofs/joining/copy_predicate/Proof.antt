@@ -10,16 +10,16 @@ copy-predicate-spec =
     tie.close
     (tie.spec
     (λ c κs. let p = c .before .before .before .before .before .pre in (
-      record { sense = p .0 .sense; expr = p .0 .expr; pushed = p .0 .predicate .item (c .before .if1 .taken) },
+      record { map = p .0 .map; expr = p .0 .expr; pushed = p .0 .predicate .item (c .before .if1 .taken) },
       (p .1 .0, (omega (arith, p .1 .1), p .1 .1 .1)),
     ))
     (λ c. search needs)
-    (λ c μ g e h. c .before .before .copy-item .ensures μ g e (h .item (c .before .before .before .before .if1 .taken)))
+    (λ c σ g e h. c .before .before .copy-item .ensures σ g e (h .item (c .before .before .before .before .if1 .taken)))
     (λ c κs. let p = c .before .before .before .before .before .pre in
     let k = p .0 .predicate .list (c .before .if1 .left) in (
-      record { sense = p .0 .sense; exprs = _; pushes = k .pushes; most = p .0 .most },
+      record { map = p .0 .map; exprs = _; pushes = k .pushes; most = p .0 .most },
       (p .1 .0, (omega (arith, pushes-length (k .pushes) (p .0 .most)), p .1 .1)),
     ))
     (λ c. search needs)
-    (λ c μ g e h. let k = h .list (c .before .before .before .before .if1 .left) in
-    rw (k .is) (c .before .before .copy-joined .ensures μ g (k .first) (k .others) (k .pushes))))
+    (λ c σ g e h. let k = h .list (c .before .before .before .before .if1 .left) in
+    rw (k .is) (c .before .before .copy-joined .ensures σ g (k .first) (k .others) (k .pushes))))

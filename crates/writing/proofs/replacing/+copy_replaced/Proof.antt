@@ -111,8 +111,7 @@ pub +copy-replaced-spec : {M : Type 1} → statement M
     c .before .loop .inv .so-far (e .tree) (e .at) .long ∙ sym
     (c .before .before .before .before .before .before .before .before .before .before .before .before .before .pre .1 .1 .1 .1))
     (λ c. λ e he. let k = c .before .loop .inv in
-    let z = no-value e (labelAt (c .before .before .before .before .before .before .before .before .before .before .before .before .before .args .s .now))
-    (c .before .before .before .before .before .before .before .before .value-for .ensures e he) (c .before .before .before .before .before .before .before .if2 .left) in
+    let z = no-value e (labelAt (c .before .before .before .before .before .before .before .before .before .before .before .before .before .args .s .now)) (c .before .before .before .before .before .before .before .before .value-for .ensures e he) (c .before .before .before .before .before .before .before .if2 .left) in
     for-all _ (k .stands) (rw (← k .stands .head .label, z)
     (left-end (c .before .before .before .before .before .before .before .before .before .before .before .before .before .pre .1 .1 .1 .1)
     (c .before .before .before .before .before .put-label .ensures) (done _ k (c .loop-test .left) e he))))

@@ -9,7 +9,6 @@ use Rattle.image.proofs.Walking.{only}
 use Rattle.plan.specs.Trees.{planTree}
 use Rattle.writing.proofs.Whole.{wrote-small}
 use Rattle.writing.proofs.Splice.{before-of}
-use Rattle.writing.proofs.Inside.{focus-stands}
 use Rattle.writing.proofs.splicing.write_before.Statement.{statement}
 use Rattle.writing.proofs.splicing.write_before.Tie as tie
 
@@ -32,10 +31,9 @@ write-before-spec =
     ))
     (λ c. search needs)
     (λ c. search needs)
-    (λ c p f h e. let q = c .before .before .before .before .before .before .before .before .before .before .before .before .before .before .before .before .pre in
+    (λ c p f h e k. let q = c .before .before .before .before .before .before .before .before .before .before .before .before .before .before .before .before .pre in
     let w = c .before .before .before .before .before .before .write-whole .ensures (planTree p) (h .here) in
-    let few = subst (λ (t : Tree). sizeT t ≤ 2048) (only (q .0 .at) (h .here)) (q .0 .few) in
-    before-of p _ f e few (c .before .before .before .before .before .before .before .before .before .before .before .copy-plan .kept .1 .1 .0
-    ∙ q .1 .1 .0)
-    (c .before .before .before .before .before .before .before .before .before .before .before .copy-plan .ensures (f .plan)
-    (focus-stands p _ f e few h)) (w .0) (w .2) (c .wide .ensures .0)))
+    before-of p _ f e (subst (λ (t : Tree). sizeT t ≤ 2048) (only (q .0 .at) (h .here)) (q .0 .few))
+    (c .before .before .before .before .before .before .before .before .before .before .before .copy-plan .kept .1 .1 .0 ∙ q .1 .1 .0)
+    (c .before .before .before .before .before .before .before .before .before .before .before .copy-plan .ensures (f .plan) k) (w .0) (w .2)
+    (c .wide .ensures .0)))
