@@ -17,3 +17,4 @@ pub mod Answering
 pub mod LastChild
 pub mod Changes
 pub mod Renames
+pub mod Unions

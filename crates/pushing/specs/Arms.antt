@@ -7,7 +7,7 @@ use Prim.Native.Nat.{ℕ, _+_, _≤_, _<_}
 use lib.ListN.{length}
 use Rattle.image.specs.Limits.{workBytes, maxList}
 use Rattle.image.specs.Room.{Wrote}
-use Rattle.plan.specs.Syntax.{Expr, Plan, alias}
+use Rattle.plan.specs.Syntax.{Expr, Plan, Plans, alias, union}
 use Rattle.plan.specs.Schema.{schema}
 use Rattle.plan.specs.Trees.{planTree, kidsP}
 use Rattle.acceptance.proofs.NamesRule.{reads, ok}
@@ -86,3 +86,9 @@ pub record OverAlias (s : List ℕ) (x : ℕ) (p : Predicate) : Type 0 where
   pub qualifier : ℕ
   pub plan : Plan
   pub rests : Rests s x p expr (alias qualifier plan)
+
+-- .. on a Union
+pub record OverUnion (s : List ℕ) (x : ℕ) (p : Predicate) : Type 0 where
+  pub expr : Expr
+  pub inputs : Plans
+  pub rests : Rests s x p expr (union inputs)
