@@ -11,7 +11,7 @@ use mathlib.Core.List.{List, [], _∷_, _++_, append-nil}
 use Prim.Native.Nat.{ℕ, zero, suc, _+_, _≤_, _<_}
 use native.Mathlib.Omega.{arith}
 use native.Mathlib.Numerals.{add-one}
-use lib.ListN.{length, getD, take, drop, set, length-append, drop-of-length-le}
+use lib.ListN.{length, getD, drop, set, length-append, drop-of-length-le}
 use lib.Seq.{take-all, take-append-le, take-suc-set, drop-cons}
 use Rattle.plan.specs.Syntax.{Expr}
 use Rattle.plan.specs.Lists.{put, keep, any}

@@ -1,0 +1,2 @@
+pub mod TruthLaws
+pub mod Seeing
