@@ -457,6 +457,11 @@ seen (between n a l u) = tt
 seen (inlist n a xs) = tt
 seen (fn p q r xs) = tt
 
+-- the comparison that was read as an item is the item's
+pub view-back : (e : Expr) {i : Item} → view e ≡ some i → item-expr i ≡ e
+unfolding Seen
+view-back e h = subst (λ (o : Option Item). Seen e o) h (seen e)
+
 -- ---- the groups, columns ascending
 
 module _ (W : World) (ρ : Env) where

@@ -1,0 +1,73 @@
+-- The fields and the inputs of a plan, read off its records.
+use mathlib.Core.Path.{_≡_}
+use mathlib.Core.Bool.{Bool, true, false, not, _&&_, _||_, cond}
+use mathlib.Core.List.{List, [], _∷_, map}
+use Prim.Native.Nat.{ℕ, _+_, _-_, _*_, _≤_, _<_}
+use lib.Dec.{eqb, leb}
+use lib.ListN.{length, getD, drop}
+use Rattle.image.specs.Tree.{Label, Forest, none, node, Tree, At, Deep}
+use Rattle.plan.specs.Lists.{put}
+use Rattle.plan.specs.Schema.{requalify}
+use Rattle.plan.specs.Syntax.{Name, nm, Plan}
+use Rattle.plan.specs.Trees.{planTree, kidsP}
+
+-- a part of this kind makes a field
+abbrev pub makesField : ℕ → Bool
+makesField k = ((eqb k 48 || eqb k 49) || eqb k 52) || eqb k 53
+
+-- a plan of this kind has just the fields that its parts make
+abbrev pub makesAll : ℕ → Bool
+makesAll k = (eqb k 32 || eqb k 34) || eqb k 42
+
+-- a record of this kind is a plan's
+abbrev pub isPlan : ℕ → Bool
+isPlan k = leb 32 k && leb k 43
+
+-- the input whose fields come first, of a plan of the kind k with the word p
+abbrev pub own : ℕ → ℕ → ℕ
+own k p = cond (eqb k 35 && (eqb p 6 || eqb p 8)) 1 0
+
+-- the qualifier that its fields get, if they get one
+abbrev pub below : ℕ → ℕ → Bool → ℕ → ℕ
+below k p set q = cond (eqb k 36 && not set) p q
+
+-- names with the qualifier q, or as they are
+abbrev pub called : Bool → ℕ → List Name → List Name
+called true q ns = map (requalify q) ns
+called false q ns = ns
+
+-- the field that a part makes
+unfoldable pub calledLabel : Label → List Name
+calledLabel l = put (makesField (l .kind)) (nm (l .p) (l .q)) []
+
+-- the fields that the parts of a forest make
+unfoldable pub made : Forest → List Name
+made none = []
+made (node l cs ns) = put (makesField (l .kind)) (nm (l .p) (l .q)) (made ns)
+
+-- the plans of a forest
+unfoldable pub plansIn : Forest → List Tree
+plansIn none = []
+plansIn (node l cs ns) = put (isPlan (l .kind)) (record { label = l; below = cs }) (plansIn ns)
+
+-- t stands at record r of bytes that begin at record b, before it
+pub record Below (s : List ℕ) (b r : ℕ) (t : Tree) : Type 0 where
+  pub past : b < r
+  pub fits : 32 * (r - b) + 32 ≤ length s
+  pub here : At t (drop (32 * (r - b)) s) r
+
+-- no tree
+abbrev pub nothing : Tree
+nothing = record { label = record { kind = 0; p = 0; q = 0; r = 0; lo = 0; hi = 0 }; below = none }
+
+-- r is the record of the plan with this place in the forest f, or 0
+pub record Input (s : List ℕ) (b : ℕ) (f : Forest) (place r : ℕ) : Type 0 where
+  pub found : place < length (plansIn f) → Below s b r (getD (plansIn f) place nothing)
+  pub absent : length (plansIn f) ≤ place → r ≡ 0
+
+-- some plan stands at the start of s, no deeper than d
+pub record PlanHere (s : List ℕ) (b d : ℕ) : Type 0 where
+  pub plan : Plan
+  pub at : At (planTree plan) s b
+  pub some : 0 < d
+  pub deep : Deep (kidsP plan) (d - 1)

@@ -1,0 +1,4 @@
+pub mod Sets
+pub mod Masks
+pub mod Fields
+pub mod Inputs

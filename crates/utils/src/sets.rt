@@ -1,0 +1,63 @@
+// A set of fields: a 64-bit number that has the digit i for the field with the place i.
+ghost use mathlib.Core.Path.{_≡_};
+ghost use mathlib.Core.Bool.{Bool, not, _||_};
+ghost use mathlib.Core.List.{List, [], _∷_, _++_};
+ghost use Prim.Native.Nat.{_≤_, _<_, ℕ};
+ghost use lib.Dec.{eqb, ltb};
+ghost use lib.ListN.{length};
+ghost use Rattle.plan.specs.Syntax.{Name};
+ghost use Rattle.utils.specs.Sets.{member, within};
+ghost use Rattle.utils.specs.Masks.{Masks};
+
+// The set with the place i besides.
+pub fn with(set: u64, i: usize) -> u64
+    requires { ⌜ i < 64 ⌝ }
+    ensures { λ r. ⌜ ((j : ℕ) → member r j ≡ (eqb i j || member set j)) ⌝ }
+{
+    (1u64 << i) | set
+}
+
+// Whether the place i is in the set.
+pub fn has(set: u64, i: usize) -> bool
+    requires { ⌜ i < 64 ⌝ }
+    ensures { λ r. ⌜ r ≡ member set i ⌝ }
+{
+    (set >> i) & 1 == 1
+}
+
+// Whether each place in the set is in the other: those in both are counted, and compared with all.
+pub fn is_within(set: u64, side: u64) -> bool
+    ensures { λ r. ⌜ r ≡ within 64 set side ⌝ }
+{
+    u64::count_ones(set & side) == u64::count_ones(set)
+}
+
+// The set of the places below k.
+pub fn low_places(k: usize) -> u64
+    requires { ⌜ k ≤ 64 ⌝ }
+    ensures { λ r. ⌜ ((j : ℕ) → member r j ≡ ltb j k) ⌝ }
+{
+    if k == 64 {
+        return 0xffff_ffff_ffff_ffff;
+    }
+    (1u64 << k) - 1
+}
+
+// The places below k that are not in the set, which has none at or above k.
+pub fn all_but(set: u64, k: usize) -> u64
+    requires { ⌜ k ≤ 64 ⌝ }
+    ensures { λ r. ⌜ ((ns : List Name) (c : Name → Bool) → k ≡ length ns → Masks set ns c → Masks r ns (λ x. not (c x))) ⌝ }
+{
+    low_places(k) ^ set
+}
+
+// The set with the next place k besides, if told.
+pub fn mark(set: u64, k: usize, yes: bool) -> u64
+    requires { ⌜ k < 64 ⌝ }
+    ensures { λ r. ⌜ ((ns : List Name) (c : Name → Bool) (x : Name) → k ≡ length ns → yes ≡ c x → Masks set ns c → Masks r (ns ++ (x ∷ [])) c) ⌝ }
+{
+    if yes {
+        return with(set, k);
+    }
+    set
+}
