@@ -1,2 +1,5 @@
 pub mod TruthLaws
 pub mod Seeing
+pub mod Rows
+pub mod Evaluating
+pub mod Folding

@@ -5,10 +5,12 @@ use mathlib.Core.List.{List, [], _∷_}
 use Prim.Native.Nat.{ℕ, _-_}
 use lib.Dec.{eqb}
 use lib.ListN.{getD, drop}
+use Rattle.image.specs.Tree.{Tree}
 use Rattle.plan.specs.Kinds as K
+use Rattle.plan.specs.Kinds.{what}
 use Rattle.plan.specs.Lists.{any}
-use Rattle.plan.specs.Read.{nth, ops, tests}
-use Rattle.plan.specs.Syntax.{Value, null, truth, Cmp, eq, ne, lt, le, gt, ge, and, isNull}
+use Rattle.plan.specs.Read.{nth, ops, tests, exprBy, exprsOf}
+use Rattle.plan.specs.Syntax.{Value, Expr, null, truth, Cmp, eq, ne, lt, le, gt, ge, and, isNull}
 use Rattle.plan.specs.Values.{caseOf}
 use Rattle.meaning.specs.Meaning.{isT, compare, binary, not3, negate, tested, within, in-list}
 use Rattle.evaluate.specs.declared.operands.Seen.{Seen}
@@ -46,3 +48,8 @@ pub record Sees (s : Seen) (vs : List Value) : Type 0 where
   pub second : caseOf (s .second .case) ≡ operand 1 vs
   pub third : caseOf (s .third .case) ≡ operand 2 vs
   pub equal : s .equal ≡ any (λ v. isT (compare eq (operand 0 vs) v)) (drop 1 vs)
+
+-- ---- the expression that a tree of records is
+
+abbrev pub exprIn : Tree → Expr
+exprIn t = exprBy (what (t .label)) (t .label) (exprsOf (t .below))

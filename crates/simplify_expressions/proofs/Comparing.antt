@@ -230,4 +230,3 @@ module _ (o : ℕ) {a : Operand} (b : Operand) where
   pub neither : a ≡ Neither → matchedIn o a b ≡ none
   unfolding or-item matchedIn
   neither h = rw (h, make-none₂ false (relNo false o) (valueIn b), make-none true (relNo true o) (columnIn b))
-
