@@ -3,3 +3,5 @@ pub mod Seeing
 pub mod Rows
 pub mod Evaluating
 pub mod Folding
+pub mod Quiet
+pub mod Locating

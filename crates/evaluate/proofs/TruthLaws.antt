@@ -79,7 +79,7 @@ le-refl : (a : ℤ) → leZ a a ≡ true
 le-refl (pos n) = le-leb n n (omega arith)
 le-refl (negsuc n) = le-leb n n (omega arith)
 
-never : {X : Type 0} → false ≡ true → X
+pub never : {X : Type 0} → false ≡ true → X
 never e = let z : _≡_ {A = ℕ} 0 1 = cc in absurd (omega arith)
 
 le-both : (a b : ℤ) → leZ a b ≡ true → leZ b a ≡ true → a ≡ b

@@ -8,6 +8,7 @@ use utils::fields::place_of;
 ghost use mathlib.Core.Path.{_≡_};
 ghost use mathlib.Core.List.{List};
 ghost use Prim.Native.Nat.{_≤_, _<_};
+ghost use lib.IntN.{pos};
 ghost use lib.ListN.{length, getD};
 ghost use Rattle.plan.specs.Syntax.{Name, nm, null};
 ghost use Rattle.plan.specs.Values.{caseOf};
@@ -17,7 +18,7 @@ ghost use Rattle.rewrite.specs.RowTest.{lent};
 ghost use Rattle.utils.specs.Fields.{Names};
 
 // A value that is not NULL, of a field of this type.
-fn cell_of(ty: u8, z: i64) -> Value
+fn cell_of(ty: usize, z: i64) -> Value
     ensures { λ r. ⌜ caseOf (r .case) ≡ R.cell ty z 0 ⌝ }
 {
     if ty == 2 {
@@ -33,7 +34,7 @@ fn cell_of(ty: u8, z: i64) -> Value
 }
 
 // The cell with the place i; NULL where the row has none. A value under a NULL mark is not read.
-pub fn cell_at(types: &[u8], values: &[i64], marks: &[u8], i: usize) -> Value
+pub fn cell_at(types: &[usize], values: &[i64], marks: &[u8], i: usize) -> Value
     ensures { λ r. ⌜ caseOf (r .case) ≡ getD (lent (now (types .entry)) (now (values .entry)) (now (marks .entry))) i null ⌝ }
 {
     if types.len() <= i {
@@ -45,23 +46,60 @@ pub fn cell_at(types: &[u8], values: &[i64], marks: &[u8], i: usize) -> Value
     let ty = types[i];
     if (values.len() <= i) | (marks.len() <= i) {
         return Value {
-            ty: ty as usize,
+            ty,
             case: Case::Null,
         };
     }
     if marks[i] == 1 {
         return Value {
-            ty: ty as usize,
+            ty,
             case: Case::Null,
         };
     }
     cell_of(ty, values[i])
 }
 
+// Whether the values lent for the field with the place i are one: a boolean that is not NULL is 0 or 1.
+fn cell_ok(types: &[usize], values: &[i64], marks: &[u8], i: usize) -> bool
+    requires { ⌜ (i < length (now types)) × (i < length (now values)) × (i < length (now marks)) ⌝ }
+    ensures { λ r. ⌜ r ≡ R.cell-ok (getD (now (types .entry)) i 0) (getD (now (values .entry)) i (pos 0)) (getD (now (marks .entry)) i 0) ⌝ }
+{
+    let mark = marks[i];
+    if mark == 1 {
+        return true;
+    }
+    if mark != 0 {
+        return false;
+    }
+    if types[i] == 2 {
+        let z = values[i];
+        return (0 <= z) & (z <= 1);
+    }
+    true
+}
+
+// Whether there are as many values and marks as fields, each in order.
+pub fn row_ok(types: &[usize], values: &[i64], marks: &[u8]) -> bool
+    ensures { λ r. ⌜ r ≡ R.row-ok (now (types .entry)) (now (values .entry)) (now (marks .entry)) ⌝ }
+{
+    let n = types.len();
+    if (values.len() != n) | (marks.len() != n) {
+        return false;
+    }
+    let mut i = 0;
+    while i < n {
+        if !cell_ok(types, values, marks, i) {
+            return false;
+        }
+        i += 1;
+    }
+    true
+}
+
 // The value of a column.
 pub fn column(
     fields: Fields,
-    types: &[u8],
+    types: &[usize],
     values: &[i64],
     marks: &[u8],
     q: usize,

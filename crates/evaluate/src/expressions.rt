@@ -30,7 +30,7 @@ pub fn evaluate(
     base: usize,
     depth: usize,
     fields: Fields,
-    types: &[u8],
+    types: &[usize],
     values: &[i64],
     marks: &[u8],
 ) -> Value

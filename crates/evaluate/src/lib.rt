@@ -4,3 +4,4 @@ pub mod comparing;
 pub mod expressions;
 pub mod logic;
 pub mod operands;
+pub mod schemas;

@@ -1,4 +1,3 @@
-use native.Mathlib.Omega.{arith}
 use mathlib.Core.Path.{sym, _∙_}
 use lib.IntN.{pos}
 use lib.ListN.{length}
@@ -13,12 +12,11 @@ cell-at-spec =
     (tie.spec
     (λ c. lent-short _ _ _ _ (first (c .if1 .taken)))
     (λ c. search needs)
-    (λ c. omega (arith, c .before .shared-slice-known3 .given (c .before .before .before .before .before .args .i)))
+    (λ c. search needs)
     (λ c. lent-short _ _ _ _ (short-by (c .if2 .taken)))
     (λ c. long-by (c .before .before .before .before .before .before .args .i) (length (c .before .before .before .before .before .before .args .values .now)) (length (c .before .before .before .before .before .before .args .marks .now)) (c .before .if2 .left) .1)
-    (λ c. omega (arith, c .before .before .before .shared-slice-known3 .given (c .before .before .before .before .before .before .before .args .i)))
     (λ c. let h = long-by (c .before .before .before .before .before .before .before .args .i) (length (c .before .before .before .before .before .before .before .args .values .now)) (length (c .before .before .before .before .before .before .before .args .marks .now)) (c .before .before .if2 .left) in marked-null _ _ _ (c .if3 .taken) ∙ sym (lent-at (pos 0) _ _ _ _ (c .before .before .before .before .if1 .left) (h .0) (h .1)))
-    (λ c. let h = long-by (c .before .before .before .before .before .before .before .args .i) (length (c .before .before .before .before .before .before .before .args .values .now)) (length (c .before .before .before .before .before .before .before .args .marks .now)) (c .before .before .if2 .left) in omega (arith, h .0, c .before .before .before .before .before .before .before .good .1 .0 .1))
+    (λ c. search needs)
     (λ c. long-by (c .before .before .before .before .before .before .before .args .i) (length (c .before .before .before .before .before .before .before .args .values .now)) (length (c .before .before .before .before .before .before .before .args .marks .now)) (c .before .before .if2 .left) .0)
     (λ c κs. search needs)
     (λ c. let h = long-by (c .before .before .before .before .before .before .before .before .before .args .i) (length (c .before .before .before .before .before .before .before .before .before .args .values .now)) (length (c .before .before .before .before .before .before .before .before .before .args .marks .now)) (c .before .before .before .before .if2 .left) in c .cell-of .ensures ∙ held _ (search needs) (unmarked _ _ _ (c .before .before .if3 .left) ∙ sym (lent-at (pos 0) _ _ _ _ (c .before .before .before .before .before .before .if1 .left) (h .0) (h .1)))))
