@@ -5,3 +5,4 @@ pub mod Evaluating
 pub mod Folding
 pub mod Quiet
 pub mod Locating
+pub mod RowTesting

@@ -24,15 +24,11 @@ use Rattle.plan.proofs.Measure.{size-filter, size-project, size-join, size-alia
 use Rattle.plan.proofs.Measure.{size-limit, size-aggregate, size-window, size-pcons, size-each}
 use Rattle.acceptance.proofs.NamesRule.{rule, rule-all}
 use Rattle.rewrite.specs.RewriteAt.{Focus, FocusAll, here, inside, inside-all, first-of, later-of, focus, focus-all}
+use Rattle.evaluate.specs.Standing.{Sound}
 use Rattle.evaluate.proofs.Quiet.{Other, NoPlan, OtherAt, region, region-each, past-each, far, later-at, other-e, no-plan-e, no-plan-scan}
 use Rattle.evaluate.proofs.Quiet.{no-plan-join, other-entry, other-key, other-agg, other-win, below-entry, below-key, below-agg, below-win}
 
--- ---- what holds of every plan in a well-formed one
-
-pub record Sound (p : Plan) : Type 0 where
-  pub deep : Deep (kidsP p) 255
-  pub fits : FitsP p
-  pub names : rule (λ a b. true) p ≡ true
+-- ---- depth
 
 -- a forest is no deeper than one more
 deeper : (f : Forest) (d : ℕ) → Deep f (d - 1) → Deep f d

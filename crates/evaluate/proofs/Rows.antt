@@ -174,7 +174,7 @@ type-get k [] = refl
 type-get zero (f ∷ s) = refl
 type-get (suc k) (f ∷ s) = type-get k s
 
-types-length : (s : Schema) → length (typesIn s) ≡ length s
+pub types-length : (s : Schema) → length (typesIn s) ≡ length s
 unfolding typesIn
 types-length [] = refl
 types-length (f ∷ s) = ap suc (types-length s)

@@ -5,3 +5,4 @@ pub mod expressions;
 pub mod logic;
 pub mod operands;
 pub mod schemas;
+pub mod testing;

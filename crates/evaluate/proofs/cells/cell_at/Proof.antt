@@ -1,3 +1,4 @@
+-- `cells::cell_at` meets its contract.
 use mathlib.Core.Path.{sym, _∙_}
 use lib.IntN.{pos}
 use lib.ListN.{length}

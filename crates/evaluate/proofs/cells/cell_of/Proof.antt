@@ -1,3 +1,4 @@
+-- `cells::cell_of` meets its contract.
 use borrow.Author.Needs.{needs}
 use borrow.Author.Tests.{ne-eqb}
 use Rattle.rewrite.specs.RowTest.{cell}

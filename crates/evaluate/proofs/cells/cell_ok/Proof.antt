@@ -1,3 +1,4 @@
+-- `cells::cell_ok` meets its contract.
 use borrow.Author.Tests.{lt-leb, ne-eqb}
 use Rattle.plan.specs.Lists.{_&_}
 use Rattle.rewrite.specs.RowTest.{cell-ok}

@@ -1,3 +1,4 @@
+-- `cells::column` meets its contract.
 use native.Mathlib.Omega.{arith}
 use mathlib.Core.Path.{sym, _∙_}
 use Rattle.evaluate.proofs.Rows.{look-place, lent-length}

@@ -1,3 +1,4 @@
+-- `cells::row_ok` meets its contract.
 use mathlib.Core.Path.{_≡_, refl, sym, _∙_}
 use Prim.Native.Nat.{_≤_, _-_}
 use mathlib.Core.Bool.{Bool, true, false, not}

@@ -1,3 +1,4 @@
+-- `schemas::field_types` meets its contract.
 use mathlib.Core.Path.{_≡_}
 use Prim.Native.Nat.{ℕ, _≤_, _<_, _-_}
 use lib.ListN.{length, getD}
