@@ -6,7 +6,6 @@ use mathlib.Core.List.{List}
 use lib.ListN.{length}
 use Rattle.image.specs.Lowest.{Found, nothing, found}
 use Rattle.image.specs.Places.{placeOf}
-use Rattle.image.specs.declared.places.Place.{Place}
 use Rattle.image.specs.declared.places.Place.the-variants.{At, Nowhere}
 use Rattle.plan.specs.Read.{planAt}
 use Rattle.plan.proofs.PlanOf.{planTree-whole}

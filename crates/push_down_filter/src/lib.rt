@@ -2,9 +2,11 @@
 use checking::check;
 use checking::number_of;
 use checking::place_of;
+use evaluate::testing::row_test;
 ghost use mathlib.Core.Path.{_≡_};
 ghost use Rattle.acceptance.specs.Check as Check;
-ghost use Rattle.push_down_filter.specs.Boundary.{verdictIs};
+ghost use Rattle.rewrite.specs.RowTest.{row-test-bytes};
+ghost use Rattle.push_down_filter.specs.Boundary.{verdictIs, testedIs};
 
 // Number and record of a refusal; 0 and 0 for an accepted image.
 #[repr(C)]
@@ -23,5 +25,32 @@ pub extern "C" fn push_down_filter_check(image: &[u8]) -> Verdict
     Verdict {
         number: number_of(answer),
         record: place as u32,
+    }
+}
+
+// Number and record of a refusal, or 0, 0 and the truth: 0 FALSE, 1 TRUE, 2 UNKNOWN.
+#[repr(C)]
+pub struct Tested {
+    pub number: u32,
+    pub record: u32,
+    pub truth: u32,
+}
+
+// The predicate of the Filter at record `node`, on the row of the values, of which those with the mark 1 are NULL.
+#[no_mangle]
+pub extern "C" fn push_down_filter_row_test(
+    image: &[u8],
+    node: u32,
+    values: &[i64],
+    marks: &[u8],
+) -> Tested
+    ensures { λ r. ⌜ testedIs r ≡ row-test-bytes (now (image .entry)) node (now (values .entry)) (now (marks .entry)) ⌝ }
+{
+    let answer = row_test(image, node, values, marks);
+    let place = evaluate::testing::place_of(answer);
+    Tested {
+        number: evaluate::testing::number_of(answer),
+        record: place as u32,
+        truth: evaluate::testing::truth_number(answer),
     }
 }

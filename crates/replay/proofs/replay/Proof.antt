@@ -1,7 +1,6 @@
 -- `replay` meets its contract: it ends, and no count grows past the number of turns. The buffer keeps its length.
 use Prim.Native.Nat.{_≤_, _-_}
 use mathlib.Core.Path.{_≡_}
-use native.Mathlib.Omega.{arith}
 use borrow.Author.Needs.{needs}
 use lib.ListN.{length}
 use Rattle.replay.proofs.replay.Statement.{statement}

@@ -1,0 +1,23 @@
+-- `cells::cell_at` meets its contract.
+use mathlib.Core.Path.{sym, _∙_}
+use lib.IntN.{pos}
+use lib.ListN.{length}
+use Rattle.evaluate.proofs.Rows.{lent-at, lent-short, Short, first, short-by, long-by, marked-null, unmarked, held}
+use borrow.Author.Needs.{needs}
+use Rattle.evaluate.proofs.cells.cell_at.Statement.{statement}
+use Rattle.evaluate.proofs.cells.cell_at.Tie as tie
+
+pub cell-at-spec : {M : Type 1} → statement M
+cell-at-spec =
+    tie.close
+    (tie.spec
+    (λ c. lent-short _ _ _ _ (first (c .if1 .taken)))
+    (λ c. search needs)
+    (λ c. search needs)
+    (λ c. lent-short _ _ _ _ (short-by (c .if2 .taken)))
+    (λ c. long-by (c .before .before .before .before .before .before .args .i) (length (c .before .before .before .before .before .before .args .values .now)) (length (c .before .before .before .before .before .before .args .marks .now)) (c .before .if2 .left) .1)
+    (λ c. let h = long-by (c .before .before .before .before .before .before .before .args .i) (length (c .before .before .before .before .before .before .before .args .values .now)) (length (c .before .before .before .before .before .before .before .args .marks .now)) (c .before .before .if2 .left) in marked-null _ _ _ (c .if3 .taken) ∙ sym (lent-at (pos 0) _ _ _ _ (c .before .before .before .before .if1 .left) (h .0) (h .1)))
+    (λ c. search needs)
+    (λ c. long-by (c .before .before .before .before .before .before .before .args .i) (length (c .before .before .before .before .before .before .before .args .values .now)) (length (c .before .before .before .before .before .before .before .args .marks .now)) (c .before .before .if2 .left) .0)
+    (λ c κs. search needs)
+    (λ c. let h = long-by (c .before .before .before .before .before .before .before .before .before .args .i) (length (c .before .before .before .before .before .before .before .before .before .args .values .now)) (length (c .before .before .before .before .before .before .before .before .before .args .marks .now)) (c .before .before .before .before .if2 .left) in c .cell-of .ensures ∙ held _ (search needs) (unmarked _ _ _ (c .before .before .if3 .left) ∙ sym (lent-at (pos 0) _ _ _ _ (c .before .before .before .before .before .before .if1 .left) (h .0) (h .1)))))

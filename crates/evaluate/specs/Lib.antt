@@ -1,0 +1,4 @@
+pub mod Truths
+pub mod Operators
+pub mod Standing
+pub mod Answer

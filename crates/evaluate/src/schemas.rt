@@ -1,0 +1,25 @@
+// The types of the fields that a Filter's predicate stands over.
+use types::places::type_at;
+ghost use mathlib.Core.Path.{_≡_};
+ghost use Prim.Native.Nat.{_≤_};
+ghost use lib.ListN.{length, take};
+ghost use Rattle.image.specs.Places.{Chained};
+ghost use Rattle.image.specs.Tree.{Forest, Linked};
+ghost use Rattle.names.specs.Count.{input};
+ghost use Rattle.names.specs.Fields.{inputs};
+ghost use Rattle.names.specs.Rules.{typesIn};
+
+// The types of the n fields of the first plan among the trees from record `at` on, by place.
+pub fn field_types(s: &[u8], base: usize, at: usize, n: usize) -> [usize; 64]
+    requires { ⌜ Chained (now s) base at × (n ≤ 64) ⌝ }
+    ensures { λ r. ⌜ ((f : Forest) → Linked f (now (s .entry)) base at → length (input 0 (inputs f)) ≡ n
+        → take n r ≡ typesIn (input 0 (inputs f))) ⌝ }
+{
+    let mut types = [0usize; 64];
+    let mut k = 0;
+    while k < n {
+        types[k] = type_at(s, base, at, 0, k);
+        k += 1;
+    }
+    types
+}
