@@ -12,3 +12,5 @@ pub mod Splicing
 pub mod Windows
 pub mod Perhapsing
 pub mod Selecting
+pub mod Shorter
+pub mod Merges

@@ -5,4 +5,5 @@ pub mod Around
 pub mod Frames
 pub mod Predicates
 pub mod Arms
+pub mod Merging
 pub mod Parting
