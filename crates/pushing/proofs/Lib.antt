@@ -14,3 +14,5 @@ pub mod Perhapsing
 pub mod Selecting
 pub mod Shorter
 pub mod Merges
+pub mod Tested
+pub mod OneMerge

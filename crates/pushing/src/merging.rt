@@ -5,22 +5,38 @@ use conjuncts::lists::empty;
 use conjuncts::reading::record_at;
 use conjuncts::splitting::split_at;
 use conjuncts::unique::unique;
+use image::limits::MAX_DEPTH;
+use image::limits::MAX_LIST;
+use image::limits::MAX_RECORDS;
 use image::records::NEXT_LINK;
 use image::words::word_at;
 use simplify_expressions::reorder_predicates::reorder_predicates;
 use simplify_expressions::simplify_predicates::simplify_predicates;
+use writing::filtering::copy_filter;
+use writing::handing_out::is_shallow;
+use writing::splicing::write_after;
+use writing::splicing::write_before;
 ghost use mathlib.Core.Path.{_≡_};
 ghost use mathlib.Core.Option.{some};
 ghost use Prim.Native.Nat.{_≤_, _<_};
 ghost use lib.ListN.{length};
-ghost use Rattle.image.specs.Limits.{workBytes, maxList};
+ghost use Rattle.image.specs.Limits.{workBytes, maxList, maxRecords};
 ghost use Rattle.plan.specs.Syntax.{Expr, Plan, filter};
 ghost use Rattle.rewrite.specs.Utils.{split-conjunction, conjunction};
+ghost use Rattle.rewrite.specs.Limits.{listP, fits};
+ghost use Rattle.rewrite.specs.RewriteAt.{Focus};
 ghost use Rattle.rewrite.specs.PushDownFilter.{simplify-filter, merged};
 ghost use Rattle.conjuncts.specs.Standing.{Standing, There, StandingP};
 ghost use Rattle.conjuncts.specs.Items.{Lists, Known};
 ghost use Rattle.pushing.specs.Arms.{Shaped};
-ghost use Rattle.pushing.specs.Merging.{Remains, Made, Formed, FilterAt};
+ghost use Rattle.pushing.specs.Merging.{Remains, Made, Formed, FilterAt, Inside, Mergeable};
+
+// Where merging comes to rest: a predicate, if anything is left of it, on the plan at record `input`; and whether the plan after each merge fits.
+pub struct Settled {
+    pub fits: bool,
+    pub input: usize,
+    pub predicate: Predicate,
+}
 
 // The predicate at record n as it is written, with its conjuncts.
 fn predicate_at(s: &[u8], n: usize) -> Predicate
@@ -69,4 +85,43 @@ fn filter_input(s: &[u8], x: usize) -> usize
     ensures { λ r. ⌜ (x < r) × ((e : Expr) (q : Plan) → StandingP (now (s .entry)) x (filter e q) → StandingP (now (s .entry)) r q) ⌝ }
 {
     word_at(record_at(s, x + 1), NEXT_LINK)
+}
+
+// Test 11 on the plan after a merge: the whole, with the Filter p over the plan at record x in the place of record `node`.
+fn merge_fits(
+    s: &[u8],
+    node: usize,
+    p: Predicate,
+    x: usize,
+    work: &mut [u8],
+    levels: &mut [u32],
+) -> bool
+    requires { ⌜ Mergeable (now s) node p x ⌝ }
+    requires { ⌜ (length (now work) ≡ workBytes) × (length (now levels) ≡ maxRecords) ⌝ }
+    ensures { λ r. ⌜ ((w : Plan) (c : Focus) → Inside (now (s .entry)) node w c → (e : Expr) (q : Plan) → Made (now (s .entry)) p e →
+        StandingP (now (s .entry)) x q → listP q ≤ maxList → r ≡ fits (c .back (filter e q))) ⌝ }
+{
+    let list = p.list;
+    if MAX_LIST < list.len {
+        return false;
+    }
+    let spot = write_before(s, node, work, levels);
+    let part = record_at(s, node);
+    let end = copy_filter(
+        s,
+        part,
+        node,
+        MAX_DEPTH,
+        p.written,
+        list,
+        x,
+        work,
+        node,
+        spot.level,
+    );
+    let records = write_after(s, levels, spot.end, spot.records, work, end);
+    if MAX_RECORDS < records {
+        return false;
+    }
+    is_shallow(work, records)
 }

@@ -54,7 +54,7 @@ module _ (p : Plan) (node : ℕ) (c : Focus) (f : focus node p ≡ some c) where
   new q = flat (at .level) (planTree q)
 
   -- its records are among those of the whole
-  within : 32 * (node + sizeT (planTree (c .plan))) + length (at .after) ≡ 32 * sizeT (planTree p)
+  pub within : 32 * (node + sizeT (planTree (c .plan))) + length (at .after) ≡ 32 * sizeT (planTree p)
   within =
       let e : length (flat 1 (planTree p)) ≡ length (at .before) + (length old + length (at .after)) =
       ap length (at .is) ∙ length-three (at .before) old (at .after) in
@@ -84,7 +84,7 @@ module _ (p : Plan) (node : ℕ) (c : Focus) (f : focus node p ≡ some c) where
       }
 
   -- the depth that was read is that of the plan
-  level-is : (level : ℕ) → node < 4294967295 → level ≡ word (flat 1 (planTree p)) (32 * node + 24) → level ≡ at .level
+  pub level-is : (level : ℕ) → node < 4294967295 → level ≡ word (flat 1 (planTree p)) (32 * node + 24) → level ≡ at .level
   level-is level few e =
       let z : 32 * node + 24 ≡ length (at .before) + 24 = omega (arith, at .count) in
       let l = labelP (c .plan) in

@@ -1,0 +1,222 @@
+-- One merge of two Filters, and what comes after it.
+use mathlib.Core.Path.{_≡_, refl, sym, ap, subst, _∙_}
+use mathlib.Core.Bool.{Bool, true, false}
+use mathlib.Core.List.{List, [], _∷_, _++_}
+use mathlib.Core.Option.{Option, none, some}
+use Prim.Native.Nat.{ℕ, _+_, _≤_, _<_, max as larger}
+use native.Mathlib.Nat.{le-trans, le-max-left, le-max-right}
+use native.Mathlib.Omega.{arith}
+use lib.Dec.{eqb, leb}
+use lib.ListN.{length, length-append}
+use borrow.Author.Tests.{leb-true, leb-false, eqb-true}
+use Rattle.image.specs.Limits.{maxList}
+use Rattle.plan.specs.Lists.{_&_, all}
+use Rattle.plan.specs.Syntax.{Expr, Plan, filter, scan, project, join, alias, union, distinct, sort, repartition, limit, aggregate, window}
+use Rattle.plan.specs.Trees.{labelP}
+use Rattle.plan.specs.Schema.{schema}
+use Rattle.plan.proofs.Lists.{and-l, and-r, and-true}
+use Rattle.acceptance.proofs.NamesRule.{reads, reads?, rule, ok}
+use Rattle.rewrite.specs.Utils.{split-conjunction, conjunction, unique}
+use Rattle.rewrite.specs.Limits.{listP, fits}
+use Rattle.rewrite.specs.RewriteAt.{Focus}
+use Rattle.rewrite.specs.PushDownFilter.{simplify-filter, merged, simplify-merged, if-some, merges-under}
+use Rattle.conjuncts.specs.Standing.{StandingP}
+use Rattle.conjuncts.specs.Items.{Conjuncts, Lists, Known}
+use Rattle.conjuncts.proofs.Listed.{known-of, lists-length}
+use Rattle.pushing.specs.Predicates.{Predicate}
+use Rattle.pushing.specs.Arms.{Shaped, Placed, Rests}
+use Rattle.pushing.specs.Settled.{Settled, gone, rests, settled-by, settle}
+use Rattle.pushing.specs.Merging.{Remains, nothing, something, Made, Inside, is-filter, Rest, Comes, alone, resting, Settles}
+use Rattle.pushing.proofs.Plain.{Joined?, none-left, some-left, joined?, merged-plain, split-some}
+use Rattle.pushing.proofs.Perhapsing.{is-gone, both}
+use Rattle.pushing.proofs.Scoped.{merged-reads}
+use Rattle.pushing.proofs.Tested.{too-long}
+
+-- ---- what is left of a predicate
+
+no-yes : true ≡ false → ⊥
+no-yes e = let z : _≡_ {A = ℕ} 0 1 = cc in omega arith
+
+-- an expression is left
+pub record Leaves (s : List ℕ) (p : Predicate) (o : Option Expr) : Type 0 where
+  pub expr : Expr
+  pub is : o ≡ some expr
+  pub shaped : Shaped s p expr
+
+module _ {s : List ℕ} {p : Predicate} where
+  -- nothing is left
+  pub leaves-none : {o : Option Expr} → Remains s p o → is-gone p ≡ true → o ≡ none
+  leaves-none (nothing w l) h = refl
+  leaves-none (something {e = e} x) h =
+      let z = eqb-true (p .list .len) 0 (both (eqb (p .written) 0) (eqb (p .list .len) 0) h .1) in
+      absurd (omega (arith, lists-length (x .listed) (x .most), split-some e))
+
+  pub leaves-some : {o : Option Expr} → Remains s p o → is-gone p ≡ false → Leaves s p o
+  leaves-some (nothing w l) h = absurd (no-yes (sym (rw (w, l)) ∙ h))
+  leaves-some (something {e = e} x) h = record { expr = e; is = refl; shaped = x }
+
+-- a merge leaves something
+pub record Merge (e b : Expr) : Type 0 where
+  pub expr : Expr
+  pub is : conjunction (merged e b) ≡ some expr
+
+-- ---- the plan below
+
+module _ {s : List ℕ} {x : ℕ} {p : Predicate} {e b : Expr} {q : Plan} (h : Rests s x p e (filter b q)) where
+  -- the child's conjuncts are few enough
+  pub lower-few : length (split-conjunction b) ≤ maxList
+  unfolding listP
+  lower-few = le-trans (le-max-left (length (split-conjunction b)) (listP q)) (h .placed .lists)
+
+  -- its input in its own place
+  pub placed-input : {y : ℕ} → x < y → StandingP s y q → Placed s y q
+  unfolding listP rule
+  placed-input past k =
+      record {
+        short = h .placed .short;
+        standing = k;
+        past = omega arith;
+        rules = and-r (reads (schema q) b) (ok q) (h .placed .rules);
+        lists = le-trans (le-max-right (length (split-conjunction b)) (listP q)) (h .placed .lists);
+      }
+
+  -- what is left of a merge rests on it
+  pub rests-on : {y : ℕ} {m e′ : Expr} {p′ : Predicate} → conjunction (merged e b) ≡ some m → simplify-filter m ≡ some e′ → Shaped s p′ e′
+      → x < y → StandingP s y q → Rests s y p′ e′ q
+  unfolding schema rule
+  rests-on {m = m} {e′} i j k past l =
+      record {
+        placed = placed-input past l;
+        shaped = k;
+        scope =
+            subst (λ o. reads? (schema q) o ≡ true) (ap simplify-merged i ∙ j)
+            (merged-reads (schema q) e b (h .scope) (and-l (reads (schema q) b) (ok q) (h .placed .rules)));
+      }
+
+-- ---- the tests and the rest
+
+module _ (c : Focus) (e b m : Expr) (q : Plan) (i : conjunction (merged e b) ≡ some m) where
+  abbrev test : Plan → Bool
+  test n = fits (c .back n)
+
+  -- the merged Filter does not fit
+  pub merge-over : test (filter m q) ≡ false → all test (merges-under e (filter b q)) ≡ false
+  unfolding merges-under all _&_
+  merge-over h = rw (i, h)
+
+  -- it fits, and nothing is left
+  pub merge-gone : test (filter m q) ≡ true → simplify-filter m ≡ none → all test (merges-under e (filter b q)) ≡ true
+  unfolding merges-under all _&_
+  merge-gone h j = rw (i, h, j)
+
+  pub settle-gone : simplify-filter m ≡ none → settle e (filter b q) ≡ gone q
+  unfolding settle
+  settle-gone j = rw (i, j)
+
+  -- it fits, and something is left
+  pub merge-on : {e′ : Expr} → test (filter m q) ≡ true → simplify-filter m ≡ some e′
+      → all test (merges-under e (filter b q)) ≡ all test (merges-under e′ q)
+  unfolding merges-under all _&_
+  merge-on h j = rw (i, h, j)
+
+  pub settle-on : {e′ : Expr} → simplify-filter m ≡ some e′ → settle e (filter b q) ≡ settle e′ q
+  unfolding settle
+  settle-on j = rw (i, j)
+
+-- where the merged Filter fits, its conjuncts are few enough
+pub merge-few : {s : List ℕ} {node : ℕ} {w : Plan} {c : Focus} {p : Predicate} {m : Expr} (q : Plan) → Inside s node w c → Made s p m
+    → fits (c .back (filter m q)) ≡ true → p .list .len ≤ maxList
+merge-few {p = p} q h k t = go (leb (p .list .len) maxList) refl
+  where
+    go : (d : Bool) → leb (p .list .len) maxList ≡ d → p .list .len ≤ maxList
+    go true f = leb-true (p .list .len) maxList f
+    go false f = absurd (no-yes (sym t ∙ too-long h k q (leb-false (p .list .len) maxList f)))
+
+-- ---- a plan that is no Filter
+
+pub merge-none : (e : Expr) (q : Plan) → is-filter q ≡ false → merges-under e q ≡ []
+unfolding merges-under
+merge-none e (filter b q) h = absurd (no-yes h)
+merge-none e (scan t fs es) h = refl
+merge-none e (project es p) h = refl
+merge-none e (join k l r on f) h = refl
+merge-none e (alias i p) h = refl
+merge-none e (union ps) h = refl
+merge-none e (distinct p) h = refl
+merge-none e (sort f ks p) h = refl
+merge-none e (repartition p) h = refl
+merge-none e (limit n k p) h = refl
+merge-none e (aggregate gs ags p) h = refl
+merge-none e (window ws p) h = refl
+
+pub settle-none : (e : Expr) (q : Plan) → is-filter q ≡ false → settle e q ≡ rests e q
+unfolding settle
+settle-none e (filter b q) h = absurd (no-yes h)
+settle-none e (scan t fs es) h = refl
+settle-none e (project es p) h = refl
+settle-none e (join k l r on f) h = refl
+settle-none e (alias i p) h = refl
+settle-none e (union ps) h = refl
+settle-none e (distinct p) h = refl
+settle-none e (sort f ks p) h = refl
+settle-none e (repartition p) h = refl
+settle-none e (limit n k p) h = refl
+settle-none e (aggregate gs ags p) h = refl
+settle-none e (window ws p) h = refl
+
+-- ---- the kind of a plan
+
+pub kind-filter : (q : Plan) → eqb (labelP q .kind) 33 ≡ is-filter q
+unfolding labelP
+kind-filter (filter b q) = refl
+kind-filter (scan t fs es) = refl
+kind-filter (project es p) = refl
+kind-filter (join k l r on f) = refl
+kind-filter (alias i p) = refl
+kind-filter (union ps) = refl
+kind-filter (distinct p) = refl
+kind-filter (sort f ks p) = refl
+kind-filter (repartition p) = refl
+kind-filter (limit n k p) = refl
+kind-filter (aggregate gs ags p) = refl
+kind-filter (window ws p) = refl
+
+-- a Filter, in its parts
+pub record Parts (q : Plan) : Type 0 where
+  pub lower : Expr
+  pub input : Plan
+  pub is : q ≡ filter lower input
+
+pub parts : (q : Plan) → is-filter q ≡ true → Parts q
+parts (filter b q) h = record { lower = b; input = q; is = refl }
+parts (scan t fs es) h = absurd (no-yes (sym h))
+parts (project es p) h = absurd (no-yes (sym h))
+parts (join k l r on f) h = absurd (no-yes (sym h))
+parts (alias i p) h = absurd (no-yes (sym h))
+parts (union ps) h = absurd (no-yes (sym h))
+parts (distinct p) h = absurd (no-yes (sym h))
+parts (sort f ks p) h = absurd (no-yes (sym h))
+parts (repartition p) h = absurd (no-yes (sym h))
+parts (limit n k p) h = absurd (no-yes (sym h))
+parts (aggregate gs ags p) h = absurd (no-yes (sym h))
+parts (window ws p) h = absurd (no-yes (sym h))
+
+-- ---- a merge leaves something
+
+unique-some : (es : List Expr) → 1 ≤ length es → 1 ≤ length (unique es)
+unfolding unique
+unique-some [] h = absurd (omega arith)
+unique-some (e ∷ es) h = omega arith
+
+merged-more : (e b : Expr) → 1 ≤ length (merged e b)
+unfolding merged
+merged-more e b =
+    unique-some (split-conjunction b ++ split-conjunction e)
+    (omega (arith, length-append (split-conjunction b) (split-conjunction e), split-some b))
+
+pub merge-some : (e b : Expr) → Merge e b
+merge-some e b = go (joined? (merged e b) (merged-plain e b)) refl
+  where
+    go : {o : Option Expr} → Joined? (merged e b) o → conjunction (merged e b) ≡ o → Merge e b
+    go (none-left z) i = absurd (omega (arith, merged-more e b, ap length z))
+    go (some-left {e = x} j) i = record { expr = x; is = i }
