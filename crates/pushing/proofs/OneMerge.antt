@@ -3,13 +3,15 @@ use mathlib.Core.Path.{_≡_, refl, sym, ap, subst, _∙_}
 use mathlib.Core.Bool.{Bool, true, false}
 use mathlib.Core.List.{List, [], _∷_, _++_}
 use mathlib.Core.Option.{Option, none, some}
-use Prim.Native.Nat.{ℕ, _+_, _≤_, _<_, max as larger}
+use Prim.Native.Nat.{ℕ, _*_, _≤_, _<_, max as larger}
 use native.Mathlib.Nat.{le-trans, le-max-left, le-max-right}
 use native.Mathlib.Omega.{arith}
 use lib.Dec.{eqb, leb}
-use lib.ListN.{length, length-append}
-use borrow.Author.Tests.{leb-true, leb-false, eqb-true}
+use lib.ListN.{length, drop, length-append}
+use borrow.Author.Tests.{leb-true, leb-false, eqb-true, eq-eqb, ne-eqb}
 use Rattle.image.specs.Limits.{maxList}
+use Rattle.image.specs.Word.{word}
+use Rattle.image.specs.Tree.{Label}
 use Rattle.plan.specs.Lists.{_&_, all}
 use Rattle.plan.specs.Syntax.{Expr, Plan, filter, scan, project, join, alias, union, distinct, sort, repartition, limit, aggregate, window}
 use Rattle.plan.specs.Trees.{labelP}
@@ -26,7 +28,7 @@ use Rattle.conjuncts.proofs.Listed.{known-of, lists-length}
 use Rattle.pushing.specs.Predicates.{Predicate}
 use Rattle.pushing.specs.Arms.{Shaped, Placed, Rests}
 use Rattle.pushing.specs.Settled.{Settled, gone, rests, settled-by, settle}
-use Rattle.pushing.specs.Merging.{Remains, nothing, something, Made, Inside, is-filter, Rest, Comes, alone, resting, Settles}
+use Rattle.pushing.specs.Merging.{Remains, nothing, something, Made, Inside, Merging, MergingInto, is-filter, Rest, alone, resting, Settles}
 use Rattle.pushing.proofs.Plain.{Joined?, none-left, some-left, joined?, merged-plain, split-some}
 use Rattle.pushing.proofs.Perhapsing.{is-gone, both}
 use Rattle.pushing.proofs.Scoped.{merged-reads}
@@ -220,3 +222,64 @@ merge-some e b = go (joined? (merged e b) (merged-plain e b)) refl
     go : {o : Option Expr} → Joined? (merged e b) o → conjunction (merged e b) ≡ o → Merge e b
     go (none-left z) i = absurd (omega (arith, merged-more e b, ap length z))
     go (some-left {e = x} j) i = record { expr = x; is = i }
+
+-- ---- what the code answers
+
+module _ {s : List ℕ} {x : ℕ} {p : Predicate} {e b : Expr} {q : Plan} {m : Expr} {c : Focus} (h : Rests s x p e (filter b q))
+    (i : conjunction (merged e b) ≡ some m) where
+  -- the merged Filter does not fit
+  pub settles-over : {r : Rest} → r .fits ≡ false → fits (c .back (filter m q)) ≡ false
+      → Settles s r c (merges-under e (filter b q)) (settle e (filter b q))
+  settles-over f t = record { fit = f ∙ sym (merge-over c e b m q i t); comes = λ y. absurd (no-yes (sym y ∙ f)) }
+
+  -- nothing is left of it
+  pub settles-gone : {y : ℕ} {left : Predicate} → fits (c .back (filter m q)) ≡ true → Remains s left (simplify-filter m) → is-gone left ≡ true
+      → x < y → StandingP s y q
+      → Settles s (record { fits = true; input = y; predicate = left }) c (merges-under e (filter b q)) (settle e (filter b q))
+  settles-gone {left = left} t k g past l =
+      let z = leaves-none k g in
+      let w = both (eqb (left .written) 0) (eqb (left .list .len) 0) g in
+      record {
+        fit = sym (merge-gone c e b m q i t z);
+        comes = λ y.
+            rw (settle-gone c e b m q i z)
+            (alone (placed-input h past l) (eqb-true (left .written) 0 (w .0)) (eqb-true (left .list .len) 0 (w .1)));
+      }
+
+  -- something is left, and is rewritten again
+  pub settles-on : {r : Rest} {e′ : Expr} → fits (c .back (filter m q)) ≡ true → simplify-filter m ≡ some e′
+      → Settles s r c (merges-under e′ q) (settle e′ q) → Settles s r c (merges-under e (filter b q)) (settle e (filter b q))
+  settles-on t j k =
+      record { fit = k .fit ∙ sym (merge-on c e b m q i t j); comes = λ y. rw (settle-on c e b m q i j) (k .comes y) }
+
+-- no Filter is there
+pub settles-here : {s : List ℕ} {x : ℕ} {p : Predicate} {c : Focus} {e : Expr} {q : Plan} → Rests s x p e q → is-filter q ≡ false
+    → Settles s (record { fits = true; input = x; predicate = p }) c (merges-under e q) (settle e q)
+unfolding all
+settles-here {e = e} {q} h f =
+    record { fit = rw (merge-none e q f); comes = λ y. rw (settle-none e q f) (resting h f) }
+
+module _ {s : List ℕ} {x n : ℕ} where
+  module _ {q : Plan} (h : StandingP s x q) (k : n ≡ word (drop (32 * x) s) 0) where
+    -- the kind that was read
+    kind-is : eqb n 33 ≡ is-filter q
+    kind-is = ap (λ i. eqb i 33) (k ∙ ap (λ (l : Label). l .kind) (h .here .head .label)) ∙ kind-filter q
+
+    pub filter-here : n ≡ 33 → Parts q
+    filter-here e = parts q (sym kind-is ∙ eq-eqb n 33 e)
+
+    pub other-here : (n ≡ 33 → ⊥) → is-filter q ≡ false
+    other-here f = sym kind-is ∙ ne-eqb n 33 f
+
+  pub merging-into : {node : ℕ} {p : Predicate} → Merging s node p x → n ≡ word (drop (32 * x) s) 0 → n ≡ 33 → MergingInto s node p x
+  merging-into {p = p} h k e =
+      let f = filter-here (h .rests .placed .standing) k e in
+      record {
+        whole = h .whole;
+        spot = h .spot;
+        inside = h .inside;
+        expr = h .expr;
+        lower = f .lower;
+        plan = f .input;
+        rests = subst (λ q. Rests s x p (h .expr) q) (f .is) (h .rests);
+      }

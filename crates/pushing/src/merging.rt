@@ -1,5 +1,6 @@
 // Filters merged: from a Filter at a record down to where the merging of the Filters below it comes to rest.
 use crate::predicates::Predicate;
+use crate::predicates::is_gone;
 use conjuncts::lists::Conjuncts;
 use conjuncts::lists::empty;
 use conjuncts::reading::record_at;
@@ -14,6 +15,7 @@ use simplify_expressions::reorder_predicates::reorder_predicates;
 use simplify_expressions::simplify_predicates::simplify_predicates;
 use writing::filtering::copy_filter;
 use writing::handing_out::is_shallow;
+use writing::kinds::FILTER;
 use writing::splicing::write_after;
 use writing::splicing::write_before;
 ghost use mathlib.Core.Path.{_≡_};
@@ -25,11 +27,12 @@ ghost use Rattle.plan.specs.Syntax.{Expr, Plan, filter};
 ghost use Rattle.rewrite.specs.Utils.{split-conjunction, conjunction};
 ghost use Rattle.rewrite.specs.Limits.{listP, fits};
 ghost use Rattle.rewrite.specs.RewriteAt.{Focus};
-ghost use Rattle.rewrite.specs.PushDownFilter.{simplify-filter, merged};
+ghost use Rattle.rewrite.specs.PushDownFilter.{simplify-filter, merged, merges-under};
 ghost use Rattle.conjuncts.specs.Standing.{Standing, There, StandingP};
 ghost use Rattle.conjuncts.specs.Items.{Lists, Known};
-ghost use Rattle.pushing.specs.Arms.{Shaped};
-ghost use Rattle.pushing.specs.Merging.{Remains, Made, Formed, FilterAt, Inside, Mergeable};
+ghost use Rattle.pushing.specs.Arms.{Shaped, Rests};
+ghost use Rattle.pushing.specs.Merging.{Remains, Made, Formed, FilterAt, Inside, Mergeable, Merging, MergingInto, Settles};
+ghost use Rattle.pushing.specs.Settled.{settle};
 
 // Where merging comes to rest: a predicate, if anything is left of it, on the plan at record `input`; and whether the plan after each merge fits.
 pub struct Settled {
@@ -124,4 +127,63 @@ fn merge_fits(
         return false;
     }
     is_shallow(work, records)
+}
+
+// A Filter with the predicate p, which is simplified already, over the plan at record x.
+fn rewrite_filter(
+    s: &[u8],
+    node: usize,
+    p: Predicate,
+    x: usize,
+    work: &mut [u8],
+    levels: &mut [u32],
+) -> Settled
+    requires { ⌜ Merging (now s) node p x ⌝ }
+    requires { ⌜ (length (now work) ≡ workBytes) × (length (now levels) ≡ maxRecords) ⌝ }
+    ensures { λ r. ⌜ ((w : Plan) (c : Focus) → Inside (now (s .entry)) node w c → (e : Expr) (q : Plan) → Rests (now (s .entry)) x p e q →
+        Settles (now (s .entry)) r c (merges-under e q) (settle e q)) ⌝ }
+{
+    let part = record_at(s, x);
+    if word_at(part, 0) == FILTER {
+        return merge_filter(s, node, p, x, work, levels);
+    }
+    Settled {
+        fits: true,
+        input: x,
+        predicate: p,
+    }
+}
+
+// The same over the Filter at record x: both become one, which is simplified and rewritten again.
+fn merge_filter(
+    s: &[u8],
+    node: usize,
+    p: Predicate,
+    x: usize,
+    work: &mut [u8],
+    levels: &mut [u32],
+) -> Settled
+    requires { ⌜ MergingInto (now s) node p x ⌝ }
+    requires { ⌜ (length (now work) ≡ workBytes) × (length (now levels) ≡ maxRecords) ⌝ }
+    ensures { λ r. ⌜ ((w : Plan) (c : Focus) → Inside (now (s .entry)) node w c → (e b : Expr) (q : Plan) →
+        Rests (now (s .entry)) x p e (filter b q) → Settles (now (s .entry)) r c (merges-under e (filter b q)) (settle e (filter b q))) ⌝ }
+{
+    let input = filter_input(s, x);
+    let merged = merge(s, p, split_at(s, x + 1, empty()));
+    if !merge_fits(s, node, merged, input, work, levels) {
+        return Settled {
+            fits: false,
+            input,
+            predicate: merged,
+        };
+    }
+    let left = simplify_filter(s, merged);
+    if is_gone(left) {
+        return Settled {
+            fits: true,
+            input,
+            predicate: left,
+        };
+    }
+    rewrite_filter(s, node, left, input, work, levels)
 }
