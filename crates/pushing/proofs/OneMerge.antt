@@ -9,7 +9,7 @@ use native.Mathlib.Omega.{arith}
 use lib.Dec.{eqb, leb}
 use lib.ListN.{length, drop, length-append}
 use borrow.Author.Tests.{leb-true, leb-false, eqb-true, eq-eqb, ne-eqb}
-use Rattle.image.specs.Limits.{maxList}
+use Rattle.image.specs.Limits.{workBytes, maxList}
 use Rattle.image.specs.Word.{word}
 use Rattle.image.specs.Tree.{Label}
 use Rattle.plan.specs.Lists.{_&_, all}
@@ -64,23 +64,32 @@ pub record Merge (e b : Expr) : Type 0 where
 
 -- ---- the plan below
 
+-- the input of a Filter in its own place
+pub input-placed : {s : List ℕ} {x y : ℕ} (b : Expr) {q : Plan} → length s ≤ workBytes → ok (filter b q) ≡ true → listP (filter b q) ≤ maxList
+    → x < y → StandingP s y q → Placed s y q
+unfolding listP rule
+input-placed b {q} short rules lists past k =
+    record {
+      short = short;
+      standing = k;
+      past = omega arith;
+      rules = and-r (reads (schema q) b) (ok q) rules;
+      lists = le-trans (le-max-right (length (split-conjunction b)) (listP q)) lists;
+    }
+
+-- the conjuncts of a Filter are few enough
+pub own-few : (b : Expr) (q : Plan) → listP (filter b q) ≤ maxList → length (split-conjunction b) ≤ maxList
+unfolding listP
+own-few b q h = le-trans (le-max-left (length (split-conjunction b)) (listP q)) h
+
 module _ {s : List ℕ} {x : ℕ} {p : Predicate} {e b : Expr} {q : Plan} (h : Rests s x p e (filter b q)) where
   -- the child's conjuncts are few enough
   pub lower-few : length (split-conjunction b) ≤ maxList
-  unfolding listP
-  lower-few = le-trans (le-max-left (length (split-conjunction b)) (listP q)) (h .placed .lists)
+  lower-few = own-few b q (h .placed .lists)
 
   -- its input in its own place
   pub placed-input : {y : ℕ} → x < y → StandingP s y q → Placed s y q
-  unfolding listP rule
-  placed-input past k =
-      record {
-        short = h .placed .short;
-        standing = k;
-        past = omega arith;
-        rules = and-r (reads (schema q) b) (ok q) (h .placed .rules);
-        lists = le-trans (le-max-right (length (split-conjunction b)) (listP q)) (h .placed .lists);
-      }
+  placed-input past k = input-placed b (h .placed .short) (h .placed .rules) (h .placed .lists) past k
 
   -- what is left of a merge rests on it
   pub rests-on : {y : ℕ} {m e′ : Expr} {p′ : Predicate} → conjunction (merged e b) ≡ some m → simplify-filter m ≡ some e′ → Shaped s p′ e′

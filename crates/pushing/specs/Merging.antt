@@ -8,14 +8,16 @@ use lib.ListN.{length}
 use Rattle.image.specs.Limits.{workBytes, maxList}
 use Rattle.plan.specs.Syntax.{Expr, Plan, scan, filter, project, join, alias, union, distinct, sort, repartition, limit, aggregate, window}
 use Rattle.plan.specs.Lists.{all}
+use Rattle.acceptance.proofs.NamesRule.{ok}
 use Rattle.rewrite.specs.Utils.{split-conjunction, conjunction}
 use Rattle.rewrite.specs.Limits.{listP, fits}
 use Rattle.rewrite.specs.RewriteAt.{Focus, focus}
+use Rattle.rewrite.specs.PushDownFilter.{simplify-filter}
 use Rattle.conjuncts.specs.Standing.{StandingP}
 use Rattle.conjuncts.specs.Items.{Lists}
 use Rattle.pushing.specs.Predicates.{Predicate}
 use Rattle.pushing.specs.Arms.{Shaped, Placed, Rests}
-use Rattle.pushing.specs.Settled.{Settled, gone, rests}
+use Rattle.pushing.specs.Settled.{Settled, gone, rests, settled-by, settle}
 use Rattle.pushing.specs.declared.merging.Settled as declared
 
 -- ---- predicates
@@ -38,10 +40,11 @@ pub record Formed (s : List ℕ) (p : Predicate) : Type 0 where
 
 -- ---- plans
 
--- the plan w is the image's, none of its lists is too long, and c is the plan at record `node` of it
+-- the plan w is the image's, keeps the name rules and has no list that is too long, and c is the plan at record `node` of it
 pub record Inside (s : List ℕ) (node : ℕ) (w : Plan) (c : Focus) : Type 0 where
   pub short : length s ≤ workBytes
   pub root : StandingP s 0 w
+  pub rules : ok w ≡ true
   pub lists : listP w ≤ maxList
   pub there : focus node w ≡ some c
 
@@ -80,7 +83,20 @@ pub record MergingInto (s : List ℕ) (node : ℕ) (p : Predicate) (x : ℕ) : T
   pub plan : Plan
   pub rests : Rests s x p expr (filter lower plan)
 
+-- a Filter stands at record `node` of the whole
+pub record FilterInside (s : List ℕ) (node : ℕ) : Type 0 where
+  pub whole : Plan
+  pub spot : Focus
+  pub inside : Inside s node whole spot
+  pub expr : Expr
+  pub plan : Plan
+  pub is : spot .plan ≡ filter expr plan
+
 -- ---- where merging comes to rest
+
+-- .. of a Filter as it is written: its predicate is simplified first
+abbrev pub settle-first : Expr → Plan → Settled
+settle-first e p = settled-by (simplify-filter e) (λ x. settle x p) p
 
 -- the struct of the code
 abbrev pub Rest : Type 0

@@ -27,11 +27,11 @@ ghost use Rattle.plan.specs.Syntax.{Expr, Plan, filter};
 ghost use Rattle.rewrite.specs.Utils.{split-conjunction, conjunction};
 ghost use Rattle.rewrite.specs.Limits.{listP, fits};
 ghost use Rattle.rewrite.specs.RewriteAt.{Focus};
-ghost use Rattle.rewrite.specs.PushDownFilter.{simplify-filter, merged, merges-under};
+ghost use Rattle.rewrite.specs.PushDownFilter.{simplify-filter, merged, merges, merges-under};
 ghost use Rattle.conjuncts.specs.Standing.{Standing, There, StandingP};
 ghost use Rattle.conjuncts.specs.Items.{Lists, Known};
 ghost use Rattle.pushing.specs.Arms.{Shaped, Rests};
-ghost use Rattle.pushing.specs.Merging.{Remains, Made, Formed, FilterAt, Inside, Mergeable, Merging, MergingInto, Settles};
+ghost use Rattle.pushing.specs.Merging.{Remains, Made, Formed, FilterAt, Inside, Mergeable, Merging, MergingInto, FilterInside, Settles, settle-first};
 ghost use Rattle.pushing.specs.Settled.{settle};
 
 // Where merging comes to rest: a predicate, if anything is left of it, on the plan at record `input`; and whether the plan after each merge fits.
@@ -186,4 +186,23 @@ fn merge_filter(
         };
     }
     rewrite_filter(s, node, left, input, work, levels)
+}
+
+// The Filter at record `node`: its predicate is simplified, and the Filters below are merged into it.
+pub fn settle_filter(s: &[u8], node: usize, work: &mut [u8], levels: &mut [u32]) -> Settled
+    requires { ⌜ FilterInside (now s) node ⌝ }
+    requires { ⌜ (length (now work) ≡ workBytes) × (length (now levels) ≡ maxRecords) ⌝ }
+    ensures { λ r. ⌜ ((w : Plan) (c : Focus) → Inside (now (s .entry)) node w c → (e : Expr) (q : Plan) → c .plan ≡ filter e q →
+        Settles (now (s .entry)) r c (merges (filter e q)) (settle-first e q)) ⌝ }
+{
+    let input = filter_input(s, node);
+    let p = simplify_filter(s, predicate_at(s, node + 1));
+    if is_gone(p) {
+        return Settled {
+            fits: true,
+            input,
+            predicate: p,
+        };
+    }
+    rewrite_filter(s, node, p, input, work, levels)
 }
