@@ -1,8 +1,8 @@
 -- Laws of predicates that are read, simplified and merged.
 use mathlib.Core.Path.{_≡_, refl, sym, ap, subst, _∙_}
 use mathlib.Core.Bool.{Bool, true, false, not, _||_}
-use mathlib.Core.List.{List, [], _∷_, _++_}
-use mathlib.Core.Option.{Option, none, some}
+use mathlib.Core.List.{List}
+use mathlib.Core.Option.{Option, some}
 use Prim.Native.Nat.{ℕ, _+_, _*_, _≤_, _<_}
 use native.Mathlib.Omega.{arith}
 use lib.ListN.{length, drop}
@@ -13,7 +13,7 @@ use Rattle.plan.specs.Measure.{sizeE}
 use Rattle.plan.specs.Trees.{kidsP}
 use Rattle.plan.specs.Lists.{choose}
 use Rattle.plan.specs.Syntax.{Expr, Plan, filter}
-use Rattle.rewrite.specs.Utils.{split-conjunction, conjunction, unique}
+use Rattle.rewrite.specs.Utils.{split-conjunction, conjunction}
 use Rattle.rewrite.specs.SimplifyPredicates.{simplify-predicates}
 use Rattle.rewrite.specs.ReorderPredicates.{Reordered, reorder-predicates}
 use Rattle.rewrite.specs.PushDownFilter.{simplify-filter, merged}
@@ -23,7 +23,7 @@ use Rattle.conjuncts.proofs.Listed.{known-of, lists-length}
 use Rattle.pushing.specs.Predicates.{Predicate}
 use Rattle.pushing.specs.Arms.{Shaped}
 use Rattle.pushing.specs.Merging.{Remains, nothing, something, Made}
-use Rattle.pushing.proofs.Plain.{Plain, Joins, Joined?, none-left, some-left, joined?, merged-plain, new-plain, split-some}
+use Rattle.pushing.proofs.Plain.{Joins, Joined?, none-left, some-left, joined?, merged-plain, new-plain}
 use Rattle.pushing.proofs.Steps.{children}
 use Rattle.pushing.proofs.Shorter.{simplified-few, new-few}
 

@@ -3,7 +3,7 @@ use mathlib.Core.Path.{_≡_, refl, sym, ap, subst, _∙_}
 use mathlib.Core.Bool.{Bool, true, false}
 use mathlib.Core.List.{List, [], _∷_, _++_}
 use mathlib.Core.Option.{Option, none, some}
-use Prim.Native.Nat.{ℕ, _*_, _≤_, _<_, max as larger}
+use Prim.Native.Nat.{ℕ, _*_, _≤_, _<_}
 use native.Mathlib.Nat.{le-trans, le-max-left, le-max-right}
 use native.Mathlib.Omega.{arith}
 use lib.Dec.{eqb, leb}
@@ -16,18 +16,17 @@ use Rattle.plan.specs.Lists.{_&_, all}
 use Rattle.plan.specs.Syntax.{Expr, Plan, filter, scan, project, join, alias, union, distinct, sort, repartition, limit, aggregate, window}
 use Rattle.plan.specs.Trees.{labelP}
 use Rattle.plan.specs.Schema.{schema}
-use Rattle.plan.proofs.Lists.{and-l, and-r, and-true}
+use Rattle.plan.proofs.Lists.{and-l, and-r}
 use Rattle.acceptance.proofs.NamesRule.{reads, reads?, rule, ok}
 use Rattle.rewrite.specs.Utils.{split-conjunction, conjunction, unique}
 use Rattle.rewrite.specs.Limits.{listP, fits}
 use Rattle.rewrite.specs.RewriteAt.{Focus}
-use Rattle.rewrite.specs.PushDownFilter.{simplify-filter, merged, simplify-merged, if-some, merges-under}
+use Rattle.rewrite.specs.PushDownFilter.{simplify-filter, merged, simplify-merged, merges-under}
 use Rattle.conjuncts.specs.Standing.{StandingP}
-use Rattle.conjuncts.specs.Items.{Conjuncts, Lists, Known}
-use Rattle.conjuncts.proofs.Listed.{known-of, lists-length}
+use Rattle.conjuncts.proofs.Listed.{lists-length}
 use Rattle.pushing.specs.Predicates.{Predicate}
 use Rattle.pushing.specs.Arms.{Shaped, Placed, Rests}
-use Rattle.pushing.specs.Settled.{Settled, gone, rests, settled-by, settle}
+use Rattle.pushing.specs.Settled.{gone, rests, settle}
 use Rattle.pushing.specs.Merging.{Remains, nothing, something, Made, Inside, Merging, MergingInto, is-filter, Rest, alone, resting, Settles}
 use Rattle.pushing.proofs.Plain.{Joined?, none-left, some-left, joined?, merged-plain, split-some}
 use Rattle.pushing.proofs.Perhapsing.{is-gone, both}
@@ -145,35 +144,25 @@ merge-few {p = p} q h k t = go (leb (p .list .len) maxList) refl
 
 -- ---- a plan that is no Filter
 
-pub merge-none : (e : Expr) (q : Plan) → is-filter q ≡ false → merges-under e q ≡ []
-unfolding merges-under
-merge-none e (filter b q) h = absurd (no-yes h)
-merge-none e (scan t fs es) h = refl
-merge-none e (project es p) h = refl
-merge-none e (join k l r on f) h = refl
-merge-none e (alias i p) h = refl
-merge-none e (union ps) h = refl
-merge-none e (distinct p) h = refl
-merge-none e (sort f ks p) h = refl
-merge-none e (repartition p) h = refl
-merge-none e (limit n k p) h = refl
-merge-none e (aggregate gs ags p) h = refl
-merge-none e (window ws p) h = refl
+-- nothing is merged, and the predicate rests there
+pub record Stays (e : Expr) (q : Plan) : Type 0 where
+  pub merges : merges-under e q ≡ []
+  pub settles : settle e q ≡ rests e q
 
-pub settle-none : (e : Expr) (q : Plan) → is-filter q ≡ false → settle e q ≡ rests e q
-unfolding settle
-settle-none e (filter b q) h = absurd (no-yes h)
-settle-none e (scan t fs es) h = refl
-settle-none e (project es p) h = refl
-settle-none e (join k l r on f) h = refl
-settle-none e (alias i p) h = refl
-settle-none e (union ps) h = refl
-settle-none e (distinct p) h = refl
-settle-none e (sort f ks p) h = refl
-settle-none e (repartition p) h = refl
-settle-none e (limit n k p) h = refl
-settle-none e (aggregate gs ags p) h = refl
-settle-none e (window ws p) h = refl
+pub stays : (e : Expr) (q : Plan) → is-filter q ≡ false → Stays e q
+unfolding merges-under settle
+stays e (filter b q) h = absurd (no-yes h)
+stays e (scan t fs es) h = record { merges = refl; settles = refl }
+stays e (project es p) h = record { merges = refl; settles = refl }
+stays e (join k l r on f) h = record { merges = refl; settles = refl }
+stays e (alias i p) h = record { merges = refl; settles = refl }
+stays e (union ps) h = record { merges = refl; settles = refl }
+stays e (distinct p) h = record { merges = refl; settles = refl }
+stays e (sort f ks p) h = record { merges = refl; settles = refl }
+stays e (repartition p) h = record { merges = refl; settles = refl }
+stays e (limit n k p) h = record { merges = refl; settles = refl }
+stays e (aggregate gs ags p) h = record { merges = refl; settles = refl }
+stays e (window ws p) h = record { merges = refl; settles = refl }
 
 -- ---- the kind of a plan
 
@@ -266,7 +255,7 @@ pub settles-here : {s : List ℕ} {x : ℕ} {p : Predicate} {c : Focus} {e : Exp
     → Settles s (record { fits = true; input = x; predicate = p }) c (merges-under e q) (settle e q)
 unfolding all
 settles-here {e = e} {q} h f =
-    record { fit = rw (merge-none e q f); comes = λ y. rw (settle-none e q f) (resting h f) }
+    let k = stays e q f in record { fit = rw (k .merges); comes = λ y. rw (k .settles) (resting h f) }
 
 module _ {s : List ℕ} {x n : ℕ} where
   module _ {q : Plan} (h : StandingP s x q) (k : n ≡ word (drop (32 * x) s) 0) where

@@ -1,5 +1,5 @@
 -- Simplifying and reordering make no list longer.
-use mathlib.Core.Path.{_≡_, refl, sym, ap, _∙_}
+use mathlib.Core.Path.{_≡_, refl, ap, _∙_}
 use mathlib.Core.Bool.{Bool, true, false, not}
 use mathlib.Core.List.{List, [], _∷_, _++_, map}
 use mathlib.Core.Option.{Option, none, some}
@@ -16,7 +16,7 @@ use Rattle.plan.specs.Values.{ValueRecord}
 use Rattle.rewrite.specs.Utils.{is-volatile}
 use Rattle.rewrite.specs.SimplifyPredicates.{Rel, same-as, above, below, Side, Group, Item, val, gtZ, of-kind, first-kind, most-restrictive}
 use Rattle.rewrite.specs.SimplifyPredicates.{eq-part, eq-expr, up-expr, down-expr, final, simplify-column-predicates, find-most-restrictive-predicate, place, put-in, fresh}
-use Rattle.rewrite.specs.SimplifyPredicates.{name-under, enter, Sorted, add, view, sort-out, simplify-predicates}
+use Rattle.rewrite.specs.SimplifyPredicates.{name-under, enter, add, view, sort-out, simplify-predicates}
 use Rattle.rewrite.specs.ReorderPredicates.{is-cheap-predicate, needs-reorder, unchanged, cheap-first, reorder-predicates}
 
 length-map : {A B : Type 0} (f : A → B) (xs : List A) → length (map f xs) ≡ length xs

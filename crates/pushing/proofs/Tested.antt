@@ -1,23 +1,24 @@
 -- Laws of test 11 on the plan after a merge.
-use mathlib.Core.Path.{_≡_, refl, sym, ap, _∙_}
+use mathlib.Core.Path.{_≡_, refl, sym, _∙_}
 use mathlib.Core.Bool.{Bool, true, false}
 use mathlib.Core.List.{List, [], _∷_}
 use mathlib.Core.Option.{some}
-use Prim.Native.Nat.{ℕ, suc, _+_, _*_, _≤_, _<_, max as larger}
-use native.Mathlib.Nat.{le-trans, le-max-left, max-le}
+use Prim.Native.Nat.{ℕ, _+_, _*_, _≤_, _<_, max as larger}
+use native.Mathlib.Nat.{le-max-left, max-le}
 use native.Mathlib.Omega.{arith}
 use lib.Dec.{leb}
 use lib.ListN.{length}
 use borrow.Author.Tests.{leb-true, leb-false, le-leb, lt-leb}
 use Rattle.image.specs.Limits.{maxRecords, maxDepth, maxList}
 use Rattle.image.specs.Word.{word}
-use Rattle.image.specs.Flat.{sizeT, flat}
+use Rattle.image.specs.Flat.{flat}
 use Rattle.plan.specs.Syntax.{Name, Expr, Plan, filter}
 use Rattle.plan.specs.Trees.{planTree}
 use Rattle.plan.specs.Measure.{depthT, sizeP}
+use Rattle.acceptance.specs.Accepted.{Accepted}
 use Rattle.rewrite.specs.Utils.{split-conjunction, conjunction}
 use Rattle.rewrite.specs.Limits.{listP, fits}
-use Rattle.rewrite.specs.RewriteAt.{Focus}
+use Rattle.rewrite.specs.RewriteAt.{Focus, focus}
 use Rattle.conjuncts.specs.Standing.{StandingP}
 use Rattle.conjuncts.specs.Items.{Lists}
 use Rattle.conjuncts.proofs.Listed.{known-of, lists-length}
@@ -29,6 +30,7 @@ use Rattle.writing.proofs.Splice.{Begun, within, level-is}
 use Rattle.writing.proofs.Fitting.{list-back, fits-deep, fits-long, fits-all}
 use Rattle.pushing.specs.Predicates.{Predicate}
 use Rattle.pushing.specs.Merging.{Made, Inside}
+use Rattle.pushing.proofs.Root.{lists-fit, image-short, standing-root, names-kept}
 use Rattle.pushing.proofs.Steps.{stands-there}
 
 -- a merged predicate is written
@@ -40,6 +42,11 @@ made-predicate {s} {p} {e} σ h =
     go : (es : List Expr) → conjunction es ≡ some e → Lists s (p .list) es → W.Joined s σ (p .list) e
     go [] i l = let z : _≡_ {A = ℕ} 0 1 = cc in absurd (omega arith)
     go (x ∷ xs) i l = record { first = x; others = xs; pushes = pushes-of l; is = cc }
+
+-- a plan of an accepted image
+pub inside-of : (s : List ℕ) (w : Plan) → Accepted s w → {node : ℕ} {c : Focus} → focus node w ≡ some c → Inside s node w c
+inside-of s w a e =
+    record { short = image-short s w a; root = standing-root s w a; rules = names-kept s w a; lists = lists-fit w (a .well); there = e }
 
 module _ {s : List ℕ} {node : ℕ} {w : Plan} {c : Focus} (h : Inside s node w c) where
   -- the image is of its size
@@ -87,9 +94,9 @@ module _ {s : List ℕ} {node : ℕ} {w : Plan} {c : Focus} (h : Inside s node w
             go false t = leb-false (length (split-conjunction e)) maxList t
 
     -- few enough
-    pub lists-fit : (q : Plan) → listP q ≤ maxList → p .list .len ≤ maxList → leb (listP (c .back (filter e q))) maxList ≡ true
+    pub few-lists : (q : Plan) → listP q ≤ maxList → p .list .len ≤ maxList → leb (listP (c .back (filter e q))) maxList ≡ true
     unfolding listP
-    lists-fit q k few =
+    few-lists q k few =
         list-back w node c (h .there) (filter e q) maxList (h .lists)
         ∙ le-leb (larger (length (split-conjunction e)) (listP q)) maxList (max-le (omega (arith, lists-length (m .listed) few)) k)
 

@@ -109,6 +109,7 @@ fn merge_fits(
         return false;
     }
     let spot = write_before(s, node, work, levels);
+    // No item of a merged list has its columns replaced: any plan of the image serves as the map.
     let part = record_at(s, node);
     let end = copy_filter(
         s,

@@ -1,16 +1,13 @@
 -- `merging::rewrite_filter` and `merging::merge_filter` meet their contracts. The records below fall: twice what is left of them, and one more
 -- for `rewrite_filter`, which calls `merge_filter` at the same record.
-use mathlib.Core.Path.{refl, sym, ap, subst, _∙_}
-use mathlib.Core.Bool.{Bool, true, false}
+use mathlib.Core.Path.{refl, sym, _∙_}
 use Prim.Native.Nat.{ℕ, _+_, _-_, _<_}
 use native.Mathlib.Omega.{arith}
 use borrow.Author.Needs.{needs}
-use borrow.Author.Tests.{eq-eqb, ne-eqb, not-true, not-false}
+use borrow.Author.Tests.{not-true, not-false}
 use borrow.Fn.Kinds.{In}
 use borrow.Fn.PlainCycle.{Measures, is, falls, and}
-use Rattle.plan.specs.Syntax.{Plan, filter}
 use Rattle.conjuncts.proofs.Listed.{lists-none, known-of}
-use Rattle.pushing.specs.Arms.{Rests}
 use Rattle.pushing.proofs.Steps.{filter-input, filter-predicate}
 use Rattle.pushing.proofs.Merges.{made-shaped}
 use Rattle.pushing.proofs.OneMerge.{leaves-some, merge-some, merge-few, lower-few, placed-input, rests-on, settles-over, settles-gone, settles-on}

@@ -1,8 +1,6 @@
-use mathlib.Core.Path.{sym, subst, _∙_}
+use mathlib.Core.Path.{_∙_}
 use native.Mathlib.Omega.{arith}
 use borrow.Author.Needs.{needs}
-use Prim.Native.Nat.{ℕ}
-use Rattle.conjuncts.specs.Standing.{StandingP}
 use Rattle.pushing.proofs.Steps.{filter-input, filter-predicate}
 use Rattle.pushing.proofs.Merges.{filter-next, filter-room}
 use Rattle.pushing.proofs.merging.filter_input.Statement.{statement}

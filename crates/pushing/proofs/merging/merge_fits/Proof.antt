@@ -10,7 +10,7 @@ use Rattle.writing.proofs.Pushing.{plan-readable}
 use Rattle.writing.proofs.Whole.{wrote-small}
 use Rattle.writing.proofs.Splice.{spliced}
 use Rattle.writing.proofs.Fitting.{fits-over, begun-count}
-use Rattle.pushing.proofs.Tested.{made-predicate, few-records, all-records, sized, stands-inside, end-within, level-small, too-long, lists-fit, fits-is}
+use Rattle.pushing.proofs.Tested.{made-predicate, few-records, all-records, sized, stands-inside, end-within, level-small, too-long, few-lists, fits-is}
 use Rattle.pushing.proofs.merging.merge_fits.Statement.{statement}
 use Rattle.pushing.proofs.merging.merge_fits.Tie as tie
 
@@ -55,4 +55,4 @@ merge-fits-spec =
     let a = c .before .before .before .before .before .write-after .ensures (planTree w) (h .root .here) (b .records) (b .depths) in
     let g = spliced w _ f (h .there) (filter e q) (c .before .before .before .before .before .before .before .before .before .before .before .before .before .before .before .before .before .write-before .kept .1 .1 .0 ∙ p .1 .0) (few-records h) b v a in
     let few = c .before .before .if2 .left in
-    c .is-shallow .ensures (planTree (f .back (filter e q))) (g .rest) (begun-count g few) (g .bytes few) ∙ fits-is (f .back (filter e q)) g few (lists-fit h m q l (c .before .before .before .before .before .before .before .before .before .before .before .before .before .before .before .before .before .before .before .before .if1 .left))))
+    c .is-shallow .ensures (planTree (f .back (filter e q))) (g .rest) (begun-count g few) (g .bytes few) ∙ fits-is (f .back (filter e q)) g few (few-lists h m q l (c .before .before .before .before .before .before .before .before .before .before .before .before .before .before .before .before .before .before .before .before .if1 .left))))
