@@ -18,3 +18,8 @@ pub mod LastChild
 pub mod Changes
 pub mod Renames
 pub mod Unions
+pub mod Shorter
+pub mod Merges
+pub mod Tested
+pub mod OneMerge
+pub mod FirstFilter

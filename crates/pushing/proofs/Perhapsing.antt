@@ -14,7 +14,7 @@ use Rattle.pushing.specs.Predicates.{Predicate, Perhaps, gone, left, Wri
 abbrev pub is-gone : Predicate → Bool
 is-gone p = eqb (p .written) 0 && eqb (p .list .len) 0
 
-both : (a b : Bool) → (a && b) ≡ true → (a ≡ true) × (b ≡ true)
+pub both : (a b : Bool) → (a && b) ≡ true → (a ≡ true) × (b ≡ true)
 both true b h = (refl, h)
 both false b h = cc-out h
   where

@@ -67,3 +67,29 @@ lists-within n m p c e old q = go (leb (listP q) m) refl
     go : (b : Bool) → leb (listP q) m ≡ b → leb (listP (c .back q)) m ≡ b
     go true e = le-leb (listP (c .back q)) m (le-trans (k .under) (max-le (leb-true (listP q) m e) old))
     go false e = lt-leb (listP (c .back q)) m (omega (arith, leb-false (listP q) m e, k .above))
+
+-- the lists of a plan are among those of the whole
+ways-there : Ways (λ n p t C. listP t ≤ listP p) (λ n ps t C. listP t ≤ listPs ps)
+unfolding listP listPs
+ways-there = record {
+  root = λ p. le-refl (listP p);
+  in-filter = λ n p t C e h. le-trans h (le-max-right (length (split-conjunction e)) (listP p));
+  in-project = λ n p t C es h. h;
+  in-left = λ n l t C k r on f h.
+      le-trans h (le-trans (le-max-left (listP l) (listP r)) (le-max-right (length (split-conjunction? f)) (larger (listP l) (listP r))));
+  in-right = λ n r t C k l on f h.
+      le-trans h (le-trans (le-max-right (listP l) (listP r)) (le-max-right (length (split-conjunction? f)) (larger (listP l) (listP r))));
+  in-alias = λ n p t C i h. h;
+  in-union = λ n ps t C h. h;
+  in-distinct = λ n p t C h. h;
+  in-sort = λ n p t C f ks h. h;
+  in-repartition = λ n p t C h. h;
+  in-limit = λ n p t C i j h. h;
+  in-aggregate = λ n p t C gs ags h. h;
+  in-window = λ n p t C ws h. h;
+  in-first = λ n p t C ps h. le-trans h (le-max-left (listP p) (listPs ps));
+  in-later = λ n ps t C p h. le-trans h (le-max-right (listP p) (listPs ps));
+}
+
+pub lists-there : (n : ℕ) (p : Plan) (c : Focus) → focus n p ≡ some c → listP (c .plan) ≤ listP p
+lists-there n p c e = path-to ways-there n p c e

@@ -5,6 +5,7 @@ pub mod Around
 pub mod Frames
 pub mod Predicates
 pub mod Arms
+pub mod Merging
 pub mod Parting
 pub mod Inputs
 pub mod Renaming

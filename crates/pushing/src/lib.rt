@@ -4,6 +4,7 @@ pub mod around;
 pub mod below;
 pub mod changing;
 pub mod inputs;
+pub mod merging;
 pub mod parting;
 pub mod predicates;
 pub mod renaming;
