@@ -16,7 +16,7 @@ use Rattle.plan.specs.Trees.{labelE, kidsE, labelP, kidsP, planTree, each, entr
 use Rattle.plan.specs.Trees.{winKids}
 use Rattle.pushing.specs.Around.{WroteAll, window as run}
 use Rattle.pushing.specs.Frames.{Frame}
-use Rattle.pushing.proofs.Splicing.{run-recs, run-count}
+use Rattle.pushing.proofs.Runs.{run-recs, run-count}
 use Rattle.pushing.proofs.Windows.{window-take, wrote-then, wrote-tree, tree-wrote}
 
 -- a plan to read a frame's label from

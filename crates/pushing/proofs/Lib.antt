@@ -7,8 +7,8 @@ pub mod Naming
 pub mod Scoped
 pub mod Root
 pub mod Marked
+pub mod Runs
 pub mod Framing
-pub mod Splicing
 pub mod Windows
 pub mod Perhapsing
 pub mod Selecting

@@ -10,4 +10,3 @@ pub mod Spliced
 pub mod Whole
 pub mod Splice
 pub mod Fitting
-pub mod Inside
