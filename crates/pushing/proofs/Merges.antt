@@ -25,7 +25,8 @@ use Rattle.pushing.specs.Arms.{Shaped}
 use Rattle.pushing.specs.Merging.{Remains, nothing, something, Made}
 use Rattle.pushing.proofs.Plain.{Joins, Joined?, none-left, some-left, joined?, merged-plain, new-plain}
 use Rattle.pushing.proofs.Steps.{children}
-use Rattle.pushing.proofs.Shorter.{simplified-few, new-few}
+use Rattle.simplify_expressions.proofs.Few.{simplified-few}
+use Rattle.pushing.proofs.Shorter.{new-few}
 
 -- the conjuncts simplified and reordered
 abbrev renewed : Expr → Reordered
