@@ -23,3 +23,4 @@ pub mod Merges
 pub mod Tested
 pub mod OneMerge
 pub mod FirstFilter
+pub mod Passing

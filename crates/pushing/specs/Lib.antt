@@ -9,3 +9,4 @@ pub mod Merging
 pub mod Parting
 pub mod Inputs
 pub mod Renaming
+pub mod Through

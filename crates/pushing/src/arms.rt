@@ -6,14 +6,18 @@ use crate::predicates::Written;
 use conjuncts::lists::empty;
 use conjuncts::reading::record_at;
 use image::limits::MAX_DEPTH;
+use image::words::word_at;
 use writing::filtering::copy_filter;
 ghost use mathlib.Core.Path.{_≡_};
+ghost use mathlib.Core.Bool.{true};
 ghost use Prim.Native.Nat.{_≤_, _<_};
 ghost use lib.ListN.{length};
 ghost use Rattle.image.specs.Limits.{workBytes};
+ghost use Rattle.image.specs.Tree.{labelAt};
 ghost use Rattle.plan.specs.Syntax.{Expr, Plan, filter};
-ghost use Rattle.rewrite.specs.PushDownFilter.{Transformed·no, Transformed·yes};
+ghost use Rattle.rewrite.specs.PushDownFilter.{Transformed·no, Transformed·yes, rewrite-filter};
 ghost use Rattle.pushing.specs.Arms.{Rests, Resting, Answers, Takes, Taken};
+ghost use Rattle.pushing.specs.Through.{through, takesNone, OverThrough};
 
 // Filter over a plan that takes nothing: both stay as they are.
 pub fn keep_filter(
@@ -57,4 +61,33 @@ pub fn push_filter(
     };
     let next = write_over(s, part, x, MAX_DEPTH, nothing, p, x, y, out, at, level);
     Written { next, flag: true }
+}
+
+// Whether the plan at the start of `part`, a Distinct, a Sort, a Repartition or a Limit, takes no Filter: it counts rows.
+fn takes_none(part: &[u8]) -> bool
+    requires { ⌜ 32 ≤ length (now part) ⌝ }
+    ensures { λ r. ⌜ r ≡ takesNone (labelAt (now (part .entry))) ⌝ }
+{
+    let kind = word_at(part, 0);
+    (kind == 41) | ((kind == 39) & (word_at(part, 4) == 1))
+}
+
+// Filter over Distinct, Sort, Repartition or Limit.
+pub fn rewrite_through(
+    s: &[u8],
+    x: usize,
+    p: Predicate,
+    out: &mut [u8],
+    at: usize,
+    level: usize,
+) -> Written
+    requires { ⌜ OverThrough (now s) x p ⌝ }
+    requires { ⌜ (level < 3000) × (length (now out) ≡ workBytes) × (at ≤ 2049) ⌝ }
+    ensures { λ r. ⌜ ((e : Expr) (q : Plan) → Rests (now (s .entry)) x p e q → through q ≡ true →
+        Answers (now (out .entry)) (now (out .exit)) at level r (rewrite-filter e q)) ⌝ }
+{
+    if takes_none(record_at(s, x)) {
+        return keep_filter(s, x, p, out, at, level);
+    }
+    push_filter(s, x, p, out, at, level)
 }
