@@ -12,3 +12,6 @@ pub mod Splicing
 pub mod Windows
 pub mod Perhapsing
 pub mod Selecting
+pub mod Preserved
+pub mod Partnering
+pub mod Growing

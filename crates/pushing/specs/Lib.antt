@@ -6,3 +6,4 @@ pub mod Frames
 pub mod Predicates
 pub mod Arms
 pub mod Parting
+pub mod Partners
