@@ -15,3 +15,4 @@ pub mod Selecting
 pub mod Preserved
 pub mod Partnering
 pub mod Growing
+pub mod Siding

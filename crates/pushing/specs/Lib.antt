@@ -7,3 +7,4 @@ pub mod Predicates
 pub mod Arms
 pub mod Parting
 pub mod Partners
+pub mod Sides

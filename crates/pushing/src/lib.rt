@@ -5,3 +5,4 @@ pub mod inferring;
 pub mod joins;
 pub mod parting;
 pub mod predicates;
+pub mod sides;

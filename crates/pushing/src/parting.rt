@@ -15,6 +15,7 @@ ghost use Rattle.plan.specs.Lists.{keep};
 ghost use Rattle.plan.specs.Columns.{on-cols};
 ghost use Rattle.plan.specs.Schema.{has};
 ghost use Rattle.plan.proofs.Lists.{All};
+ghost use Rattle.rewrite.specs.PushDownFilter.{push-to, push-not};
 ghost use Rattle.conjuncts.specs.Items.{Item, Present, Lists, Known};
 ghost use Rattle.utils.specs.Fields.{Names};
 ghost use Rattle.utils.specs.Masks.{Masks};
@@ -47,4 +48,30 @@ pub fn select(s: &[u8], c: Conjuncts, fields: Fields, side: u64, inside: bool) -
         i += 1;
     }
     r
+}
+
+// Of the conjuncts c those that move to a side, if it is preserved.
+pub fn push_to(s: &[u8], c: Conjuncts, fields: Fields, side: u64, preserved: bool) -> Conjuncts
+    requires { ⌜ Known (now s) c ⌝ }
+    requires { ⌜ fields .len ≤ 64 ⌝ }
+    ensures { λ r. ⌜ ((es : List Expr) (ns names : List Name) → Lists (now (s .entry)) c es → Names fields ns →
+        All (λ e. on-cols (has ns) e ≡ true) es → Masks side ns (has names) → Lists (now (s .entry)) r (push-to preserved names es)) ⌝ }
+{
+    if preserved {
+        return select(s, c, fields, side, true);
+    }
+    empty()
+}
+
+// Those that do not.
+pub fn push_not(s: &[u8], c: Conjuncts, fields: Fields, side: u64, preserved: bool) -> Conjuncts
+    requires { ⌜ Known (now s) c ⌝ }
+    requires { ⌜ fields .len ≤ 64 ⌝ }
+    ensures { λ r. ⌜ ((es : List Expr) (ns names : List Name) → Lists (now (s .entry)) c es → Names fields ns →
+        All (λ e. on-cols (has ns) e ≡ true) es → Masks side ns (has names) → Lists (now (s .entry)) r (push-not preserved names es)) ⌝ }
+{
+    if preserved {
+        return select(s, c, fields, side, false);
+    }
+    c
 }
