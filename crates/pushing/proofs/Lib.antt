@@ -16,3 +16,4 @@ pub mod Preserved
 pub mod Partnering
 pub mod Growing
 pub mod Siding
+pub mod Scoping

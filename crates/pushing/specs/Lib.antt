@@ -8,3 +8,4 @@ pub mod Arms
 pub mod Parting
 pub mod Partners
 pub mod Sides
+pub mod Scopes

@@ -1,8 +1,17 @@
 // Join: what of a predicate above it, and of its own filter, moves to its inputs.
+use crate::parting::push_not;
+use crate::parting::push_to;
+use crate::parting::select;
+use conjuncts::lists::Conjuncts;
+use conjuncts::lists::empty;
+use utils::fields::Fields;
 ghost use mathlib.Core.Path.{_≡_};
-ghost use Rattle.plan.specs.Syntax.{Kind};
+ghost use mathlib.Core.List.{List, _++_};
+ghost use Rattle.plan.specs.Syntax.{Name, Expr, Pair, Kind};
 ghost use Rattle.plan.specs.Trees.{joinNumber};
 ghost use Rattle.rewrite.specs.PushDownFilter.{left-preserved, right-preserved, on-left-preserved, on-right-preserved, is-inner};
+ghost use Rattle.rewrite.specs.PushDownFilter.{push-to, push-not, rest};
+ghost use Rattle.pushing.specs.Scopes.{Reads, Scopes, Asked, keyed, keyed-left, keyed-right};
 
 // Whether predicates may move to the left input of a join, and to its right one.
 pub struct Preserved {
@@ -35,4 +44,77 @@ pub fn is_inner(kind: usize) -> bool
     ensures { λ r. ⌜ ((k : Kind) → kind ≡ joinNumber k → r ≡ is-inner k) ⌝ }
 {
     kind == 1
+}
+
+// The fields of both inputs of a join, the left one's first, and sets of them: those of each input, those that have no partner by the keys,
+// and those whose partner, or where they have none they themselves, are of each input.
+pub struct Scope {
+    pub fields: Fields,
+    pub left: u64,
+    pub right: u64,
+    pub alone: u64,
+    pub leftward: u64,
+    pub rightward: u64,
+}
+
+// Of the conjuncts c those that move to the left input.
+fn push_left(s: &[u8], c: Conjuncts, sc: Scope, sides: Preserved) -> Conjuncts
+    requires { ⌜ Asked (now s) sc c ⌝ }
+    ensures { λ z. ⌜ ((l r : List Name) (on : List Pair) (es : List Expr) → Scopes sc l r on → Reads (now (s .entry)) (l ++ r) c es →
+        Reads (now (s .entry)) (l ++ r) z (push-to (sides .left) l es)) ⌝ }
+{
+    push_to(s, c, sc.fields, sc.left, sides.left)
+}
+
+// Those that move to the right input: what moves to the left one does not move to this one as well.
+fn push_right(s: &[u8], c: Conjuncts, sc: Scope, sides: Preserved) -> Conjuncts
+    requires { ⌜ Asked (now s) sc c ⌝ }
+    ensures { λ z. ⌜ ((l r : List Name) (on : List Pair) (es : List Expr) → Scopes sc l r on → Reads (now (s .entry)) (l ++ r) c es →
+        Reads (now (s .entry)) (l ++ r) z (push-to (sides .right) r (push-not (sides .left) l es))) ⌝ }
+{
+    let stay = push_not(s, c, sc.fields, sc.left, sides.left);
+    push_to(s, stay, sc.fields, sc.right, sides.right)
+}
+
+// Those that move to neither.
+fn unpushed(s: &[u8], c: Conjuncts, sc: Scope, sides: Preserved) -> Conjuncts
+    requires { ⌜ Asked (now s) sc c ⌝ }
+    ensures { λ z. ⌜ ((l r : List Name) (on : List Pair) (es : List Expr) → Scopes sc l r on → Reads (now (s .entry)) (l ++ r) c es →
+        Reads (now (s .entry)) (l ++ r) z (rest (sides .left) (sides .right) l r es)) ⌝ }
+{
+    let stay = push_not(s, c, sc.fields, sc.left, sides.left);
+    push_not(s, stay, sc.fields, sc.right, sides.right)
+}
+
+// infer_join_predicates: those that read a key, of an Inner join; with each key's partner in its place they are what is inferred.
+fn infer_join_predicates(s: &[u8], c: Conjuncts, sc: Scope, inner: bool) -> Conjuncts
+    requires { ⌜ Asked (now s) sc c ⌝ }
+    ensures { λ z. ⌜ ((l r : List Name) (on : List Pair) (es : List Expr) → Scopes sc l r on → Reads (now (s .entry)) (l ++ r) c es →
+        Reads (now (s .entry)) (l ++ r) z (keyed inner on es)) ⌝ }
+{
+    if inner {
+        return select(s, c, sc.fields, sc.alone, false);
+    }
+    empty()
+}
+
+// Those of which what is inferred moves to the left input.
+fn infer_left(s: &[u8], c: Conjuncts, sc: Scope, inner: bool) -> Conjuncts
+    requires { ⌜ Asked (now s) sc c ⌝ }
+    ensures { λ z. ⌜ ((l r : List Name) (on : List Pair) (es : List Expr) → Scopes sc l r on → Reads (now (s .entry)) (l ++ r) c es →
+        Reads (now (s .entry)) (l ++ r) z (keyed-left inner l on es)) ⌝ }
+{
+    let all = infer_join_predicates(s, c, sc, inner);
+    select(s, all, sc.fields, sc.leftward, true)
+}
+
+// .. to the right input.
+fn infer_right(s: &[u8], c: Conjuncts, sc: Scope, inner: bool) -> Conjuncts
+    requires { ⌜ Asked (now s) sc c ⌝ }
+    ensures { λ z. ⌜ ((l r : List Name) (on : List Pair) (es : List Expr) → Scopes sc l r on → Reads (now (s .entry)) (l ++ r) c es →
+        Reads (now (s .entry)) (l ++ r) z (keyed-right inner l r on es)) ⌝ }
+{
+    let all = infer_join_predicates(s, c, sc, inner);
+    let stay = select(s, all, sc.fields, sc.leftward, false);
+    select(s, stay, sc.fields, sc.rightward, true)
 }

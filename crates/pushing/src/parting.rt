@@ -20,6 +20,7 @@ ghost use Rattle.conjuncts.specs.Items.{Item, Present, Lists, Known};
 ghost use Rattle.utils.specs.Fields.{Names};
 ghost use Rattle.utils.specs.Masks.{Masks};
 ghost use Rattle.pushing.specs.Parting.{agrees};
+ghost use Rattle.pushing.specs.Scopes.{Reads};
 
 // Whether the item n refers to fields of the side alone.
 fn is_inside(s: &[u8], n: usize, fields: Fields, side: u64) -> bool
@@ -54,8 +55,8 @@ pub fn select(s: &[u8], c: Conjuncts, fields: Fields, side: u64, inside: bool) -
 pub fn push_to(s: &[u8], c: Conjuncts, fields: Fields, side: u64, preserved: bool) -> Conjuncts
     requires { ⌜ Known (now s) c ⌝ }
     requires { ⌜ fields .len ≤ 64 ⌝ }
-    ensures { λ r. ⌜ ((es : List Expr) (ns names : List Name) → Lists (now (s .entry)) c es → Names fields ns →
-        All (λ e. on-cols (has ns) e ≡ true) es → Masks side ns (has names) → Lists (now (s .entry)) r (push-to preserved names es)) ⌝ }
+    ensures { λ r. ⌜ ((es : List Expr) (ns names : List Name) → Reads (now (s .entry)) ns c es → Names fields ns → Masks side ns (has names) →
+        Reads (now (s .entry)) ns r (push-to preserved names es)) ⌝ }
 {
     if preserved {
         return select(s, c, fields, side, true);
@@ -67,8 +68,8 @@ pub fn push_to(s: &[u8], c: Conjuncts, fields: Fields, side: u64, preserved: boo
 pub fn push_not(s: &[u8], c: Conjuncts, fields: Fields, side: u64, preserved: bool) -> Conjuncts
     requires { ⌜ Known (now s) c ⌝ }
     requires { ⌜ fields .len ≤ 64 ⌝ }
-    ensures { λ r. ⌜ ((es : List Expr) (ns names : List Name) → Lists (now (s .entry)) c es → Names fields ns →
-        All (λ e. on-cols (has ns) e ≡ true) es → Masks side ns (has names) → Lists (now (s .entry)) r (push-not preserved names es)) ⌝ }
+    ensures { λ r. ⌜ ((es : List Expr) (ns names : List Name) → Reads (now (s .entry)) ns c es → Names fields ns → Masks side ns (has names) →
+        Reads (now (s .entry)) ns r (push-not preserved names es)) ⌝ }
 {
     if preserved {
         return select(s, c, fields, side, false);
