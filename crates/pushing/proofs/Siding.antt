@@ -194,3 +194,20 @@ module _ {s : List ℕ} {σ : Name → Expr} {ns : List Name} {t : Name → Bool
   clauses-end {fs = fs} i le h =
       let e : h .done ≡ es ++ flat (λ e. P.listed (or-clause t e)) fs = sym (append-nil (h .done)) ∙ (rw (at-end fs i le) at (h .is)) in
       rw (clauses-each t fs, ← e) (h .sides)
+
+-- ---- the list of a side, in order
+
+flat-append : {A B : Type 0} (f : A → List B) (xs ys : List A) → flat f (xs ++ ys) ≡ flat f xs ++ flat f ys
+unfolding flat
+flat-append f [] ys = refl
+flat-append f (x ∷ xs) ys = ap (f x ++_) (flat-append f xs ys) ∙ sym (append-assoc (f x) (flat f xs) (flat f ys))
+
+clauses-append : (t : Name → Bool) (u v : List Expr)
+    → extract-or-clauses-for-join t (u ++ v) ≡ extract-or-clauses-for-join t u ++ extract-or-clauses-for-join t v
+clauses-append t u v =
+    clauses-each t (u ++ v) ∙ flat-append (λ e. P.listed (or-clause t e)) u v ∙ rw (clauses-each t u, clauses-each t v)
+
+pub side-order : (f : Expr → Expr) (t : Name → Bool) (a i u b j v : List Expr)
+    → ((((a ++ map f i) ++ map f j) ++ b) ++ extract-or-clauses-for-join t u) ++ extract-or-clauses-for-join t v
+    ≡ a ++ (map f (i ++ j) ++ (b ++ extract-or-clauses-for-join t (u ++ v)))
+side-order f t a i u b j v = rw (map-append, clauses-append t u v) (simp append-assoc)

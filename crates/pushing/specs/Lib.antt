@@ -9,3 +9,4 @@ pub mod Parting
 pub mod Partners
 pub mod Sides
 pub mod Scopes
+pub mod Parts

@@ -2,15 +2,18 @@
 use crate::parting::push_not;
 use crate::parting::push_to;
 use crate::parting::select;
+use crate::sides::Part;
 use conjuncts::lists::Conjuncts;
 use conjuncts::lists::empty;
 use utils::fields::Fields;
 ghost use mathlib.Core.Path.{_≡_};
 ghost use mathlib.Core.List.{List, _++_};
+ghost use Prim.Native.Nat.{ℕ};
 ghost use Rattle.plan.specs.Syntax.{Name, Expr, Pair, Kind};
 ghost use Rattle.plan.specs.Trees.{joinNumber};
 ghost use Rattle.rewrite.specs.PushDownFilter.{left-preserved, right-preserved, on-left-preserved, on-right-preserved, is-inner};
-ghost use Rattle.rewrite.specs.PushDownFilter.{push-to, push-not, rest};
+ghost use Rattle.rewrite.specs.PushDownFilter.{push-to, push-not, rest, if-list};
+ghost use Rattle.pushing.specs.Parts.{Parted};
 ghost use Rattle.pushing.specs.Scopes.{Reads, Scopes, Asked, keyed, keyed-left, keyed-right};
 
 // Whether predicates may move to the left input of a join, and to its right one.
@@ -117,4 +120,42 @@ fn infer_right(s: &[u8], c: Conjuncts, sc: Scope, inner: bool) -> Conjuncts
     let all = infer_join_predicates(s, c, sc, inner);
     let stay = select(s, all, sc.fields, sc.leftward, false);
     select(s, stay, sc.fields, sc.rightward, true)
+}
+
+// A list, or none of it.
+fn if_list(told: bool, c: Conjuncts) -> Conjuncts
+    ensures { λ z. ⌜ ((s : List ℕ) (ns : List Name) (es : List Expr) → Reads s ns c es → Reads s ns z (if-list told es)) ⌝ }
+{
+    if told {
+        return c;
+    }
+    empty()
+}
+
+// What of a list the left input gets.
+fn left_part(s: &[u8], c: Conjuncts, sc: Scope, sides: Preserved, inner: bool) -> Part
+    requires { ⌜ Asked (now s) sc c ⌝ }
+    ensures { λ z. ⌜ ((l r : List Name) (on : List Pair) (es : List Expr) → Scopes sc l r on → Reads (now (s .entry)) (l ++ r) c es →
+        Parted (now (s .entry)) (l ++ r) z (push-to (sides .left) l es) (keyed-left inner l on es)
+        (if-list (sides .left) (rest (sides .left) (sides .right) l r es))) ⌝ }
+{
+    Part {
+        moved: push_left(s, c, sc, sides),
+        keyed: infer_left(s, c, sc, inner),
+        rest: if_list(sides.left, unpushed(s, c, sc, sides)),
+    }
+}
+
+// What of it the right input gets.
+fn right_part(s: &[u8], c: Conjuncts, sc: Scope, sides: Preserved, inner: bool) -> Part
+    requires { ⌜ Asked (now s) sc c ⌝ }
+    ensures { λ z. ⌜ ((l r : List Name) (on : List Pair) (es : List Expr) → Scopes sc l r on → Reads (now (s .entry)) (l ++ r) c es →
+        Parted (now (s .entry)) (l ++ r) z (push-to (sides .right) r (push-not (sides .left) l es)) (keyed-right inner l r on es)
+        (if-list (sides .right) (rest (sides .left) (sides .right) l r es))) ⌝ }
+{
+    Part {
+        moved: push_right(s, c, sc, sides),
+        keyed: infer_right(s, c, sc, inner),
+        rest: if_list(sides.right, unpushed(s, c, sc, sides)),
+    }
 }

@@ -1,6 +1,7 @@
 // The lists that move to one side of a join: conjuncts as they stand, with their keys swapped, and clauses out of ORs.
 use conjuncts::lists::Conjuncts;
 use conjuncts::lists::add;
+use conjuncts::lists::empty;
 use conjuncts::lists::item_at;
 use utils::clauses::Clause;
 use utils::clauses::or_clause_at;
@@ -15,12 +16,17 @@ ghost use Rattle.plan.specs.Columns.{on-cols};
 ghost use Rattle.plan.specs.Schema.{has};
 ghost use Rattle.plan.specs.Syntax.{Name, Expr};
 ghost use Rattle.plan.proofs.Lists.{All};
+ghost use Rattle.rewrite.specs.Utils.{replace-cols};
 ghost use Rattle.rewrite.specs.PushDownFilter.{listed, extract-or-clauses-for-join};
 ghost use Rattle.conjuncts.specs.Items.{Holds, Item, Present, Lists, Known};
 ghost use Rattle.utils.specs.Clauses.{or-clause};
 ghost use Rattle.utils.specs.Fields.{Names};
 ghost use Rattle.utils.specs.Masks.{Masks};
 ghost use Rattle.pushing.specs.Sides.{Sides, Smalls};
+ghost use Rattle.pushing.specs.Parts.{Parted, Wholes};
+
+// An item with so much more has its columns replaced.
+const SWAPPED: usize = 2048;
 
 // An item with so much more is the clause out of it.
 const CLAUSE: usize = 4096;
@@ -76,4 +82,28 @@ pub fn extract_or_clauses_for_join(
         i += 1;
     }
     r
+}
+
+// What of a list of conjuncts a side gets: those that move there, those of which others are inferred that do, and those that move to no side,
+// the clauses of which do.
+pub struct Part {
+    pub moved: Conjuncts,
+    pub keyed: Conjuncts,
+    pub rest: Conjuncts,
+}
+
+// The list of a side, in the source's order.
+pub fn side_push(s: &[u8], above: Part, own: Part, fields: Fields, side: u64) -> Conjuncts
+    requires { ⌜ Wholes (now s) above × Wholes (now s) own ⌝ }
+    requires { ⌜ (length (now s) ≤ workBytes) × (fields .len ≤ 64) ⌝ }
+    ensures { λ z. ⌜ ((σ : Name → Expr) (ns : List Name) (t : Name → Bool) (a i u b j v : List Expr) → Parted (now (s .entry)) ns above a i u →
+        Parted (now (s .entry)) ns own b j v → Names fields ns → Masks side ns t →
+        Sides (now (s .entry)) σ ns t z (a ++ (map (replace-cols σ) (i ++ j) ++ (b ++ extract-or-clauses-for-join t (u ++ v))))) ⌝ }
+{
+    let moved = append(empty(), above.moved, 0);
+    let inferred = append(moved, above.keyed, SWAPPED);
+    let keyed = append(inferred, own.keyed, SWAPPED);
+    let all = append(keyed, own.moved, 0);
+    let clauses = extract_or_clauses_for_join(s, all, above.rest, fields, side);
+    extract_or_clauses_for_join(s, clauses, own.rest, fields, side)
 }
