@@ -17,3 +17,4 @@ pub mod Partnering
 pub mod Growing
 pub mod Siding
 pub mod Scoping
+pub mod SideLists

@@ -8,7 +8,7 @@ use Rattle.plan.specs.Lists.{keep}
 use Rattle.plan.specs.Schema.{has}
 use Rattle.plan.specs.Syntax.{Name, Expr, Pair}
 use Rattle.plan.proofs.Lists.{All}
-use Rattle.rewrite.specs.PushDownFilter.{partner, nothing, if-list}
+use Rattle.rewrite.specs.PushDownFilter.{partner, nothing, if-list, swap-keys}
 use Rattle.conjuncts.specs.Items.{Conjuncts, Lists}
 use Rattle.utils.specs.Fields.{Names}
 use Rattle.utils.specs.Masks.{Masks}
@@ -59,3 +59,7 @@ keyed-left b l on es = keep (λ e. on-cols (λ x. has l (swap on x)) e) (keyed b
 -- .. over the right input and not over the left one
 abbrev pub keyed-right : Bool → List Name → List Name → List Pair → List Expr → List Expr
 keyed-right b l r on es = keep (λ e. on-cols (λ x. has r (swap on x)) e) (keep (λ e. not (on-cols (λ x. has l (swap on x)) e)) (keyed b on es))
+
+-- σ puts a key's partner in its place, in what reads ns
+abbrev pub Swapper : (Name → Expr) → List Name → List Pair → Type 0
+Swapper σ ns on = (x : Name) → has ns x ≡ true → σ x ≡ swap-keys on x

@@ -3,18 +3,23 @@ use crate::parting::push_not;
 use crate::parting::push_to;
 use crate::parting::select;
 use crate::sides::Part;
+use crate::sides::side_push;
 use conjuncts::lists::Conjuncts;
 use conjuncts::lists::empty;
 use utils::fields::Fields;
 ghost use mathlib.Core.Path.{_≡_};
 ghost use mathlib.Core.List.{List, _++_};
-ghost use Prim.Native.Nat.{ℕ};
+ghost use Prim.Native.Nat.{ℕ, _≤_};
+ghost use lib.ListN.{length};
+ghost use Rattle.image.specs.Limits.{workBytes};
+ghost use Rattle.plan.specs.Schema.{has};
 ghost use Rattle.plan.specs.Syntax.{Name, Expr, Pair, Kind};
 ghost use Rattle.plan.specs.Trees.{joinNumber};
 ghost use Rattle.rewrite.specs.PushDownFilter.{left-preserved, right-preserved, on-left-preserved, on-right-preserved, is-inner};
-ghost use Rattle.rewrite.specs.PushDownFilter.{push-to, push-not, rest, if-list};
+ghost use Rattle.rewrite.specs.PushDownFilter.{push-to, push-not, rest, if-list, left-push, right-push};
 ghost use Rattle.pushing.specs.Parts.{Parted};
-ghost use Rattle.pushing.specs.Scopes.{Reads, Scopes, Asked, keyed, keyed-left, keyed-right};
+ghost use Rattle.pushing.specs.Scopes.{Reads, Scopes, Asked, Swapper, keyed, keyed-left, keyed-right};
+ghost use Rattle.pushing.specs.Sides.{Sides};
 
 // Whether predicates may move to the left input of a join, and to its right one.
 pub struct Preserved {
@@ -158,4 +163,36 @@ fn right_part(s: &[u8], c: Conjuncts, sc: Scope, sides: Preserved, inner: bool) 
         keyed: infer_right(s, c, sc, inner),
         rest: if_list(sides.right, unpushed(s, c, sc, sides)),
     }
+}
+
+// The list of the left input, of the predicates p above a join of this kind and those of its own filter, g.
+pub fn left_push(s: &[u8], p: Conjuncts, g: Conjuncts, sc: Scope, kind: usize) -> Conjuncts
+    requires { ⌜ Asked (now s) sc p × Asked (now s) sc g ⌝ }
+    requires { ⌜ length (now s) ≤ workBytes ⌝ }
+    ensures { λ z. ⌜ ((k : Kind) (l r : List Name) (on : List Pair) (P G : List Expr) (σ : Name → Expr) → kind ≡ joinNumber k →
+        Scopes sc l r on → Reads (now (s .entry)) (l ++ r) p P → Reads (now (s .entry)) (l ++ r) g G → Swapper σ (l ++ r) on →
+        Sides (now (s .entry)) σ (l ++ r) (has l) z (left-push k l r on P G)) ⌝ }
+{
+    let over = lr_is_preserved(kind);
+    let on = on_lr_is_preserved(kind);
+    let inner = is_inner(kind);
+    let above = left_part(s, p, sc, over, inner);
+    let own = left_part(s, g, sc, on, inner);
+    side_push(s, above, own, sc.fields, sc.left)
+}
+
+// The list of the right input, of the predicates p above a join of this kind and those of its own filter, g.
+pub fn right_push(s: &[u8], p: Conjuncts, g: Conjuncts, sc: Scope, kind: usize) -> Conjuncts
+    requires { ⌜ Asked (now s) sc p × Asked (now s) sc g ⌝ }
+    requires { ⌜ length (now s) ≤ workBytes ⌝ }
+    ensures { λ z. ⌜ ((k : Kind) (l r : List Name) (on : List Pair) (P G : List Expr) (σ : Name → Expr) → kind ≡ joinNumber k →
+        Scopes sc l r on → Reads (now (s .entry)) (l ++ r) p P → Reads (now (s .entry)) (l ++ r) g G → Swapper σ (l ++ r) on →
+        Sides (now (s .entry)) σ (l ++ r) (has r) z (right-push k l r on P G)) ⌝ }
+{
+    let over = lr_is_preserved(kind);
+    let on = on_lr_is_preserved(kind);
+    let inner = is_inner(kind);
+    let above = right_part(s, p, sc, over, inner);
+    let own = right_part(s, g, sc, on, inner);
+    side_push(s, above, own, sc.fields, sc.right)
 }
