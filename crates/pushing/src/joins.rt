@@ -17,6 +17,7 @@ ghost use Rattle.plan.specs.Syntax.{Name, Expr, Pair, Kind};
 ghost use Rattle.plan.specs.Trees.{joinNumber};
 ghost use Rattle.rewrite.specs.PushDownFilter.{left-preserved, right-preserved, on-left-preserved, on-right-preserved, is-inner};
 ghost use Rattle.rewrite.specs.PushDownFilter.{push-to, push-not, rest, if-list, left-push, right-push};
+ghost use Rattle.rewrite.specs.PushDownFilter.{keep-predicates, join-conditions, on-filter-join-conditions};
 ghost use Rattle.pushing.specs.Parts.{Parted};
 ghost use Rattle.pushing.specs.Scopes.{Reads, Scopes, Asked, Swapper, keyed, keyed-left, keyed-right};
 ghost use Rattle.pushing.specs.Sides.{Sides};
@@ -195,4 +196,31 @@ pub fn right_push(s: &[u8], p: Conjuncts, g: Conjuncts, sc: Scope, kind: usize) 
     let above = right_part(s, p, sc, over, inner);
     let own = right_part(s, g, sc, on, inner);
     side_push(s, above, own, sc.fields, sc.right)
+}
+
+// What stays above a join of this kind: of an Inner one nothing.
+pub fn keep_predicates(s: &[u8], p: Conjuncts, sc: Scope, kind: usize) -> Conjuncts
+    requires { ⌜ Asked (now s) sc p ⌝ }
+    ensures { λ z. ⌜ ((k : Kind) (l r : List Name) (on : List Pair) (P G : List Expr) → kind ≡ joinNumber k → Scopes sc l r on →
+        Reads (now (s .entry)) (l ++ r) p P → Reads (now (s .entry)) (l ++ r) z (keep-predicates k l r on P G)) ⌝ }
+{
+    if_list(!is_inner(kind), unpushed(s, p, sc, lr_is_preserved(kind)))
+}
+
+// What becomes a condition of it: of an Inner one only.
+pub fn join_conditions(s: &[u8], p: Conjuncts, sc: Scope, kind: usize) -> Conjuncts
+    requires { ⌜ Asked (now s) sc p ⌝ }
+    ensures { λ z. ⌜ ((k : Kind) (l r : List Name) (on : List Pair) (P G : List Expr) → kind ≡ joinNumber k → Scopes sc l r on →
+        Reads (now (s .entry)) (l ++ r) p P → Reads (now (s .entry)) (l ++ r) z (join-conditions k l r on P G)) ⌝ }
+{
+    if_list(is_inner(kind), unpushed(s, p, sc, lr_is_preserved(kind)))
+}
+
+// Of the conjuncts g of its own filter those that move to no side.
+pub fn on_filter_join_conditions(s: &[u8], g: Conjuncts, sc: Scope, kind: usize) -> Conjuncts
+    requires { ⌜ Asked (now s) sc g ⌝ }
+    ensures { λ z. ⌜ ((k : Kind) (l r : List Name) (on : List Pair) (P G : List Expr) → kind ≡ joinNumber k → Scopes sc l r on →
+        Reads (now (s .entry)) (l ++ r) g G → Reads (now (s .entry)) (l ++ r) z (on-filter-join-conditions k l r on P G)) ⌝ }
+{
+    unpushed(s, g, sc, on_lr_is_preserved(kind))
 }
