@@ -18,3 +18,4 @@ pub mod Growing
 pub mod Siding
 pub mod Scoping
 pub mod SideLists
+pub mod ScopeSets

@@ -5,4 +5,5 @@ pub mod inferring;
 pub mod joins;
 pub mod parting;
 pub mod predicates;
+pub mod scopes;
 pub mod sides;
