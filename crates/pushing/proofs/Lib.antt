@@ -19,3 +19,4 @@ pub mod Siding
 pub mod Scoping
 pub mod SideLists
 pub mod ScopeSets
+pub mod JoinScope

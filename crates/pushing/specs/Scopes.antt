@@ -6,7 +6,10 @@ use Prim.Native.Nat.{ℕ, _≤_}
 use Rattle.plan.specs.Columns.{on-cols}
 use Rattle.plan.specs.Lists.{keep}
 use Rattle.plan.specs.Schema.{has}
-use Rattle.plan.specs.Syntax.{Name, Expr, Pair}
+use Rattle.plan.specs.Syntax.{Name, Expr, Pair, Kind, Plan, join}
+use mathlib.Core.Option.{Option}
+use Rattle.acceptance.proofs.NamesRule.{ok}
+use Rattle.conjuncts.specs.Standing.{StandingP}
 use Rattle.plan.proofs.Lists.{All}
 use Rattle.rewrite.specs.PushDownFilter.{partner, nothing, if-list, swap-keys}
 use Rattle.conjuncts.specs.Items.{Conjuncts, Lists}
@@ -63,3 +66,19 @@ keyed-right b l r on es = keep (λ e. on-cols (λ x. has r (swap on x)) e) (keep
 -- σ puts a key's partner in its place, in what reads ns
 abbrev pub Swapper : (Name → Expr) → List Name → List Pair → Type 0
 Swapper σ ns on = (x : Name) → has ns x ≡ true → σ x ≡ swap-keys on x
+
+-- the join stands at record x and keeps the name rules; its inputs stand at records y and z
+pub record JoinAt (s : List ℕ) (x y z : ℕ) (k : Kind) (l r : Plan) (on : List Pair) (f : Option Expr) : Type 0 where
+  pub standing : StandingP s x (join k l r on f)
+  pub first : StandingP s y l
+  pub second : StandingP s z r
+  pub rules : ok (join k l r on f) ≡ true
+
+-- some join does
+pub record SomeJoin (s : List ℕ) (x y z : ℕ) : Type 0 where
+  pub kind : Kind
+  pub lhs : Plan
+  pub rhs : Plan
+  pub keys : List Pair
+  pub condition : Option Expr
+  pub join-at : JoinAt s x y z kind lhs rhs keys condition
