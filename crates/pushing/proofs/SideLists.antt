@@ -4,20 +4,21 @@
 --     left-push-is, right-push-is        the whole list of a side
 -- Assumes nothing.
 use mathlib.Core.Path.{_≡_, refl, sym, ap, ap₂, subst, _∙_}
-use mathlib.Core.Bool.{Bool, true, false, not, cond}
+use mathlib.Core.Bool.{Bool, true, false, not, _||_, cond}
 use mathlib.Core.List.{List, [], _∷_, _++_, map, map-append, append-nil}
 use mathlib.Core.Option as O
 use mathlib.Core.Option.{Option, some}
 use Prim.Native.Nat.{ℕ}
 use Rattle.plan.specs.Columns.{on-cols, on-cols-all}
-use Rattle.plan.specs.Lists.{_&_, put, keep}
-use Rattle.plan.specs.Schema.{has}
+use Rattle.plan.specs.Lists.{_&_, put, keep, any}
+use Rattle.plan.specs.Schema.{has, same}
+use Rattle.plan.proofs.Names.{same-eq}
 use Rattle.plan.specs.Syntax.{Name, Expr, col, num, bool, nul, bin, neg, test, between, inlist, fn, Exprs, enil, econs, Pair, Kind}
 use Rattle.plan.proofs.Lists.{and-l, and-r, All, anil, acons, all-of, keep-cong, keep-map, keep-append}
 use Rattle.rewrite.specs.Utils.{replace-cols, replace-cols-all}
 use Rattle.rewrite.specs.PushDownFilter.{left-preserved, right-preserved, on-left-preserved, on-right-preserved, is-inner, partner, to-partner}
 use Rattle.rewrite.specs.PushDownFilter.{swap-keys, nothing, infer-join-predicates, push-to, push-not, rest, if-list, left-push, right-push}
-use Rattle.rewrite.specs.PushDownFilter.{extract-or-clauses-for-join}
+use Rattle.rewrite.specs.PushDownFilter.{extract-or-clauses-for-join, ren}
 use Rattle.pushing.specs.Partners.{orSelf}
 use Rattle.pushing.specs.Parts.{Part, Parted, Wholes}
 use Rattle.pushing.specs.Scopes.{Swapper, swap, keyed, keyed-left, keyed-right}
@@ -159,3 +160,23 @@ module _ (k : Kind) (l r : List Name) (on : List Pair) (P G : List Expr) (σ : N
 
 pub wholes : {s : List ℕ} {ns : List Name} {z : Part} {a i u : List Expr} → Parted s ns z a i u → Wholes s z
 wholes h = record { moved = known-reads (h .moved); keyed = known-reads (h .keyed); rest = known-reads (h .rest) }
+
+-- ---- the renames that `swap_keys` and `write_renames` make
+
+ren-mapped : (f : Name → Name) (ns : List Name) (x : Name) → has ns x ≡ true → ren ns (map f ns) x ≡ f x
+unfolding ren any
+ren-mapped f [] x h = cc
+ren-mapped f (y ∷ ns) x h = go (same y x) refl h (ren-mapped f ns x)
+  where
+    go : (b : Bool) → same y x ≡ b → (b || has ns x) ≡ true → (has ns x ≡ true → ren ns (map f ns) x ≡ f x)
+        → cond b (f y) (ren ns (map f ns) x) ≡ f x
+    go true e h k = ap f (same-eq y x e)
+    go false e h k = k h
+
+pub renames-swap : (ns : List Name) (on : List Pair) → Swapper (λ x. col (ren ns (map (swap on) ns) x)) ns on
+unfolding swap-keys to-partner
+renames-swap ns on x h = ap col (ren-mapped (swap on) ns x h) ∙ go (partner on x)
+  where
+    go : (o : Option Name) → col (orSelf x o) ≡ to-partner x o
+    go O.none = refl
+    go (some y) = refl

@@ -23,6 +23,7 @@ use Rattle.rewrite.specs.Utils.{replace-cols}
 use Rattle.rewrite.specs.PushDownFilter.{push-to, push-not, is-or, extract-or-clause, extract-or-clauses-for-join}
 use Rattle.rewrite.specs.PushDownFilter as P
 use Rattle.conjuncts.specs.Items.{Conjuncts, FALSE, listed, Holds, Item, Items, inil, icons, Lists, Known}
+use Rattle.conjuncts.specs.Standing.{Standing}
 use Rattle.conjuncts.proofs.Listed.{count-is, whole, lists-room, lists-at, next, at-end}
 use Rattle.utils.specs.Clauses.{clauseOf, or-clause}
 use Rattle.utils.specs.declared.clauses.Clause.{Clause}
@@ -211,3 +212,11 @@ pub side-order : (f : Expr → Expr) (t : Name → Bool) (a i u b j v : List Exp
     → ((((a ++ map f i) ++ map f j) ++ b) ++ extract-or-clauses-for-join t u) ++ extract-or-clauses-for-join t v
     ≡ a ++ (map f (i ++ j) ++ (b ++ extract-or-clauses-for-join t (u ++ v)))
 side-order f t a i u b j v = rw (map-append, clauses-append t u v) (simp append-assoc)
+
+-- an item that has a clause stands at a record: FALSE has none
+pub clause-standing : {s : List ℕ} {ns : List Name} {t : Name → Bool} {n : ℕ} {e : Expr} (h : ClauseOf s ns t n e) → Standing s n (h .from)
+unfolding is-or
+clause-standing {t = t} {e = e} h = h .item .some (λ z. never (sym (ap (or-clause t) (h .item .none z)) ∙ h .is))
+  where
+    never : _≡_ {A = Option Expr} O.none (some e) → ⊥
+    never p = let w : _≡_ {A = ℕ} 0 1 = cc in absurd (omega arith)

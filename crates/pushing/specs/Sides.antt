@@ -36,3 +36,11 @@ pub record Smalls (c : Conjuncts) : Type 0 where
   pub most : c .len ≤ 128
   pub room : length (listed c) ≡ c .len
   pub each : (i : ℕ) → i < c .len → getD (listed c) i 0 < 2048
+
+-- something is written for the number n
+pub record OneSided (s : List ℕ) (n : ℕ) : Type 0 where
+  pub map : Name → Expr
+  pub names : List Name
+  pub test : Name → Bool
+  pub expr : Expr
+  pub sided : Sided s map names test n expr

@@ -1,6 +1,7 @@
 // The port of push_down_filter.rs: what is decided about a Filter or a Join, and the plan that is written for it.
 pub mod around;
 pub mod below;
+pub mod copying;
 pub mod inferring;
 pub mod joins;
 pub mod parting;

@@ -29,7 +29,7 @@ ghost use Rattle.pushing.specs.Parts.{Parted, Wholes};
 const SWAPPED: usize = 2048;
 
 // An item with so much more is the clause out of it.
-const CLAUSE: usize = 4096;
+pub const CLAUSE: usize = 4096;
 
 // Appends the items of c, each with so much more.
 pub fn append(to: Conjuncts, c: Conjuncts, more: usize) -> Conjuncts
