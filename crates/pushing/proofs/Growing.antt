@@ -2,7 +2,7 @@
 --     masks-start, masks-step, masks-end  a set of the places passed
 --     Swapping, swap-start, ..            the partners of the fields passed, and the set of those that have none
 -- Assumes nothing.
-use mathlib.Core.Path.{_≡_, refl, sym, ap, subst, _∙_}
+use mathlib.Core.Path.{_≡_, refl, sym}
 use mathlib.Core.Bool.{Bool, true, false, not, cond}
 use mathlib.Core.List.{List, [], _∷_, _++_, map, map-append}
 use mathlib.Core.Option as O

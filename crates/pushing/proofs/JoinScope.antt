@@ -1,13 +1,13 @@
 -- What the name rules say of a join's fields: they are few, and no two are one; and a key's partner is one of them.
 -- Assumes nothing.
-use mathlib.Core.Path.{_≡_, refl, sym, ap, subst, _∙_}
+use mathlib.Core.Path.{_≡_, refl}
 use mathlib.Core.Bool.{Bool, true, false, _||_, cond}
-use mathlib.Core.List.{List, [], _∷_, _++_, map}
+use mathlib.Core.List.{List, [], _∷_, _++_}
 use mathlib.Core.Option as O
 use mathlib.Core.Option.{Option, some}
-use Prim.Native.Nat.{ℕ, _+_, _-_, _*_, _≤_, _<_}
+use Prim.Native.Nat.{ℕ, _*_, _≤_}
 use native.Mathlib.Omega.{arith}
-use lib.ListN.{length, length-append, length-map, drop}
+use lib.ListN.{length, drop}
 use borrow.Author.Tests.{leb-true}
 use Rattle.plan.specs.Columns.{on-cols}
 use Rattle.plan.specs.Lists.{_&_, all, any}
@@ -16,13 +16,11 @@ use Rattle.plan.specs.Syntax.{Name, Expr, col, num, bool, nul, bin, neg, test, 
 use Rattle.plan.proofs.Lists.{and-l, and-r}
 use Rattle.plan.proofs.Names.{nodup}
 use Rattle.acceptance.specs.Names.{sound}
-use Rattle.acceptance.proofs.NamesRule.{reads, rule, ok, names-nodup}
+use Rattle.acceptance.proofs.NamesRule.{rule, ok, names-nodup}
 use Rattle.conjuncts.specs.Standing.{StandingP}
 use Rattle.rewrite.specs.SimplifyPredicates.{as-column}
 use Rattle.rewrite.specs.PushDownFilter.{pair-of, partner}
-use Rattle.utils.specs.Fields.{Fields, Names}
 use Rattle.utils.specs.Inputs.{PlanHere}
-use Rattle.utils.proofs.Named.{names-fit}
 use Rattle.pushing.specs.Partners.{orSelf}
 use Rattle.pushing.specs.Scopes.{swap}
 

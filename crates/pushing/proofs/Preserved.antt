@@ -1,6 +1,6 @@
 -- The tables of the joins' kinds, by their numbers.
-use mathlib.Core.Path.{_≡_, refl, ap, _∙_}
-use mathlib.Core.Bool.{Bool, true, false, _||_}
+use mathlib.Core.Path.{_≡_, refl}
+use mathlib.Core.Bool.{Bool, _||_}
 use Prim.Native.Nat.{ℕ}
 use lib.Dec.{eqb}
 use Rattle.plan.specs.Syntax.{Kind, inner, left, right, full, leftSemi, rightSemi, leftAnti, rightAnti}

@@ -4,17 +4,17 @@
 --     masks-mapped     the set of the fields whose image passes a test
 --     other-side       a name of one side is not of the other
 -- Assumes nothing.
-use mathlib.Core.Path.{_≡_, refl, sym, ap, ap₂, subst, _∙_}
+use mathlib.Core.Path.{_≡_, refl, sym, ap, ap₂, _∙_}
 use mathlib.Core.Bool.{Bool, true, false, not, _||_, cond}
 use mathlib.Core.List.{List, [], _∷_, _++_, map}
 use mathlib.Core.Option as O
 use mathlib.Core.Option.{Option, some}
-use Prim.Native.Nat.{ℕ, zero, suc, _≤_, _<_}
+use Prim.Native.Nat.{ℕ, zero, suc, _<_}
 use native.Mathlib.Omega.{arith}
-use lib.Dec.{eqb, ltb}
-use lib.ListN.{length, getD, length-map}
+use lib.Dec.{ltb}
+use lib.ListN.{length, length-map}
 use borrow.Author.Tests.{ltb-true, ltb-false, lt-ltb, le-ltb}
-use Rattle.image.specs.Tree.{Forest, none, node}
+use Rattle.image.specs.Tree.{none}
 use Rattle.plan.specs.Lists.{any}
 use Rattle.plan.specs.Schema.{has, same}
 use Rattle.plan.specs.Syntax.{Name, nm, Expr, col, num, bool, nul, bin, neg, test, between, inlist, fn, Pair, Kind, Plan, scan, filter, project, join, alias}
@@ -25,7 +25,6 @@ use Rattle.rewrite.specs.SimplifyPredicates.{as-column}
 use Rattle.rewrite.specs.PushDownFilter.{pair-of, partner}
 use Rattle.utils.specs.Fields.{placeIn}
 use Rattle.utils.specs.Masks.{nameAt, Masks}
-use Rattle.utils.proofs.Marking.{masks-same, has-at}
 use Rattle.pushing.specs.Partners.{columnOf, orElse, pairIn, keyIn, partnerIn}
 
 -- ---- the partner by the records of a join

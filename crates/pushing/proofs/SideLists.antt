@@ -3,14 +3,14 @@
 --     inferred-left, inferred-right      what is inferred and moves to a side is what moves there, inferred
 --     left-push-is, right-push-is        the whole list of a side
 -- Assumes nothing.
-use mathlib.Core.Path.{_≡_, refl, sym, ap, ap₂, subst, _∙_}
+use mathlib.Core.Path.{_≡_, refl, ap, ap₂, _∙_}
 use mathlib.Core.Bool.{Bool, true, false, not, _||_, cond}
-use mathlib.Core.List.{List, [], _∷_, _++_, map, map-append, append-nil}
+use mathlib.Core.List.{List, [], _∷_, _++_, map, append-nil}
 use mathlib.Core.Option as O
 use mathlib.Core.Option.{Option, some}
 use Prim.Native.Nat.{ℕ}
 use Rattle.plan.specs.Columns.{on-cols, on-cols-all}
-use Rattle.plan.specs.Lists.{_&_, put, keep, any}
+use Rattle.plan.specs.Lists.{_&_, keep, any}
 use Rattle.plan.specs.Schema.{has, same}
 use Rattle.plan.proofs.Names.{same-eq}
 use Rattle.plan.specs.Syntax.{Name, Expr, col, num, bool, nul, bin, neg, test, between, inlist, fn, Exprs, enil, econs, Pair, Kind}

@@ -4,7 +4,7 @@
 --     smalls-of                    the items of a list of conjuncts are plain
 --     sides-of, sides-swapped, ..  what is written for a list as it stands, with its keys swapped, and for its clauses
 -- Assumes nothing.
-use mathlib.Core.Path.{_≡_, refl, sym, ap, subst, _∙_}
+use mathlib.Core.Path.{_≡_, refl, sym, ap, _∙_}
 use mathlib.Core.Bool.{Bool, true, false, not, cond}
 use mathlib.Core.List.{List, [], _∷_, _++_, map, map-append, append-assoc, append-nil}
 use mathlib.Core.Option as O

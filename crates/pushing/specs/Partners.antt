@@ -1,10 +1,10 @@
 -- The partners of columns by the keys of a join, read off its records.
 use mathlib.Core.Path.{_≡_}
-use mathlib.Core.Bool.{Bool, not, cond}
+use mathlib.Core.Bool.{cond}
 use mathlib.Core.List.{List, map}
 use mathlib.Core.Option as O
 use mathlib.Core.Option.{Option, some}
-use Prim.Native.Nat.{ℕ, _<_}
+use Prim.Native.Nat.{_<_}
 use lib.Dec.{eqb}
 use Rattle.image.specs.Tree.{Label, Forest, none, node}
 use Rattle.plan.specs.Syntax.{Name, nm}

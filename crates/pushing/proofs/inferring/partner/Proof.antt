@@ -1,5 +1,5 @@
 -- `inferring::partner` meets its contract. The loop's invariant: the partner is the one in what is left of the children.
-use mathlib.Core.Path.{_≡_, refl, sym, ap, _∙_}
+use mathlib.Core.Path.{_≡_, refl, _∙_}
 use Prim.Native.Nat.{ℕ, _-_}
 use native.Mathlib.Omega.{arith}
 use borrow.Author.Needs.{needs}

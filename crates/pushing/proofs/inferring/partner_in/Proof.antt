@@ -1,8 +1,7 @@
-use mathlib.Core.Path.{_≡_, sym, _∙_}
+use mathlib.Core.Path.{sym, _∙_}
 use native.Mathlib.Omega.{arith}
 use borrow.Author.Needs.{needs}
 use lib.ListN.{length-drop}
-use Rattle.plan.specs.Syntax.{nm}
 use Rattle.pushing.specs.Partners.{Told, columnOf}
 use Rattle.pushing.proofs.Partnering.{kind-at, key-none, key-is, first-turn, none-below, second-turn, none-after, pair-empty, pair-one, pair-two}
 use Rattle.pushing.proofs.inferring.partner_in.Statement.{statement}

@@ -1,4 +1,3 @@
-use mathlib.Core.Path.{_≡_}
 use borrow.Author.Needs.{needs}
 use Rattle.pushing.proofs.joins.keep_predicates.Statement.{statement}
 use Rattle.pushing.proofs.joins.keep_predicates.Tie as tie

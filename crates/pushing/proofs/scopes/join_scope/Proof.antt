@@ -1,8 +1,8 @@
-use mathlib.Core.Path.{_≡_, refl, sym, ap, _∙_}
+use mathlib.Core.Path.{sym}
 use mathlib.Core.List.{[], _++_}
 use native.Mathlib.Omega.{arith}
 use borrow.Author.Needs.{needs}
-use lib.ListN.{length, length-append, length-map}
+use lib.ListN.{length-append, length-map}
 use Rattle.plan.specs.Schema.{schema}
 use Rattle.plan.specs.Syntax.{join}
 use Rattle.plan.specs.Trees.{planTree, kidsP}

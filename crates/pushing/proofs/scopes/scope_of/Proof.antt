@@ -1,13 +1,9 @@
-use mathlib.Core.Path.{_≡_, refl, sym, ap, _∙_}
-use mathlib.Core.Bool.{Bool, not}
-use mathlib.Core.List.{_++_, map}
-use Prim.Native.Nat.{_<_}
-use native.Mathlib.Omega.{arith}
+use mathlib.Core.Path.{sym, ap}
+use mathlib.Core.List.{_++_}
 use borrow.Author.Needs.{needs}
 use lib.Dec.{ltb}
-use lib.ListN.{length}
 use Rattle.plan.specs.Schema.{has}
-use Rattle.rewrite.specs.PushDownFilter.{nothing, partner}
+use Rattle.rewrite.specs.PushDownFilter.{nothing}
 use Rattle.utils.specs.Fields.{placeIn}
 use Rattle.utils.specs.Masks.{nameAt, Masks}
 use Rattle.utils.proofs.Marking.{masks-same, masks-left, masks-right, has-at}

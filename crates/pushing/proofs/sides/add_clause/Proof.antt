@@ -1,5 +1,4 @@
 use borrow.Author.Needs.{needs}
-use native.Mathlib.Omega.{arith}
 use Rattle.pushing.proofs.Siding.{sides-nothing, sides-made}
 use Rattle.pushing.proofs.sides.add_clause.Statement.{statement}
 use Rattle.pushing.proofs.sides.add_clause.Tie as tie

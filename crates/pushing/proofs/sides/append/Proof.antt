@@ -1,9 +1,7 @@
 -- `sides::append` meets its contract. The loop's invariant: the items passed are appended.
-use mathlib.Core.Path.{_≡_, refl, sym, ap, _∙_}
 use mathlib.Core.List.{List, _++_, map, append-nil}
 use Prim.Native.Nat.{ℕ, _+_, _-_, _≤_}
 use native.Mathlib.Omega.{arith}
-use borrow.Author.Needs.{needs}
 use lib.ListN.{take}
 use Rattle.conjuncts.specs.Items.{Holds}
 use Rattle.pushing.proofs.Siding.{append-step, append-end}

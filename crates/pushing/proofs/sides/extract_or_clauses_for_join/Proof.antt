@@ -1,20 +1,16 @@
 -- `sides::extract_or_clauses_for_join` meets its contract. The loop's invariant: the clauses of the conjuncts passed are appended.
-use mathlib.Core.Path.{_≡_, refl, sym, ap, _∙_}
+use mathlib.Core.Path.{_≡_}
 use mathlib.Core.Bool.{Bool, true}
-use mathlib.Core.List.{List, _++_, append-nil, append-assoc}
-use Prim.Native.Nat.{ℕ, _+_, _-_, _≤_, _<_}
+use mathlib.Core.List.{List}
+use Prim.Native.Nat.{_-_, _≤_, _<_}
 use native.Mathlib.Omega.{arith}
-use borrow.Author.Needs.{needs}
-use lib.ListN.{length, drop, getD}
+use lib.ListN.{length, getD}
 use Rattle.plan.specs.Columns.{on-cols}
-use Rattle.plan.specs.Lists.{flat}
 use Rattle.plan.specs.Schema.{has}
 use Rattle.plan.specs.Syntax.{Name, Expr}
 use Rattle.plan.proofs.Lists.{All}
-use Rattle.rewrite.specs.PushDownFilter.{listed}
 use Rattle.conjuncts.specs.Items.{FALSE, Lists}
-use Rattle.conjuncts.proofs.Listed.{lists-at, lists-length, lists-room, at-end}
-use Rattle.utils.specs.Clauses.{or-clause}
+use Rattle.conjuncts.proofs.Listed.{lists-at, lists-length, lists-room}
 use Rattle.utils.specs.Fields.{Names}
 use Rattle.utils.specs.Masks.{Masks}
 use Rattle.pushing.specs.Sides.{Sides}
