@@ -24,3 +24,11 @@ pub mod Tested
 pub mod OneMerge
 pub mod FirstFilter
 pub mod Passing
+pub mod Preserved
+pub mod Partnering
+pub mod Growing
+pub mod Siding
+pub mod Scoping
+pub mod SideLists
+pub mod ScopeSets
+pub mod JoinScope

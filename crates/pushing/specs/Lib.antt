@@ -10,3 +10,7 @@ pub mod Parting
 pub mod Inputs
 pub mod Renaming
 pub mod Through
+pub mod Partners
+pub mod Sides
+pub mod Scopes
+pub mod Parts

@@ -15,10 +15,12 @@ ghost use Rattle.plan.specs.Lists.{keep};
 ghost use Rattle.plan.specs.Columns.{on-cols};
 ghost use Rattle.plan.specs.Schema.{has};
 ghost use Rattle.plan.proofs.Lists.{All};
+ghost use Rattle.rewrite.specs.PushDownFilter.{push-to, push-not};
 ghost use Rattle.conjuncts.specs.Items.{Item, Present, Lists, Known};
 ghost use Rattle.utils.specs.Fields.{Names};
 ghost use Rattle.utils.specs.Masks.{Masks};
 ghost use Rattle.pushing.specs.Parting.{agrees};
+ghost use Rattle.pushing.specs.Scopes.{Reads};
 
 // Whether the item n refers to fields of the side alone.
 fn is_inside(s: &[u8], n: usize, fields: Fields, side: u64) -> bool
@@ -47,4 +49,30 @@ pub fn select(s: &[u8], c: Conjuncts, fields: Fields, side: u64, inside: bool) -
         i += 1;
     }
     r
+}
+
+// Of the conjuncts c those that move to a side, if it is preserved.
+pub fn push_to(s: &[u8], c: Conjuncts, fields: Fields, side: u64, preserved: bool) -> Conjuncts
+    requires { ⌜ Known (now s) c ⌝ }
+    requires { ⌜ fields .len ≤ 64 ⌝ }
+    ensures { λ r. ⌜ ((es : List Expr) (ns names : List Name) → Reads (now (s .entry)) ns c es → Names fields ns → Masks side ns (has names) →
+        Reads (now (s .entry)) ns r (push-to preserved names es)) ⌝ }
+{
+    if preserved {
+        return select(s, c, fields, side, true);
+    }
+    empty()
+}
+
+// Those that do not.
+pub fn push_not(s: &[u8], c: Conjuncts, fields: Fields, side: u64, preserved: bool) -> Conjuncts
+    requires { ⌜ Known (now s) c ⌝ }
+    requires { ⌜ fields .len ≤ 64 ⌝ }
+    ensures { λ r. ⌜ ((es : List Expr) (ns names : List Name) → Reads (now (s .entry)) ns c es → Names fields ns → Masks side ns (has names) →
+        Reads (now (s .entry)) ns r (push-not preserved names es)) ⌝ }
+{
+    if preserved {
+        return select(s, c, fields, side, false);
+    }
+    c
 }
