@@ -34,7 +34,12 @@ fn drawn(random: &mut Random) -> Tree {
 }
 
 fn damaged(random: &mut Random, draw: fn(&mut Random) -> Tree) -> Vec<u8> {
-    let mut plan = draw(random);
+    let plan = draw(random);
+    damaged_image(random, plan)
+}
+
+/// The image of the plan with one damage, of the tree or of the bytes.
+pub fn damaged_image(random: &mut Random, mut plan: Tree) -> Vec<u8> {
     if random.chance(50) {
         damage_tree(random, &mut plan);
         return plan.image();

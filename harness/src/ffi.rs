@@ -3,6 +3,7 @@
 
 use crate::checker::Verdict;
 use crate::rewriting::Rewritten;
+use crate::row_tests::Tested;
 
 /// Whether the library is linked.
 pub const LINKED: bool = cfg!(feature = "library");
@@ -12,10 +13,19 @@ pub const REWRITES: bool = cfg!(feature = "rewrite");
 
 #[cfg(feature = "library")]
 mod exported {
-    use super::Verdict;
+    use super::{Tested, Verdict};
 
     unsafe extern "C" {
         pub fn push_down_filter_check(image: *const u8, len: usize) -> Verdict;
+        pub fn push_down_filter_row_test(
+            image: *const u8,
+            len: usize,
+            node: u32,
+            values: *const i64,
+            values_len: usize,
+            marks: *const u8,
+            marks_len: usize,
+        ) -> Tested;
     }
 
     #[cfg(feature = "rewrite")]
@@ -38,6 +48,27 @@ pub fn check(image: &[u8]) -> Option<Verdict> {
 
 #[cfg(not(feature = "library"))]
 pub fn check(_image: &[u8]) -> Option<Verdict> {
+    None
+}
+
+#[cfg(feature = "library")]
+pub fn row_test(image: &[u8], node: u32, values: &[i64], marks: &[u8]) -> Option<Tested> {
+    // SAFETY: pointers and lengths are those of slices that live through the call, which only reads them.
+    Some(unsafe {
+        exported::push_down_filter_row_test(
+            image.as_ptr(),
+            image.len(),
+            node,
+            values.as_ptr(),
+            values.len(),
+            marks.as_ptr(),
+            marks.len(),
+        )
+    })
+}
+
+#[cfg(not(feature = "library"))]
+pub fn row_test(_image: &[u8], _node: u32, _values: &[i64], _marks: &[u8]) -> Option<Tested> {
     None
 }
 

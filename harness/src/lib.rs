@@ -11,6 +11,7 @@ pub mod meaning;
 pub mod random;
 pub mod rewrites;
 pub mod rewriting;
+pub mod row_tests;
 pub mod rows;
 pub mod sets;
 pub mod source;

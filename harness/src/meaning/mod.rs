@@ -15,7 +15,7 @@ pub use values::{Row, Value};
 use Value::{Integer, Null, Truth};
 
 /// A field by qualifier and name.
-type Name = (u32, u32);
+pub type Name = (u32, u32);
 
 /// What is not in the plan: the tables, and what functions mean.
 pub struct World {
@@ -212,6 +212,12 @@ impl World {
     }
 }
 
+/// The value of an expression without functions on a row over the input's fields.
+pub fn value_on(expr: &Tree, input: &Tree, row: &[Value]) -> Value {
+    let no_functions = World { tables: BTreeMap::new(), functions: 0 };
+    no_functions.value(expr, &schema(input), row)
+}
+
 fn last(plan: &Tree) -> &Tree {
     plan.children.last().expect("the plan has an input")
 }
@@ -221,7 +227,7 @@ fn parts(plan: &Tree, kind: u32) -> Vec<&Tree> {
 }
 
 /// The fields of a plan, by place.
-fn schema(plan: &Tree) -> Vec<Name> {
+pub fn schema(plan: &Tree) -> Vec<Name> {
     let named = |kind: u32| parts(plan, kind).into_iter().map(|part| (part.label.p, part.label.q));
     match plan.label.kind {
         SCAN => named(FIELD).collect(),
