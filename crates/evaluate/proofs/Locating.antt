@@ -16,7 +16,8 @@ use Rattle.plan.specs.Lists.{_&_, choose}
 use Rattle.plan.proofs.Lists.{and-l, and-r}
 use Rattle.plan.specs.Integers.{FitsP, FitsPs}
 use Rattle.plan.specs.Measure.{sizeE, sizeP, sizes}
-use Rattle.plan.specs.Syntax.{Expr, Entry, Pair, Key, AggEntry, WinEntry, Kind, Plan, scan, filter, project, join, alias, union, distinct, sort, repartition, limit, aggregate, window}
+use Rattle.plan.specs.Syntax.{Expr, Entry, Pair, Key, AggEntry, WinEntry, Kind, Plan, scan, filter, project, join, alias, union, distinct, sort}
+use Rattle.plan.specs.Syntax.{repartition, limit, aggregate, window}
 use Rattle.plan.specs.Syntax.{Plans, pnil, pcons}
 use Rattle.plan.specs.Trees.{before, each, entryLabel, entryKids, pairLabel, pairKids, keyLabel, keyKids, aggLabel, aggKids, winLabel, winKids}
 use Rattle.plan.specs.Trees.{filterKids, labelP, kidsP, forestP, planTree, labelE, kidsE}
@@ -317,7 +318,8 @@ mutual
   located (scan t fs es) s b n o h =
       either (eqb n 0) (λ e. itself (scan t fs es) s b n _ o h (eqb-true n 0 e))
       (λ e. let l : 1 ≤ n = omega (arith, eqb-false n 0 e) in
-      nowhere (λ k. later-at s 1 n l (region (kidsP (scan t fs es)) (drop 32 s) (b + 1) (no-plan-scan fs es) (h .below) (n - 1) (below-size (scan t fs es) n l k))))
+      nowhere (λ k. later-at s 1 n l (region (kidsP (scan t fs es)) (drop 32 s) (b + 1) (no-plan-scan fs es) (h .below) (n - 1)
+      (below-size (scan t fs es) n l k))))
   located (filter e p) s b n o h =
       let v = behind-predicate p s b e h in
       past-run (filter e p) p s b n (suc (sizeE e)) (sizeP (filter e p)) o h v (omega arith) (omega (arith, size-filter e p)) (filter e)

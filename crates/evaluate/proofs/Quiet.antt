@@ -115,7 +115,8 @@ module _ {A : Type 0} (l : A → Label) (k : A → Forest) where
         by-place (OtherAt s i) i (size (k x))
         (λ e. first-at s i e (subst Other (sym (w .head .label)) (is x)))
         (λ p q. later-at s 1 i p (region (k x) (drop 32 s) (b + 1) (no x) (w .below) (i - 1) q))
-        (λ p. later-at s (suc (size (k x))) i p (region-each xs ns (drop (32 * suc (size (k x))) s) (b + 1 + size (k x)) (w .after) (i - suc (size (k x))) (omega arith)))
+        (λ p. later-at s (suc (size (k x))) i p (region-each xs ns (drop (32 * suc (size (k x))) s) (b + 1 + size (k x)) (w .after)
+        (i - suc (size (k x))) (omega arith)))
 
 -- ---- the parts
 

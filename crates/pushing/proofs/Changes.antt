@@ -60,4 +60,5 @@ changed-list {s} {p} {c} σ e h z k = go (split-conjunction e) (h .joined z) k (
 pub changed-written : {s : List ℕ} {p : Predicate} (σ : Name → Expr) (e : Expr) (n : ℕ) → Shaped s p e → (p .written ≡ 0 → ⊥) → n ≡ p .written + 2048
     → Perhaps s σ (record { written = n; list = p .list }) (some (replace-cols σ e))
 changed-written σ e n h nz i =
-    left {e = replace-cols σ e} (record { item = λ f. rw i (pushed-changed (standing-item (h .stands nz) nz)); list = λ z. absurd (omega arith) }) (λ z. absurd (omega arith))
+    left {e = replace-cols σ e} (record { item = λ f. rw i (pushed-changed (standing-item (h .stands nz) nz)); list = λ z. absurd (omega arith) })
+    (λ z. absurd (omega arith))

@@ -10,7 +10,8 @@ use Rattle.plan.specs.Measure.{sizes}
 use Rattle.plan.specs.Trees.{each}
 
 -- a run of parts, and then the records of the rest
-pub run-recs : {A : Type 0} (l : A → Label) (k : A → Forest) (xs : List A) (d : ℕ) (ns : Forest) → recsAny d (each l k xs ns) ≡ recsAny d (each l k xs none) ++ recsAny d ns
+pub run-recs : {A : Type 0} (l : A → Label) (k : A → Forest) (xs : List A) (d : ℕ) (ns : Forest) → recsAny d (each l k xs ns) ≡ recsAny d
+    (each l k xs none) ++ recsAny d ns
 unfolding each
 run-recs l k [] d ns = refl
 run-recs l k (x ∷ xs) d ns =

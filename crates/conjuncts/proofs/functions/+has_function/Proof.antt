@@ -74,7 +74,8 @@ pub +has-function-spec : {M : Type 1} → statement M
     rw (c .word-at2 .ensures .0, c .before .before .before .from-record .ensures) (u .turn .less))
     (λ c. let u = round _ (c .before .before .before .before .before .loop .inv) (c .before .before .before .before .loop-test .taken) in
     let e : false ≡ fnIn (marked (c .before .before .before .before .before .before .before .before .before .before .args .volatile)) (u .turn .child) =
-    sym (c .before .if2 .left) ∙ c .before .before .has-function .ensures (u .turn .child) (rw (c .before .before .before .from-record .ensures) (u .turn .here)) in
+    sym (c .before .if2 .left) ∙ c .before .before .has-function .ensures (u .turn .child)
+    (rw (c .before .before .before .from-record .ensures) (u .turn .here)) in
     rw (c .word-at2 .ensures .0, c .before .before .before .from-record .ensures)
     (again _ (c .before .before .before .before .before .loop .inv) u (u .so-far ∙ rw (← e))))
     (λ c. let k = c .before .loop .inv in

@@ -8,4 +8,5 @@ use Rattle.evaluate.proofs.cells.cell_of.Tie as tie
 
 pub cell-of-spec : {M : Type 1} → statement M
 unfolding cell
-cell-of-spec = tie.close (tie.spec (λ c. rw (c .if1 .taken, ← above-zero (c .before .args .z)) (search needs)) (λ c. rw (ne-eqb _ _ (c .if1 .left)) (search needs)))
+cell-of-spec = tie.close (tie.spec (λ c. rw (c .if1 .taken, ← above-zero (c .before .args .z)) (search needs))
+    (λ c. rw (ne-eqb _ _ (c .if1 .left)) (search needs)))

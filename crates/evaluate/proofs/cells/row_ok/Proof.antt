@@ -37,10 +37,28 @@ row-ok-spec =
     Inv-loop
     μ-loop
     (λ c. row-short _ _ _ (c .if1 .taken))
-    (λ c. let h = same-lengths (length (c .before .before .before .args .values .now)) (length (c .before .before .before .args .marks .now)) _ (c .if1 .left) in (omega arith, h .0, h .1, refl))
+    (λ c. let h = same-lengths (length (c .before .before .before .args .values .now)) (length (c .before .before .before .args .marks .now)) _
+    (c .if1 .left) in (omega arith, h .0, h .1, refl))
     (λ c κs. let i = c .before .loop .inv in (c .loop-test .taken, rw (i .1) (c .loop-test .taken), rw (i .2) (c .loop-test .taken)))
-    (λ c. failed _ (c .before .cell-ok .ensures) (c .if2 .taken) (row-step (c .before .before .before .before .before .before .before .args .types .now) (c .before .before .before .before .before .before .before .args .values .now) (c .before .before .before .before .before .before .before .args .marks .now) (c .before .before .before .loop .i) (c .before .before .loop-test .taken) (omega (arith, c .before .before .before .loop .inv .1)) (omega (arith, c .before .before .before .loop .inv .2))) ∙ c .before .before .before .loop .inv .3)
+    (λ c. failed _ (c .before .cell-ok .ensures) (c .if2 .taken)
+    (row-step (c .before .before .before .before .before .before .before .args .types .now)
+    (c .before .before .before .before .before .before .before .args .values .now)
+    (c .before .before .before .before .before .before .before .args .marks .now) (c .before .before .before .loop .i)
+    (c .before .before .loop-test .taken) (omega (arith, c .before .before .before .loop .inv .1))
+    (omega (arith, c .before .before .before .loop .inv .2))) ∙ c .before .before .before .loop .inv .3)
     (λ c. omega arith)
     (λ c. omega arith)
-    (λ c. let i = c .before .before .before .loop .inv in (omega arith, i .1, i .2, passed _ (c .before .cell-ok .ensures) (c .if2 .left) (row-step (c .before .before .before .before .before .before .before .args .types .now) (c .before .before .before .before .before .before .before .args .values .now) (c .before .before .before .before .before .before .before .args .marks .now) (c .before .before .before .loop .i) (c .before .before .loop-test .taken) (omega (arith, c .before .before .before .loop .inv .1)) (omega (arith, c .before .before .before .loop .inv .2))) ∙ i .3))
-    (λ c. let i = c .before .loop .inv in sym (row-end (c .before .before .before .before .before .args .types .now) (c .before .before .before .before .before .args .values .now) (c .before .before .before .before .before .args .marks .now) (c .before .loop .i) (omega arith) (i .1) (i .2)) ∙ i .3))
+    (λ c. let i = c .before .before .before .loop .inv in (
+      omega arith,
+      i .1,
+      i .2,
+      passed _ (c .before .cell-ok .ensures) (c .if2 .left)
+          (row-step (c .before .before .before .before .before .before .before .args .types .now)
+          (c .before .before .before .before .before .before .before .args .values .now)
+          (c .before .before .before .before .before .before .before .args .marks .now) (c .before .before .before .loop .i)
+          (c .before .before .loop-test .taken) (omega (arith, c .before .before .before .loop .inv .1))
+          (omega (arith, c .before .before .before .loop .inv .2))) ∙ i .3,
+    ))
+    (λ c. let i = c .before .loop .inv in sym
+    (row-end (c .before .before .before .before .before .args .types .now) (c .before .before .before .before .before .args .values .now)
+    (c .before .before .before .before .before .args .marks .now) (c .before .loop .i) (omega arith) (i .1) (i .2)) ∙ i .3))

@@ -36,8 +36,16 @@ compare-spec =
     (λ c κs. search needs)
     (λ c. rw (c .enum-told .given .1))
     (λ c. rw (c .before .before .before .x .given .1, c .enum-told2 .given .1))
-    (λ c. c .known .ensures ∙ ap truth (c .before .holds .ensures) ∙ as-held (cmpOf (c .before .before .before .before .before .before .before .before .args .p)) (search needs) (search needs) (both-integers (cmpOf (c .before .before .before .before .before .before .before .before .args .p)) (c .before .before .before .before .before .before .x .given .1) (c .before .before .before .y .given .1)))
+    (λ c. c .known .ensures ∙ ap truth (c .before .holds .ensures) ∙ as-held
+    (cmpOf (c .before .before .before .before .before .before .before .before .args .p)) (search needs) (search needs)
+    (both-integers (cmpOf (c .before .before .before .before .before .before .before .before .args .p))
+    (c .before .before .before .before .before .before .x .given .1) (c .before .before .before .y .given .1)))
     (λ c. rw (c .before .before .before .x .given .1, c .enum-told3 .given .1))
     (λ c. rw (c .before .before .before .x2 .given .1, c .enum-told4 .given .1))
     (λ c. rw (c .before .before .before .x2 .given .1, c .enum-told5 .given .1))
-    (λ c. c .known2 .ensures ∙ ap truth (c .before .holds2 .ensures) ∙ as-held (cmpOf (c .before .before .before .before .before .before .before .before .before .before .args .p)) (search needs) (search needs) (ap₂ (λ i j. truth (holds (cmpOf (c .before .before .before .before .before .before .before .before .before .before .args .p)) i j)) (c .before .before .before .code .ensures) (c .before .before .code2 .ensures) ∙ both-truths (cmpOf (c .before .before .before .before .before .before .before .before .before .before .args .p)) _ _ (c .before .before .before .before .before .before .before .before .x2 .given .1) (c .before .before .before .before .before .y2 .given .1))))
+    (λ c. c .known2 .ensures ∙ ap truth (c .before .holds2 .ensures) ∙ as-held
+    (cmpOf (c .before .before .before .before .before .before .before .before .before .before .args .p)) (search needs) (search needs)
+    (ap₂ (λ i j. truth (holds (cmpOf (c .before .before .before .before .before .before .before .before .before .before .args .p)) i j))
+    (c .before .before .before .code .ensures) (c .before .before .code2 .ensures) ∙ both-truths
+    (cmpOf (c .before .before .before .before .before .before .before .before .before .before .args .p)) _ _
+    (c .before .before .before .before .before .before .before .before .x2 .given .1) (c .before .before .before .before .before .y2 .given .1))))

@@ -14,4 +14,7 @@ compared v e h = ap isT (ap valueOf (sym e) ∙ h)
 pub equals-spec : {M : Type 1} → statement M
 equals-spec =
     tie.close
-    (tie.spec (λ c κs. search needs) (λ c. search needs) (λ c. search needs) (λ c. search needs) (λ c. compared _ (c .enum-told .given .1) (c .before .before .compare .ensures)) (λ c. compared _ (c .enum-told2 .given .1) (c .before .before .compare .ensures)) (λ c. compared _ (c .enum-told3 .given .1) (c .before .before .compare .ensures)))
+    (tie.spec (λ c κs. search needs) (λ c. search needs) (λ c. search needs) (λ c. search needs)
+    (λ c. compared _ (c .enum-told .given .1) (c .before .before .compare .ensures))
+    (λ c. compared _ (c .enum-told2 .given .1) (c .before .before .compare .ensures))
+    (λ c. compared _ (c .enum-told3 .given .1) (c .before .before .compare .ensures)))

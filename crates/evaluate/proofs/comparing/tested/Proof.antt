@@ -27,4 +27,9 @@ tested-spec =
     (λ c κs. search needs)
     (λ c. rw (c .is-false4 .ensures, c .before .is-true4 .ensures, c .before .before .if7 .taken))
     (λ c κs. search needs)
-    (λ c. rw (c .is-null2 .ensures, other-test _ (c .before .before .before .before .before .before .before .if1 .left) (c .before .before .before .before .before .before .if2 .left) (c .before .before .before .before .before .if3 .left) (c .before .before .before .before .if4 .left) (c .before .before .before .if5 .left) (c .before .before .if6 .left) (c .before .if7 .left))))
+    (λ c. rw (
+      c .is-null2 .ensures,
+      other-test _ (c .before .before .before .before .before .before .before .if1 .left)
+          (c .before .before .before .before .before .before .if2 .left) (c .before .before .before .before .before .if3 .left)
+          (c .before .before .before .before .if4 .left) (c .before .before .before .if5 .left) (c .before .before .if6 .left) (c .before .if7 .left),
+    )))

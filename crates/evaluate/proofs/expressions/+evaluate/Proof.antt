@@ -65,20 +65,45 @@ pub +evaluate-spec : {M : Type 1} → statement M
     evaluate-μ-loop
     (λ c κs. omega (arith, c .before .before .before .pre .1 .0 .at .head .room))
     (λ c κs. c .before .before .before .before .before .before .pre .1 .1)
-    (λ c. λ t ns h n le. c .column .ensures ns n le ∙ tree-column _ t (c .before .before .before .label-at .ensures .0 ∙ h .head .label) (c .before .if1 .taken))
+    (λ c. λ t ns h n le. c .column .ensures ns n le ∙ tree-column _ t (c .before .before .before .label-at .ensures .0 ∙ h .head .label)
+    (c .before .if1 .taken))
     (λ c κs. c .before .before .label-at .ensures .1)
     (λ c. search needs)
-    (λ c. λ t ns h n le. tree-literal _ t (c .before .before .before .before .before .before .label-at .ensures .0 ∙ h .head .label) _ (sym (c .before .before .before .literal-of .ensures) ∙ c .before .literal .given .1))
+    (λ c. λ t ns h n le. tree-literal _ t (c .before .before .before .before .before .before .label-at .ensures .0 ∙ h .head .label) _
+    (sym (c .before .before .before .literal-of .ensures) ∙ c .before .literal .given .1))
     (λ c. search needs)
     (λ c κs. tt)
     (λ c κs. omega (arith, c .before .before .before .before .before .before .before .before .before .before .pre .1 .0 .at .head .room))
-    (λ c. rw (c .word-at .ensures .0) (chain _ (c .before .before .before .before .before .before .before .before .before .before .before .pre .1 .0) (λ ns n le. seen-none _ _ (c .before .no-operands .ensures))))
+    (λ c. rw (c .word-at .ensures .0) (chain _ (c .before .before .before .before .before .before .before .before .before .before .before .pre .1 .0)
+    (λ ns n le. seen-none _ _ (c .before .no-operands .ensures))))
     (λ c κs. let u = round _ (c .before .loop .inv) (c .loop-test .taken) in omega (arith, u .turn .past, u .turn .fits))
     (λ c. omega (arith, c .before .before .loop .inv .some))
-    (λ c κs. let k = c .before .before .loop .inv in let u = round _ k (c .before .loop-test .taken) in (omega (arith, k .some, c .before .before .before .before .before .before .before .before .before .before .before .before .before .before .pre .0), (rw (c .from-record .ensures) (u .readable), c .before .before .before .before .before .before .before .before .before .before .before .before .before .before .pre .1 .1)))
+    (λ c κs. let k = c .before .before .loop .inv in let u = round _ k (c .before .loop-test .taken) in (
+      omega (
+        arith,
+        k .some,
+        c .before .before .before .before .before .before .before .before .before .before .before .before .before
+            .before .pre .0,
+      ),
+      (
+        rw (c .from-record .ensures) (u .readable),
+        c .before .before .before .before .before .before .before .before .before .before .before .before .before .before .pre .1 .1,
+      ),
+    ))
     (λ c κs. tt)
-    (λ c κs. let u = round _ (c .before .before .before .before .loop .inv) (c .before .before .before .loop-test .taken) in rw (c .before .before .from-record .ensures, length-drop) (omega (arith, u .turn .fits)))
-    (λ c. let u = round _ (c .before .before .before .before .before .loop .inv) (c .before .before .before .before .loop-test .taken) in rw (c .word-at2 .ensures .0, c .before .before .before .from-record .ensures) (u .turn .less))
-    (λ c. let k = c .before .before .before .before .before .loop .inv in let u = round _ k (c .before .before .before .before .loop-test .taken) in rw (c .word-at2 .ensures .0, c .before .before .before .from-record .ensures) (again _ k u (λ ns n le. seen-next (c .before .before .evaluate .result) (u .turn .child) (u .so-far ns n le) (c .before .before .evaluate .ensures (u .turn .child) ns (rw (c .before .before .before .from-record .ensures) (u .turn .here)) n le) (c .before .with-operand .ensures))))
+    (λ c κs. let u = round _ (c .before .before .before .before .loop .inv) (c .before .before .before .loop-test .taken) in rw
+    (c .before .before .from-record .ensures, length-drop) (omega (arith, u .turn .fits)))
+    (λ c. let u = round _ (c .before .before .before .before .before .loop .inv) (c .before .before .before .before .loop-test .taken) in rw
+    (c .word-at2 .ensures .0, c .before .before .before .from-record .ensures) (u .turn .less))
+    (λ c. let k = c .before .before .before .before .before .loop .inv in let u = round _ k (c .before .before .before .before .loop-test .taken) in
+    rw (c .word-at2 .ensures .0, c .before .before .before .from-record .ensures)
+    (again _ k u (λ ns n le. seen-next (c .before .before .evaluate .result) (u .turn .child) (u .so-far ns n le)
+    (c .before .before .evaluate .ensures (u .turn .child) ns (rw (c .before .before .before .from-record .ensures) (u .turn .here)) n le)
+    (c .before .with-operand .ensures))))
     (λ c κs. tt)
-    (λ c. λ t ns h n le. let k = c .before .before .loop .inv in let e = done _ k (c .before .loop-test .left) ns n le in rw (← only (k .stands) h) (c .operate .ensures _ (seen-all e) ∙ tree-operator _ (k .tree) (c .before .before .before .before .before .before .before .before .before .before .label-at .ensures .0 ∙ k .stands .head .label) (c .before .before .before .before .before .before .before .before .if1 .left) (sym (c .before .before .before .before .before .before .before .literal-of .ensures) ∙ c .before .before .before .before .before .enum-told .given .1)))
+    (λ c. λ t ns h n le. let k = c .before .before .loop .inv in let e = done _ k (c .before .loop-test .left) ns n le in rw (← only (k .stands) h)
+    (c .operate .ensures _ (seen-all e) ∙ tree-operator _ (k .tree)
+    (c .before .before .before .before .before .before .before .before .before .before .label-at .ensures .0 ∙ k .stands .head .label)
+    (c .before .before .before .before .before .before .before .before .if1 .left)
+    (sym (c .before .before .before .before .before .before .before .literal-of .ensures) ∙
+    c .before .before .before .before .before .enum-told .given .1)))

@@ -8,4 +8,5 @@ use Rattle.evaluate.proofs.logic.truth_of.Tie as tie
 pub truth-of-spec : {M : Type 1} → statement M
 truth-of-spec =
     tie.close
-    (tie.spec (λ c. search needs) (λ c. search needs) (λ c. search needs) (λ c κs. search needs) (λ c. search needs) (λ c. search needs) (λ c. c .known .ensures ∙ truth-case (c .before .before .case .given .1)))
+    (tie.spec (λ c. search needs) (λ c. search needs) (λ c. search needs) (λ c κs. search needs) (λ c. search needs) (λ c. search needs)
+    (λ c. c .known .ensures ∙ truth-case (c .before .before .case .given .1)))

@@ -8,4 +8,12 @@ use Rattle.evaluate.proofs.operands.no_operands.Tie as tie
 pub no-operands-spec : {M : Type 1} → statement M
 unfolding any
 no-operands-spec =
-    tie.close (tie.spec (λ c κs. search needs) (λ c κs. search needs) (λ c κs. search needs) (λ c. record { count = refl; first = c .before .before .nothing .ensures; second = c .before .nothing2 .ensures; third = c .nothing3 .ensures; equal = refl }))
+    tie.close (tie.spec (λ c κs. search needs) (λ c κs. search needs) (λ c κs. search needs)
+    (λ c. record {
+      count = refl;
+      first = c .before .before .nothing .ensures;
+      second = c .before .nothing2 .ensures;
+      third =
+          c .nothing3 .ensures;
+      equal = refl;
+    }))

@@ -77,47 +77,106 @@ pub +seek-field+seek-parts-spec : {M : Type 1} → statement M
     (λ c κs. let p = c .before .before .before .before .pre .1 in let y = c .before .before .find-maker .ensures (p .forest) (p .linked) in
     whole (record { forest = y .forest; linked = y .linked }) (c .before .if1 .left) (c .from-record .ensures))
     (λ c κs. tt)
-    (λ c κs. let p = c .before .before .before .before .before .before .before .pre .1 in let y = c .before .before .before .before .before .find-maker .ensures (p .forest) (p .linked) in
-    let w = step (y .forest) (y .linked) (c .before .before .before .before .if1 .left) (c .before .before .before .from-record .ensures) (c .before .before .look .ensures) in (omega (arith, w .down, y .less), record { forest = w .below; linked = w .first }))
+    (λ c κs. let p = c .before .before .before .before .before .before .before .pre .1 in let y =
+    c .before .before .before .before .before .find-maker .ensures (p .forest) (p .linked) in
+    let w = step (y .forest) (y .linked) (c .before .before .before .before .if1 .left) (c .before .before .before .from-record .ensures)
+    (c .before .before .look .ensures) in (omega (arith, w .down, y .less), record { forest = w .below; linked = w .first }))
     (λ c f h. let y = c .before .before .before .before .before .before .find-maker .ensures f h in
-    let w = step (y .forest) (y .linked) (c .before .before .before .before .before .if1 .left) (c .before .before .before .before .from-record .ensures) (c .before .before .before .look .ensures) in
+    let w = step (y .forest) (y .linked) (c .before .before .before .before .before .if1 .left)
+    (c .before .before .before .before .from-record .ensures) (c .before .before .before .look .ensures) in
     c .seek-parts .ensures (w .below) (w .first) ∙ by-parts w _ (c .before .before .role-of .ensures) _ _ _ _ (c .before .if2 .taken)
     ∙ y .same _ _)
     (λ c κs. tt)
     (λ c κs. tt)
-    (λ c κs. let p = c .before .before .before .before .before .before .before .before .before .pre .1 in let y = c .before .before .before .before .before .before .before .find-maker .ensures (p .forest) (p .linked) in
-    let w = step (y .forest) (y .linked) (c .before .before .before .before .before .before .if1 .left) (c .before .before .before .before .before .from-record .ensures) (c .before .before .before .before .look .ensures) in (omega (arith, w .down, y .less), record { forest = w .below; linked = w .first }))
+    (λ c κs. let p = c .before .before .before .before .before .before .before .before .before .pre .1 in let y =
+    c .before .before .before .before .before .before .before .find-maker .ensures (p .forest) (p .linked) in
+    let w = step (y .forest) (y .linked) (c .before .before .before .before .before .before .if1 .left)
+    (c .before .before .before .before .before .from-record .ensures) (c .before .before .before .before .look .ensures) in
+    (omega (arith, w .down, y .less), record { forest = w .below; linked = w .first }))
     (λ c. search needs)
     (λ c. search needs)
     (λ c. search needs)
-    (λ c κs. let p = c .before .before .before .before .before .before .before .before .before .before .before .before .before .before .before .pre .1 in let y = c .before .before .before .before .before .before .before .before .before .before .before .before .before .find-maker .ensures (p .forest) (p .linked) in
-    let w = step (y .forest) (y .linked) (c .before .before .before .before .before .before .before .before .before .before .before .before .if1 .left) (c .before .before .before .before .before .before .before .before .before .before .before .from-record .ensures) (c .before .before .before .before .before .before .before .before .before .before .look .ensures) in (omega (arith, w .down, y .less), record { forest = w .below; linked = w .first }))
-    (λ c f h. let y = c .before .before .before .before .before .before .before .before .before .before .before .before .before .before .find-maker .ensures f h in
-    let w = step (y .forest) (y .linked) (c .before .before .before .before .before .before .before .before .before .before .before .before .before .if1 .left) (c .before .before .before .before .before .before .before .before .before .before .before .before .from-record .ensures) (c .before .before .before .before .before .before .before .before .before .before .before .look .ensures) in
+    (λ c κs. let p = c .before .before .before .before .before .before .before .before .before .before .before .before .before .before
+    .before .pre .1 in let y = c .before .before .before .before .before .before .before .before .before .before .before .before
+    .before .find-maker .ensures (p .forest) (p .linked) in
+    let w = step (y .forest) (y .linked) (c .before .before .before .before .before .before .before .before .before .before .before
+    .before .if1 .left) (c .before .before .before .before .before .before .before .before .before .before .before .from-record .ensures)
+    (c .before .before .before .before .before .before .before .before .before .before .look .ensures) in
+    (omega (arith, w .down, y .less), record { forest = w .below; linked = w .first }))
+    (λ c f h. let y = c .before .before .before .before .before .before .before .before .before .before .before .before .before
+    .before .find-maker .ensures f h in
+    let w = step (y .forest) (y .linked) (c .before .before .before .before .before .before .before .before .before .before .before .before
+    .before .if1 .left) (c .before .before .before .before .before .before .before .before .before .before .before .before .from-record .ensures)
+    (c .before .before .before .before .before .before .before .before .before .before .before .look .ensures) in
     c .seek-field2 .ensures (w .below) (w .first)
-    ∙ on-right w _ (c .before .before .before .before .before .before .before .before .before .before .role-of .ensures) _ _ _ _ (sym (c .before .before .before .before .under3 .given .1) ∙ (rw (c .before .before .before .before .before .before .before .question .ensures, c .before .before .before .before .before .before .before .before .own-input .ensures) at (c .before .before .before .before .before .before .seek-field .ensures (w .below) (w .first)))) (c .before .if3 .taken)
+    ∙ on-right w _ (c .before .before .before .before .before .before .before .before .before .before .role-of .ensures) _ _ _ _
+    (sym (c .before .before .before .before .under3 .given .1) ∙
+    (rw (
+      c .before .before .before .before .before .before .before .question .ensures,
+      c .before .before .before .before .before .before .before .before .own-input .ensures,
+    ) at
+    (c .before .before .before .before .before .before .seek-field .ensures (w .below) (w .first)))) (c .before .if3 .taken)
     ∙ y .same _ _)
-    (λ c κs. let p = c .before .before .before .before .before .before .before .before .before .before .before .before .before .before .before .before .pre .1 in let y = c .before .before .before .before .before .before .before .before .before .before .before .before .before .before .find-maker .ensures (p .forest) (p .linked) in
-    let w = step (y .forest) (y .linked) (c .before .before .before .before .before .before .before .before .before .before .before .before .before .if1 .left) (c .before .before .before .before .before .before .before .before .before .before .before .before .from-record .ensures) (c .before .before .before .before .before .before .before .before .before .before .before .look .ensures) in (omega (arith, w .down, y .less), record { forest = w .below; linked = w .first }))
-    (λ c f h. let y = c .before .before .before .before .before .before .before .before .before .before .before .before .before .before .before .find-maker .ensures f h in
-    let w = step (y .forest) (y .linked) (c .before .before .before .before .before .before .before .before .before .before .before .before .before .before .if1 .left) (c .before .before .before .before .before .before .before .before .before .before .before .before .before .from-record .ensures) (c .before .before .before .before .before .before .before .before .before .before .before .before .look .ensures) in
+    (λ c κs. let p = c .before .before .before .before .before .before .before .before .before .before .before .before .before .before .before
+    .before .pre .1 in let y = c .before .before .before .before .before .before .before .before .before .before .before .before .before
+    .before .find-maker .ensures (p .forest) (p .linked) in
+    let w = step (y .forest) (y .linked) (c .before .before .before .before .before .before .before .before .before .before .before .before
+    .before .if1 .left) (c .before .before .before .before .before .before .before .before .before .before .before .before .from-record .ensures)
+    (c .before .before .before .before .before .before .before .before .before .before .before .look .ensures) in
+    (omega (arith, w .down, y .less), record { forest = w .below; linked = w .first }))
+    (λ c f h. let y = c .before .before .before .before .before .before .before .before .before .before .before .before .before .before
+    .before .find-maker .ensures f h in
+    let w = step (y .forest) (y .linked) (c .before .before .before .before .before .before .before .before .before .before .before .before .before
+    .before .if1 .left) (c .before .before .before .before .before .before .before .before .before .before .before .before
+    .before .from-record .ensures) (c .before .before .before .before .before .before .before .before .before .before .before
+    .before .look .ensures) in
     c .seek-parts2 .ensures (w .below) (w .first)
-    ∙ on-parts w _ (c .before .before .before .before .before .before .before .before .before .before .before .role-of .ensures) _ _ _ _ (sym (c .before .before .before .before .before .under3 .given .1) ∙ (rw (c .before .before .before .before .before .before .before .before .question .ensures, c .before .before .before .before .before .before .before .before .before .own-input .ensures) at (c .before .before .before .before .before .before .before .seek-field .ensures (w .below) (w .first)))) (c .before .if4 .taken)
+    ∙ on-parts w _ (c .before .before .before .before .before .before .before .before .before .before .before .role-of .ensures) _ _ _ _
+    (sym (c .before .before .before .before .before .under3 .given .1) ∙
+    (rw (
+      c .before .before .before .before .before .before .before .before .question .ensures,
+      c .before .before .before .before .before .before .before .before .before .own-input .ensures,
+    ) at
+    (c .before .before .before .before .before .before .before .seek-field .ensures (w .below) (w .first)))) (c .before .if4 .taken)
     ∙ y .same _ _)
     (λ c f h. let y = c .before .before .before .before .before .before .before .before .before .before .before .find-maker .ensures f h in
-    let w = step (y .forest) (y .linked) (c .before .before .before .before .before .before .before .before .before .before .if1 .left) (c .before .before .before .before .before .before .before .before .before .from-record .ensures) (c .before .before .before .before .before .before .before .before .look .ensures) in
-    by-stop w _ (c .before .before .before .before .before .before .before .role-of .ensures) _ _ _ _ (is-plan w (c .before .before .before .before .before .before .before .role-of .ensures) (y .begins)) (c .before .before .before .before .before .before .if2 .left) _
-    (sym (c .before .under .given .1) ∙ (rw (c .before .before .before .before .question .ensures, c .before .before .before .before .before .own-input .ensures) at (c .before .before .before .seek-field .ensures (w .below) (w .first)))) (λ g. refl)
+    let w = step (y .forest) (y .linked) (c .before .before .before .before .before .before .before .before .before .before .if1 .left)
+    (c .before .before .before .before .before .before .before .before .before .from-record .ensures)
+    (c .before .before .before .before .before .before .before .before .look .ensures) in
+    by-stop w _ (c .before .before .before .before .before .before .before .role-of .ensures) _ _ _ _
+    (is-plan w (c .before .before .before .before .before .before .before .role-of .ensures) (y .begins))
+    (c .before .before .before .before .before .before .if2 .left) _
+    (sym (c .before .under .given .1) ∙ (rw (
+      c .before .before .before .before .question .ensures,
+      c .before .before .before .before .before .own-input .ensures,
+    ) at (c .before .before .before .seek-field .ensures (w .below) (w .first))))
+    (λ g. refl)
     ∙ y .same _ _)
     (λ c f h. let y = c .before .before .before .before .before .before .before .before .before .before .before .find-maker .ensures f h in
-    let w = step (y .forest) (y .linked) (c .before .before .before .before .before .before .before .before .before .before .if1 .left) (c .before .before .before .before .before .before .before .before .before .from-record .ensures) (c .before .before .before .before .before .before .before .before .look .ensures) in
-    by-stop w _ (c .before .before .before .before .before .before .before .role-of .ensures) _ _ _ _ (is-plan w (c .before .before .before .before .before .before .before .role-of .ensures) (y .begins)) (c .before .before .before .before .before .before .if2 .left) _
-    (sym (c .before .under2 .given .1) ∙ (rw (c .before .before .before .before .question .ensures, c .before .before .before .before .before .own-input .ensures) at (c .before .before .before .seek-field .ensures (w .below) (w .first)))) (λ g. refl)
+    let w = step (y .forest) (y .linked) (c .before .before .before .before .before .before .before .before .before .before .if1 .left)
+    (c .before .before .before .before .before .before .before .before .before .from-record .ensures)
+    (c .before .before .before .before .before .before .before .before .look .ensures) in
+    by-stop w _ (c .before .before .before .before .before .before .before .role-of .ensures) _ _ _ _
+    (is-plan w (c .before .before .before .before .before .before .before .role-of .ensures) (y .begins))
+    (c .before .before .before .before .before .before .if2 .left) _
+    (sym (c .before .under2 .given .1) ∙ (rw
+    (c .before .before .before .before .question .ensures, c .before .before .before .before .before .own-input .ensures) at
+    (c .before .before .before .seek-field .ensures (w .below) (w .first)))) (λ g. refl)
     ∙ y .same _ _)
-    (λ c f h. let y = c .before .before .before .before .before .before .before .before .before .before .before .before .before .before .find-maker .ensures f h in
-    let w = step (y .forest) (y .linked) (c .before .before .before .before .before .before .before .before .before .before .before .before .before .if1 .left) (c .before .before .before .before .before .before .before .before .before .before .before .before .from-record .ensures) (c .before .before .before .before .before .before .before .before .before .before .before .look .ensures) in
-    sym (c .before .before .before .before .under3 .given .1) ∙ (rw (c .before .before .before .before .before .before .before .question .ensures, c .before .before .before .before .before .before .before .before .own-input .ensures) at (c .before .before .before .before .before .before .seek-field .ensures (w .below) (w .first)))
-    ∙ by-asked w _ (c .before .before .before .before .before .before .before .before .before .before .role-of .ensures) _ _ _ _ (is-plan w (c .before .before .before .before .before .before .before .before .before .before .role-of .ensures) (y .begins)) (c .before .before .before .before .before .before .before .before .before .if2 .left) (c .before .if3 .left) (c .if4 .left)
+    (λ c f h. let y = c .before .before .before .before .before .before .before .before .before .before .before .before .before
+    .before .find-maker .ensures f h in
+    let w = step (y .forest) (y .linked) (c .before .before .before .before .before .before .before .before .before .before .before .before
+    .before .if1 .left) (c .before .before .before .before .before .before .before .before .before .before .before .before .from-record .ensures)
+    (c .before .before .before .before .before .before .before .before .before .before .before .look .ensures) in
+    sym (c .before .before .before .before .under3 .given .1) ∙
+    (rw (
+      c .before .before .before .before .before .before .before .question .ensures,
+      c .before .before .before .before .before .before .before .before .own-input .ensures,
+    ) at
+    (c .before .before .before .before .before .before .seek-field .ensures (w .below) (w .first)))
+    ∙ by-asked w _ (c .before .before .before .before .before .before .before .before .before .before .role-of .ensures) _ _ _ _
+    (is-plan w (c .before .before .before .before .before .before .before .before .before .before .role-of .ensures) (y .begins))
+    (c .before .before .before .before .before .before .before .before .before .if2 .left) (c .before .if3 .left) (c .if4 .left)
     ∙ y .same _ _))
     λ t. seek-parts-lts.spec (
       seek-made-reads.Asked,
@@ -137,5 +196,7 @@ pub +seek-field+seek-parts-spec : {M : Type 1} → statement M
     (λ c κs. tt)
     (λ c. search needs)
     (λ c f h. ap (told _) (sym (c .before .made .given .1)) ∙ c .before .before .before .seek-made .ensures f _ h)
-    (λ c f h. named-some _ f (c .before .before .before .before .made2 .given .1) (c .before .before .before .before .before .before .seek-made .ensures f _ h) (c .before .before .if1 .left) (c .type-found .ensures) (c .before .seek-field .ensures f h))
+    (λ c f h. named-some _ f (c .before .before .before .before .made2 .given .1)
+    (c .before .before .before .before .before .before .seek-made .ensures f _ h) (c .before .before .if1 .left) (c .type-found .ensures)
+    (c .before .seek-field .ensures f h))
     (λ c f h. ap (told _) (sym (c .before .made3 .given .1)) ∙ c .before .before .before .seek-made .ensures f _ h)

@@ -32,20 +32,30 @@ find-maker-spec =
     (λ c f h. c .before .before .before .before .before .before .loop .inv f h)
     (λ c κs. search needs)
     (λ c κs. search needs)
-    (λ c κs. let p = c .before .before .before .before .before .before .before .before .before .before .before .pre in let y = c .before .before .before .before .before .before .before .before .loop .inv (p .forest) (p .linked) in
-    let w = step (y .forest) (y .linked) (c .before .before .before .before .before .before .before .loop-test .taken) (c .before .before .before .before .before .before .from-record .ensures) (c .before .before .before .before .before .look .ensures) in
+    (λ c κs. let p = c .before .before .before .before .before .before .before .before .before .before .before .pre in let y =
+    c .before .before .before .before .before .before .before .before .loop .inv (p .forest) (p .linked) in
+    let w = step (y .forest) (y .linked) (c .before .before .before .before .before .before .before .loop-test .taken)
+    (c .before .before .before .before .before .before .from-record .ensures) (c .before .before .before .before .before .look .ensures) in
     record { forest = w .below; linked = within-first w (c .before .before .before .before .before .before .from-record .ensures) })
-    (λ c. let p = c .before .before .before .before .before .before .before .before .before .before .before .before .pre in let y = c .before .before .before .before .before .before .before .before .before .loop .inv (p .forest) (p .linked) in
-    let w = step (y .forest) (y .linked) (c .before .before .before .before .before .before .before .before .loop-test .taken) (c .before .before .before .before .before .before .before .from-record .ensures) (c .before .before .before .before .before .before .look .ensures) in
+    (λ c. let p = c .before .before .before .before .before .before .before .before .before .before .before .before .pre in let y =
+    c .before .before .before .before .before .before .before .before .before .loop .inv (p .forest) (p .linked) in
+    let w = step (y .forest) (y .linked) (c .before .before .before .before .before .before .before .before .loop-test .taken)
+    (c .before .before .before .before .before .before .before .from-record .ensures)
+    (c .before .before .before .before .before .before .look .ensures) in
     omega (
       arith,
       c .plan-at2 .ensures (w .below) (within-first w (c .before .before .before .before .before .before .before .from-record .ensures)) .less,
-      less-first w (c .before .before .before .before .before .before .before .from-record .ensures) (y .linked) (c .before .before .before .before .before .before .before .before .loop-test .taken),
+      less-first w (c .before .before .before .before .before .before .before .from-record .ensures) (y .linked)
+          (c .before .before .before .before .before .before .before .before .loop-test .taken),
     ))
     (λ c f h. let y = c .before .before .before .before .before .before .before .before .before .loop .inv f h in
-    let w = step (y .forest) (y .linked) (c .before .before .before .before .before .before .before .before .loop-test .taken) (c .before .before .before .before .before .before .before .from-record .ensures) (c .before .before .before .before .before .before .look .ensures) in
+    let w = step (y .forest) (y .linked) (c .before .before .before .before .before .before .before .before .loop-test .taken)
+    (c .before .before .before .before .before .before .before .from-record .ensures)
+    (c .before .before .before .before .before .before .look .ensures) in
     let n = passes-on _ (c .before .before .before .before .before .before .look .result .p) (c .before .before .before .if1 .left) in
-    makes-step y w _ (c .before .before .before .before .before .role-of .ensures) (n .0) (n .1) (n .2) (c .before .before .question .ensures) (c .before .own-input .ensures)
+    makes-step y w _ (c .before .before .before .before .before .role-of .ensures) (n .0) (n .1) (n .2) (c .before .before .question .ensures)
+    (c .before .own-input .ensures)
     (c .plan-at2 .ensures (w .below) (within-first w (c .before .before .before .before .before .before .before .from-record .ensures)))
-    (less-first w (c .before .before .before .before .before .before .before .from-record .ensures) (y .linked) (c .before .before .before .before .before .before .before .before .loop-test .taken)))
+    (less-first w (c .before .before .before .before .before .before .before .from-record .ensures) (y .linked)
+    (c .before .before .before .before .before .before .before .before .loop-test .taken)))
     (λ c f h. makes-end (c .before .loop .inv f h) (c .loop-test .left)))

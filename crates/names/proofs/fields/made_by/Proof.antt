@@ -11,9 +11,11 @@ made-by-spec =
     tie.close
     (tie.spec
     (λ c l cs d k r h m. ap Known (of-field l cs d (c .before .before .before .args .v) k r (c .if1 .taken)))
-    (λ c l cs d k r h m. ap Known (of-no-entry l cs d (c .before .before .before .before .before .before .before .args .v) k _ _ h (c .before .before .if2 .taken) (c .if3 .taken)))
+    (λ c l cs d k r h m. ap Known (of-no-entry l cs d (c .before .before .before .before .before .before .before .args .v) k _ _ h
+    (c .before .before .if2 .taken) (c .if3 .taken)))
     (λ c κs. within (c .before .before .before .before .before .before .before .pre) (c .if3 .left))
     (λ c κs. whole (c .before .before .before .before .before .before .before .before .pre) (c .before .if3 .left) (c .from-record .ensures))
     (λ c l cs d k r h m. c .source-of .ensures d
-    ∙ ap Known (of-an-entry l cs d (c .before .before .before .before .before .before .before .before .before .args .v) k _ _ h (c .before .before .before .before .if2 .taken) (c .before .before .if3 .left) (c .before .from-record .ensures)))
+    ∙ ap Known (of-an-entry l cs d (c .before .before .before .before .before .before .before .before .before .args .v) k _ _ h
+    (c .before .before .before .before .if2 .taken) (c .before .before .if3 .left) (c .before .from-record .ensures)))
     (λ c l cs d k r h m. ap Known (of-other l cs d (c .before .before .before .before .before .args .v) k m (c .before .before .if1 .left) (c .if2 .left))))

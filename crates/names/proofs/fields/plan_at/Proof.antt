@@ -29,7 +29,8 @@ plan-at-spec =
     (λ c κs. whole (c .before .before .loop .inv .chained) (c .before .loop-test .taken) (c .from-record .ensures))
     (λ c κs. search needs)
     (λ c f h. let i = c .before .before .before .before .before .before .loop .inv in let u = i .still f h in
-    let w = here-in i (c .before .before .before .before .before .loop-test .taken) (c .before .before .before .before .from-record .ensures) (c .before .before .before .look .ensures) f h in
+    let w = here-in i (c .before .before .before .before .before .loop-test .taken) (c .before .before .before .before .from-record .ensures)
+    (c .before .before .before .look .ensures) f h in
     record {
       forest = u .rest;
       linked = u .linked;
@@ -38,10 +39,14 @@ plan-at-spec =
       less = i .less;
     })
     (λ c. omega (arith, c .if2 .left))
-    (λ c. here (c .before .before .before .before .before .before .loop .inv) (c .before .before .before .before .before .loop-test .taken) (c .before .before .before .before .from-record .ensures) (c .before .before .before .look .ensures) .less)
-    (λ c. along-step (c .before .before .before .before .before .before .loop .inv) (c .before .before .before .before .before .loop-test .taken) (c .before .before .before .before .from-record .ensures) (c .before .before .before .look .ensures) _
+    (λ c. here (c .before .before .before .before .before .before .loop .inv) (c .before .before .before .before .before .loop-test .taken)
+    (c .before .before .before .before .from-record .ensures) (c .before .before .before .look .ensures) .less)
+    (λ c. along-step (c .before .before .before .before .before .before .loop .inv) (c .before .before .before .before .before .loop-test .taken)
+    (c .before .before .before .before .from-record .ensures) (c .before .before .before .look .ensures) _
     (λ f g w e. e ∙ skip-plan w _ (c .before .before .role-of .ensures) (c .before .if1 .taken) _ (c .if2 .left)))
-    (λ c. here (c .before .before .before .before .before .loop .inv) (c .before .before .before .before .loop-test .taken) (c .before .before .before .from-record .ensures) (c .before .before .look .ensures) .less)
-    (λ c. along-step (c .before .before .before .before .before .loop .inv) (c .before .before .before .before .loop-test .taken) (c .before .before .before .from-record .ensures) (c .before .before .look .ensures) _
+    (λ c. here (c .before .before .before .before .before .loop .inv) (c .before .before .before .before .loop-test .taken)
+    (c .before .before .before .from-record .ensures) (c .before .before .look .ensures) .less)
+    (λ c. along-step (c .before .before .before .before .before .loop .inv) (c .before .before .before .before .loop-test .taken)
+    (c .before .before .before .from-record .ensures) (c .before .before .look .ensures) _
     (λ f g w e. e ∙ ap (drop (c .before .before .before .before .before .loop .left)) (skip-part w _ (c .before .role-of .ensures) (c .if1 .left))))
     (λ c f h. plan-none _ (c .before .loop .left) (along-end (c .before .loop .inv) (c .loop-test .left) f h)))

@@ -74,61 +74,133 @@ pub +bad-name-spec : {M : Type 1} → statement M
     (λ c κs. let p = c .before .before .before .before .before .before .pre .1 .0 in
     let w = step (p .forest) (p .linked) (c .before .before .before .if1 .left) (c .before .before .from-record .ensures) (c .before .look .ensures) in
     (record { forest = w .below; linked = w .first }, c .before .before .before .before .before .before .pre .1 .1, c .role-of .ensures))
-    (λ c f e h g k. let w = step f h (c .before .before .before .before .before .if1 .left) (c .before .before .before .before .from-record .ensures) (c .before .before .before .look .ensures) in let here = scopeOf (c .before .before .before .before .before .before .before .before .args .here) e in let after = scopeOf (c .before .before .before .before .before .before .before .before .args .after) e in
+    (λ c f e h g k. let w = step f h (c .before .before .before .before .before .if1 .left) (c .before .before .before .before .from-record .ensures)
+    (c .before .before .before .look .ensures) in let here = scopeOf
+    (c .before .before .before .before .before .before .before .before .args .here) e in let after = scopeOf
+    (c .before .before .before .before .before .before .before .before .args .after) e in
     place-here nameOk hand here after w
     (sym (c .before .name-ok .ensures (w .label) (w .below) e (w .kind) (w .p) (w .q) (w .first) g (sound-first w _ k)) ∙ not-true _ (c .if2 .taken)))
     (λ c κs. tt)
     (λ c κs. tt)
     (λ c κs. let p = c .before .before .before .before .before .before .before .before .before .before .before .pre .1 .0 in
-    let w = step (p .forest) (p .linked) (c .before .before .before .before .before .before .before .before .if1 .left) (c .before .before .before .before .before .before .before .from-record .ensures) (c .before .before .before .before .before .before .look .ensures) in
-    (omega (arith, w .down), (record { forest = w .below; linked = w .first }, c .before .before .before .before .before .before .before .before .before .before .before .pre .1 .1)))
+    let w = step (p .forest) (p .linked) (c .before .before .before .before .before .before .before .before .if1 .left)
+    (c .before .before .before .before .before .before .before .from-record .ensures)
+    (c .before .before .before .before .before .before .look .ensures) in (
+      omega (arith, w .down),
+      (
+        record { forest = w .below; linked = w .first },
+        c .before .before .before .before .before .before .before .before .before .before .before .pre .1 .1,
+      ),
+    ))
     (λ c. search needs)
     (λ c. search needs)
     (λ c κs. let p = c .before .before .before .before .before .before .before .before .before .before .before .before .before .before .pre .1 .0 in
-    let w = step (p .forest) (p .linked) (c .before .before .before .before .before .before .before .before .before .before .before .if1 .left) (c .before .before .before .before .before .before .before .before .before .before .from-record .ensures) (c .before .before .before .before .before .before .before .before .before .look .ensures) in (omega (arith, w .less), (record { forest = w .after; linked = w .next }, c .before .before .before .before .before .before .before .before .before .before .before .before .before .before .pre .1 .1)))
+    let w = step (p .forest) (p .linked) (c .before .before .before .before .before .before .before .before .before .before .before .if1 .left)
+    (c .before .before .before .before .before .before .before .before .before .before .from-record .ensures)
+    (c .before .before .before .before .before .before .before .before .before .look .ensures) in (
+      omega (arith, w .less),
+      (
+        record { forest = w .after; linked = w .next },
+        c .before .before .before .before .before .before .before .before .before .before .before .before .before .before .pre .1 .1,
+      ),
+    ))
     (λ c κs. tt)
     (λ c κs. tt)
     (λ c κs. let p = c .before .before .before .before .before .before .before .before .before .before .before .pre .1 .0 in
-    let w = step (p .forest) (p .linked) (c .before .before .before .before .before .before .before .before .if1 .left) (c .before .before .before .before .before .before .before .from-record .ensures) (c .before .before .before .before .before .before .look .ensures) in
+    let w = step (p .forest) (p .linked) (c .before .before .before .before .before .before .before .before .if1 .left)
+    (c .before .before .before .before .before .before .before .from-record .ensures)
+    (c .before .before .before .before .before .before .look .ensures) in
     (omega (arith, w .down), (record { forest = w .below; linked = w .first }, record { forest = w .below; linked = w .first })))
     (λ c. search needs)
     (λ c. search needs)
     (λ c κs. tt)
     (λ c κs. let p = c .before .before .before .before .before .before .before .before .before .before .before .before .before .before .before .pre .1 .0 in
-    let w = step (p .forest) (p .linked) (c .before .before .before .before .before .before .before .before .before .before .before .before .if1 .left) (c .before .before .before .before .before .before .before .before .before .before .before .from-record .ensures) (c .before .before .before .before .before .before .before .before .before .before .look .ensures) in (omega (arith, w .less), (record { forest = w .after; linked = w .next }, c .before .before .before .before .before .before .before .before .before .before .before .before .before .before .before .pre .1 .1)))
-    (λ c f e h g k. let w = step f h (c .before .before .before .before .before .before .before .before .before .before .before .before .if1 .left) (c .before .before .before .before .before .before .before .before .before .before .before .from-record .ensures) (c .before .before .before .before .before .before .before .before .before .before .look .ensures) in let here = scopeOf (c .before .before .before .before .before .before .before .before .before .before .before .before .before .before .before .args .here) e in let after = scopeOf (c .before .before .before .before .before .before .before .before .before .before .before .before .before .before .before .args .after) e in
+    let w = step (p .forest) (p .linked) (c .before .before .before .before .before .before .before .before .before .before .before
+    .before .if1 .left) (c .before .before .before .before .before .before .before .before .before .before .before .from-record .ensures)
+    (c .before .before .before .before .before .before .before .before .before .before .look .ensures) in (
+      omega (arith, w .less),
+      (
+        record { forest = w .after; linked = w .next },
+        c .before .before .before .before .before .before .before .before .before .before .before .before .before .before .before .pre .1 .1,
+      ),
+    ))
+    (λ c f e h g k. let w = step f h (c .before .before .before .before .before .before .before .before .before .before .before .before .if1 .left)
+    (c .before .before .before .before .before .before .before .before .before .before .before .from-record .ensures)
+    (c .before .before .before .before .before .before .before .before .before .before .look .ensures) in let here = scopeOf
+    (c .before .before .before .before .before .before .before .before .before .before .before .before .before .before .before .args .here) e in
+    let after = scopeOf (c .before .before .before .before .before .before .before .before .before .before .before .before .before .before
+    .before .args .after) e in
     let ok : nameOk here (w .label) (w .below) ≡ true =
-    sym (c .before .before .before .before .before .before .before .before .name-ok .ensures (w .label) (w .below) e (w .kind) (w .p) (w .q) (w .first) g (sound-first w _ k))
+    sym (c .before .before .before .before .before .before .before .before .name-ok .ensures (w .label) (w .below) e (w .kind) (w .p) (w .q)
+    (w .first) g (sound-first w _ k))
     ∙ not-false _ (c .before .before .before .before .before .before .before .if2 .left) in
-    place-below nameOk hand here after w _ _ (hand-part w (c .before .before .before .before .before .before .before .before .before .before .before .before .before .before .before .args .here) e
-    (sort-of-part (whatOf (c .before .before .before .before .before .before .before .before .before .before .look .result .kind)) (sym (c .before .before .before .before .before .before .before .before .before .role-of .ensures) ∙ c .before .before .before .before .before .before .if3 .taken)) refl
+    place-below nameOk hand here after w _ _
+    (hand-part w (c .before .before .before .before .before .before .before .before .before .before .before .before .before .before .before .args .here) e
+    (sort-of-part (whatOf (c .before .before .before .before .before .before .before .before .before .before .look .result .kind))
+    (sym (c .before .before .before .before .before .before .before .before .before .role-of .ensures) ∙
+    c .before .before .before .before .before .before .if3 .taken)) refl
     (c .before .before .before .before .before .first-sort .ensures) (c .before .before .before .before .rest-sort .ensures))
     _ ok (sym (c .before .below .given .1) ∙ c .before .before .before .bad-name .ensures (w .below) e (w .first) g (λ i l. absurd (omega arith))))
-    (λ c f e h g k. let w = step f h (c .before .before .before .before .before .before .before .before .before .before .before .before .if1 .left) (c .before .before .before .before .before .before .before .before .before .before .before .from-record .ensures) (c .before .before .before .before .before .before .before .before .before .before .look .ensures) in let here = scopeOf (c .before .before .before .before .before .before .before .before .before .before .before .before .before .before .before .args .here) e in let after = scopeOf (c .before .before .before .before .before .before .before .before .before .before .before .before .before .before .before .args .after) e in
+    (λ c f e h g k. let w = step f h (c .before .before .before .before .before .before .before .before .before .before .before .before .if1 .left)
+    (c .before .before .before .before .before .before .before .before .before .before .before .from-record .ensures)
+    (c .before .before .before .before .before .before .before .before .before .before .look .ensures) in let here = scopeOf
+    (c .before .before .before .before .before .before .before .before .before .before .before .before .before .before .before .args .here) e in
+    let after = scopeOf (c .before .before .before .before .before .before .before .before .before .before .before .before .before .before
+    .before .args .after) e in
     let ok : nameOk here (w .label) (w .below) ≡ true =
-    sym (c .before .before .before .before .before .before .before .before .name-ok .ensures (w .label) (w .below) e (w .kind) (w .p) (w .q) (w .first) g (sound-first w _ k))
+    sym (c .before .before .before .before .before .before .before .before .name-ok .ensures (w .label) (w .below) e (w .kind) (w .p) (w .q)
+    (w .first) g (sound-first w _ k))
     ∙ not-false _ (c .before .before .before .before .before .before .before .if2 .left) in
-    c .bad-name2 .ensures (w .after) e (w .next) g (sound-rest w _ (c .before .before .before .before .before .before .before .before .before .role-of .ensures) _ k (c .before .before .before .before .before .before .if3 .taken))
-    ∙ place-after nameOk hand here after w _ _ (hand-part w (c .before .before .before .before .before .before .before .before .before .before .before .before .before .before .before .args .here) e
-    (sort-of-part (whatOf (c .before .before .before .before .before .before .before .before .before .before .look .result .kind)) (sym (c .before .before .before .before .before .before .before .before .before .role-of .ensures) ∙ c .before .before .before .before .before .before .if3 .taken)) refl
+    c .bad-name2 .ensures (w .after) e (w .next) g
+    (sound-rest w _ (c .before .before .before .before .before .before .before .before .before .role-of .ensures) _ k
+    (c .before .before .before .before .before .before .if3 .taken))
+    ∙ place-after nameOk hand here after w _ _
+    (hand-part w (c .before .before .before .before .before .before .before .before .before .before .before .before .before .before .before .args .here) e
+    (sort-of-part (whatOf (c .before .before .before .before .before .before .before .before .before .before .look .result .kind))
+    (sym (c .before .before .before .before .before .before .before .before .before .role-of .ensures) ∙
+    c .before .before .before .before .before .before .if3 .taken)) refl
     (c .before .before .before .before .before .first-sort .ensures) (c .before .before .before .before .rest-sort .ensures))
     ok (sym (c .before .enum-told .given .1) ∙ c .before .before .before .bad-name .ensures (w .below) e (w .first) g (λ i l. absurd (omega arith))))
-    (λ c f e h g k. let w = step f h (c .before .before .before .before .before .before .before .before .before .before .before .before .if1 .left) (c .before .before .before .before .before .before .before .before .before .before .before .from-record .ensures) (c .before .before .before .before .before .before .before .before .before .before .look .ensures) in let here = scopeOf (c .before .before .before .before .before .before .before .before .before .before .before .before .before .before .before .args .here) e in let after = scopeOf (c .before .before .before .before .before .before .before .before .before .before .before .before .before .before .before .args .after) e in
+    (λ c f e h g k. let w = step f h (c .before .before .before .before .before .before .before .before .before .before .before .before .if1 .left)
+    (c .before .before .before .before .before .before .before .before .before .before .before .from-record .ensures)
+    (c .before .before .before .before .before .before .before .before .before .before .look .ensures) in let here = scopeOf
+    (c .before .before .before .before .before .before .before .before .before .before .before .before .before .before .before .args .here) e in
+    let after = scopeOf (c .before .before .before .before .before .before .before .before .before .before .before .before .before .before
+    .before .args .after) e in
     let ok : nameOk here (w .label) (w .below) ≡ true =
-    sym (c .before .before .before .before .before .before .before .before .name-ok .ensures (w .label) (w .below) e (w .kind) (w .p) (w .q) (w .first) g (sound-first w _ k))
+    sym (c .before .before .before .before .before .before .before .before .name-ok .ensures (w .label) (w .below) e (w .kind) (w .p) (w .q)
+    (w .first) g (sound-first w _ k))
     ∙ not-false _ (c .before .before .before .before .before .before .before .if2 .left) in
     place-below nameOk hand here after w _ _ (hand-plan w here _ (c .before .before .before .before .before .sort-of .ensures)
     (λ x. c .before .before .before .before .before .before .if3 .left
-    (c .before .before .before .before .before .before .before .before .before .role-of .ensures ∙ sort-of-plan (whatOf (c .before .before .before .before .before .before .before .before .before .before .look .result .kind)) (sym (c .before .before .before .before .before .sort-of .ensures) ∙ x))))
-    _ ok (sym (c .before .under .given .1) ∙ c .before .before .before .bad-name3 .ensures (w .below) (w .below) (w .first) (w .first) (sound-below here (w .label) (w .below) _ (c .before .before .before .before .before .before .before .before .before .role-of .ensures ∙ ap (λ (n : ℕ). role (whatOf n)) (w .kind))
+    (c .before .before .before .before .before .before .before .before .before .role-of .ensures ∙ sort-of-plan
+    (whatOf (c .before .before .before .before .before .before .before .before .before .before .look .result .kind))
+    (sym (c .before .before .before .before .before .sort-of .ensures) ∙ x))))
+    _ ok (sym (c .before .under .given .1) ∙ c .before .before .before .bad-name3 .ensures (w .below) (w .below) (w .first) (w .first)
+    (sound-below here (w .label) (w .below) _
+    (c .before .before .before .before .before .before .before .before .before .role-of .ensures ∙ ap (λ (n : ℕ). role (whatOf n)) (w .kind))
     (c .before .before .before .before .before .before .if3 .left) (c .before .before .before .before .known-inputs .ensures) ok)))
-    (λ c f e h g k. let w = step f h (c .before .before .before .before .before .before .before .before .before .before .before .before .before .if1 .left) (c .before .before .before .before .before .before .before .before .before .before .before .before .from-record .ensures) (c .before .before .before .before .before .before .before .before .before .before .before .look .ensures) in let here = scopeOf (c .before .before .before .before .before .before .before .before .before .before .before .before .before .before .before .before .args .here) e in let after = scopeOf (c .before .before .before .before .before .before .before .before .before .before .before .before .before .before .before .before .args .after) e in
+    (λ c f e h g k. let w = step f h (c .before .before .before .before .before .before .before .before .before .before .before .before
+    .before .if1 .left) (c .before .before .before .before .before .before .before .before .before .before .before .before .from-record .ensures)
+    (c .before .before .before .before .before .before .before .before .before .before .before .look .ensures) in let here = scopeOf
+    (c .before .before .before .before .before .before .before .before .before .before .before .before .before .before .before
+    .before .args .here) e in let after = scopeOf
+    (c .before .before .before .before .before .before .before .before .before .before .before .before .before .before .before
+    .before .args .after) e in
     let ok : nameOk here (w .label) (w .below) ≡ true =
-    sym (c .before .before .before .before .before .before .before .before .before .name-ok .ensures (w .label) (w .below) e (w .kind) (w .p) (w .q) (w .first) g (sound-first w _ k))
+    sym (c .before .before .before .before .before .before .before .before .before .name-ok .ensures (w .label) (w .below) e (w .kind) (w .p) (w .q)
+    (w .first) g (sound-first w _ k))
     ∙ not-false _ (c .before .before .before .before .before .before .before .before .if2 .left) in
-    c .bad-name4 .ensures (w .after) e (w .next) g (sound-next w _ (c .before .before .before .before .before .before .before .before .before .before .role-of .ensures) _ k (c .before .but-one .ensures) (c .before .before .before .before .before .before .before .if3 .left))
+    c .bad-name4 .ensures (w .after) e (w .next) g
+    (sound-next w _ (c .before .before .before .before .before .before .before .before .before .before .role-of .ensures) _ k
+    (c .before .but-one .ensures) (c .before .before .before .before .before .before .before .if3 .left))
     ∙ place-after nameOk hand here after w _ _ (hand-plan w here _ (c .before .before .before .before .before .before .sort-of .ensures)
     (λ x. c .before .before .before .before .before .before .before .if3 .left
-    (c .before .before .before .before .before .before .before .before .before .before .role-of .ensures ∙ sort-of-plan (whatOf (c .before .before .before .before .before .before .before .before .before .before .before .look .result .kind)) (sym (c .before .before .before .before .before .before .sort-of .ensures) ∙ x))))
-    ok (sym (c .before .before .enum-told2 .given .1) ∙ c .before .before .before .before .bad-name3 .ensures (w .below) (w .below) (w .first) (w .first) (sound-below here (w .label) (w .below) _ (c .before .before .before .before .before .before .before .before .before .before .role-of .ensures ∙ ap (λ (n : ℕ). role (whatOf n)) (w .kind))
+    (c .before .before .before .before .before .before .before .before .before .before .role-of .ensures ∙ sort-of-plan
+    (whatOf (c .before .before .before .before .before .before .before .before .before .before .before .look .result .kind))
+    (sym (c .before .before .before .before .before .before .sort-of .ensures) ∙ x))))
+    ok (sym (c .before .before .enum-told2 .given .1) ∙ c .before .before .before .before .bad-name3 .ensures (w .below) (w .below) (w .first)
+    (w .first) (sound-below here (w .label) (w .below) _
+    (c .before .before .before .before .before .before .before .before .before .before .role-of .ensures ∙ ap (λ (n : ℕ). role (whatOf n))
+    (w .kind))
     (c .before .before .before .before .before .before .before .if3 .left) (c .before .before .before .before .before .known-inputs .ensures) ok)))

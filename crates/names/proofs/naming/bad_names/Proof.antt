@@ -37,13 +37,20 @@ bad-names-spec =
     (λ c κs. search needs)
     (λ c κs. search needs)
     (λ c κs.
-    let w = rooted (c .before .before .before .before .before .before .before .pre .0) (c .before .before .before .before .before .before .before .pre .1) (c .before .before .before .before .before .look .ensures) in
-    (record { forest = c .before .before .before .before .before .before .before .pre .0 .below; linked = w .first }, record { forest = c .before .before .before .before .before .before .before .pre .0 .below; linked = w .first }))
+    let w = rooted (c .before .before .before .before .before .before .before .pre .0)
+    (c .before .before .before .before .before .before .before .pre .1) (c .before .before .before .before .before .look .ensures) in (
+      record { forest = c .before .before .before .before .before .before .before .pre .0 .below; linked = w .first },
+      record
+          { forest = c .before .before .before .before .before .before .before .pre .0 .below; linked = w .first },
+    ))
     (λ c t h.
     let w = rooted t h (c .before .before .before .before .before .before .look .ensures) in
     let ok : nameOk nothing-seen (t .label) (t .below) ≡ true =
-    sym (c .before .before .before .before .name-ok .ensures (t .label) (t .below) none (w .kind) (w .p) (w .q) (w .first) refl never) ∙ not-false _ (c .before .before .before .if1 .left) in
+    sym (c .before .before .before .before .name-ok .ensures (t .label) (t .below) none (w .kind) (w .p) (w .q) (w .first) refl never) ∙ not-false _
+    (c .before .before .before .if1 .left) in
     c .bad-name .ensures (t .below) (t .below) (w .first) (w .first)
-    (sound-root nothing-seen (t .label) (t .below) (c .before .before .before .before .before .role-of .ensures ∙ ap (λ (n : ℕ). role (whatOf n)) (w .kind)) (c .before .known-inputs .ensures) ok)
+    (sound-root nothing-seen (t .label) (t .below)
+    (c .before .before .before .before .before .role-of .ensures ∙ ap (λ (n : ℕ). role (whatOf n)) (w .kind)) (c .before .known-inputs .ensures)
+    ok)
     ∙ root-below nameOk hand nothing-seen nothing-seen t _ _ _ (w .first-number)
     (hand-root (t .label) (t .below) (c .before .before .sort-of .ensures ∙ ap (λ (n : ℕ). sortW (whatOf n)) (w .kind))) ok))

@@ -18,22 +18,28 @@ name-ok-spec =
     tie.close
     (tie.spec
     (λ c κs. search needs)
-    (λ c l cs e hk hp hq h g known. rule-held (scopeOf (c .before .before .before .before .before .args .here) e) l cs hk hp hq (c .before .if1 .taken) (c .held-in .ensures e g))
+    (λ c l cs e hk hp hq h g known. rule-held (scopeOf (c .before .before .before .before .before .args .here) e) l cs hk hp hq
+    (c .before .if1 .taken) (c .held-in .ensures e g))
     (λ c l cs e hk hp hq h g known.
     rule-other (scopeOf (c .before .before .before .before .before .args .here) e) l cs
     (sym (c .before .before .before .before .before .pre .2 ∙ ap (λ (n : ℕ). role (whatOf n)) hk) ∙ c .if2 .taken) (λ x. c .before .if1 .left (hk ∙ x)))
     (λ c κs. search needs)
     (λ c l cs e hk hp hq h g known.
-    rule-plan (scopeOf (c .before .before .before .before .before .before .before .args .here) e) l cs _ (c .before .before .before .before .before .before .before .pre .2 ∙ ap (λ (n : ℕ). role (whatOf n)) hk) (c .before .before .if2 .left)
+    rule-plan (scopeOf (c .before .before .before .before .before .before .before .args .here) e) l cs _
+    (c .before .before .before .before .before .before .before .pre .2 ∙ ap (λ (n : ℕ). role (whatOf n)) hk) (c .before .before .if2 .left)
     (λ k r. c .is-sound .ensures k l cs r h))
     (λ c κs. search needs)
     (λ c l cs e hk hp hq h g known.
     let R = c .before .before .before .before .before .before .before .before .before .pre .2 ∙ ap (λ (n : ℕ). role (whatOf n)) hk in
     let z = one-side hp (c .before .if4 .taken) in
-    rule-beside (scopeOf (c .before .before .before .before .before .before .before .before .before .args .here) e) l cs _ R (c .before .before .before .before .if2 .left) (z .0)
+    rule-beside (scopeOf (c .before .before .before .before .before .before .before .before .before .args .here) e) l cs _ R
+    (c .before .before .before .before .if2 .left) (z .0)
     (c .is-sound-beside .ensures l cs h
     (subst (λ (n : ℕ). sound (namesIn (input (own 2 n) (inputs cs))) ≡ true) (sym hp)
-    (own-sound (scopeOf (c .before .before .before .before .before .before .before .before .before .args .here) e) l cs _ R (c .before .before .before .before .if2 .left) (z .0) (z .1) (known (not-false _ (c .before .before .before .if3 .left)))))))
+    (own-sound (scopeOf (c .before .before .before .before .before .before .before .before .before .args .here) e) l cs _ R
+    (c .before .before .before .before .if2 .left) (z .0) (z .1) (known (not-false _ (c .before .before .before .if3 .left)))))))
     (λ c l cs e hk hp hq h g known.
-    rule-known (scopeOf (c .before .before .before .before .before .before .before .before .args .here) e) l cs _ (c .before .before .before .before .before .before .before .before .pre .2 ∙ ap (λ (n : ℕ). role (whatOf n)) hk) (c .before .before .before .if2 .left)
+    rule-known (scopeOf (c .before .before .before .before .before .before .before .before .args .here) e) l cs _
+    (c .before .before .before .before .before .before .before .before .pre .2 ∙ ap (λ (n : ℕ). role (whatOf n)) hk)
+    (c .before .before .before .if2 .left)
     (both-sides hp (c .if4 .left)) (known (not-false _ (c .before .before .if3 .left)))))

@@ -63,46 +63,118 @@ pub +all-held-spec : {M : Type 1} → statement M
     (λ c κs. let p = c .before .before .before .before .before .pre .1 .1 in let y = c .before .before .plan-at .ensures (p .forest) (p .linked) in
     whole (record { forest = y .forest; linked = y .linked }) (c .before .if1 .left) (c .from-record .ensures))
     (λ c κs. tt)
-    (λ c κs. let p = c .before .before .before .before .before .before .before .before .pre .1 .1 in let y = c .before .before .before .before .before .plan-at .ensures (p .forest) (p .linked) in
-    let w = step (y .forest) (y .linked) (c .before .before .before .before .if1 .left) (c .before .before .before .from-record .ensures) (c .before .before .look .ensures) in (c .before .before .before .before .before .before .before .before .pre .1 .0, record { forest = w .below; linked = w .first }))
+    (λ c κs. let p = c .before .before .before .before .before .before .before .before .pre .1 .1 in let y =
+    c .before .before .before .before .before .plan-at .ensures (p .forest) (p .linked) in
+    let w = step (y .forest) (y .linked) (c .before .before .before .before .if1 .left) (c .before .before .before .from-record .ensures)
+    (c .before .before .look .ensures) in (
+      c .before .before .before .before .before .before .before .before .pre .1 .0,
+      record
+          { forest = w .below; linked = w .first },
+    ))
     (λ c e f g h. let y = c .before .before .before .before .before .before .plan-at .ensures f h in
-    let w = step (y .forest) (y .linked) (c .before .before .before .before .before .if1 .left) (c .before .before .before .before .from-record .ensures) (c .before .before .before .look .ensures) in
+    let w = step (y .forest) (y .linked) (c .before .before .before .before .before .if1 .left)
+    (c .before .before .before .before .from-record .ensures) (c .before .before .before .look .ensures) in
     let d = has-parts w _ (c .before .before .role-of .ensures) 0 refl (c .before .if2 .taken) in
     c .all-made .ensures e (w .below) (d .0) g (w .first) ∙ ap (allOf _) (sym (d .1) ∙ plan-fields y))
     (λ c κs. tt)
-    (λ c κs. let p = c .before .before .before .before .before .before .before .before .before .before .pre .1 .1 in let y = c .before .before .before .before .before .before .before .plan-at .ensures (p .forest) (p .linked) in
-    let w = step (y .forest) (y .linked) (c .before .before .before .before .before .before .if1 .left) (c .before .before .before .before .before .from-record .ensures) (c .before .before .before .before .look .ensures) in (omega (arith, w .down, y .less), (c .before .before .before .before .before .before .before .before .before .before .pre .1 .0, record { forest = w .below; linked = w .first })))
+    (λ c κs. let p = c .before .before .before .before .before .before .before .before .before .before .pre .1 .1 in let y =
+    c .before .before .before .before .before .before .before .plan-at .ensures (p .forest) (p .linked) in
+    let w = step (y .forest) (y .linked) (c .before .before .before .before .before .before .if1 .left)
+    (c .before .before .before .before .before .from-record .ensures) (c .before .before .before .before .look .ensures) in (
+      omega (arith, w .down, y .less),
+      (
+        c .before .before .before .before .before .before .before .before .before .before .pre .1 .0,
+        record
+            { forest = w .below; linked = w .first },
+      ),
+    ))
     (λ c e f g h. let y = c .before .before .before .before .before .before .before .before .plan-at .ensures f h in
-    let w = step (y .forest) (y .linked) (c .before .before .before .before .before .before .before .if1 .left) (c .before .before .before .before .before .before .from-record .ensures) (c .before .before .before .before .before .look .ensures) in
+    let w = step (y .forest) (y .linked) (c .before .before .before .before .before .before .before .if1 .left)
+    (c .before .before .before .before .before .before .from-record .ensures) (c .before .before .before .before .before .look .ensures) in
     (rw (c .before .qualifier .ensures) at (c .all-held .ensures e (w .below) g (w .first)))
     ∙ held-renamed w _ (c .before .before .before .before .role-of .ensures) 0 refl _ _ _ _ (c .before .before .if3 .taken) ∙ ap (allOf _) (plan-fields y))
     (λ c κs. tt)
-    (λ c κs. let p = c .before .before .before .before .before .before .before .before .before .before .pre .1 .1 in let y = c .before .before .before .before .before .before .before .plan-at .ensures (p .forest) (p .linked) in
-    let w = step (y .forest) (y .linked) (c .before .before .before .before .before .before .if1 .left) (c .before .before .before .before .before .from-record .ensures) (c .before .before .before .before .look .ensures) in (omega (arith, w .down, y .less), (c .before .before .before .before .before .before .before .before .before .before .pre .1 .0, record { forest = w .below; linked = w .first })))
+    (λ c κs. let p = c .before .before .before .before .before .before .before .before .before .before .pre .1 .1 in let y =
+    c .before .before .before .before .before .before .before .plan-at .ensures (p .forest) (p .linked) in
+    let w = step (y .forest) (y .linked) (c .before .before .before .before .before .before .if1 .left)
+    (c .before .before .before .before .before .from-record .ensures) (c .before .before .before .before .look .ensures) in (
+      omega (arith, w .down, y .less),
+      (
+        c .before .before .before .before .before .before .before .before .before .before .pre .1 .0,
+        record
+            { forest = w .below; linked = w .first },
+      ),
+    ))
     (λ c e f g h. let y = c .before .before .before .before .before .before .before .before .before .plan-at .ensures f h in
-    let w = step (y .forest) (y .linked) (c .before .before .before .before .before .before .before .before .if1 .left) (c .before .before .before .before .before .before .before .from-record .ensures) (c .before .before .before .before .before .before .look .ensures) in
-    held-fails w _ (c .before .before .before .before .before .role-of .ensures) 0 refl _ (is-plan w (c .before .before .before .before .before .role-of .ensures) (y .begins)) (c .before .before .before .before .if2 .left) (c .before .before .before .if3 .left)
-    (sym (rw (c .before .before .own-input .ensures) at (c .before .all-held2 .ensures e (w .below) g (w .first))) ∙ not-true _ (c .if4 .taken)) ∙ ap (allOf _) (plan-fields y))
-    (λ c κs. let p = c .before .before .before .before .before .before .before .before .before .before .before .before .before .before .before .pre .1 .1 in let y = c .before .before .before .before .before .before .before .before .before .before .before .before .plan-at .ensures (p .forest) (p .linked) in
-    let w = step (y .forest) (y .linked) (c .before .before .before .before .before .before .before .before .before .before .before .if1 .left) (c .before .before .before .before .before .before .before .before .before .before .from-record .ensures) (c .before .before .before .before .before .before .before .before .before .look .ensures) in (omega (arith, w .down, y .less), (c .before .before .before .before .before .before .before .before .before .before .before .before .before .before .before .pre .1 .0, record { forest = w .below; linked = w .first })))
+    let w = step (y .forest) (y .linked) (c .before .before .before .before .before .before .before .before .if1 .left)
+    (c .before .before .before .before .before .before .before .from-record .ensures)
+    (c .before .before .before .before .before .before .look .ensures) in
+    held-fails w _ (c .before .before .before .before .before .role-of .ensures) 0 refl _
+    (is-plan w (c .before .before .before .before .before .role-of .ensures) (y .begins)) (c .before .before .before .before .if2 .left)
+    (c .before .before .before .if3 .left)
+    (sym (rw (c .before .before .own-input .ensures) at (c .before .all-held2 .ensures e (w .below) g (w .first))) ∙ not-true _ (c .if4 .taken)) ∙ ap
+    (allOf _) (plan-fields y))
+    (λ c κs. let p = c .before .before .before .before .before .before .before .before .before .before .before .before .before .before
+    .before .pre .1 .1 in let y = c .before .before .before .before .before .before .before .before .before .before .before
+    .before .plan-at .ensures (p .forest) (p .linked) in
+    let w = step (y .forest) (y .linked) (c .before .before .before .before .before .before .before .before .before .before .before .if1 .left)
+    (c .before .before .before .before .before .before .before .before .before .before .from-record .ensures)
+    (c .before .before .before .before .before .before .before .before .before .look .ensures) in (
+      omega (arith, w .down, y .less),
+      (
+        c .before .before .before .before .before .before .before .before .before .before .before .before .before
+            .before .before .pre .1 .0,
+        record { forest = w .below; linked = w .first },
+      ),
+    ))
     (λ c e f g h. let y = c .before .before .before .before .before .before .before .before .before .before .before .before .before .plan-at .ensures f h in
-    let w = step (y .forest) (y .linked) (c .before .before .before .before .before .before .before .before .before .before .before .before .if1 .left) (c .before .before .before .before .before .before .before .before .before .before .before .from-record .ensures) (c .before .before .before .before .before .before .before .before .before .before .look .ensures) in
+    let w = step (y .forest) (y .linked) (c .before .before .before .before .before .before .before .before .before .before .before
+    .before .if1 .left) (c .before .before .before .before .before .before .before .before .before .before .before .from-record .ensures)
+    (c .before .before .before .before .before .before .before .before .before .before .look .ensures) in
     c .all-held3 .ensures e (w .below) g (w .first)
-    ∙ held-both w _ (c .before .before .before .before .before .before .before .before .before .role-of .ensures) 0 refl _ (c .before .before .before .if5 .taken) (c .before .if6 .taken)
-    (sym (rw (c .before .before .before .before .before .before .own-input .ensures) at (c .before .before .before .before .before .all-held2 .ensures e (w .below) g (w .first))) ∙ not-false _ (c .before .before .before .before .if4 .left)) ∙ ap (allOf _) (plan-fields y))
+    ∙ held-both w _ (c .before .before .before .before .before .before .before .before .before .role-of .ensures) 0 refl _
+    (c .before .before .before .if5 .taken) (c .before .if6 .taken)
+    (sym (rw (c .before .before .before .before .before .before .own-input .ensures) at
+    (c .before .before .before .before .before .all-held2 .ensures e (w .below) g (w .first))) ∙ not-false _
+    (c .before .before .before .before .if4 .left)) ∙ ap (allOf _) (plan-fields y))
     (λ c e f g h. let y = c .before .before .before .before .before .before .before .before .before .before .before .before .plan-at .ensures f h in
-    let w = step (y .forest) (y .linked) (c .before .before .before .before .before .before .before .before .before .before .before .if1 .left) (c .before .before .before .before .before .before .before .before .before .before .from-record .ensures) (c .before .before .before .before .before .before .before .before .before .look .ensures) in
-    held-side w _ (c .before .before .before .before .before .before .before .before .role-of .ensures) 0 refl _ (c .before .before .if5 .taken) (omega (arith, c .if6 .left))
-    (sym (rw (c .before .before .before .before .before .own-input .ensures) at (c .before .before .before .before .all-held2 .ensures e (w .below) g (w .first))) ∙ not-false _ (c .before .before .before .if4 .left)) ∙ ap (allOf _) (plan-fields y))
-    (λ c κs. let p = c .before .before .before .before .before .before .before .before .before .before .before .before .before .before .pre .1 .1 in let y = c .before .before .before .before .before .before .before .before .before .before .before .plan-at .ensures (p .forest) (p .linked) in
-    let w = step (y .forest) (y .linked) (c .before .before .before .before .before .before .before .before .before .before .if1 .left) (c .before .before .before .before .before .before .before .before .before .from-record .ensures) (c .before .before .before .before .before .before .before .before .look .ensures) in (c .before .before .before .before .before .before .before .before .before .before .before .before .before .before .pre .1 .0, record { forest = w .below; linked = w .first }))
+    let w = step (y .forest) (y .linked) (c .before .before .before .before .before .before .before .before .before .before .before .if1 .left)
+    (c .before .before .before .before .before .before .before .before .before .before .from-record .ensures)
+    (c .before .before .before .before .before .before .before .before .before .look .ensures) in
+    held-side w _ (c .before .before .before .before .before .before .before .before .role-of .ensures) 0 refl _ (c .before .before .if5 .taken)
+    (omega (arith, c .if6 .left))
+    (sym (rw (c .before .before .before .before .before .own-input .ensures) at
+    (c .before .before .before .before .all-held2 .ensures e (w .below) g (w .first))) ∙ not-false _ (c .before .before .before .if4 .left)) ∙ ap
+    (allOf _) (plan-fields y))
+    (λ c κs. let p = c .before .before .before .before .before .before .before .before .before .before .before .before .before .before .pre .1 .1 in
+    let y = c .before .before .before .before .before .before .before .before .before .before .before .plan-at .ensures (p .forest) (p .linked) in
+    let w = step (y .forest) (y .linked) (c .before .before .before .before .before .before .before .before .before .before .if1 .left)
+    (c .before .before .before .before .before .before .before .before .before .from-record .ensures)
+    (c .before .before .before .before .before .before .before .before .look .ensures) in (
+      c .before .before .before .before .before .before .before .before .before .before .before .before .before .before .pre .1 .0,
+      record
+          { forest = w .below; linked = w .first },
+    ))
     (λ c e f g h. let y = c .before .before .before .before .before .before .before .before .before .before .before .before .plan-at .ensures f h in
-    let w = step (y .forest) (y .linked) (c .before .before .before .before .before .before .before .before .before .before .before .if1 .left) (c .before .before .before .before .before .before .before .before .before .before .from-record .ensures) (c .before .before .before .before .before .before .before .before .before .look .ensures) in
+    let w = step (y .forest) (y .linked) (c .before .before .before .before .before .before .before .before .before .before .before .if1 .left)
+    (c .before .before .before .before .before .before .before .before .before .before .from-record .ensures)
+    (c .before .before .before .before .before .before .before .before .before .look .ensures) in
     let d = held-more w _ (c .before .before .before .before .before .before .before .before .role-of .ensures) 0 refl _ (c .before .if7 .taken)
-    (sym (rw (c .before .before .before .before .before .own-input .ensures) at (c .before .before .before .before .all-held2 .ensures e (w .below) g (w .first))) ∙ not-false _ (c .before .before .before .if4 .left)) in
+    (sym (rw (c .before .before .before .before .before .own-input .ensures) at
+    (c .before .before .before .before .all-held2 .ensures e (w .below) g (w .first))) ∙ not-false _ (c .before .before .before .if4 .left)) in
     c .all-made2 .ensures e (w .below) (d .0) g (w .first) ∙ d .1 ∙ ap (allOf _) (plan-fields y))
     (λ c e f g h. let y = c .before .before .before .before .before .before .before .before .before .before .before .plan-at .ensures f h in
-    let w = step (y .forest) (y .linked) (c .before .before .before .before .before .before .before .before .before .before .if1 .left) (c .before .before .before .before .before .before .before .before .before .from-record .ensures) (c .before .before .before .before .before .before .before .before .look .ensures) in
+    let w = step (y .forest) (y .linked) (c .before .before .before .before .before .before .before .before .before .before .if1 .left)
+    (c .before .before .before .before .before .before .before .before .before .from-record .ensures)
+    (c .before .before .before .before .before .before .before .before .look .ensures) in
     held-first w _ (c .before .before .before .before .before .before .before .role-of .ensures) 0 refl _
-    (omega (arith, is-plan w (c .before .before .before .before .before .before .before .role-of .ensures) (y .begins), c .before .before .before .before .before .before .if2 .left, c .before .before .before .before .before .if3 .left, c .before .if5 .left, c .if7 .left))
-    (sym (rw (c .before .before .before .before .own-input .ensures) at (c .before .before .before .all-held2 .ensures e (w .below) g (w .first))) ∙ not-false _ (c .before .before .if4 .left)) ∙ ap (allOf _) (plan-fields y))
+    (omega (
+      arith,
+      is-plan w (c .before .before .before .before .before .before .before .role-of .ensures) (y .begins),
+      c .before .before .before .before .before .before .if2 .left,
+      c .before .before .before .before .before .if3 .left,
+      c .before .if5 .left,
+      c .if7 .left,
+    ))
+    (sym (rw (c .before .before .before .before .own-input .ensures) at (c .before .before .before .all-held2 .ensures e (w .below) g (w .first))) ∙
+    not-false _ (c .before .before .if4 .left)) ∙ ap (allOf _) (plan-fields y))

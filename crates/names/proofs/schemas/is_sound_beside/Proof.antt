@@ -20,4 +20,5 @@ is-sound-beside-spec =
     (λ c κs. search needs)
     (λ c l cs h k.
     (rw (c .before .own-input .ensures) at (c .all-held .ensures cs cs h h)) ∙ as-called _ _ _
-    ∙ beside-own _ (inputs cs) (own-few (c .before .before .before .before .before .args .p)) k ∙ not-many 3 _ (c .before .before .before .held-in .ensures cs h) (omega arith) ∙ rule-by-role {r = 2} Join l cs refl))
+    ∙ beside-own _ (inputs cs) (own-few (c .before .before .before .before .before .args .p)) k ∙ not-many 3 _
+    (c .before .before .before .held-in .ensures cs h) (omega arith) ∙ rule-by-role {r = 2} Join l cs refl))

@@ -12,4 +12,5 @@ held-in-spec =
     (tie.spec
     (λ c κs. search needs)
     (λ c κs. search needs)
-    (λ c f h. c .passed .ensures ∙ passed-seen _ (c .before .before .before .args .sort) f _ _ _ (c .before .seek-seen .result) h (omega arith) (c .before .seek-seen .ensures f h)))
+    (λ c f h. c .passed .ensures ∙ passed-seen _ (c .before .before .before .args .sort) f _ _ _ (c .before .seek-seen .result) h (omega arith)
+    (c .before .seek-seen .ensures f h)))

@@ -24,12 +24,24 @@ seek-seen-spec =
     (λ c f h. rw (ne-eqb _ 1 (c .before .before .before .before .before .if1 .left), eq-eqb _ 2 (c .before .before .before .before .if2 .taken))
     (seek-left _ _ _ _ _ (sym (c .before .left2 .given .1) ∙ c .before .before .before .seek-field2 .ensures f h) (λ g. refl)))
     (λ c f h. rw (ne-eqb _ 1 (c .before .before .before .before .before .before .if1 .left), eq-eqb _ 2 (c .before .before .before .before .before .if2 .taken))
-    (seek-right _ _ _ _ _ (sym (c .before .before .left3 .given .1) ∙ c .before .before .before .before .seek-field2 .ensures f h) (c .seek-field3 .ensures f h)))
+    (seek-right _ _ _ _ _ (sym (c .before .before .left3 .given .1) ∙ c .before .before .before .before .seek-field2 .ensures f h)
+    (c .seek-field3 .ensures f h)))
     (λ c κs. search needs)
     (λ c f h. rw (ne-eqb _ 1 (c .before .before .before .if1 .left), ne-eqb _ 2 (c .before .before .if2 .left), eq-eqb _ 3 (c .before .if3 .taken))
     (c .seek-made .ensures f [] h ∙ seek-one _ _ _))
     (λ c κs. search needs)
-    (λ c f h. rw (ne-eqb _ 1 (c .before .before .before .before .if1 .left), ne-eqb _ 2 (c .before .before .before .if2 .left), ne-eqb _ 3 (c .before .before .if3 .left), eq-eqb _ 4 (c .before .if4 .taken))
+    (λ c f h. rw (
+      ne-eqb _ 1 (c .before .before .before .before .if1 .left),
+      ne-eqb _ 2 (c .before .before .before .if2 .left),
+      ne-eqb _ 3
+          (c .before .before .if3 .left),
+      eq-eqb _ 4 (c .before .if4 .taken),
+    )
     (told-same _ [] _ _ (c .seek-field4 .ensures f h) ∙ seek-one _ _ _))
-    (λ c f h. rw (ne-eqb _ 1 (c .before .before .before .if1 .left), ne-eqb _ 2 (c .before .before .if2 .left), ne-eqb _ 3 (c .before .if3 .left), ne-eqb _ 4 (c .if4 .left))
+    (λ c f h. rw (
+      ne-eqb _ 1 (c .before .before .before .if1 .left),
+      ne-eqb _ 2 (c .before .before .if2 .left),
+      ne-eqb _ 3 (c .before .if3 .left),
+      ne-eqb _ 4 (c .if4 .left),
+    )
     (sym (seek-none _ _ [] refl))))

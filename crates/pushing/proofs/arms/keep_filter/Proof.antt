@@ -21,5 +21,7 @@ keep-filter-spec =
     ))
     (λ c. search needs)
     (λ c e q h. answers refl (filter-few q (h .shaped) (h .placed .lists))
-    (c .before .before .copy-filter .ensures (mapOf q) (rw (c .before .before .before .before .before .record-at .ensures) (plan-maps (h .placed .standing))) e (shaped-predicate (mapOf q) (h .shaped)) q
+    (c .before .before .copy-filter .ensures (mapOf q)
+    (rw (c .before .before .before .before .before .record-at .ensures) (plan-maps (h .placed .standing))) e
+    (shaped-predicate (mapOf q) (h .shaped)) q
     (h .placed .standing))))

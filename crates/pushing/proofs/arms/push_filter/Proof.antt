@@ -29,14 +29,31 @@ push-filter-spec =
     let k = h .placed .standing in
     let y = c .before .before .last-child .ensures (planTree q) (rw (c .before .before .before .record-at .ensures) (k .here)) ∙ p .0 .takes .last in (
       (
-        record { map = mapOf q; maps = rw (c .before .before .before .record-at .ensures) (plan-maps k); expr = none; perhaps = gone refl (c .before .empty .ensures .1); most = omega (arith, c .before .empty .ensures .1) },
-        record { map = mapOf q; maps = rw (c .before .before .before .record-at .ensures) (plan-maps k); expr = some (p .0 .expr); perhaps = shaped-perhaps (mapOf q) (h .shaped); most = h .shaped .most },
+        record {
+          map = mapOf q;
+          maps = rw (c .before .before .before .record-at .ensures) (plan-maps k);
+          expr = none;
+          perhaps = gone refl
+              (c .before .empty .ensures .1);
+          most = omega (arith, c .before .empty .ensures .1);
+        },
+        record {
+          map = mapOf q;
+          maps = rw (c .before .before .before .record-at .ensures) (plan-maps k);
+          expr = some (p .0 .expr);
+          perhaps =
+              shaped-perhaps (mapOf q) (h .shaped);
+          most = h .shaped .most;
+        },
       ),
       ((record { plan = q; standing = k }, record { plan = p .0 .plan; standing = rw y (p .0 .takes .input) }), (omega (arith, p .1 .0), p .1 .1, p .1 .2)),
     ))
     (λ c. search needs)
     (λ c e q f h t. let k = h .placed .standing in
-    let y = c .before .before .before .before .before .last-child .ensures (planTree (f q)) (rw (c .before .before .before .before .before .before .record-at .ensures) (k .here)) ∙ t .last in
+    let y = c .before .before .before .before .before .last-child .ensures (planTree (f q))
+    (rw (c .before .before .before .before .before .before .record-at .ensures) (k .here)) ∙ t .last in
     answers refl (taken-few t h)
-    (c .before .before .write-over .ensures (mapOf (f q)) (rw (c .before .before .before .before .before .before .record-at .ensures) (plan-maps k)) none (some e) (gone refl (c .before .before .before .before .empty .ensures .1)) (shaped-perhaps (mapOf (f q)) (h .shaped)) f q (t .own) (t .frame) y k
+    (c .before .before .write-over .ensures (mapOf (f q)) (rw (c .before .before .before .before .before .before .record-at .ensures) (plan-maps k))
+    none (some e) (gone refl (c .before .before .before .before .empty .ensures .1)) (shaped-perhaps (mapOf (f q)) (h .shaped)) f q (t .own)
+    (t .frame) y k
     (rw y (t .input)))))

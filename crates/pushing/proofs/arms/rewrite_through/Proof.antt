@@ -17,7 +17,8 @@ rewrite-through-spec =
     (λ c κs. let p = c .before .before .before .before .before .before .pre in (record { expr = p .0 .expr; plan = p .0 .plan; rests = p .0 .rests }, p .1))
     (λ c. search needs)
     (λ c e q h i. let t : takesNone (labelP q) ≡ true = sym (ap takesNone (h .placed .standing .here .head .label))
-    ∙ (rw (c .before .before .before .before .before .before .record-at .ensures) at (sym (c .before .before .before .before .before .takes-none .ensures) ∙ c .before .before .before .before .if1 .taken)) in
+    ∙ (rw (c .before .before .before .before .before .before .record-at .ensures) at
+    (sym (c .before .before .before .before .before .takes-none .ensures) ∙ c .before .before .before .before .if1 .taken)) in
     rw (stays e q i t) (c .before .before .keep-filter .ensures e q h))
     (λ c κs. let p = c .before .before .before .before .before .before .pre in
     let h = p .0 .rests in
@@ -27,6 +28,7 @@ rewrite-through-spec =
     (record { expr = p .0 .expr; plan = k .input; above = k .above; rests = rests-as (k .is) h; takes = k .takes }, p .1))
     (λ c. search needs)
     (λ c e q h i. let t : takesNone (labelP q) ≡ false = sym (ap takesNone (h .placed .standing .here .head .label))
-    ∙ (rw (c .before .before .before .before .before .before .record-at .ensures) at (sym (c .before .before .before .before .before .takes-none .ensures) ∙ c .before .before .before .before .if1 .left)) in
+    ∙ (rw (c .before .before .before .before .before .before .record-at .ensures) at
+    (sym (c .before .before .before .before .before .takes-none .ensures) ∙ c .before .before .before .before .if1 .left)) in
     let k = passes e q (h .placed .short) (h .placed .standing) i t in
     rw (k .rewritten) (c .before .before .push-filter .ensures e (k .input) (k .above) (rests-as (k .is) h) (k .takes))))

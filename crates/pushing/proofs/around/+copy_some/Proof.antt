@@ -62,11 +62,17 @@ pub +copy-some-spec : {M : Type 1} → statement M
     (λ c. omega (arith, c .before .before .before .before .before .before .before .before .before .before .before .before .pre .1 .1 .0))
     (λ c κs. let k = c .before .before .before .loop .inv in
     let u = round _ k (c .before .before .loop-test .taken) in
-    let p = c .before .before .before .before .before .before .before .before .before .before .before .before .pre in
-    (omega (arith, k .some, p .0), (rw (c .before .from-record .ensures) (u .readable), (omega (arith, p .1 .1 .0, k .some), k .so-far .long, k .so-far .small))))
+    let p = c .before .before .before .before .before .before .before .before .before .before .before .before .pre in (
+      omega (arith, k .some, p .0),
+      (
+        rw (c .before .from-record .ensures) (u .readable),
+        (omega (arith, p .1 .1 .0, k .some), k .so-far .long, k .so-far .small),
+      ),
+    ))
     (λ c κs. let u = round _ (c .before .before .before .before .before .before .loop .inv) (c .before .before .before .before .before .loop-test .taken) in
     rw (c .before .before .before .before .from-record .ensures, length-drop) (omega (arith, u .turn .fits)))
-    (λ c. let u = round _ (c .before .before .before .before .before .before .before .loop .inv) (c .before .before .before .before .before .before .loop-test .taken) in
+    (λ c. let u = round _ (c .before .before .before .before .before .before .before .loop .inv)
+    (c .before .before .before .before .before .before .loop-test .taken) in
     rw (c .word-at2 .ensures .0, c .before .before .before .before .before .from-record .ensures) (u .turn .less))
     (λ c. let k = c .before .before .before .before .before .before .before .loop .inv in
     let u = round _ k (c .before .before .before .before .before .before .loop-test .taken) in
@@ -76,4 +82,6 @@ pub +copy-some-spec : {M : Type 1} → statement M
     (λ c. c .before .loop .inv .so-far .long ∙ sym (c .before .before .before .before .before .before .before .before .before .before .pre .1 .1 .1))
     (λ c. let k = c .before .loop .inv in
     let put = c .before .before .before .before .before .put-if .ensures in
-    for-all _ (k .stands) (rest-end _ _ (k .tree) (c .before .before .before .before .before .before .before .before .before .before .pre .1 .1 .1) (yes-within _ _ _ (c .before .before .before .before .before .before .before .if1 .left)) (rw (← k .stands .head .label) put) (done _ k (c .loop-test .left))))
+    for-all _ (k .stands) (rest-end _ _ (k .tree) (c .before .before .before .before .before .before .before .before .before .before .pre .1 .1 .1)
+    (yes-within _ _ _ (c .before .before .before .before .before .before .before .if1 .left)) (rw (← k .stands .head .label) put)
+    (done _ k (c .loop-test .left))))

@@ -19,9 +19,11 @@ write-below-spec =
     (rw (c .before .record-at .ensures) (plan-readable (p .0 .0 .standing)), (omega (arith, p .1 .0), p .1 .1, p .1 .2)))
     (λ c. omega (arith, c .before .before .before .before .before .before .before .before .before .pre .1 .1 .0))
     (λ c κs. let p = c .before .before .before .before .before .before .before .before .before .pre in
-    let w = c .before .before .before .copy-some .ensures (planTree (p .1 .0 .0 .plan)) (rw (c .before .before .before .before .before .record-at .ensures) (p .1 .0 .0 .standing .here)) in
+    let w = c .before .before .before .copy-some .ensures (planTree (p .1 .0 .0 .plan))
+    (rw (c .before .before .before .before .before .record-at .ensures) (p .1 .0 .0 .standing .here)) in
     (p .0, (p .1 .0 .1, (omega (arith, p .1 .1 .0), rw (w .bytes, length-sets) (p .1 .1 .1)))))
     (λ c. search needs)
     (λ c σ m o h f q k g e x y. let p = c .before .before .before .before .before .before .before .before .before .before .before .before .pre in
-    let w = c .before .before .before .before .before .before .copy-some .ensures (planTree (f q)) (rw (c .before .before .before .before .before .before .before .before .record-at .ensures) (x .here)) in
+    let w = c .before .before .before .before .before .before .copy-some .ensures (planTree (f q))
+    (rw (c .before .before .before .before .before .before .before .before .record-at .ensures) (x .here)) in
     wrote-framed _ q (under o q) g (p .1 .1 .1) e w (c .before .before .copy-under .ensures σ m o h q y)))

@@ -30,8 +30,10 @@ changed-spec =
     (λ c κs. search needs)
     (λ c. (omega arith, λ s σ es h. record { done = []; pushes = pushes-none (c .empty .ensures); is = refl }))
     (λ c κs. let p = c .before .before .before .pre .known in omega (arith, lists-room (p .lists) (p .most), c .loop-test .taken))
-    (λ c. let p = c .before .before .before .before .pre .known in omega (arith, lists-at (p .lists) (p .most) _ _ (c .before .loop-test .taken) (c .item-at .ensures) .small))
-    (λ c κs. let p = c .before .before .before .before .pre .known in omega (arith, lists-at (p .lists) (p .most) _ _ (c .before .loop-test .taken) (c .item-at .ensures) .small))
+    (λ c. let p = c .before .before .before .before .pre .known in omega
+    (arith, lists-at (p .lists) (p .most) _ _ (c .before .loop-test .taken) (c .item-at .ensures) .small))
+    (λ c κs. let p = c .before .before .before .before .pre .known in omega
+    (arith, lists-at (p .lists) (p .most) _ _ (c .before .loop-test .taken) (c .item-at .ensures) .small))
     (λ c. omega (arith, c .before .before .before .before .before .pre .known .most))
     (λ c. omega arith)
     (λ c. (
@@ -50,5 +52,6 @@ changed-spec =
     ))
     (λ c s σ es h. let p = c .before .before .before .pre .known in
     let w = c .before .loop .inv .1 s σ es h in
-    let e : w .done ≡ map (replace-cols σ) es = sym (append-nil (w .done)) ∙ (rw (at-end es (c .before .loop .i) (omega (arith, lists-length h (p .most), c .loop-test .left))) at (w .is)) in
+    let e : w .done ≡ map (replace-cols σ) es = sym (append-nil (w .done)) ∙
+    (rw (at-end es (c .before .loop .i) (omega (arith, lists-length h (p .most), c .loop-test .left))) at (w .is)) in
     rw (← e) (w .pushes)))

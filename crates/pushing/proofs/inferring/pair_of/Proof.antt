@@ -12,4 +12,8 @@ pair-of-spec =
     (λ c x y h k. rw (pair-is h k _ _ (c .before .before .before .if1 .left), c .if2 .taken) k)
     (λ c x y h k. rw (pair-is h k _ _ (c .before .before .before .before .before .before .if1 .left), c .before .before .before .if2 .left, c .if3 .taken) h)
     (λ c κs. search needs)
-    (λ c x y h k. rw (pair-is h k _ _ (c .before .before .before .before .before .before .before .if1 .left), c .before .before .before .before .if2 .left, c .before .if3 .left) (c .no-column2 .ensures)))
+    (λ c x y h k. rw (
+      pair-is h k _ _ (c .before .before .before .before .before .before .before .if1 .left),
+      c .before .before .before .before .if2 .left,
+      c .before .if3 .left,
+    ) (c .no-column2 .ensures)))

@@ -33,7 +33,9 @@ partner-spec =
     (λ c. let k = c .before .before .before .before .loop .inv .1 in
     let u = round _ k (c .before .before .before .loop-test .taken) in
     let h = c .before .partner-in .ensures (u .turn .child) (rw (c .before .before .from-record .ensures) (u .turn .here)) in
-    for-all (λ t. Told (c .before .partner-in .result) (partnerIn (nm (c .before .before .before .before .before .before .before .args .q) (c .before .before .before .before .before .before .before .args .n)) (t .below))) (k .stands)
+    for-all (λ t. Told (c .before .partner-in .result)
+    (partnerIn (nm (c .before .before .before .before .before .before .before .args .q)
+    (c .before .before .before .before .before .before .before .args .n)) (t .below))) (k .stands)
     (rw (u .so-far) (partner-stop _ (u .turn .child .label) (u .turn .child .below) (u .turn .after) h (c .if1 .taken))))
     (λ c κs. let u = round _ (c .before .before .before .before .loop .inv .1) (c .before .before .before .loop-test .taken) in
     rw (c .before .before .from-record .ensures, length-drop) (omega (arith, u .turn .fits)))
@@ -41,9 +43,14 @@ partner-spec =
     rw (c .word-at2 .ensures .0, c .before .before .before .from-record .ensures) (u .turn .less))
     (λ c. let k = c .before .before .before .before .before .loop .inv in
     let u = round _ (k .1) (c .before .before .before .before .loop-test .taken) in
-    let h = c .before .before .partner-in .ensures (u .turn .child) (rw (c .before .before .before .from-record .ensures) (u .turn .here)) in
-    (k .0, rw (c .word-at2 .ensures .0, c .before .before .before .from-record .ensures) (again _ (k .1) u (u .so-far ∙ partner-step _ (u .turn .child .label) (u .turn .child .below) (u .turn .after) h (c .before .if1 .left)))))
+    let h = c .before .before .partner-in .ensures (u .turn .child) (rw (c .before .before .before .from-record .ensures) (u .turn .here)) in (
+      k .0,
+      rw (c .word-at2 .ensures .0, c .before .before .before .from-record .ensures)
+          (again _ (k .1) u (u .so-far ∙ partner-step _ (u .turn .child .label) (u .turn .child .below) (u .turn .after) h (c .before .if1 .left))),
+    ))
     (λ c κs. search needs)
     (λ c. let k = c .before .before .loop .inv .1 in
-    for-all (λ t. Told (c .no-column .result) (partnerIn (nm (c .before .before .before .before .before .args .q) (c .before .before .before .before .before .args .n)) (t .below))) (k .stands)
+    for-all (λ t. Told (c .no-column .result)
+    (partnerIn (nm (c .before .before .before .before .before .args .q) (c .before .before .before .before .before .args .n)) (t .below)))
+    (k .stands)
     (rw (done _ k (c .before .loop-test .left)) (c .no-column .ensures))))

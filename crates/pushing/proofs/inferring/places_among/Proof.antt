@@ -37,9 +37,18 @@ places-among-spec =
       omega arith,
       λ ns ms h k.
           let i = c .before .before .before .before .before .loop .i in
-          let lt : i < length ms = omega (arith, names-count k (c .before .before .before .before .before .before .pre .1), c .before .before .before .before .loop-test .taken) in
-          let e : nm (c .before .before .before .q-at .result) (c .before .before .n-at .result) ≡ nameAt ms i = rw (c .before .before .before .q-at .ensures .0, c .before .before .n-at .ensures .0) (k .names i (omega (arith, c .before .before .before .before .before .before .pre .1)) lt) in
-          masks-step i (ltb (c .before .place-of .result) (c .before .before .before .before .before .before .args .k)) ms (λ y. ltb (placeIn ns y) (c .before .before .before .before .before .before .args .k)) (c .mark .ensures) lt
-          (ap (λ j. ltb j (c .before .before .before .before .before .before .args .k)) (c .before .place-of .ensures ns h ∙ ap (placeIn ns) e)) (c .before .before .before .before .before .loop .inv .1 ns ms h k),
+          let lt : i < length ms = omega (
+            arith,
+            names-count k (c .before .before .before .before .before .before .pre .1),
+            c .before .before .before .before .loop-test .taken,
+          ) in
+          let e : nm (c .before .before .before .q-at .result) (c .before .before .n-at .result) ≡ nameAt ms i = rw
+          (c .before .before .before .q-at .ensures .0, c .before .before .n-at .ensures .0)
+          (k .names i (omega (arith, c .before .before .before .before .before .before .pre .1)) lt) in
+          masks-step i (ltb (c .before .place-of .result) (c .before .before .before .before .before .before .args .k)) ms
+          (λ y. ltb (placeIn ns y) (c .before .before .before .before .before .before .args .k)) (c .mark .ensures) lt
+          (ap (λ j. ltb j (c .before .before .before .before .before .before .args .k)) (c .before .place-of .ensures ns h ∙ ap (placeIn ns) e))
+          (c .before .before .before .before .before .loop .inv .1 ns ms h k),
     ))
-    (λ c ns ms h k. masks-end (c .before .loop .i) ms (omega (arith, names-count k (c .before .before .pre .1), c .loop-test .left)) (c .before .loop .inv .1 ns ms h k)))
+    (λ c ns ms h k. masks-end (c .before .loop .i) ms (omega (arith, names-count k (c .before .before .pre .1), c .loop-test .left))
+    (c .before .loop .inv .1 ns ms h k)))

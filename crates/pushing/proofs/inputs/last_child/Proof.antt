@@ -31,5 +31,6 @@ last-child-spec =
     rw (c .word-at2 .ensures .0, c .before .from-record .ensures) (u .turn .less))
     (λ c. let k = c .before .before .before .loop .inv in
     let u = round _ k (c .before .before .loop-test .taken) in
-    rw (c .word-at2 .ensures .0, c .before .from-record .ensures) (again _ k u (last-more _ (u .turn .child .below) (u .turn .after) (u .turn .number) (u .so-far))))
+    rw (c .word-at2 .ensures .0, c .before .from-record .ensures)
+    (again _ k u (last-more _ (u .turn .child .below) (u .turn .after) (u .turn .number) (u .so-far))))
     (λ c. let k = c .before .loop .inv in for-all _ (k .stands) (done _ k (c .loop-test .left))))

@@ -8,6 +8,7 @@ infer-join-predicates-spec =
     tie.close
     (tie.spec
     (λ c κs. let p = c .before .before .pre in (known-reads (p .reads), p .scopes .most))
-    (λ c l r on es k h. rw (keyed-inner _ on es (c .before .if1 .taken)) (reads-keep _ h (c .select .ensures es _ _ (h .lists) (k .names) (h .over) (k .alone))))
+    (λ c l r on es k h. rw (keyed-inner _ on es (c .before .if1 .taken))
+    (reads-keep _ h (c .select .ensures es _ _ (h .lists) (k .names) (h .over) (k .alone))))
     (λ c κs. search needs)
     (λ c l r on es k h. rw (keyed-other _ on es (c .before .if1 .left)) (reads-none (c .empty .ensures))))

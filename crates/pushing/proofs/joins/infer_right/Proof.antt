@@ -7,7 +7,8 @@ infer-right-spec =
     tie.close
     (tie.spec
     (λ c κs. c .before .pre)
-    (λ c κs. let p = c .before .before .pre in (known-reads (c .infer-join-predicates .ensures (p .lefts) (p .rights) (p .keys) (p .exprs) (p .scopes) (p .reads)), p .scopes .most))
+    (λ c κs. let p = c .before .before .pre in
+    (known-reads (c .infer-join-predicates .ensures (p .lefts) (p .rights) (p .keys) (p .exprs) (p .scopes) (p .reads)), p .scopes .most))
     (λ c κs. let p = c .before .before .before .pre in
     let k = p .scopes in
     let i = c .before .infer-join-predicates .ensures (p .lefts) (p .rights) (p .keys) (p .exprs) k (p .reads) in

@@ -27,5 +27,6 @@ left-push-spec =
     let own = c .before .left-part2 .ensures l r on G sc g in
     let over = c .before .before .before .before .before .lr-is-preserved .ensures k e in
     let at = c .before .before .before .before .on-lr-is-preserved .ensures k e in
-    rw (← left-push-is k l r on P G σ w (over .0) (over .1) (at .0) (at .1) (c .before .before .before .is-inner .ensures k e) (All-append (above .keyed .over) (own .keyed .over)))
+    rw (← left-push-is k l r on P G σ w (over .0) (over .1) (at .0) (at .1) (c .before .before .before .is-inner .ensures k e)
+    (All-append (above .keyed .over) (own .keyed .over)))
     (c .side-push .ensures σ (l ++ r) (has l) _ _ _ _ _ _ above own (sc .names) (sc .left))))

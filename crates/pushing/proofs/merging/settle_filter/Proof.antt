@@ -25,12 +25,15 @@ settle-filter-spec =
     (λ c w f h e q i.
     let st = first-standing h i in
     let input = c .before .before .before .before .filter-input .ensures in
-    let left = c .before .before .simplify-filter .ensures e (c .before .before .before .predicate-at .ensures e (filter-predicate (h .short) st) (first-few h i)) in
+    let left = c .before .before .simplify-filter .ensures e
+    (c .before .before .before .predicate-at .ensures e (filter-predicate (h .short) st) (first-few h i)) in
     first-gone h i left (sym (c .before .is-gone .ensures) ∙ c .if1 .taken) (input .0) (input .1 e q st))
     (λ c κs. let p = c .before .before .before .before .before .before .before .before .before .before .pre .0 in
     let st = first-standing (p .inside) (p .is) in
     let input = c .before .before .before .before .before .before .filter-input .ensures in
-    let left = c .before .before .before .before .simplify-filter .ensures (p .expr) (c .before .before .before .before .before .predicate-at .ensures (p .expr) (filter-predicate ((p .inside) .short) st) (first-few (p .inside) (p .is))) in
+    let left = c .before .before .before .before .simplify-filter .ensures (p .expr)
+    (c .before .before .before .before .before .predicate-at .ensures (p .expr) (filter-predicate ((p .inside) .short) st)
+    (first-few (p .inside) (p .is))) in
     let g = leaves-some left (sym (c .before .before .before .is-gone .ensures) ∙ c .before .before .if1 .left) in (
       record {
         whole = p .whole;
@@ -47,6 +50,10 @@ settle-filter-spec =
     (λ c w f h e q i.
     let st = first-standing h i in
     let input = c .before .before .before .before .before .before .before .before .before .before .before .filter-input .ensures in
-    let left = c .before .before .before .before .before .before .before .before .before .simplify-filter .ensures e (c .before .before .before .before .before .before .before .before .before .before .predicate-at .ensures e (filter-predicate (h .short) st) (first-few h i)) in
-    let g = leaves-some left (sym (c .before .before .before .before .before .before .before .before .is-gone .ensures) ∙ c .before .before .before .before .before .before .before .if1 .left) in
-    first-on h i (g .is) (c .before .before .before .before .rewrite-filter .ensures w f h (g .expr) q (first-rests h i (g .is) (g .shaped) (input .0) (input .1 e q st)))))
+    let left = c .before .before .before .before .before .before .before .before .before .simplify-filter .ensures e
+    (c .before .before .before .before .before .before .before .before .before .before .predicate-at .ensures e (filter-predicate (h .short) st)
+    (first-few h i)) in
+    let g = leaves-some left (sym (c .before .before .before .before .before .before .before .before .is-gone .ensures) ∙
+    c .before .before .before .before .before .before .before .if1 .left) in
+    first-on h i (g .is) (c .before .before .before .before .rewrite-filter .ensures w f h (g .expr) q
+    (first-rests h i (g .is) (g .shaped) (input .0) (input .1 e q st)))))

@@ -38,8 +38,10 @@ select-spec =
     (λ c κs. search needs)
     (λ c. (omega arith, λ es ns t h k o m. record { done = []; lists = lists-none (c .empty .ensures); is = refl }))
     (λ c κs. let p = c .before .before .before .before .pre .0 in omega (arith, lists-room (p .lists) (p .most), c .loop-test .taken))
-    (λ c κs. let p = c .before .before .before .before .before .pre in (record { expr = _; item = lists-at (p .0 .lists) (p .0 .most) _ _ (c .before .loop-test .taken) (c .item-at .ensures) }, p .1))
-    (λ c κs. let p = c .before .before .before .before .before .before .pre .0 in lists-at (p .lists) (p .most) _ _ (c .before .before .loop-test .taken) (c .before .item-at .ensures) .small)
+    (λ c κs. let p = c .before .before .before .before .before .pre in
+    (record { expr = _; item = lists-at (p .0 .lists) (p .0 .most) _ _ (c .before .loop-test .taken) (c .item-at .ensures) }, p .1))
+    (λ c κs. let p = c .before .before .before .before .before .before .pre .0 in lists-at (p .lists) (p .most) _ _
+    (c .before .before .loop-test .taken) (c .before .item-at .ensures) .small)
     (λ c. omega (arith, c .before .before .before .before .before .before .before .pre .0 .most))
     (λ c. omega arith)
     (λ c. (
@@ -50,7 +52,8 @@ select-spec =
           let w = c .before .before .before .before .loop .inv .1 es ns t h k o m in
           let item = lists-at h (p .most) i _ (c .before .before .before .loop-test .taken) (c .before .before .item-at .ensures) in
           let v = c .before .is-inside .ensures (getD es i FALSE) ns t item k (all-at i o lt) m in
-          let n = keep-next (agrees (c .before .before .before .before .before .before .before .args .inside) t) es i lt _ (agrees-is (c .before .before .before .before .before .before .before .args .inside) _ t (getD es i FALSE) v) in
+          let n = keep-next (agrees (c .before .before .before .before .before .before .before .args .inside) t) es i lt _
+          (agrees-is (c .before .before .before .before .before .before .before .args .inside) _ t (getD es i FALSE) v) in
           record {
             done = w .done ++ put _ (getD es i FALSE) [];
             lists = c .add-if .ensures _ (w .done) (getD es i FALSE) (w .lists) item;
@@ -59,5 +62,6 @@ select-spec =
     ))
     (λ c es ns t h k o m. let p = c .before .before .before .before .pre .0 in
     let w = c .before .loop .inv .1 es ns t h k o m in
-    let e : w .done ≡ keep (agrees (c .before .before .before .before .args .inside) t) es = sym (append-nil (w .done)) ∙ (rw (at-end es (c .before .loop .i) (omega (arith, lists-length h (p .most), c .loop-test .left))) at (w .is)) in
+    let e : w .done ≡ keep (agrees (c .before .before .before .before .args .inside) t) es = sym (append-nil (w .done)) ∙
+    (rw (at-end es (c .before .loop .i) (omega (arith, lists-length h (p .most), c .loop-test .left))) at (w .is)) in
     rw (← e) (w .lists)))

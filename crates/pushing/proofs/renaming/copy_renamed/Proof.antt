@@ -24,7 +24,8 @@ copy-renamed-spec =
     (n, omega (arith, n, p .1 .0)))
     (λ c κs. let p = c .before .before .before .before .before .before .before .before .before .before .before .before .pre in
     let h = p .0 .renamed in
-    let to = c .before .before .before .before .before .before .before .schema-at .ensures (p .0 .plan) _ (h .standing) (c .before .before .before .before .before .before .before .before .no-fields .ensures) in
+    let to = c .before .before .before .before .before .before .before .schema-at .ensures (p .0 .plan) _ (h .standing)
+    (c .before .before .before .before .before .before .before .before .no-fields .ensures) in
     let m = c .before .before .before .before .before .write-renames .ensures (p .0 .over) (schema (p .0 .plan)) (h .names) to (h .wide) in
     let σ : Name → Expr = λ x. col (ren (p .0 .over) (schema (p .0 .plan)) x) in (
       record { map = σ; expr = replace-cols σ (p .0 .expr); predicate = whole-left (h .changed σ); most = h .most },
@@ -32,7 +33,8 @@ copy-renamed-spec =
     ))
     (λ c. search needs)
     (λ c. search needs)
-    (λ c e q ns h. let to = c .before .before .before .before .before .before .before .before .before .before .schema-at .ensures q _ (h .standing) (c .before .before .before .before .before .before .before .before .before .before .before .no-fields .ensures) in
+    (λ c e q ns h. let to = c .before .before .before .before .before .before .before .before .before .before .schema-at .ensures q _ (h .standing)
+    (c .before .before .before .before .before .before .before .before .before .before .before .no-fields .ensures) in
     let m = c .before .before .before .before .before .before .before .before .write-renames .ensures ns (schema q) (h .names) to (h .wide) in
     let σ : Name → Expr = λ x. col (ren ns (schema q) x) in
     c .before .before .copy-filter .ensures σ m (replace-cols σ e) (whole-left (h .changed σ)) q (h .standing)))

@@ -33,14 +33,16 @@ rewrite-alias-spec =
     (λ c κs. let p = c .before .before .before .before .before .before .before .before .before .before .before .before .before .pre in
     let h = p .0 .rests in
     let q = alias (p .0 .qualifier) (p .0 .plan) in
-    let w = c .before .before .before .before .copy-some .ensures (planTree q) (rw (c .before .before .before .before .before .before .record-at .ensures) (h .placed .standing .here)) in (
+    let w = c .before .before .before .before .copy-some .ensures (planTree q)
+    (rw (c .before .before .before .before .before .before .record-at .ensures) (h .placed .standing .here)) in (
       record {
         expr = p .0 .expr;
         plan = p .0 .plan;
         over = schema q;
         renamed = record {
           standing = alias-input (h .placed .short) (h .placed .standing);
-          names = c .before .before .before .before .before .before .before .before .schema-at .ensures q _ (h .placed .standing) (c .before .before .before .before .before .before .before .before .before .no-fields .ensures);
+          names = c .before .before .before .before .before .before .before .before .schema-at .ensures q _ (h .placed .standing)
+              (c .before .before .before .before .before .before .before .before .before .no-fields .ensures);
           wide = alias-wide h;
           few = alias-few h;
           most = c .before .before .before .before .before .before .before .changed-predicate .ensures .0;
@@ -51,15 +53,21 @@ rewrite-alias-spec =
     ))
     (λ c. search needs)
     (λ c. search needs)
-    (λ c e i q h. let p = c .before .before .before .before .before .before .before .before .before .before .before .before .before .before .before .before .before .before .pre in
+    (λ c e i q h. let p = c .before .before .before .before .before .before .before .before .before .before .before .before .before .before .before
+    .before .before .before .pre in
     let a = alias i q in
-    let w = c .before .before .before .before .before .before .before .before .before .copy-some .ensures (planTree a) (rw (c .before .before .before .before .before .before .before .before .before .before .before .record-at .ensures) (h .placed .standing .here)) in
+    let w = c .before .before .before .before .before .before .before .before .before .copy-some .ensures (planTree a)
+    (rw (c .before .before .before .before .before .before .before .before .before .before .before .record-at .ensures)
+    (h .placed .standing .here)) in
     let v = c .before .before .before .before .copy-renamed .ensures e q (schema a) (record {
       standing = alias-input (h .placed .short) (h .placed .standing);
-      names = c .before .before .before .before .before .before .before .before .before .before .before .before .before .schema-at .ensures a _ (h .placed .standing) (c .before .before .before .before .before .before .before .before .before .before .before .before .before .before .no-fields .ensures);
+      names = c .before .before .before .before .before .before .before .before .before .before .before .before .before .schema-at .ensures a _
+          (h .placed .standing) (c .before .before .before .before .before .before .before .before .before .before .before .before .before
+          .before .no-fields .ensures);
       wide = alias-wide h;
       few = alias-few h;
       most = c .before .before .before .before .before .before .before .before .before .before .before .before .changed-predicate .ensures .0;
-      changed = λ σ. c .before .before .before .before .before .before .before .before .before .before .before .before .changed-predicate .ensures .1 _ σ e (h .shaped);
+      changed = λ σ. c .before .before .before .before .before .before .before .before .before .before .before .before .changed-predicate .ensures .1
+          _ σ e (h .shaped);
     }) in
     answers refl (alias-lists h) (wrote-framed _ q (filter (renamed (schema a) (schema q) e) q) (alias-frame i) (p .1 .2) refl w v)))

@@ -36,13 +36,25 @@ rewrite-union-spec =
     (λ c κs. c .before .before .before .before .before .before .pre .0 .rests .placed .standing .within)
     (λ c κs. let p = c .before .before .before .before .before .before .before .before .pre in
     (rw (c .before .record-at .ensures) (omega (arith, p .0 .rests .placed .standing .here .head .room)), p .1 .2))
-    (λ c κs. let p = c .before .before .before .before .before .before .before .before .before .before .before .pre in rw (c .before .before .before .before .record-at .ensures) (omega (arith, p .0 .rests .placed .standing .here .head .room)))
-    (λ c. let p = c .before .before .before .before .before .before .before .before .before .before .before .before .pre in
-    (refl, λ e ps h. rw (c .word-at .ensures .0, c .before .before .before .before .before .record-at .ensures) (chain _ (record { tree = planTree (union ps); at = h .standing .here; some = omega arith; deep = h .standing .deep }) (all-inputs h (p .1 .2) (c .before .before .before .put-label .ensures)))))
-    (λ c. omega (arith, c .before .before .before .before .before .before .before .before .before .before .before .before .before .before .before .before .pre .1 .1))
+    (λ c κs. let p = c .before .before .before .before .before .before .before .before .before .before .before .pre in rw
+    (c .before .before .before .before .record-at .ensures) (omega (arith, p .0 .rests .placed .standing .here .head .room)))
+    (λ c. let p = c .before .before .before .before .before .before .before .before .before .before .before .before .pre in (
+      refl,
+      λ e ps h. rw (c .word-at .ensures .0, c .before .before .before .before .before .record-at .ensures)
+          (chain _ (record { tree = planTree (union ps); at = h .standing .here; some = omega arith; deep = h .standing .deep })
+          (all-inputs h (p .1 .2) (c .before .before .before .put-label .ensures))),
+    ))
+    (λ c. omega (
+      arith,
+      c .before .before .before .before .before .before .before .before .before .before .before .before .before .before .before
+          .before .pre .1 .1,
+    ))
     (λ c κs. let p = c .before .before .before .before .before .before .before .before .before .before .before .before .before .before .before .before .pre in
     let h = p .0 .rests in
-    let w = spread-of h (c .before .before .before .before .before .before .before .before .before .before .before .schema-at .ensures _ _ (h .placed .standing) (c .before .before .before .before .before .before .before .before .before .before .before .before .no-fields .ensures)) (c .before .before .before .before .before .before .before .before .before .before .changed-predicate .ensures .0)
+    let w = spread-of h (c .before .before .before .before .before .before .before .before .before .before .before .schema-at .ensures _ _
+    (h .placed .standing) (c .before .before .before .before .before .before .before .before .before .before .before
+    .before .no-fields .ensures)) (c .before .before .before .before .before .before .before .before .before
+    .before .changed-predicate .ensures .0)
     (λ σ. c .before .before .before .before .before .before .before .before .before .before .changed-predicate .ensures .1 _ σ (p .0 .expr) (h .shaped)) in
     let u = round _ (c .before .before .before .loop .inv .1 (p .0 .expr) (p .0 .inputs) w) (c .before .before .loop-test .taken) in
     let f = first _ _ _ (u .so-far) in (
@@ -50,47 +62,93 @@ rewrite-union-spec =
         expr = p .0 .expr;
         plan = f .plan;
         over = schema (union (p .0 .inputs));
-        renamed = renames-first w f (u .turn .past) (u .turn .here) (deep-more (u .turn .child .below) 254 255 (deep-as 254 (u .turn .here) (u .readable .at) (u .readable .deep)) (omega arith));
+        renamed = renames-first w f (u .turn .past) (u .turn .here)
+            (deep-more (u .turn .child .below) 254 255 (deep-as 254 (u .turn .here) (u .readable .at) (u .readable .deep)) (omega arith));
       },
       (omega (arith, c .before .before .before .loop .inv .0, p .1 .0), omega (arith, p .1 .1), u .so-far .left .long),
     ))
-    (λ c κs. let p = c .before .before .before .before .before .before .before .before .before .before .before .before .before .before .before .before .before .before .before .before .before .pre in
+    (λ c κs. let p = c .before .before .before .before .before .before .before .before .before .before .before .before .before .before .before
+    .before .before .before .before .before .before .pre in
     let h = p .0 .rests in
-    let w = spread-of h (c .before .before .before .before .before .before .before .before .before .before .before .before .before .before .before .before .schema-at .ensures _ _ (h .placed .standing) (c .before .before .before .before .before .before .before .before .before .before .before .before .before .before .before .before .before .no-fields .ensures)) (c .before .before .before .before .before .before .before .before .before .before .before .before .before .before .before .changed-predicate .ensures .0)
-    (λ σ. c .before .before .before .before .before .before .before .before .before .before .before .before .before .before .before .changed-predicate .ensures .1 _ σ (p .0 .expr) (h .shaped)) in
-    let u = round _ (c .before .before .before .before .before .before .before .before .loop .inv .1 (p .0 .expr) (p .0 .inputs) w) (c .before .before .before .before .before .before .before .loop-test .taken) in
-    (omega (arith, u .turn .past), rw (c .before .before .before .before .before .before .before .before .before .before .before .before .before .before .record-at .ensures) (omega (arith, u .turn .fits))))
-    (λ c κs. let p = c .before .before .before .before .before .before .before .before .before .before .before .before .before .before .before .before .before .before .before .before .before .before .pre in
+    let w = spread-of h (c .before .before .before .before .before .before .before .before .before .before .before .before .before .before .before
+    .before .schema-at .ensures _ _ (h .placed .standing)
+    (c .before .before .before .before .before .before .before .before .before .before .before .before .before .before .before .before
+    .before .no-fields .ensures)) (c .before .before .before .before .before .before .before .before .before .before .before .before .before
+    .before .before .changed-predicate .ensures .0)
+    (λ σ. c .before .before .before .before .before .before .before .before .before .before .before .before .before .before
+    .before .changed-predicate .ensures .1 _ σ (p .0 .expr) (h .shaped)) in
+    let u = round _ (c .before .before .before .before .before .before .before .before .loop .inv .1 (p .0 .expr) (p .0 .inputs) w)
+    (c .before .before .before .before .before .before .before .loop-test .taken) in (
+      omega (arith, u .turn .past),
+      rw (c .before .before .before .before .before .before .before .before .before .before .before .before .before
+          .before .record-at .ensures) (omega (arith, u .turn .fits)),
+    ))
+    (λ c κs. let p = c .before .before .before .before .before .before .before .before .before .before .before .before .before .before .before
+    .before .before .before .before .before .before .before .pre in
     let h = p .0 .rests in
-    let w = spread-of h (c .before .before .before .before .before .before .before .before .before .before .before .before .before .before .before .before .before .schema-at .ensures _ _ (h .placed .standing) (c .before .before .before .before .before .before .before .before .before .before .before .before .before .before .before .before .before .before .no-fields .ensures)) (c .before .before .before .before .before .before .before .before .before .before .before .before .before .before .before .before .changed-predicate .ensures .0)
-    (λ σ. c .before .before .before .before .before .before .before .before .before .before .before .before .before .before .before .before .changed-predicate .ensures .1 _ σ (p .0 .expr) (h .shaped)) in
-    let u = round _ (c .before .before .before .before .before .before .before .before .before .loop .inv .1 (p .0 .expr) (p .0 .inputs) w) (c .before .before .before .before .before .before .before .before .loop-test .taken) in
-    rw (c .from-record .ensures, length-drop, c .before .before .before .before .before .before .before .before .before .before .before .before .before .before .before .record-at .ensures) (omega (arith, u .turn .fits)))
-    (λ c. let p = c .before .before .before .before .before .before .before .before .before .before .before .before .before .before .before .before .before .before .before .before .before .before .before .pre in
+    let w = spread-of h (c .before .before .before .before .before .before .before .before .before .before .before .before .before .before .before
+    .before .before .schema-at .ensures _ _ (h .placed .standing)
+    (c .before .before .before .before .before .before .before .before .before .before .before .before .before .before .before .before .before
+    .before .no-fields .ensures)) (c .before .before .before .before .before .before .before .before .before .before .before .before .before
+    .before .before .before .changed-predicate .ensures .0)
+    (λ σ. c .before .before .before .before .before .before .before .before .before .before .before .before .before .before .before
+    .before .changed-predicate .ensures .1 _ σ (p .0 .expr) (h .shaped)) in
+    let u = round _ (c .before .before .before .before .before .before .before .before .before .loop .inv .1 (p .0 .expr) (p .0 .inputs) w)
+    (c .before .before .before .before .before .before .before .before .loop-test .taken) in
+    rw (
+      c .from-record .ensures,
+      length-drop,
+      c .before .before .before .before .before .before .before .before .before .before .before .before .before .before
+          .before .record-at .ensures,
+    ) (omega (arith, u .turn .fits)))
+    (λ c. let p = c .before .before .before .before .before .before .before .before .before .before .before .before .before .before .before .before
+    .before .before .before .before .before .before .before .pre in
     let h = p .0 .rests in
-    let w = spread-of h (c .before .before .before .before .before .before .before .before .before .before .before .before .before .before .before .before .before .before .schema-at .ensures _ _ (h .placed .standing) (c .before .before .before .before .before .before .before .before .before .before .before .before .before .before .before .before .before .before .before .no-fields .ensures)) (c .before .before .before .before .before .before .before .before .before .before .before .before .before .before .before .before .before .changed-predicate .ensures .0)
-    (λ σ. c .before .before .before .before .before .before .before .before .before .before .before .before .before .before .before .before .before .changed-predicate .ensures .1 _ σ (p .0 .expr) (h .shaped)) in
-    let u = round _ (c .before .before .before .before .before .before .before .before .before .before .loop .inv .1 (p .0 .expr) (p .0 .inputs) w) (c .before .before .before .before .before .before .before .before .before .loop-test .taken) in
-    rw (c .word-at2 .ensures .0, c .before .from-record .ensures, c .before .before .before .before .before .before .before .before .before .before .before .before .before .before .before .before .record-at .ensures) (u .turn .less))
+    let w = spread-of h (c .before .before .before .before .before .before .before .before .before .before .before .before .before .before .before
+    .before .before .before .schema-at .ensures _ _ (h .placed .standing)
+    (c .before .before .before .before .before .before .before .before .before .before .before .before .before .before .before .before .before
+    .before .before .no-fields .ensures)) (c .before .before .before .before .before .before .before .before .before .before .before .before
+    .before .before .before .before .before .changed-predicate .ensures .0)
+    (λ σ. c .before .before .before .before .before .before .before .before .before .before .before .before .before .before .before .before
+    .before .changed-predicate .ensures .1 _ σ (p .0 .expr) (h .shaped)) in
+    let u = round _ (c .before .before .before .before .before .before .before .before .before .before .loop .inv .1 (p .0 .expr) (p .0 .inputs) w)
+    (c .before .before .before .before .before .before .before .before .before .loop-test .taken) in
+    rw (
+      c .word-at2 .ensures .0,
+      c .before .from-record .ensures,
+      c .before .before .before .before .before .before .before .before .before .before .before .before .before .before .before
+          .before .record-at .ensures,
+    ) (u .turn .less))
     (λ c. (
       search needs,
       λ e ps h. let k = c .before .before .before .before .before .before .before .before .before .before .loop .inv .1 e ps h in
           let u = round _ k (c .before .before .before .before .before .before .before .before .before .loop-test .taken) in
           let f = first _ _ _ (u .so-far) in
           let w = c .before .before .before .before .before .before .copy-renamed .ensures e (f .plan) (schema (union ps))
-          (renames-first h f (u .turn .past) (u .turn .here) (deep-more (u .turn .child .below) 254 255 (deep-as 254 (u .turn .here) (u .readable .at) (u .readable .deep)) (omega arith))) in
-          rw (c .word-at2 .ensures .0, c .before .from-record .ensures, c .before .before .before .before .before .before .before .before .before .before .before .before .before .before .before .before .record-at .ensures) (again _ k u (more f w)),
+          (renames-first h f (u .turn .past) (u .turn .here)
+          (deep-more (u .turn .child .below) 254 255 (deep-as 254 (u .turn .here) (u .readable .at) (u .readable .deep)) (omega arith))) in
+          rw (
+            c .word-at2 .ensures .0,
+            c .before .from-record .ensures,
+            c .before .before .before .before .before .before .before .before .before .before .before .before .before .before .before
+                .before .record-at .ensures,
+          ) (again _ k u (more f w)),
     ))
     (λ c. search needs)
     (λ c. let p = c .before .before .before .before .before .before .before .before .before .before .before .before .before .before .pre in
     let h = p .0 .rests in
-    let w = spread-of h (c .before .before .before .before .before .before .before .before .before .schema-at .ensures _ _ (h .placed .standing) (c .before .before .before .before .before .before .before .before .before .before .no-fields .ensures)) (c .before .before .before .before .before .before .before .before .changed-predicate .ensures .0)
+    let w = spread-of h (c .before .before .before .before .before .before .before .before .before .schema-at .ensures _ _ (h .placed .standing)
+    (c .before .before .before .before .before .before .before .before .before .before .no-fields .ensures))
+    (c .before .before .before .before .before .before .before .before .changed-predicate .ensures .0)
     (λ σ. c .before .before .before .before .before .before .before .before .changed-predicate .ensures .1 _ σ (p .0 .expr) (h .shaped)) in
     c .before .loop .inv .1 (p .0 .expr) (p .0 .inputs) w .so-far .left .long ∙ sym (p .1 .2))
     (λ c e ps h. let p = c .before .before .before .before .before .before .before .before .before .before .before .before .before .before .pre in
-    let w = spread-of h (c .before .before .before .before .before .before .before .before .before .schema-at .ensures _ _ (h .placed .standing) (c .before .before .before .before .before .before .before .before .before .before .no-fields .ensures)) (c .before .before .before .before .before .before .before .before .changed-predicate .ensures .0)
+    let w = spread-of h (c .before .before .before .before .before .before .before .before .before .schema-at .ensures _ _ (h .placed .standing)
+    (c .before .before .before .before .before .before .before .before .before .before .no-fields .ensures))
+    (c .before .before .before .before .before .before .before .before .changed-predicate .ensures .0)
     (λ σ. c .before .before .before .before .before .before .before .before .changed-predicate .ensures .1 _ σ e (h .shaped)) in
     let k = c .before .loop .inv .1 e ps w in
     answers refl (union-lists h)
-    (union-wrote e ps (p .1 .2) (c .before .before .before .before .before .put-label .ensures) (rw (c .before .before .before .before .before .before .before .record-at .ensures) (h .placed .standing .here .head .label))
+    (union-wrote e ps (p .1 .2) (c .before .before .before .before .before .put-label .ensures)
+    (rw (c .before .before .before .before .before .before .before .record-at .ensures) (h .placed .standing .here .head .label))
     (none-more (done _ k (c .loop-test .left))))))

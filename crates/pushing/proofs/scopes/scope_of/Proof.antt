@@ -28,7 +28,8 @@ scope-of-spec =
     let count = names-count h (c .before .before .before .before .pre .0) in
     let leftward : Masks (c .before .before .places-among .result) ns (λ x. has l (swap on x)) =
     masks-same (λ i lt. rw (e, place-left l r) (ap (λ o. has l (orSelf (nameAt ns i) o)) (p (nameAt ns i))))
-    (masks-mapped ns (λ x. orSelf x (partnerIn x f)) (λ y. ltb (placeIn ns y) (c .before .before .before .before .args .k)) (c .before .before .places-among .ensures ns _ h (w .to))) in
+    (masks-mapped ns (λ x. orSelf x (partnerIn x f)) (λ y. ltb (placeIn ns y) (c .before .before .before .before .args .k))
+    (c .before .before .places-among .ensures ns _ h (w .to))) in
     record {
       names = h;
       most = c .before .before .before .before .pre .0;
@@ -36,5 +37,6 @@ scope-of-spec =
       right = masks-right l r n (c .before .all-but .ensures ns (has l) (sym count) left);
       alone = masks-same (λ i lt. ap nothing (p (nameAt ns i))) (w .alone);
       leftward = leftward;
-      rightward = masks-same (λ i lt. other-side l r n (swap on (nameAt ns i)) (q (nameAt ns i) (has-at ns i lt))) (c .all-but2 .ensures ns _ (sym count) leftward);
+      rightward = masks-same (λ i lt. other-side l r n (swap on (nameAt ns i)) (q (nameAt ns i) (has-at ns i lt)))
+          (c .all-but2 .ensures ns _ (sym count) leftward);
     }))

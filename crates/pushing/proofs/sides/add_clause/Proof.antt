@@ -13,4 +13,5 @@ add-clause-spec =
     (λ c σ ns t es e h i k held m. sides-nothing e h (c .before .before .or-clause-at .ensures e ns t i k held m) (c .enum-told2 .given .1))
     (λ c. search needs)
     (λ c κs. search needs)
-    (λ c σ ns t es e h i k held m. sides-made e h (c .before .before .before .or-clause-at .ensures e ns t i k held m) (c .before .enum-told .given .1) i held (c .add .ensures)))
+    (λ c σ ns t es e h i k held m. sides-made e h (c .before .before .before .or-clause-at .ensures e ns t i k held m)
+    (c .before .enum-told .given .1) i held (c .add .ensures)))

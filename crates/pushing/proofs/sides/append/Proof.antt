@@ -22,13 +22,25 @@ append-spec =
     μ-loop
     (λ c. (omega arith, λ xs ys h k. rw (append-nil xs) h))
     (λ c κs. omega (arith, c .before .before .pre .0 .room))
-    (λ c. omega (arith, c .item-at .ensures, c .before .before .before .pre .0 .each (c .before .before .loop .i) (c .before .loop-test .taken), c .before .before .before .pre .1))
-    (λ c κs. omega (arith, c .item-at .ensures, c .before .before .before .pre .0 .each (c .before .before .loop .i) (c .before .loop-test .taken), c .before .before .before .pre .1))
+    (λ c. omega (
+      arith,
+      c .item-at .ensures,
+      c .before .before .before .pre .0 .each (c .before .before .loop .i) (c .before .loop-test .taken),
+      c .before .before .before .pre .1,
+    ))
+    (λ c κs. omega (
+      arith,
+      c .item-at .ensures,
+      c .before .before .before .pre .0 .each (c .before .before .loop .i) (c .before .loop-test .taken),
+      c .before .before .before .pre .1,
+    ))
     (λ c. omega (arith, c .before .before .before .before .pre .0 .most))
     (λ c. omega arith)
     (λ c. (
       omega arith,
       λ xs ys h k. let p = c .before .before .before .before .pre .0 in
-          rw (← append-step (c .before .before .before .before .args .more) (c .before .before .before .loop .i) (c .before .item-at .result) xs ys k (p .most) (c .before .before .loop-test .taken) (c .before .item-at .ensures)) (c .add .ensures _ (c .before .before .before .loop .inv .1 xs ys h k)),
+          rw (← append-step (c .before .before .before .before .args .more) (c .before .before .before .loop .i) (c .before .item-at .result) xs ys k
+          (p .most) (c .before .before .loop-test .taken) (c .before .item-at .ensures))
+          (c .add .ensures _ (c .before .before .before .loop .inv .1 xs ys h k)),
     ))
     (λ c xs ys h k. rw (append-end (c .before .loop .i) ys k (c .before .before .pre .0 .most) (c .loop-test .left)) at (c .before .loop .inv .1 xs ys h k)))

@@ -35,7 +35,8 @@ extract-or-clauses-for-join-spec =
     μ-loop
     (λ c. (omega arith, λ σ ns t es fs h k f o m. clauses-start fs h))
     (λ c κs. let p = c .before .before .before .pre .0 in omega (arith, lists-room (p .lists) (p .most), c .loop-test .taken))
-    (λ c κs. let p = c .before .before .before .before .pre in (record { expr = _; item = lists-at (p .0 .lists) (p .0 .most) _ _ (c .before .loop-test .taken) (c .item-at .ensures) }, p .1))
+    (λ c κs. let p = c .before .before .before .before .pre in
+    (record { expr = _; item = lists-at (p .0 .lists) (p .0 .most) _ _ (c .before .loop-test .taken) (c .item-at .ensures) }, p .1))
     (λ c. omega (arith, c .before .before .before .before .before .pre .0 .most))
     (λ c. omega arith)
     (λ c. (
@@ -44,6 +45,9 @@ extract-or-clauses-for-join-spec =
           let i = c .before .before .before .loop .i in
           let lt : i < length fs = omega (arith, lists-length k (p .most), c .before .before .loop-test .taken) in
           let item = lists-at k (p .most) i _ (c .before .before .loop-test .taken) (c .before .item-at .ensures) in
-          clauses-step i lt (c .before .before .before .loop .inv .1 σ ns t es fs h k f o m) (λ ds g. c .add-clause .ensures σ ns t ds (getD fs i FALSE) g item f (all-at i o lt) m),
+          clauses-step i lt (c .before .before .before .loop .inv .1 σ ns t es fs h k f o m)
+          (λ ds g. c .add-clause .ensures σ ns t ds (getD fs i FALSE) g item f (all-at i o lt) m),
     ))
-    (λ c σ ns t es fs h k f o m. clauses-end (c .before .loop .i) (omega (arith, lists-length k (c .before .before .before .pre .0 .most), c .loop-test .left)) (c .before .loop .inv .1 σ ns t es fs h k f o m)))
+    (λ c σ ns t es fs h k f o m. clauses-end (c .before .loop .i)
+    (omega (arith, lists-length k (c .before .before .before .pre .0 .most), c .loop-test .left))
+    (c .before .loop .inv .1 σ ns t es fs h k f o m)))

@@ -18,7 +18,8 @@ side-push-spec =
     (λ c κs. let p = c .before .before .before .before .before .before .pre in (p .0 .0 .rest, p .1))
     (λ c κs. let p = c .before .before .before .before .before .before .before .pre in (p .0 .1 .rest, p .1))
     (λ c σ ns t a i u b j v p q k m.
-    let moved = sides-plain (sides-none (lists-none (c .before .before .before .before .before .before .empty .ensures))) (p .moved .lists) (c .before .before .before .before .before .append .ensures) in
+    let moved = sides-plain (sides-none (lists-none (c .before .before .before .before .before .before .empty .ensures))) (p .moved .lists)
+    (c .before .before .before .before .before .append .ensures) in
     let inferred = sides-swapped moved (p .keyed .lists) (c .before .before .before .before .append2 .ensures) in
     let keyed = sides-swapped inferred (q .keyed .lists) (c .before .before .before .append3 .ensures) in
     let all = sides-plain keyed (q .moved .lists) (c .before .before .append4 .ensures) in

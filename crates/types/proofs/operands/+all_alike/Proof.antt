@@ -51,13 +51,26 @@ pub +all-alike-spec : {M : Type 1} → statement M
     (λ c κs. within (c .before .before .before .pre .1 .0) (c .if1 .left))
     (λ c κs. whole (c .before .before .before .before .pre .1 .0) (c .before .if1 .left) (c .from-record .ensures))
     (λ c κs. tt)
-    (λ c κs. (whole (c .before .before .before .before .before .before .before .pre .1 .0) (c .before .before .before .before .if1 .left) (c .before .before .before .from-record .ensures), c .before .before .before .before .before .before .before .pre .1 .1))
+    (λ c κs. (
+      whole (c .before .before .before .before .before .before .before .pre .1 .0) (c .before .before .before .before .if1 .left)
+          (c .before .before .before .from-record .ensures),
+      c .before .before .before .before .before .before .before .pre .1 .1,
+    ))
     (λ c κs. let p = c .before .before .before .before .before .before .before .before .pre .1 .0 in
-    let w = step (p .forest) (p .linked) (c .before .before .before .before .before .if1 .left) (c .before .before .before .before .from-record .ensures) (c .before .before .before .look .ensures) in (record { forest = w .after; linked = w .next }, c .before .before .before .before .before .before .before .before .pre .1 .1))
-    (λ c f e h g. let w = step f h (c .before .before .before .before .before .before .if1 .left) (c .before .before .before .before .before .from-record .ensures) (c .before .before .before .before .look .ensures) in
+    let w = step (p .forest) (p .linked) (c .before .before .before .before .before .if1 .left)
+    (c .before .before .before .before .from-record .ensures) (c .before .before .before .look .ensures) in
+    (record { forest = w .after; linked = w .next }, c .before .before .before .before .before .before .before .before .pre .1 .1))
+    (λ c f e h g. let w = step f h (c .before .before .before .before .before .before .if1 .left)
+    (c .before .before .before .before .before .from-record .ensures) (c .before .before .before .before .look .ensures) in
     c .all-have .ensures (w .after) e (w .next) g
-    ∙ alike-here w _ _ (c .before .before .before .is-expr .ensures) (c .before .before .if2 .taken) (type-here w _ h (c .before .before .before .before .before .from-record .ensures) (c .before .type-of .ensures e g)))
+    ∙ alike-here w _ _ (c .before .before .before .is-expr .ensures) (c .before .before .if2 .taken)
+    (type-here w _ h (c .before .before .before .before .before .from-record .ensures) (c .before .type-of .ensures e g)))
     (λ c κs. let p = c .before .before .before .before .before .before .before .pre .1 .0 in
-    let w = step (p .forest) (p .linked) (c .before .before .before .before .if1 .left) (c .before .before .before .from-record .ensures) (c .before .before .look .ensures) in (omega (arith, w .less), (record { forest = w .after; linked = w .next }, c .before .before .before .before .before .before .before .pre .1 .1)))
-    (λ c f e h g. let w = step f h (c .before .before .before .before .before .if1 .left) (c .before .before .before .before .from-record .ensures) (c .before .before .before .look .ensures) in
+    let w = step (p .forest) (p .linked) (c .before .before .before .before .if1 .left) (c .before .before .before .from-record .ensures)
+    (c .before .before .look .ensures) in (
+      omega (arith, w .less),
+      (record { forest = w .after; linked = w .next }, c .before .before .before .before .before .before .before .pre .1 .1),
+    ))
+    (λ c f e h g. let w = step f h (c .before .before .before .before .before .if1 .left) (c .before .before .before .before .from-record .ensures)
+    (c .before .before .before .look .ensures) in
     c .all-alike .ensures (w .after) e (w .next) g ∙ alike-skip w _ _ (c .before .before .is-expr .ensures) (c .before .if2 .left))

@@ -31,25 +31,52 @@ as-scanned-spec =
     (λ c κs. (omega arith, omega (arith, c .before .loop .inv .0)))
     (λ c κs. rw (c .from-record .ensures, length-drop) (omega (arith, c .before .before .loop .inv .0)))
     (λ c κs. let p = c .before .before .before .before .before .before .before .before .before .pre .0 in
-    let y = lowest-scan (c .before .before .before .before .before .before .before .before .before .args .table) _ (p .tree) (p .at) (c .before .before .before .before .before .before .loop .at) (omega (arith, p .bytes, c .before .before .before .before .before .before .loop .inv .0))
-    (scan-test (c .before .before .before .before .before .before .before .before .before .args .root .now) (c .before .before .before .before .before .before .loop .at) (c .before .before .before .before .from-record .ensures) (c .before .before .before .look .ensures) _ (c .if1 .taken)) (c .before .before .before .before .before .before .loop .inv .2) in
-    (c .before .before .before .before .before .before .before .before .before .pre .1, record { forest = y .below; linked = lowest-linked (c .before .before .before .before .before .before .before .before .before .args .root .now) (c .before .before .before .before .before .before .loop .at) (c .before .before .before .before .from-record .ensures) (c .before .before .before .look .ensures) _ _ y }))
+    let y = lowest-scan (c .before .before .before .before .before .before .before .before .before .args .table) _ (p .tree) (p .at)
+    (c .before .before .before .before .before .before .loop .at)
+    (omega (arith, p .bytes, c .before .before .before .before .before .before .loop .inv .0))
+    (scan-test (c .before .before .before .before .before .before .before .before .before .args .root .now)
+    (c .before .before .before .before .before .before .loop .at) (c .before .before .before .before .from-record .ensures)
+    (c .before .before .before .look .ensures) _ (c .if1 .taken)) (c .before .before .before .before .before .before .loop .inv .2) in (
+      c .before .before .before .before .before .before .before .before .before .pre .1,
+      record {
+        forest = y .below;
+        linked = lowest-linked (c .before .before .before .before .before .before .before .before .before .args .root .now)
+            (c .before .before .before .before .before .before .loop .at) (c .before .before .before .before .from-record .ensures)
+            (c .before .before .before .look .ensures) _ _ y;
+      },
+    ))
     (λ c u e h g.
-    let y = lowest-scan (c .before .before .before .before .before .before .before .before .before .before .args .table) _ u h (c .before .before .before .before .before .before .before .loop .at) (omega (arith, filled-size (c .before .before .before .before .before .before .before .before .before .before .pre .0) u h, c .before .before .before .before .before .before .before .loop .inv .0))
-    (scan-test (c .before .before .before .before .before .before .before .before .before .before .args .root .now) (c .before .before .before .before .before .before .before .loop .at) (c .before .before .before .before .before .from-record .ensures) (c .before .before .before .before .look .ensures) _ (c .before .if1 .taken)) (c .before .before .before .before .before .before .before .loop .inv .2) in
-    c .same-fields .ensures e (y .below) g (lowest-linked (c .before .before .before .before .before .before .before .before .before .before .args .root .now) (c .before .before .before .before .before .before .before .loop .at) (c .before .before .before .before .before .from-record .ensures) (c .before .before .before .before .look .ensures) _ _ y)
+    let y = lowest-scan (c .before .before .before .before .before .before .before .before .before .before .args .table) _ u h
+    (c .before .before .before .before .before .before .before .loop .at)
+    (omega (
+      arith,
+      filled-size (c .before .before .before .before .before .before .before .before .before .before .pre .0) u h,
+      c .before .before .before .before .before .before .before .loop .inv .0,
+    ))
+    (scan-test (c .before .before .before .before .before .before .before .before .before .before .args .root .now)
+    (c .before .before .before .before .before .before .before .loop .at) (c .before .before .before .before .before .from-record .ensures)
+    (c .before .before .before .before .look .ensures) _ (c .before .if1 .taken))
+    (c .before .before .before .before .before .before .before .loop .inv .2) in
+    c .same-fields .ensures e (y .below) g (lowest-linked
+    (c .before .before .before .before .before .before .before .before .before .before .args .root .now)
+    (c .before .before .before .before .before .before .before .loop .at) (c .before .before .before .before .before .from-record .ensures)
+    (c .before .before .before .before .look .ensures) _ _ y)
     ∙ ap (same-types (typesIn (made [] e))) (sym (y .types)))
     (λ c. omega arith)
     (λ c. omega arith)
     (λ c. (
       c .before .before .before .before .before .before .loop .inv .0,
       c .before .before .before .before .before .before .loop .inv .1,
-      one-more (λ i. scansAt (c .before .before .before .before .before .before .before .before .before .args .table) _ i ≡ false) _ (c .before .before .before .before .before .before .loop .inv .2)
-          (scan-test (c .before .before .before .before .before .before .before .before .before .args .root .now) (c .before .before .before .before .before .before .loop .at) (c .before .before .before .before .from-record .ensures) (c .before .before .before .look .ensures) _ (c .if1 .left)),
+      one-more (λ i. scansAt (c .before .before .before .before .before .before .before .before .before .args .table) _ i ≡ false) _
+          (c .before .before .before .before .before .before .loop .inv .2)
+          (scan-test (c .before .before .before .before .before .before .before .before .before .args .root .now)
+          (c .before .before .before .before .before .before .loop .at) (c .before .before .before .before .from-record .ensures)
+          (c .before .before .before .look .ensures) _ (c .if1 .left)),
     ))
     (λ c κs. search needs)
     (λ c u e h g.
     no-fields _ (c .made-count .ensures e [] g)
     ∙ ap (same-types (typesIn (made [] e)))
     (sym (none-scans (c .before .before .before .before .before .args .table) _ u h
-    (λ i l. c .before .before .loop .inv .2 i (omega (arith, filled-size (c .before .before .before .before .before .pre .0) u h, c .before .before .loop .inv .1)))))))
+    (λ i l. c .before .before .loop .inv .2 i
+    (omega (arith, filled-size (c .before .before .before .before .before .pre .0) u h, c .before .before .loop .inv .1)))))))

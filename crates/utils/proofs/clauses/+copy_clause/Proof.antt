@@ -83,9 +83,39 @@ pub +copy-clause-spec : {M : Type 1} → statement M
     (c .before .word-at2 .ensures .0) (c .from-record2 .ensures) in
     (v .first, c .before .before .before .before .before .before .before .before .before .pre .1 .1 .0))
     (λ c. omega (arith, c .before .before .before .before .before .before .before .before .before .before .before .pre .1 .0 .some))
-    (λ c κs. let u = parts-of (c .before .before .before .before .before .before .before .before .before .before .before .before .pre .1 .0) (c .before .before .before .before .before .before .before .before .operator .ensures) (c .before .before .before .before .before .before .before .if2 .left) in let v = halves u (c .before .before .before .before .before .before .word-at .ensures .0) (c .before .before .before .before .before .from-record .ensures) (c .before .before .before .before .word-at2 .ensures .0) (c .before .before .before .from-record2 .ensures) in (omega (arith, c .before .before .before .before .before .before .before .before .before .before .before .before .pre .0, c .before .before .before .before .before .before .before .before .before .before .before .before .pre .1 .0 .some), (v .last, (c .before .before .before .before .before .before .before .before .before .before .before .before .pre .1 .1 .0, (omega (arith, c .before .before .before .before .before .before .before .before .before .before .before .before .pre .1 .1 .1 .0, c .before .before .before .before .before .before .before .before .before .before .before .before .pre .1 .0 .some), c .before .before .before .before .before .before .before .before .before .before .before .before .pre .1 .1 .1 .1)))))
+    (λ c κs. let u = parts-of (c .before .before .before .before .before .before .before .before .before .before .before .before .pre .1 .0)
+    (c .before .before .before .before .before .before .before .before .operator .ensures)
+    (c .before .before .before .before .before .before .before .if2 .left) in let v = halves u
+    (c .before .before .before .before .before .before .word-at .ensures .0) (c .before .before .before .before .before .from-record .ensures)
+    (c .before .before .before .before .word-at2 .ensures .0) (c .before .before .before .from-record2 .ensures) in (
+      omega (
+        arith,
+        c .before .before .before .before .before .before .before .before .before .before .before .before .pre .0,
+        c .before .before .before .before .before .before .before .before .before .before .before .before .pre .1 .0 .some,
+      ),
+      (
+        v .last,
+        (
+          c .before .before .before .before .before .before .before .before .before .before .before .before .pre .1 .1 .0,
+          (
+            omega (
+              arith,
+              c .before .before .before .before .before .before .before .before .before .before .before .before .pre .1 .1 .1 .0,
+              c .before .before .before .before .before .before .before .before .before .before .before .before .pre .1 .0 .some,
+            ),
+            c .before .before .before .before .before .before .before .before .before .before .before .before .pre .1 .1 .1 .1,
+          ),
+        ),
+      ),
+    ))
     (λ c. search needs)
-    (λ c e k ns d h g held m gives. let x = only-last (c .before .before .before .before .before .before .before .before .before .word-at .ensures .0) (c .before .before .before .before .before .before .before .before .from-record .ensures) (c .before .before .before .before .before .before .before .word-at2 .ensures .0) (c .before .before .before .before .before .before .from-record2 .ensures) (c .before .before .before .before .before .before .before .before .before .before .before .operator .ensures) (c .before .before .before .before .before .before .before .before .before .before .if2 .left) ns d e k h held gives
+    (λ c e k ns d h g held m gives. let x = only-last
+    (c .before .before .before .before .before .before .before .before .before .word-at .ensures .0)
+    (c .before .before .before .before .before .before .before .before .from-record .ensures)
+    (c .before .before .before .before .before .before .before .word-at2 .ensures .0)
+    (c .before .before .before .before .before .before .from-record2 .ensures)
+    (c .before .before .before .before .before .before .before .before .before .before .before .operator .ensures)
+    (c .before .before .before .before .before .before .before .before .before .before .if2 .left) ns d e k h held gives
     (λ a at on. sym (not-true _ (c .before .before .before .before .if3 .taken))
     ∙ c .before .before .before .before .before .is-kept .ensures a ns d at g on m) in
     c .before .before .copy-clause .ensures (x .expr) k ns d (x .at) g (x .held) m (x .yields))
@@ -100,7 +130,36 @@ pub +copy-clause-spec : {M : Type 1} → statement M
       c .before .before .before .before .before .before .before .before .before .before .before .pre .1 .1 .0,
     ))
     (λ c. omega (arith, c .before .before .before .before .before .before .before .before .before .before .before .before .before .pre .1 .0 .some))
-    (λ c κs. let u = parts-of (c .before .before .before .before .before .before .before .before .before .before .before .before .before .before .pre .1 .0) (c .before .before .before .before .before .before .before .before .before .before .operator .ensures) (c .before .before .before .before .before .before .before .before .before .if2 .left) in let v = halves u (c .before .before .before .before .before .before .before .before .word-at .ensures .0) (c .before .before .before .before .before .before .before .from-record .ensures) (c .before .before .before .before .before .before .word-at2 .ensures .0) (c .before .before .before .before .before .from-record2 .ensures) in (omega (arith, c .before .before .before .before .before .before .before .before .before .before .before .before .before .before .pre .0, c .before .before .before .before .before .before .before .before .before .before .before .before .before .before .pre .1 .0 .some), (v .first, (c .before .before .before .before .before .before .before .before .before .before .before .before .before .before .pre .1 .1 .0, (omega (arith, c .before .before .before .before .before .before .before .before .before .before .before .before .before .before .pre .1 .1 .1 .0, c .before .before .before .before .before .before .before .before .before .before .before .before .before .before .pre .1 .0 .some), c .before .before .before .before .before .before .before .before .before .before .before .before .before .before .pre .1 .1 .1 .1)))))
+    (λ c κs. let u = parts-of (c .before .before .before .before .before .before .before .before .before .before .before .before .before
+    .before .pre .1 .0) (c .before .before .before .before .before .before .before .before .before .before .operator .ensures)
+    (c .before .before .before .before .before .before .before .before .before .if2 .left) in let v = halves u
+    (c .before .before .before .before .before .before .before .before .word-at .ensures .0)
+    (c .before .before .before .before .before .before .before .from-record .ensures)
+    (c .before .before .before .before .before .before .word-at2 .ensures .0)
+    (c .before .before .before .before .before .from-record2 .ensures) in (
+      omega (
+        arith,
+        c .before .before .before .before .before .before .before .before .before .before .before .before .before .before .pre .0,
+        c .before .before .before .before .before .before .before .before .before .before .before .before .before .before .pre .1 .0 .some,
+      ),
+      (
+        v .first,
+        (
+          c .before .before .before .before .before .before .before .before .before .before .before .before .before .before .pre .1 .1 .0,
+          (
+            omega (
+              arith,
+              c .before .before .before .before .before .before .before .before .before .before .before .before .before
+                  .before .pre .1 .1 .1 .0,
+              c .before .before .before .before .before .before .before .before .before .before .before .before .before
+                  .before .pre .1 .0 .some,
+            ),
+            c .before .before .before .before .before .before .before .before .before .before .before .before .before
+                .before .pre .1 .1 .1 .1,
+          ),
+        ),
+      ),
+    ))
     (λ c. search needs)
     (λ c e k ns d h g held m gives. let x = only-first
     (c .before .before .before .before .before .before .before .before .before .before .before .word-at .ensures .0)
@@ -113,18 +172,131 @@ pub +copy-clause-spec : {M : Type 1} → statement M
     (λ a at on. sym (not-true _ (c .before .before .before .before .if4 .taken))
     ∙ c .before .before .before .before .before .is-kept2 .ensures a ns d at g on m) in
     c .before .before .copy-clause2 .ensures (x .expr) k ns d (x .at) g (x .held) m (x .yields))
-    (λ c κs. (omega (arith, c .before .before .before .before .before .before .before .before .before .before .before .before .before .before .pre .1 .0 .at .head .room), c .before .before .before .before .before .before .before .before .before .before .before .before .before .before .pre .1 .1 .1 .1))
-    (λ c. omega (arith, c .before .before .before .before .before .before .before .before .before .before .before .before .before .before .before .before .before .pre .1 .0 .some))
-    (λ c. omega (arith, c .before .before .before .before .before .before .before .before .before .before .before .before .before .before .before .before .before .before .pre .1 .1 .1 .0))
-    (λ c κs. let u = parts-of (c .before .before .before .before .before .before .before .before .before .before .before .before .before .before .before .before .before .before .pre .1 .0) (c .before .before .before .before .before .before .before .before .before .before .before .before .before .before .operator .ensures) (c .before .before .before .before .before .before .before .before .before .before .before .before .before .if2 .left) in let v = halves u (c .before .before .before .before .before .before .before .before .before .before .before .before .word-at .ensures .0) (c .before .before .before .before .before .before .before .before .before .before .before .from-record .ensures) (c .before .before .before .before .before .before .before .before .before .before .word-at2 .ensures .0) (c .before .before .before .before .before .before .before .before .before .from-record2 .ensures) in (omega (arith, c .before .before .before .before .before .before .before .before .before .before .before .before .before .before .before .before .before .before .pre .0, c .before .before .before .before .before .before .before .before .before .before .before .before .before .before .before .before .before .before .pre .1 .0 .some), (v .first, (c .before .before .before .before .before .before .before .before .before .before .before .before .before .before .before .before .before .before .pre .1 .1 .0, (omega (arith, c .before .before .before .before .before .before .before .before .before .before .before .before .before .before .before .before .before .before .pre .1 .1 .1 .0, c .before .before .before .before .before .before .before .before .before .before .before .before .before .before .before .before .before .before .pre .1 .0 .some), put-start (c .before .before .before .before .before .before .before .before .before .before .before .before .before .before .before .before .before .before .pre .1 .1 .1 .1) (c .before .before .before .put-label .ensures) none .long)))))
-    (λ c. omega (arith, c .before .before .before .before .before .before .before .before .before .before .before .before .before .before .before .before .before .before .before .before .before .pre .1 .0 .some))
-    (λ c. omega (arith, c .before .before .before .before .before .before .before .before .before .before .before .before .before .before .before .before .before .before .before .before .before .before .pre .1 .1 .1 .0))
-    (λ c κs. let u = parts-of (c .before .before .before .before .before .before .before .before .before .before .before .before .before .before .before .before .before .before .before .before .before .before .pre .1 .0) (c .before .before .before .before .before .before .before .before .before .before .before .before .before .before .before .before .before .before .operator .ensures) (c .before .before .before .before .before .before .before .before .before .before .before .before .before .before .before .before .before .if2 .left) in let v = halves u (c .before .before .before .before .before .before .before .before .before .before .before .before .before .before .before .before .word-at .ensures .0) (c .before .before .before .before .before .before .before .before .before .before .before .before .before .before .before .from-record .ensures) (c .before .before .before .before .before .before .before .before .before .before .before .before .before .before .word-at2 .ensures .0) (c .before .before .before .before .before .before .before .before .before .before .before .before .before .from-record2 .ensures) in (omega (arith, c .before .before .before .before .before .before .before .before .before .before .before .before .before .before .before .before .before .before .before .before .before .before .pre .0, c .before .before .before .before .before .before .before .before .before .before .before .before .before .before .before .before .before .before .before .before .before .before .pre .1 .0 .some), (v .last, (c .before .before .before .before .before .before .before .before .before .before .before .before .before .before .before .before .before .before .before .before .before .before .pre .1 .1 .0, (omega (arith, c .before .before .before .before .before .before .before .before .before .before .before .before .before .before .before .before .before .before .before .before .before .before .pre .1 .1 .1 .0, c .before .before .before .before .before .before .before .before .before .before .before .before .before .before .before .before .before .before .before .before .before .before .pre .1 .0 .some), c .before .before .before .copy-clause3 .kept .1 .1 .1 .1 .1 .0 ∙ put-start (c .before .before .before .before .before .before .before .before .before .before .before .before .before .before .before .before .before .before .before .before .before .before .pre .1 .1 .1 .1) (c .before .before .before .before .before .before .before .put-label .ensures) none .long)))))
+    (λ c κs. (
+      omega (
+        arith,
+        c .before .before .before .before .before .before .before .before .before .before .before .before .before
+            .before .pre .1 .0 .at .head .room,
+      ),
+      c .before .before .before .before .before .before .before .before .before .before .before .before
+          .before .before .pre .1 .1 .1 .1,
+    ))
+    (λ c. omega (
+      arith,
+      c .before .before .before .before .before .before .before .before .before .before .before .before .before .before .before
+          .before .before .pre .1 .0 .some,
+    ))
+    (λ c. omega (
+      arith,
+      c .before .before .before .before .before .before .before .before .before .before .before .before .before .before .before
+          .before .before .before .pre .1 .1 .1 .0,
+    ))
+    (λ c κs. let u = parts-of (c .before .before .before .before .before .before .before .before .before .before .before .before .before .before
+    .before .before .before .before .pre .1 .0)
+    (c .before .before .before .before .before .before .before .before .before .before .before .before .before .before .operator .ensures)
+    (c .before .before .before .before .before .before .before .before .before .before .before .before .before .if2 .left) in let v = halves u
+    (c .before .before .before .before .before .before .before .before .before .before .before .before .word-at .ensures .0)
+    (c .before .before .before .before .before .before .before .before .before .before .before .from-record .ensures)
+    (c .before .before .before .before .before .before .before .before .before .before .word-at2 .ensures .0)
+    (c .before .before .before .before .before .before .before .before .before .from-record2 .ensures) in (
+      omega (
+        arith,
+        c .before .before .before .before .before .before .before .before .before .before .before .before .before .before .before
+            .before .before .before .pre .0,
+        c .before .before .before .before .before .before .before .before .before .before .before .before .before
+            .before .before .before .before .before .pre .1 .0 .some,
+      ),
+      (
+        v .first,
+        (
+          c .before .before .before .before .before .before .before .before .before .before .before .before .before .before .before .before
+              .before .before .pre .1 .1 .0,
+          (
+            omega (
+              arith,
+              c .before .before .before .before .before .before .before .before .before .before .before .before .before .before .before .before .before
+                  .before .pre .1 .1 .1 .0,
+              c .before .before .before .before .before .before .before .before .before .before .before .before .before .before
+                  .before .before .before .before .pre .1 .0 .some,
+            ),
+            put-start
+                (c .before .before .before .before .before .before .before .before .before .before .before .before .before .before .before .before .before
+                .before .pre .1 .1 .1 .1) (c .before .before .before .put-label .ensures) none .long,
+          ),
+        ),
+      ),
+    ))
+    (λ c. omega (
+      arith,
+      c .before .before .before .before .before .before .before .before .before .before .before .before .before .before .before
+          .before .before .before .before .before .before .pre .1 .0 .some,
+    ))
+    (λ c. omega (
+      arith,
+      c .before .before .before .before .before .before .before .before .before .before .before .before .before .before .before
+          .before .before .before .before .before .before .before .pre .1 .1 .1 .0,
+    ))
+    (λ c κs. let u = parts-of (c .before .before .before .before .before .before .before .before .before .before .before .before .before .before
+    .before .before .before .before .before .before .before .before .pre .1 .0)
+    (c .before .before .before .before .before .before .before .before .before .before .before .before .before .before .before .before .before
+    .before .operator .ensures) (c .before .before .before .before .before .before .before .before .before .before .before .before .before
+    .before .before .before .before .if2 .left) in let v = halves u
+    (c .before .before .before .before .before .before .before .before .before .before .before .before .before .before .before
+    .before .word-at .ensures .0) (c .before .before .before .before .before .before .before .before .before .before .before .before .before
+    .before .before .from-record .ensures) (c .before .before .before .before .before .before .before .before .before .before .before .before
+    .before .before .word-at2 .ensures .0) (c .before .before .before .before .before .before .before .before .before .before .before .before
+    .before .from-record2 .ensures) in (
+      omega (
+        arith,
+        c .before .before .before .before .before .before .before .before .before .before .before .before .before .before .before .before
+            .before .before .before .before .before .before .pre .0,
+        c .before .before .before .before .before .before .before .before .before .before .before .before .before .before .before .before .before
+            .before .before .before .before .before .pre .1 .0 .some,
+      ),
+      (
+        v .last,
+        (
+          c .before .before .before .before .before .before .before .before .before .before .before .before .before .before .before .before
+              .before .before .before .before .before .before .pre .1 .1 .0,
+          (
+            omega (
+              arith,
+              c .before .before .before .before .before .before .before .before .before .before .before .before .before .before .before
+                  .before .before .before .before .before .before .before .pre .1 .1 .1 .0,
+              c .before .before .before .before .before .before .before .before .before .before .before .before .before .before .before .before .before
+                  .before .before .before .before .before .pre .1 .0 .some,
+            ),
+            c .before .before .before .copy-clause3 .kept .1 .1 .1 .1 .1 .0 ∙ put-start
+                (c .before .before .before .before .before .before .before .before .before .before .before .before .before .before .before .before .before
+                .before .before .before .before .before .pre .1 .1 .1 .1) (c .before .before .before .before .before .before .before .put-label .ensures)
+                none .long,
+          ),
+        ),
+      ),
+    ))
     (λ c. search needs)
-    (λ c e k ns d h g held m gives. let x = both-of (c .before .before .before .before .before .before .before .before .before .before .before .before .before .before .before .before .before .before .before .word-at .ensures .0) (c .before .before .before .before .before .before .before .before .before .before .before .before .before .before .before .before .before .before .from-record .ensures) (c .before .before .before .before .before .before .before .before .before .before .before .before .before .before .before .before .before .word-at2 .ensures .0) (c .before .before .before .before .before .before .before .before .before .before .before .before .before .before .before .before .from-record2 .ensures) (c .before .before .before .before .before .before .before .before .before .before .before .before .before .before .before .before .before .before .before .before .before .operator .ensures) (c .before .before .before .before .before .before .before .before .before .before .before .before .before .before .before .before .before .before .before .before .if2 .left) ns d e k h held gives
-    (λ a at on. sym (not-false _ (c .before .before .before .before .before .before .before .before .before .before .before .before .before .before .if3 .left)) ∙ c .before .before .before .before .before .before .before .before .before .before .before .before .before .before .before .is-kept .ensures a ns d at g on m) (λ a at on. sym (not-false _ (c .before .before .before .before .before .before .before .before .before .before .before .before .if4 .left)) ∙ c .before .before .before .before .before .before .before .before .before .before .before .before .before .is-kept2 .ensures a ns d at g on m) in
+    (λ c e k ns d h g held m gives. let x = both-of
+    (c .before .before .before .before .before .before .before .before .before .before .before .before .before .before .before .before .before
+    .before .before .word-at .ensures .0) (c .before .before .before .before .before .before .before .before .before .before .before .before
+    .before .before .before .before .before .before .from-record .ensures)
+    (c .before .before .before .before .before .before .before .before .before .before .before .before .before .before .before .before
+    .before .word-at2 .ensures .0) (c .before .before .before .before .before .before .before .before .before .before .before .before .before
+    .before .before .before .from-record2 .ensures)
+    (c .before .before .before .before .before .before .before .before .before .before .before .before .before .before .before .before
+    .before .before .before .before .before .operator .ensures)
+    (c .before .before .before .before .before .before .before .before .before .before .before .before .before .before .before .before
+    .before .before .before .before .if2 .left) ns d e k h held gives
+    (λ a at on. sym (not-false _ (c .before .before .before .before .before .before .before .before .before .before .before .before .before
+    .before .if3 .left)) ∙ c .before .before .before .before .before .before .before .before .before .before .before .before .before .before
+    .before .is-kept .ensures a ns d at g on m)
+    (λ a at on. sym (not-false _ (c .before .before .before .before .before .before .before .before .before .before .before .before .if4 .left))
+    ∙ c .before .before .before .before .before .before .before .before .before .before .before .before .before .is-kept2 .ensures a ns d at g on
+    m) in
     let a = c .before .before .before .before .before .before .copy-clause3 .ensures (x .first .expr) (x .lhs) ns d (x .first .at) g
     (x .first .held) m (x .first .yields) in
     let b = c .before .before .copy-clause4 .ensures (x .last .expr) (x .rhs) ns d (x .last .at) g (x .last .held) m (x .last .yields) in
     wrote-clause (x .op) (x .lhs) (x .rhs) k (wrote-two
-    (c .before .before .before .before .before .before .before .before .before .before .before .before .before .before .before .before .before .before .before .before .before .before .before .before .before .pre .1 .1 .1 .1) (c .before .before .before .before .before .before .before .before .before .before .put-label .ensures) a b) (h .head .label ∙ x .label) (x .is))
+    (c .before .before .before .before .before .before .before .before .before .before .before .before .before .before .before .before .before
+    .before .before .before .before .before .before .before .before .pre .1 .1 .1 .1)
+    (c .before .before .before .before .before .before .before .before .before .before .put-label .ensures) a b) (h .head .label ∙ x .label)
+    (x .is))

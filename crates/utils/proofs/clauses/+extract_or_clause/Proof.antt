@@ -6,7 +6,8 @@ use borrow.Author.Needs.{needs}
 use Rattle.plan.specs.Schema.{has}
 use Rattle.plan.specs.Trees.{exprTree}
 use Rattle.utils.proofs.Extracting.{readable-expr, parts-of, halves, op-is, sides-and, sides-or, held-left, held-right, sides-size, size-room}
-use Rattle.utils.proofs.Extracting.{other-made, other-nothing, records-small, made-small, and-made, either-small, or-nothing-left, or-nothing-right, or-made}
+use Rattle.utils.proofs.Extracting.{other-made, other-nothing, records-small, made-small, and-made, either-small, or-nothing-left}
+use Rattle.utils.proofs.Extracting.{or-nothing-right, or-made}
 use Prim.Native.Nat.{ℕ, _<_}
 use borrow.Fn.Kinds.{In}
 use borrow.Fn.PlainCycle.{Measures, is, falls, and}
@@ -170,17 +171,43 @@ pub +extract-or-clause-spec : {M : Type 1} → statement M
       λ e h. omega arith,
     ))
     (λ c. omega (arith, c .before .before .before .before .before .before .before .before .before .before .before .before .pre .1 .0 .some))
-    (λ c κs. let u = parts-of (c .before .before .before .before .before .before .before .before .before .before .before .before .pre .1 .0) (c .before .before .before .before .before .before .before .before .before .before .operator .ensures) (c .before .before .before .before .before .before .before .before .before .if1 .left) in let v = halves u (c .before .before .before .before .before .before .before .before .word-at .ensures .0) (c .before .before .before .before .before .before .before .from-record .ensures) (c .before .before .before .before .before .before .word-at2 .ensures .0) (c .before .before .before .before .before .from-record2 .ensures) in (omega (arith, c .before .before .before .before .before .before .before .before .before .before .before .before .pre .0, c .before .before .before .before .before .before .before .before .before .before .before .before .pre .1 .0 .some), (v .last, c .before .before .before .before .before .before .before .before .before .before .before .before .pre .1 .1)))
+    (λ c κs. let u = parts-of (c .before .before .before .before .before .before .before .before .before .before .before .before .pre .1 .0)
+    (c .before .before .before .before .before .before .before .before .before .before .operator .ensures)
+    (c .before .before .before .before .before .before .before .before .before .if1 .left) in let v = halves u
+    (c .before .before .before .before .before .before .before .before .word-at .ensures .0)
+    (c .before .before .before .before .before .before .before .from-record .ensures)
+    (c .before .before .before .before .before .before .word-at2 .ensures .0)
+    (c .before .before .before .before .before .from-record2 .ensures) in (
+      omega (
+        arith,
+        c .before .before .before .before .before .before .before .before .before .before .before .before .pre .0,
+        c .before .before .before .before .before .before .before .before .before .before .before .before .pre .1 .0 .some,
+      ),
+      (v .last, c .before .before .before .before .before .before .before .before .before .before .before .before .pre .1 .1),
+    ))
     (λ c. search needs)
     (λ c. search needs)
     (λ c. (
-      λ e ns d h g held k. let u = sides-or (c .before .before .before .before .before .before .before .before .before .before .before .word-at .ensures .0) (c .before .before .before .before .before .before .before .before .before .before .from-record .ensures) (c .before .before .before .before .before .before .before .before .before .word-at2 .ensures .0) (c .before .before .before .before .before .before .before .before .from-record2 .ensures) e h (c .before .before .before .before .before .before .before .before .before .before .before .before .before .operator .ensures) (c .before .before .before .before .before .before .before .before .before .before .before .before .if1 .left) (c .before .before .before .before .before .before .before .if3 .left) in
+      λ e ns d h g held k. let u = sides-or (c .before .before .before .before .before .before .before .before .before .before
+          .before .word-at .ensures .0) (c .before .before .before .before .before .before .before .before .before .before .from-record .ensures)
+          (c .before .before .before .before .before .before .before .before .before .word-at2 .ensures .0)
+          (c .before .before .before .before .before .before .before .before .from-record2 .ensures) e h
+          (c .before .before .before .before .before .before .before .before .before .before .before .before .before .operator .ensures)
+          (c .before .before .before .before .before .before .before .before .before .before .before .before .if1 .left)
+          (c .before .before .before .before .before .before .before .if3 .left) in
           or-nothing-right d u (c .before .before .extract-or-clause4 .ensures .0 (u .rhs) ns d (u .at-right) g
           (held-right u (has ns) held) k) (c .enum-told2 .given .1),
       λ e h. omega arith,
     ))
-    (λ c. let h = c .before .before .before .before .before .before .before .before .before .before .before .before .before .before .before .before .pre .1 .0 in
-    let u = sides-or (c .before .before .before .before .before .before .before .before .before .before .before .before .word-at .ensures .0) (c .before .before .before .before .before .before .before .before .before .before .before .from-record .ensures) (c .before .before .before .before .before .before .before .before .before .before .word-at2 .ensures .0) (c .before .before .before .before .before .before .before .before .before .from-record2 .ensures) (h .expr) (h .at) (c .before .before .before .before .before .before .before .before .before .before .before .before .before .before .operator .ensures) (c .before .before .before .before .before .before .before .before .before .before .before .before .before .if1 .left) (c .before .before .before .before .before .before .before .before .if3 .left) in
+    (λ c. let h = c .before .before .before .before .before .before .before .before .before .before .before .before .before .before .before
+    .before .pre .1 .0 in
+    let u = sides-or (c .before .before .before .before .before .before .before .before .before .before .before .before .word-at .ensures .0)
+    (c .before .before .before .before .before .before .before .before .before .before .before .from-record .ensures)
+    (c .before .before .before .before .before .before .before .before .before .before .word-at2 .ensures .0)
+    (c .before .before .before .before .before .before .before .before .before .from-record2 .ensures) (h .expr) (h .at)
+    (c .before .before .before .before .before .before .before .before .before .before .before .before .before .before .operator .ensures)
+    (c .before .before .before .before .before .before .before .before .before .before .before .before .before .if1 .left)
+    (c .before .before .before .before .before .before .before .before .if3 .left) in
     omega (
       arith,
       size-room h,
@@ -189,8 +216,15 @@ pub +extract-or-clause-spec : {M : Type 1} → statement M
           (c .before .before .before .before .before .m .given .1),
       made-small (c .before .before .before .extract-or-clause4 .ensures .1 (u .rhs) (u .at-right)) (c .before .n .given .1),
     ))
-    (λ c. let h = c .before .before .before .before .before .before .before .before .before .before .before .before .before .before .before .before .pre .1 .0 in
-    let u = sides-or (c .before .before .before .before .before .before .before .before .before .before .before .before .word-at .ensures .0) (c .before .before .before .before .before .before .before .before .before .before .before .from-record .ensures) (c .before .before .before .before .before .before .before .before .before .before .word-at2 .ensures .0) (c .before .before .before .before .before .before .before .before .before .from-record2 .ensures) (h .expr) (h .at) (c .before .before .before .before .before .before .before .before .before .before .before .before .before .before .operator .ensures) (c .before .before .before .before .before .before .before .before .before .before .before .before .before .if1 .left) (c .before .before .before .before .before .before .before .before .if3 .left) in
+    (λ c. let h = c .before .before .before .before .before .before .before .before .before .before .before .before .before .before .before
+    .before .pre .1 .0 in
+    let u = sides-or (c .before .before .before .before .before .before .before .before .before .before .before .before .word-at .ensures .0)
+    (c .before .before .before .before .before .before .before .before .before .before .before .from-record .ensures)
+    (c .before .before .before .before .before .before .before .before .before .before .word-at2 .ensures .0)
+    (c .before .before .before .before .before .before .before .before .before .from-record2 .ensures) (h .expr) (h .at)
+    (c .before .before .before .before .before .before .before .before .before .before .before .before .before .before .operator .ensures)
+    (c .before .before .before .before .before .before .before .before .before .before .before .before .before .if1 .left)
+    (c .before .before .before .before .before .before .before .before .if3 .left) in
     omega (
       arith,
       size-room h,
@@ -200,12 +234,24 @@ pub +extract-or-clause-spec : {M : Type 1} → statement M
       made-small (c .before .before .before .extract-or-clause4 .ensures .1 (u .rhs) (u .at-right)) (c .before .n .given .1),
     ))
     (λ c. (
-      λ e ns d h g held k. let u = sides-or (c .before .before .before .before .before .before .before .before .before .before .before .before .word-at .ensures .0) (c .before .before .before .before .before .before .before .before .before .before .before .from-record .ensures) (c .before .before .before .before .before .before .before .before .before .before .word-at2 .ensures .0) (c .before .before .before .before .before .before .before .before .before .from-record2 .ensures) e h (c .before .before .before .before .before .before .before .before .before .before .before .before .before .before .operator .ensures) (c .before .before .before .before .before .before .before .before .before .before .before .before .before .if1 .left) (c .before .before .before .before .before .before .before .before .if3 .left) in
+      λ e ns d h g held k. let u = sides-or (c .before .before .before .before .before .before .before .before .before .before .before
+          .before .word-at .ensures .0) (c .before .before .before .before .before .before .before .before .before .before
+          .before .from-record .ensures) (c .before .before .before .before .before .before .before .before .before .before .word-at2 .ensures .0)
+          (c .before .before .before .before .before .before .before .before .before .from-record2 .ensures) e h
+          (c .before .before .before .before .before .before .before .before .before .before .before .before .before .before .operator .ensures)
+          (c .before .before .before .before .before .before .before .before .before .before .before .before .before .if1 .left)
+          (c .before .before .before .before .before .before .before .before .if3 .left) in
           or-made d u (c .before .before .before .before .before .before .before .extract-or-clause3 .ensures .0 (u .lhs) ns d
           (u .at-left) g (held-left u (has ns) held) k) (c .before .before .before .before .before .m .given .1)
           (c .before .before .before .extract-or-clause4 .ensures .0 (u .rhs) ns d (u .at-right) g (held-right u (has ns) held) k)
           (c .before .n .given .1),
-      λ e h. let u = sides-or (c .before .before .before .before .before .before .before .before .before .before .before .before .word-at .ensures .0) (c .before .before .before .before .before .before .before .before .before .before .before .from-record .ensures) (c .before .before .before .before .before .before .before .before .before .before .word-at2 .ensures .0) (c .before .before .before .before .before .before .before .before .before .from-record2 .ensures) e h (c .before .before .before .before .before .before .before .before .before .before .before .before .before .before .operator .ensures) (c .before .before .before .before .before .before .before .before .before .before .before .before .before .if1 .left) (c .before .before .before .before .before .before .before .before .if3 .left) in
+      λ e h. let u = sides-or (c .before .before .before .before .before .before .before .before .before .before .before
+          .before .word-at .ensures .0) (c .before .before .before .before .before .before .before .before .before .before
+          .before .from-record .ensures) (c .before .before .before .before .before .before .before .before .before .before .word-at2 .ensures .0)
+          (c .before .before .before .before .before .before .before .before .before .from-record2 .ensures) e h
+          (c .before .before .before .before .before .before .before .before .before .before .before .before .before .before .operator .ensures)
+          (c .before .before .before .before .before .before .before .before .before .before .before .before .before .if1 .left)
+          (c .before .before .before .before .before .before .before .before .if3 .left) in
           omega (
             arith,
             sides-size u,

@@ -90,33 +90,95 @@ pub +add-schema-spec : {M : Type 1} → statement M
       omega (arith, h .some, c .before .before .before .before .before .before .before .before .before .before .pre .0),
       (
         rw (c .before .before .from-record .ensures) (plan-below h i),
-        rw (c .below-alias .ensures) (below-small (c .before .before .before .before .before .before .before .before .label-at .result .kind) _ _ (c .before .before .before .before .before .before .before .before .before .before .args .set) (c .before .before .before .before .before .before .before .before .label-at .ensures .1 .p) (c .before .before .before .before .before .before .before .before .before .before .pre .1 .1)),
+        rw (c .below-alias .ensures) (below-small (c .before .before .before .before .before .before .before .before .label-at .result .kind) _ _
+            (c .before .before .before .before .before .before .before .before .before .before .args .set)
+            (c .before .before .before .before .before .before .before .before .label-at .ensures .1 .p)
+            (c .before .before .before .before .before .before .before .before .before .before .pre .1 .1)),
       ),
     ))
-    (λ c κs. ((_, readable-plan (c .before .before .before .before .before .before .before .before .before .before .before .before .before .pre .1 .0)), c .before .before .before .before .before .before .before .before .before .before .before .before .before .pre .1 .1))
-    (λ c p ns h g. let e = c .before .before .before .before .before .before .before .before .before .before .before .before .label-at .ensures .0 ∙ h .head .label in
-    let i = input-of p 255 _ e (sym (c .before .before .before .before .before .before .before .before .before .before .before .makes-all .ensures) ∙ c .before .before .before .before .before .before .before .before .before .before .if1 .left) (c .before .before .before .before .before .before .before .before .before .own-input .ensures) (c .before .before .before .before .before .before .before .before .input-at .ensures (planTree p) h) (c .before .before .before .before .before .before .before .if2 .left) in
+    (λ c κs. (
+      (
+        _,
+        readable-plan (c .before .before .before .before .before .before .before .before .before .before .before .before
+            .before .pre .1 .0),
+      ),
+      c .before .before .before .before .before .before .before .before .before .before .before .before .before .pre .1 .1,
+    ))
+    (λ c p ns h g. let e = c .before .before .before .before .before .before .before .before .before .before .before .before .label-at .ensures .0 ∙
+    h .head .label in
+    let i = input-of p 255 _ e (sym (c .before .before .before .before .before .before .before .before .before .before .before .makes-all .ensures) ∙
+    c .before .before .before .before .before .before .before .before .before .before .if1 .left)
+    (c .before .before .before .before .before .before .before .before .before .own-input .ensures)
+    (c .before .before .before .before .before .before .before .before .input-at .ensures (planTree p) h)
+    (c .before .before .before .before .before .before .before .if2 .left) in
     let a = c .before .before .before .before .before .before .before .before .before .before .before .before .before .before .args in
     let n = rw (c .before .before .before .before .below-alias .ensures) at
     (c .before .before .before .add-schema .ensures (i .input) ns
     (rw (c .before .before .before .before .before .before .from-record .ensures) (i .stands .here)) g) in
     ends-parts p _ e (a .set) (a .q) ns (i .input) n (i .rest) (eq-eqb _ _ (c .before .if3 .taken))
     (λ ms k. c .add-parts2 .ensures (planTree p) ms h k))
-    (λ c κs. (_, readable-plan (c .before .before .before .before .before .before .before .before .before .before .before .before .before .before .before .before .pre .1 .0)))
-    (λ c κs. let h = c .before .before .before .before .before .before .before .before .before .before .before .before .before .before .before .before .before .pre .1 .0 in
-    let e = c .before .before .before .before .before .before .before .before .before .before .before .before .before .before .before .label-at .ensures .0 ∙ h .at .head .label in
-    let i = input-of (h .plan) (c .before .before .before .before .before .before .before .before .before .before .before .before .before .before .before .before .before .args .depth - 1) _ e (sym (c .before .before .before .before .before .before .before .before .before .before .before .before .before .before .makes-all .ensures) ∙ c .before .before .before .before .before .before .before .before .before .before .before .before .before .if1 .left) (c .before .before .before .before .before .before .before .before .before .before .before .before .own-input .ensures) (c .before .before .before .before .before .before .before .before .before .before .before .input-at .ensures (planTree (h .plan)) (h .at)) (c .before .before .before .before .before .before .before .before .before .before .if2 .left) in
-    let j = second-of (h .plan) (c .before .before .before .before .before .before .before .before .before .before .before .before .before .before .before .before .before .args .depth - 1) _ e (i .input) (i .rest) (c .before .if4 .taken) (c .input-at2 .ensures (planTree (h .plan)) (h .at)) in
+    (λ c κs. (
+      _,
+      readable-plan (c .before .before .before .before .before .before .before .before .before .before .before .before .before .before
+          .before .before .pre .1 .0),
+    ))
+    (λ c κs. let h = c .before .before .before .before .before .before .before .before .before .before .before .before .before .before .before
+    .before .before .pre .1 .0 in
+    let e = c .before .before .before .before .before .before .before .before .before .before .before .before .before .before
+    .before .label-at .ensures .0 ∙ h .at .head .label in
+    let i = input-of (h .plan) (c .before .before .before .before .before .before .before .before .before .before .before .before .before .before
+    .before .before .before .args .depth - 1) _ e
+    (sym (c .before .before .before .before .before .before .before .before .before .before .before .before .before .before .makes-all .ensures)
+    ∙ c .before .before .before .before .before .before .before .before .before .before .before .before .before .if1 .left)
+    (c .before .before .before .before .before .before .before .before .before .before .before .before .own-input .ensures)
+    (c .before .before .before .before .before .before .before .before .before .before .before .input-at .ensures (planTree (h .plan)) (h .at))
+    (c .before .before .before .before .before .before .before .before .before .before .if2 .left) in
+    let j = second-of (h .plan) (c .before .before .before .before .before .before .before .before .before .before .before .before .before .before
+    .before .before .before .args .depth - 1) _ e (i .input) (i .rest) (c .before .if4 .taken)
+    (c .input-at2 .ensures (planTree (h .plan)) (h .at)) in
     omega (arith, j .stands .past, j .stands .fits))
-    (λ c. omega (arith, c .before .before .before .before .before .before .before .before .before .before .before .before .before .before .before .before .before .before .pre .1 .0 .some))
-    (λ c κs. let h = c .before .before .before .before .before .before .before .before .before .before .before .before .before .before .before .before .before .before .pre .1 .0 in
-    let e = c .before .before .before .before .before .before .before .before .before .before .before .before .before .before .before .before .label-at .ensures .0 ∙ h .at .head .label in
-    let i = input-of (h .plan) (c .before .before .before .before .before .before .before .before .before .before .before .before .before .before .before .before .before .before .args .depth - 1) _ e (sym (c .before .before .before .before .before .before .before .before .before .before .before .before .before .before .before .makes-all .ensures) ∙ c .before .before .before .before .before .before .before .before .before .before .before .before .before .before .if1 .left) (c .before .before .before .before .before .before .before .before .before .before .before .before .before .own-input .ensures) (c .before .before .before .before .before .before .before .before .before .before .before .before .input-at .ensures (planTree (h .plan)) (h .at)) (c .before .before .before .before .before .before .before .before .before .before .before .if2 .left) in
-    let j = second-of (h .plan) (c .before .before .before .before .before .before .before .before .before .before .before .before .before .before .before .before .before .before .args .depth - 1) _ e (i .input) (i .rest) (c .before .before .if4 .taken) (c .before .input-at2 .ensures (planTree (h .plan)) (h .at)) in
-    (omega (arith, h .some, c .before .before .before .before .before .before .before .before .before .before .before .before .before .before .before .before .before .before .pre .0), (rw (c .from-record2 .ensures) (plan-below h j), c .before .before .before .before .before .before .before .before .before .before .before .before .before .before .before .before .before .before .pre .1 .1)))
-    (λ c p ns h g. let e = c .before .before .before .before .before .before .before .before .before .before .before .before .before .before .before .before .before .label-at .ensures .0 ∙ h .head .label in
-    let i = input-of p 255 _ e (sym (c .before .before .before .before .before .before .before .before .before .before .before .before .before .before .before .before .makes-all .ensures) ∙ c .before .before .before .before .before .before .before .before .before .before .before .before .before .before .before .if1 .left) (c .before .before .before .before .before .before .before .before .before .before .before .before .before .before .own-input .ensures) (c .before .before .before .before .before .before .before .before .before .before .before .before .before .input-at .ensures (planTree p) h) (c .before .before .before .before .before .before .before .before .before .before .before .before .if2 .left) in
-    let a = c .before .before .before .before .before .before .before .before .before .before .before .before .before .before .before .before .before .before .before .args in
+    (λ c. omega (
+      arith,
+      c .before .before .before .before .before .before .before .before .before .before .before .before .before .before .before
+          .before .before .before .pre .1 .0 .some,
+    ))
+    (λ c κs. let h = c .before .before .before .before .before .before .before .before .before .before .before .before .before .before .before
+    .before .before .before .pre .1 .0 in
+    let e = c .before .before .before .before .before .before .before .before .before .before .before .before .before .before .before
+    .before .label-at .ensures .0 ∙ h .at .head .label in
+    let i = input-of (h .plan) (c .before .before .before .before .before .before .before .before .before .before .before .before .before .before
+    .before .before .before .before .args .depth - 1) _ e
+    (sym (c .before .before .before .before .before .before .before .before .before .before .before .before .before .before
+    .before .makes-all .ensures) ∙ c .before .before .before .before .before .before .before .before .before .before .before .before .before
+    .before .if1 .left) (c .before .before .before .before .before .before .before .before .before .before .before .before
+    .before .own-input .ensures) (c .before .before .before .before .before .before .before .before .before .before .before
+    .before .input-at .ensures (planTree (h .plan)) (h .at))
+    (c .before .before .before .before .before .before .before .before .before .before .before .if2 .left) in
+    let j = second-of (h .plan) (c .before .before .before .before .before .before .before .before .before .before .before .before .before .before
+    .before .before .before .before .args .depth - 1) _ e (i .input) (i .rest) (c .before .before .if4 .taken)
+    (c .before .input-at2 .ensures (planTree (h .plan)) (h .at)) in (
+      omega (
+        arith,
+        h .some,
+        c .before .before .before .before .before .before .before .before .before .before .before .before .before .before .before
+            .before .before .before .pre .0,
+      ),
+      (
+        rw (c .from-record2 .ensures) (plan-below h j),
+        c .before .before .before .before .before .before .before .before .before .before .before .before .before .before .before .before .before
+            .before .pre .1 .1,
+      ),
+    ))
+    (λ c p ns h g. let e = c .before .before .before .before .before .before .before .before .before .before .before .before .before .before .before
+    .before .before .label-at .ensures .0 ∙ h .head .label in
+    let i = input-of p 255 _ e (sym (c .before .before .before .before .before .before .before .before .before .before .before .before .before
+    .before .before .before .makes-all .ensures) ∙
+    c .before .before .before .before .before .before .before .before .before .before .before .before .before .before .before .if1 .left)
+    (c .before .before .before .before .before .before .before .before .before .before .before .before .before .before .own-input .ensures)
+    (c .before .before .before .before .before .before .before .before .before .before .before .before .before .input-at .ensures (planTree p) h)
+    (c .before .before .before .before .before .before .before .before .before .before .before .before .if2 .left) in
+    let a = c .before .before .before .before .before .before .before .before .before .before .before .before .before .before .before .before .before
+    .before .before .args in
     let n = rw (c .before .before .before .before .before .before .before .before .before .below-alias .ensures) at
     (c .before .before .before .before .before .before .before .before .add-schema .ensures (i .input) ns
     (rw (c .before .before .before .before .before .before .before .before .before .before .before .from-record .ensures)
@@ -125,8 +187,13 @@ pub +add-schema-spec : {M : Type 1} → statement M
     (c .before .before .input-at2 .ensures (planTree p) h) in
     ends-more p _ e (a .set) (a .q) ns (i .input) n (schema (j .input)) (j .rest .0) (j .rest .1)
     (λ ms k. c .add-schema2 .ensures (j .input) ms (rw (c .before .from-record2 .ensures) (j .stands .here)) k))
-    (λ c p ns h g. let e = c .before .before .before .before .before .before .before .before .before .before .before .before .before .before .label-at .ensures .0 ∙ h .head .label in
-    let i = input-of p 255 _ e (sym (c .before .before .before .before .before .before .before .before .before .before .before .before .before .makes-all .ensures) ∙ c .before .before .before .before .before .before .before .before .before .before .before .before .if1 .left) (c .before .before .before .before .before .before .before .before .before .before .before .own-input .ensures) (c .before .before .before .before .before .before .before .before .before .before .input-at .ensures (planTree p) h) (c .before .before .before .before .before .before .before .before .before .if2 .left) in
+    (λ c p ns h g. let e = c .before .before .before .before .before .before .before .before .before .before .before .before .before
+    .before .label-at .ensures .0 ∙ h .head .label in
+    let i = input-of p 255 _ e (sym (c .before .before .before .before .before .before .before .before .before .before .before .before
+    .before .makes-all .ensures) ∙ c .before .before .before .before .before .before .before .before .before .before .before .before .if1 .left)
+    (c .before .before .before .before .before .before .before .before .before .before .before .own-input .ensures)
+    (c .before .before .before .before .before .before .before .before .before .before .input-at .ensures (planTree p) h)
+    (c .before .before .before .before .before .before .before .before .before .if2 .left) in
     let a = c .before .before .before .before .before .before .before .before .before .before .before .before .before .before .before .before .args in
     let n = rw (c .before .before .before .before .before .before .below-alias .ensures) at
     (c .before .before .before .before .before .add-schema .ensures (i .input) ns

@@ -17,4 +17,6 @@ copy-filter-spec =
     (λ c. search needs)
     (λ c κs. search needs)
     (λ c. search needs)
-    (λ c σ g e h p k. wrote-filter (c .before .before .before .before .before .before .before .before .before .before .before .before .before .before .before .pre .1 .1 .1 .1) e p (c .before .before .before .before .before .before .before .before .before .before .put-kind .ensures) (c .before .before .before .before .before .before .copy-predicate .ensures σ g e h) (c .before .before .copy-plan .ensures p k)))
+    (λ c σ g e h p k. wrote-filter (c .before .before .before .before .before .before .before .before .before .before .before .before .before .before
+    .before .pre .1 .1 .1 .1) e p (c .before .before .before .before .before .before .before .before .before .before .put-kind .ensures)
+    (c .before .before .before .before .before .before .copy-predicate .ensures σ g e h) (c .before .before .copy-plan .ensures p k)))

@@ -35,7 +35,8 @@ copy-filtered-spec =
     (λ c. search needs)
     (λ c κs. search needs)
     (λ c. search needs)
-    (λ c σ g es h p k. let q = c .before .before .before .before .before .before .before .before .before .before .before .before .before .before .before .before .pre in
+    (λ c σ g es h p k. let q = c .before .before .before .before .before .before .before .before .before .before .before .before .before .before
+    .before .before .pre in
     wrote-filtered (q .1 .1 .1 .1) es p (λ z. omega (
       arith,
       pushes-length h (q .0 .most),

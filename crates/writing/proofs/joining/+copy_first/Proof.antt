@@ -67,13 +67,25 @@ pub +copy-first-spec : {M : Type 1} → statement M
       ),
     ))
     (λ c. omega (arith, c .before .before .before .before .before .before .before .before .before .before .before .before .before .before .pre .1 .1 .1 .1 .0))
-    (λ c κs. let p = c .before .before .before .before .before .before .before .before .before .before .before .before .before .before .pre .1 in
-    (one-of (p .0) _ _ (omega (arith, p .1 .1 .0)) (c .before .before .before .before .before .before .before .before .before .before .item-at .ensures), (p .1 .0, (omega (arith, p .1 .1, c .before .before .before .before .before .before .before .before .before .if1 .left), c .before .before .before .copy-first .kept .1 .1 .1 .1 .1 .1 .0 ∙ (c .before .before .before .before .before .before .before .put-kind .kept .0 ∙ p .1 .1 .1 .1)))))
+    (λ c κs. let p = c .before .before .before .before .before .before .before .before .before .before .before .before .before .before .pre .1 in (
+      one-of (p .0) _ _ (omega (arith, p .1 .1 .0))
+          (c .before .before .before .before .before .before .before .before .before .before .item-at .ensures),
+      (
+        p .1 .0,
+        (
+          omega (arith, p .1 .1, c .before .before .before .before .before .before .before .before .before .if1 .left),
+          c .before .before .before .copy-first .kept .1 .1 .1 .1 .1 .1 .0 ∙
+              (c .before .before .before .before .before .before .before .put-kind .kept .0 ∙ p .1 .1 .1 .1),
+        ),
+      ),
+    ))
     (λ c. c .before .before .copy-item2 .kept .1 .1 .1 .1 .1 .0 ∙
     (c .before .before .before .before .before .before .copy-first .kept .1 .1 .1 .1 .1 .1 .0
     ∙ c .before .before .before .before .before .before .before .before .before .before .put-kind .kept .0))
-    (λ c σ g e es h. let p = c .before .before .before .before .before .before .before .before .before .before .before .before .before .before .before .before .before .pre .1 in
-    let k = c .before .before .before .before .before .before .before .before .before .before .before .before .before .before .before .before .before .args .k - 1 in
+    (λ c σ g e es h. let p = c .before .before .before .before .before .before .before .before .before .before .before .before .before .before
+    .before .before .before .pre .1 in
+    let k = c .before .before .before .before .before .before .before .before .before .before .before .before .before .before .before .before
+    .before .args .k - 1 in
     let long = pushes-length h (p .0 .most) in
     rw (conjoin-more e es k (c .before .before .before .before .before .before .before .before .before .before .before .before .if1 .left)
     (omega (arith, p .1 .1 .0)))

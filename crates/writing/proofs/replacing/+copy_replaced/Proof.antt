@@ -84,7 +84,11 @@ pub +copy-replaced-spec : {M : Type 1} → statement M
     rw (c .word-at .ensures .0) (chain _ (p .0) (λ e he. put-start (p .1 .1 .1) (c .before .before .before .put-label .ensures) _)))
     (λ c κs. let u = round _ (c .before .loop .inv) (c .loop-test .taken) in omega (arith, u .turn .past, u .turn .fits))
     (λ c. omega (arith, c .before .before .loop .inv .some))
-    (λ c. omega (arith, c .before .before .before .before .before .before .before .before .before .before .before .before .before .before .before .pre .1 .1 .1 .0))
+    (λ c. omega (
+      arith,
+      c .before .before .before .before .before .before .before .before .before .before .before .before .before .before
+          .before .pre .1 .1 .1 .0,
+    ))
     (λ c κs. let k = c .before .before .before .loop .inv in
     let u = round _ k (c .before .before .loop-test .taken) in
     let p = c .before .before .before .before .before .before .before .before .before .before .before .before .before .before .before .pre in
@@ -111,7 +115,9 @@ pub +copy-replaced-spec : {M : Type 1} → statement M
     c .before .loop .inv .so-far (e .tree) (e .at) .long ∙ sym
     (c .before .before .before .before .before .before .before .before .before .before .before .before .before .pre .1 .1 .1 .1))
     (λ c. λ e he. let k = c .before .loop .inv in
-    let z = no-value e (labelAt (c .before .before .before .before .before .before .before .before .before .before .before .before .before .args .s .now)) (c .before .before .before .before .before .before .before .before .value-for .ensures e he) (c .before .before .before .before .before .before .before .if2 .left) in
+    let z = no-value e (labelAt (c .before .before .before .before .before .before .before .before .before .before .before .before
+    .before .args .s .now)) (c .before .before .before .before .before .before .before .before .value-for .ensures e he)
+    (c .before .before .before .before .before .before .before .if2 .left) in
     for-all _ (k .stands) (rw (← k .stands .head .label, z)
     (left-end (c .before .before .before .before .before .before .before .before .before .before .before .before .before .pre .1 .1 .1 .1)
     (c .before .before .before .before .before .put-label .ensures) (done _ k (c .loop-test .left) e he))))

@@ -31,7 +31,8 @@ write-before-spec =
     ))
     (λ c. search needs)
     (λ c. search needs)
-    (λ c p f h e k. let q = c .before .before .before .before .before .before .before .before .before .before .before .before .before .before .before .before .pre in
+    (λ c p f h e k. let q = c .before .before .before .before .before .before .before .before .before .before .before .before .before .before .before
+    .before .pre in
     let w = c .before .before .before .before .before .before .write-whole .ensures (planTree p) (h .here) in
     before-of p _ f e (subst (λ (t : Tree). sizeT t ≤ 2048) (only (q .0 .at) (h .here)) (q .0 .few))
     (c .before .before .before .before .before .before .before .before .before .before .before .copy-plan .kept .1 .1 .0 ∙ q .1 .1 .0)
