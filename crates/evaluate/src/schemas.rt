@@ -1,5 +1,5 @@
 // The types of the fields that a Filter's predicate stands over.
-use types::places::type_at;
+use types::places::place_type;
 ghost use mathlib.Core.Path.{_≡_};
 ghost use Prim.Native.Nat.{_≤_};
 ghost use lib.ListN.{length, take};
@@ -18,7 +18,7 @@ pub fn field_types(s: &[u8], base: usize, at: usize, n: usize) -> [usize; 64]
     let mut types = [0usize; 64];
     let mut k = 0;
     while k < n {
-        types[k] = type_at(s, base, at, 0, k);
+        types[k] = place_type(s, base, at, 1, k);
         k += 1;
     }
     types

@@ -30,7 +30,7 @@ fn width(s: &[u8], base: usize, at: usize, which: usize) -> usize
 }
 
 // The type of the field with the place k, as in `width`; 0 for none.
-fn place_type(s: &[u8], base: usize, at: usize, which: usize, k: usize) -> usize
+pub fn place_type(s: &[u8], base: usize, at: usize, which: usize, k: usize) -> usize
     requires { ⌜ Chained (now s) base at ⌝ }
     ensures { λ r. ⌜ ((f : Forest) → Linked f (now (s .entry)) base at → r ≡ tyAt k (schemaOf which f)) ⌝ }
 {

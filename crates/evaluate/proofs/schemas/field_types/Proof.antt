@@ -35,6 +35,6 @@ field-types-spec =
       omega arith,
       search needs,
       λ f h. placed _ (c .before .before .loop .types) _ (omega arith) (c .before .before .loop .inv .2 f h)
-          (c .type-at .ensures f h),
+          (c .place-type .ensures f h),
     ))
     (λ c. λ f h e. by-place _ _ _ e (omega arith) (λ m l. c .before .loop .inv .2 f h m (omega arith))))
