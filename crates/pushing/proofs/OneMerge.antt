@@ -71,7 +71,6 @@ input-placed b {q} short rules lists past k =
     record {
       short = short;
       standing = k;
-      past = omega arith;
       rules = and-r (reads (schema q) b) (ok q) rules;
       lists = le-trans (le-max-right (length (split-conjunction b)) (listP q)) lists;
     }

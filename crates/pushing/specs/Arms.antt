@@ -38,7 +38,6 @@ pub record Shapely (p : Predicate) : Type 0 where
 pub record Placed (s : List ℕ) (x : ℕ) (q : Plan) : Type 0 where
   pub short : length s ≤ workBytes
   pub standing : StandingP s x q
-  pub past : 0 < x
   pub rules : ok q ≡ true
   pub lists : listP q ≤ maxList
 

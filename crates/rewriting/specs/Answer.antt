@@ -1,0 +1,27 @@
+-- The number, the record, the flag and the count of each case of the rewrite's answer, beside the output.
+use mathlib.Core.Path.{_≡_}
+use mathlib.Core.List.{List}
+use Prim.Native.Nat.{ℕ}
+use Rattle.plan.specs.Syntax.{Plan}
+use Rattle.plan.specs.Trees.{bitOf}
+use Rattle.acceptance.specs.Accepted.{Accepted}
+use Rattle.acceptance.specs.Check.{Verdict, verdict}
+use Rattle.checking.specs.Answer.{verdictOf}
+use Rattle.rewrite.specs.OnBytes.{Rewritten, planIn}
+use Rattle.rewriting.specs.declared.calling.Answer.{Answer}
+use Rattle.rewriting.specs.declared.calling.Answer.the-variants.{Image, NoPlan, TooLarge, NoRoom, Is}
+
+-- a refusal hands out what stands in the output
+abbrev pub refusal : Verdict → List ℕ → Rewritten
+refusal v out = record { number = v .number; place = v .place; flag = 0; records = 0; output = out }
+
+abbrev pub rewrittenOf : Answer → List ℕ → Rewritten
+rewrittenOf (Image a) out = refusal (verdictOf a) out
+rewrittenOf (NoPlan n) out = refusal (verdict 8 n) out
+rewrittenOf (TooLarge n) out = refusal (verdict 11 n) out
+rewrittenOf NoRoom out = refusal (verdict 12 0) out
+rewrittenOf (Is f n) out = record { number = 0; place = 0; flag = bitOf f; records = n; output = out }
+
+-- the plan in the bytes s is accepted
+pub record Whole (s : List ℕ) : Type 0 where
+  pub accepted : Accepted s (planIn s)

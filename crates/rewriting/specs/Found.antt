@@ -1,0 +1,42 @@
+-- What the code of a rewrite asks for.
+use mathlib.Core.Path.{_≡_}
+use mathlib.Core.Bool.{false}
+use mathlib.Core.List.{List}
+use Prim.Native.Nat.{ℕ}
+use Rattle.plan.specs.Syntax.{Expr, Plan, filter, join, Kind, Pair}
+use mathlib.Core.Option.{Option}
+use Rattle.rewrite.specs.RewriteAt.{Focus}
+use Rattle.pushing.specs.Predicates.{Predicate}
+use Rattle.pushing.specs.Arms.{Rests}
+use Rattle.pushing.specs.Merging.{Inside, is-filter, Rest, Comes}
+use Rattle.pushing.specs.Settled.{Settled}
+
+-- some predicate rests on a plan at record x, which is no Filter
+pub record OnInput (s : List ℕ) (x : ℕ) (p : Predicate) : Type 0 where
+  pub expr : Expr
+  pub plan : Plan
+  pub rests : Rests s x p expr plan
+  pub other : is-filter plan ≡ false
+
+-- merging came to rest there
+pub record SomeComes (s : List ℕ) (r : Rest) : Type 0 where
+  pub settled : Settled
+  pub comes : Comes s r settled
+
+-- some plan stands at record `node` of the image
+pub record Found (s : List ℕ) (node : ℕ) : Type 0 where
+  pub whole : Plan
+  pub spot : Focus
+  pub inside : Inside s node whole spot
+
+-- a Join does
+pub record JoinInside (s : List ℕ) (node : ℕ) : Type 0 where
+  pub whole : Plan
+  pub spot : Focus
+  pub inside : Inside s node whole spot
+  pub kind : Kind
+  pub lhs : Plan
+  pub rhs : Plan
+  pub keys : List Pair
+  pub condition : Option Expr
+  pub is : spot .plan ≡ join kind lhs rhs keys condition

@@ -1,0 +1,4 @@
+pub mod Stubs
+pub mod Found
+pub mod Outcomes
+pub mod Answer

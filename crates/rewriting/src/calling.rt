@@ -1,0 +1,160 @@
+// The call `rewrite` on any bytes, for any record and any room: the image is checked, rewritten and handed out, or refused.
+use crate::nodes::Outcome;
+use crate::nodes::rewrite;
+use checking::Checked;
+use checking::check;
+use conjuncts::reading::record_at;
+use image::limits::RECORD_BYTES;
+use image::words::word_at;
+use utils::fields::is_plan;
+use writing::handing_out::clear;
+use writing::handing_out::hand_out;
+ghost use mathlib.Core.Path.{_≡_};
+ghost use mathlib.Core.List.{List};
+ghost use Prim.Native.Nat.{ℕ, _*_, _≤_};
+ghost use lib.ListN.{length};
+ghost use Rattle.image.specs.Limits.{workBytes, maxRecords};
+ghost use Rattle.plan.specs.Syntax.{Plan};
+ghost use Rattle.rewrite.specs.OnBytes.{rewritten, rewrite-bytes, planIn};
+ghost use Rattle.rewrite.specs.RewriteAt.{granted, with-room, rewrite-call};
+ghost use Rattle.rewriting.specs.Answer.{rewrittenOf, Whole};
+ghost use Rattle.rewriting.specs.Outcomes.{Image};
+
+// The flag and the number of records, or what stands against it: a test of the image, no plan at this record, an answer that is too large for
+// the rewrite at this record, an output that is too short.
+pub enum Answer {
+    Image(Checked),
+    NoPlan(usize),
+    TooLarge(usize),
+    NoRoom,
+    Is(bool, usize),
+}
+
+// Hands out an image of so many records, if it finds room.
+fn hand_over(image: &[u8], records: usize, flag: bool, out: &mut [u8]) -> Answer
+    requires { ⌜ 32 * records ≤ length (now image) ⌝ }
+    ensures { λ r. ⌜ ((q : Plan) → Image (now (image .entry)) records q →
+        rewrittenOf r (now (out .exit)) ≡ rewritten (length (now (out .entry))) (with-room (length (now (out .entry))) (granted flag q))) ⌝ }
+{
+    if out.len() / RECORD_BYTES < records {
+        clear(out);
+        return Answer::NoRoom;
+    }
+    hand_out(image, RECORD_BYTES * records, out);
+    Answer::Is(flag, records)
+}
+
+// The rewrite at record `node` of an accepted image.
+fn rewrite_at(
+    image: &[u8],
+    node: usize,
+    m: &mut [u8],
+    work: &mut [u8],
+    levels: &mut [u32],
+    out: &mut [u8],
+) -> Answer
+    requires { ⌜ Whole (now image) ⌝ }
+    requires { ⌜ (4128 ≤ length (now m)) × (length (now work) ≡ workBytes) × (length (now levels) ≡ maxRecords) ⌝ }
+    ensures { λ r. ⌜ rewrittenOf r (now (out .exit))
+        ≡ rewritten (length (now (out .entry))) (rewrite-call node (length (now (out .entry))) (planIn (now (image .entry)))) ⌝ }
+{
+    if image.len() / RECORD_BYTES <= node {
+        clear(out);
+        return Answer::NoPlan(node);
+    }
+    if !is_plan(word_at(record_at(image, node), 0)) {
+        clear(out);
+        return Answer::NoPlan(node);
+    }
+    let r = rewrite(image, node, m, work, levels);
+    if !r.fits {
+        clear(out);
+        return Answer::TooLarge(node);
+    }
+    if r.written {
+        return hand_over(work, r.records, r.flag, out);
+    }
+    hand_over(image, image.len() / RECORD_BYTES, r.flag, out)
+}
+
+// The same of any bytes, with work space lent.
+fn rewrite_within(
+    image: &[u8],
+    node: usize,
+    m: &mut [u8],
+    work: &mut [u8],
+    levels: &mut [u32],
+    out: &mut [u8],
+) -> Answer
+    requires { ⌜ (4128 ≤ length (now m)) × (length (now work) ≡ workBytes) × (length (now levels) ≡ maxRecords) ⌝ }
+    ensures { λ r. ⌜ rewrittenOf r (now (out .exit)) ≡ rewrite-bytes (now (image .entry)) node (length (now (out .entry))) ⌝ }
+{
+    let answer = check(image);
+    if checking::number_of(answer) != 0 {
+        clear(out);
+        return Answer::Image(answer);
+    }
+    rewrite_at(image, node, m, work, levels, out)
+}
+
+// Every slice, node and output get their answer.
+pub fn rewrite_bytes(image: &[u8], node: u32, out: &mut [u8]) -> Answer
+    ensures { λ r. ⌜ rewrittenOf r (now (out .exit)) ≡ rewrite-bytes (now (image .entry)) node (length (now (out .entry))) ⌝ }
+{
+    let mut m = [0u8; 4128];
+    let mut work = [0u8; 65536];
+    let mut levels = [0u32; 2048];
+    rewrite_within(image, node as usize, &mut m, &mut work, &mut levels, out)
+}
+
+// Document 01's number of an answer.
+pub fn number_of(answer: Answer) -> u32
+    ensures { λ r. ⌜ ((out : List ℕ) → r ≡ rewrittenOf answer out .number) ⌝ }
+{
+    match answer {
+        Answer::Image(a) => checking::number_of(a),
+        Answer::NoPlan(_) => 8,
+        Answer::TooLarge(_) => 11,
+        Answer::NoRoom => 12,
+        Answer::Is(_, _) => 0,
+    }
+}
+
+// The record that an answer names.
+pub fn place_of(answer: Answer) -> usize
+    ensures { λ r. ⌜ ((out : List ℕ) → r ≡ rewrittenOf answer out .place) ⌝ }
+{
+    match answer {
+        Answer::Image(a) => checking::place_of(a),
+        Answer::NoPlan(n) => n,
+        Answer::TooLarge(n) => n,
+        Answer::NoRoom => 0,
+        Answer::Is(_, _) => 0,
+    }
+}
+
+// 1 where the flag is raised.
+pub fn flag_of(answer: Answer) -> u32
+    ensures { λ r. ⌜ ((out : List ℕ) → r ≡ rewrittenOf answer out .flag) ⌝ }
+{
+    match answer {
+        Answer::Image(_) => 0,
+        Answer::NoPlan(_) => 0,
+        Answer::TooLarge(_) => 0,
+        Answer::NoRoom => 0,
+        Answer::Is(flag, _) => flag as u32,
+    }
+}
+
+// How many records the answer has; none where it is refused.
+pub fn records_of(answer: Answer) -> usize
+    ensures { λ r. ⌜ ((out : List ℕ) → r ≡ rewrittenOf answer out .records) ⌝ }
+{
+    match answer {
+        Answer::Image(_) => 0,
+        Answer::NoPlan(_) => 0,
+        Answer::TooLarge(_) => 0,
+        Answer::NoRoom => 0,
+        Answer::Is(_, n) => n,
+    }
+}
