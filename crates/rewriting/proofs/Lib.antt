@@ -1,0 +1,5 @@
+pub mod Finishes
+pub mod KindOf
+pub mod Dispatches
+pub mod Comings
+pub mod Outcoming

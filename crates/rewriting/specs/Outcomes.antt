@@ -43,9 +43,9 @@ pub record Image (work : List ℕ) (records : ℕ) (q : Plan) : Type 0 where
   pub bytes : take (32 * records) work ≡ imageOf q
 
 -- the plan q was written, if it is within the limits
-pub record Finishes (work : List ℕ) (r : Outcome) (flag : Bool) (q : Plan) : Type 0 where
+pub record Finishes (work : List ℕ) (r : Outcome) (raised : Bool) (q : Plan) : Type 0 where
   pub fit : r .fits ≡ fits q
-  pub flag : r .flag ≡ flag
+  pub flag : r .flag ≡ raised
   pub written : r .fits ≡ true → r .written ≡ true
   pub image : r .fits ≡ true → Image work (r .records) q
 

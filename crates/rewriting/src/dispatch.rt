@@ -24,7 +24,7 @@ ghost use Rattle.plan.specs.Syntax.{Expr, Plan};
 ghost use Rattle.rewrite.specs.PushDownFilter.{rewrite-filter};
 ghost use Rattle.pushing.specs.Arms.{Rests, Answers};
 ghost use Rattle.pushing.specs.Merging.{is-filter, Comes};
-ghost use Rattle.pushing.specs.Settled as Settled;
+ghost use Rattle.pushing.specs.Settled as S;
 ghost use Rattle.pushing.specs.Settled.{rewrite-settled};
 ghost use Rattle.rewriting.specs.Found.{OnInput, SomeComes};
 
@@ -91,7 +91,7 @@ pub fn rewrite_settled(
 ) -> Written
     requires { ⌜ SomeComes (now s) rest ⌝ }
     requires { ⌜ (4128 ≤ length (now m)) × (level < 3000) × (length (now out) ≡ workBytes) × (at ≤ 2049) ⌝ }
-    ensures { λ r. ⌜ ((t : Settled.Settled) → Comes (now (s .entry)) rest t →
+    ensures { λ r. ⌜ ((t : S.Settled) → Comes (now (s .entry)) rest t →
         Answers (now (out .entry)) (now (out .exit)) at level r (rewrite-settled t)) ⌝ }
 {
     let p = rest.predicate;
