@@ -3,3 +3,4 @@ pub mod KindOf
 pub mod Dispatches
 pub mod Comings
 pub mod Outcoming
+pub mod Calls

@@ -1,4 +1,7 @@
+-- `calling::hand_over` meets its contract.
+use native.Mathlib.Omega.{arith}
 use borrow.Author.Needs.{needs}
+use Rattle.rewriting.proofs.Calls.{no-room, some-room}
 use Rattle.rewriting.proofs.calling.hand_over.Statement.{statement}
 use Rattle.rewriting.proofs.calling.hand_over.Tie as tie
 
@@ -8,8 +11,8 @@ hand-over-spec =
     (tie.spec
     (λ c κs. search needs)
     (λ c. search needs)
-    (λ c. ?returns)
+    (λ c q h. no-room _ _ q h (c .before .before .before .before .if1 .taken) (c .before .before .clear .ensures))
     (λ c. search needs)
     (λ c κs. search needs)
     (λ c. search needs)
-    (λ c. ?returns-2))
+    (λ c q h. some-room _ _ q h (c .before .before .before .before .if1 .left) (c .before .before .hand-out .ensures)))

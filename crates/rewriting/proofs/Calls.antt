@@ -1,0 +1,147 @@
+-- The call on bytes: the tests 8, 11 and 12 in their order, and what is handed out.
+use Prim.Native.Nat.{ℕ, _*_, _/_, _≤_, _<_}
+use native.Mathlib.Omega.{arith}
+use mathlib.Core.Path.{_≡_, refl, sym, ap, subst, _∙_}
+use mathlib.Core.Bool.{Bool, true, false}
+use mathlib.Core.List.{List}
+use mathlib.Core.Option.{none, some}
+use lib.Dec.{eqb, leb}
+use lib.ListN.{length, take, drop, length-take}
+use lib.Seq.{take-all}
+use borrow.Author.Tests.{le-leb, lt-leb, eq-eqb, ne-eqb}
+use Rattle.image.specs.Word.{Bytes, word}
+use Rattle.image.specs.Tree.{labelAt}
+use Rattle.plan.specs.Kinds.{isPlan}
+use Rattle.plan.specs.Lists.{choose}
+use Rattle.names.proofs.KindRanges.{plan-range}
+use Rattle.utils.specs.Inputs.{isPlan as plan-number}
+use Rattle.plan.specs.Measure.{sizeP}
+use Rattle.plan.specs.Syntax.{Plan}
+use Rattle.plan.specs.Trees.{bitOf, planTree}
+use Rattle.plan.proofs.Written.{planAt-back}
+use Rattle.acceptance.specs.Accepted.{Accepted}
+use Rattle.acceptance.specs.Check.{verdict, check}
+use Rattle.acceptance.proofs.Accept.{accepted}
+use Rattle.acceptance.proofs.Converse.{same-tree}
+use Rattle.checking.specs.Answer.{verdictOf}
+use Rattle.checking.specs.declared.Checked.{Checked}
+use Rattle.checking.specs.declared.Checked.the-variants as C
+use Rattle.rewrite.specs.OnBytes.{planIn, planFromLinks, isAccepted, zeros, filled, imageOf, no-rewrite, rewritten, asked-of, rewrite-bytes}
+use Rattle.rewrite.specs.PushDownFilter.{rewrite}
+use Rattle.rewrite.specs.RewriteAt.{Focus, focus, granted, result-fits, rewrite-in, rewriteAt, with-room, rewrite-call}
+use Rattle.rewrite.proofs.OnBytes.{tree-length}
+use Rattle.rewrite.proofs.PlanFrom.{focus-end}
+use Rattle.rewrite.proofs.Marks.{is-some}
+use Rattle.pushing.specs.Merging.{Inside}
+use Rattle.pushing.proofs.Root.{image-length, standing-root}
+use Rattle.pushing.proofs.Marked.{plan-there, found-there, not-found}
+use Rattle.pushing.proofs.Tested.{inside-of}
+use Rattle.rewriting.specs.Answer.{refusal, rewrittenOf, Whole}
+use Rattle.rewriting.specs.Outcomes.{Image, answer}
+
+-- an image has room for its records
+pub image-room : {bytes : List ℕ} {records : ℕ} {q : Plan} → Image bytes records q → 32 * records ≤ length bytes
+unfolding sizeP
+image-room {bytes} {records} {q} h =
+    omega (arith, h .count, sym (length-take (32 * records) bytes) ∙ ap length (h .bytes) ∙ tree-length 0 (planTree q))
+
+-- ---- test 12
+
+module _ (room : ℕ) {image out : List ℕ} {records : ℕ} (f : Bool) (q : Plan) (h : Image image records q) where
+  pub no-room : room / 32 < records → out ≡ zeros room → refusal (verdict 12 0) out ≡ rewritten room (with-room room (granted f q))
+  unfolding rewritten no-rewrite with-room choose
+  no-room few o = rw (lt-leb (32 * sizeP q) room (omega (arith, h .count)), o)
+
+  pub some-room : records ≤ room / 32 → out ≡ filled room (take (32 * records) image)
+      → record { number = 0; place = 0; flag = bitOf f; records = records; output = out } ≡ rewritten room (with-room room (granted f q))
+  unfolding rewritten with-room choose
+  some-room few o = rw (le-leb (32 * sizeP q) room (omega (arith, h .count)), o, h .bytes, h .count)
+
+-- ---- tests 8 and 11
+
+module _ (room n : ℕ) (p : Plan) where
+  pub refused-8 : {out : List ℕ} → focus n p ≡ none → out ≡ zeros room → refusal (verdict 8 n) out ≡ rewritten room (rewrite-call n room p)
+  unfolding rewritten no-rewrite with-room rewrite-call rewriteAt rewrite-in
+  refused-8 e o = rw (e, o)
+
+  module _ {c : Focus} (e : focus n p ≡ some c) where
+    pub refused-11 : {out : List ℕ} → result-fits c ≡ false → out ≡ zeros room → refusal (verdict 11 n) out ≡ rewritten room (rewrite-call n room p)
+    unfolding rewritten no-rewrite with-room rewrite-call rewriteAt rewrite-in choose
+    refused-11 f o = rw (e, f, o)
+
+    pub granted-call : {b : Bool} {q : Plan} → result-fits c ≡ true → b ≡ rewrite (c .plan) .transformed → q ≡ answer c
+        → rewritten room (with-room room (granted b q)) ≡ rewritten room (rewrite-call n room p)
+    unfolding rewrite-call rewriteAt rewrite-in choose
+    granted-call f g i = rw (e, f, g, i)
+
+-- ---- what stands at a record of an accepted image
+
+-- a plan does
+pub record Here (s : List ℕ) (n : ℕ) : Type 0 where
+  pub spot : Focus
+  pub inside : Inside s n (planIn s) spot
+
+module _ {s : List ℕ} (w : Whole s) where
+  pub records-are : length s ≡ 32 * sizeP (planIn s)
+  records-are = image-length s (planIn s) (w .accepted)
+
+  pub absent : {n : ℕ} → length s / 32 ≤ n → focus n (planIn s) ≡ none
+  absent {n} h = focus-end n (planIn s) (omega (arith, records-are))
+
+  -- b says whether the number read there is a plan's
+  module _ {n : ℕ} (small : n < length s / 32) {part : List ℕ} {k : ℕ} {b : Bool} (at : part ≡ drop (32 * n) s) (is : k ≡ word part 0)
+      (told : b ≡ plan-number k) where
+    plan-told : is-some (focus n (planIn s)) ≡ b
+    plan-told =
+        plan-there (standing-root s (planIn s) (w .accepted)) n (omega (arith, records-are))
+        ∙ ap (λ t. isPlan (labelAt t)) (sym at) ∙ plan-range (labelAt part) ∙ sym (told ∙ ap plan-number is)
+
+    pub no-plan : b ≡ false → focus n (planIn s) ≡ none
+    no-plan e = not-found (focus n (planIn s)) (plan-told ∙ e)
+
+    pub a-plan : b ≡ true → Here s n
+    a-plan e =
+        let f = found-there (focus n (planIn s)) (plan-told ∙ e) in
+        record { spot = f .0; inside = inside-of s (planIn s) (w .accepted) (f .1) }
+
+  -- the image that was read is its plan's
+  pub whole-image : {records : ℕ} → records ≡ length s / 32 → Image s records (planIn s)
+  whole-image {records} e =
+      record {
+        count = omega (arith, records-are);
+        bytes = take-all (32 * records) s (omega (arith, records-are)) ∙ w .accepted .image;
+      }
+
+-- ---- the tests of the image
+
+pub whole : (s : List ℕ) → Bytes s → check s ≡ verdict 0 0 → Whole s
+unfolding planIn planFromLinks
+whole s bytes h =
+    let a = accepted s bytes h in
+    let p = a .0 in
+    let back : planIn s ≡ p = ap planIn (a .1 .image) ∙ ap planFromLinks (same-tree p (a .1 .well)) ∙ planAt-back p (a .1 .well .integers) in
+    record { accepted = subst (Accepted s) (sym back) (a .1) }
+
+-- only an accepted image has the number 0
+accepted-only : (a : Checked) → verdictOf a .number ≡ 0 → verdictOf a ≡ verdict 0 0
+accepted-only C.Accepted h = refl
+accepted-only C.Buffer h = absurd (omega arith)
+accepted-only (C.Record r) h = absurd (omega arith)
+accepted-only (C.Link r) h = absurd (omega arith)
+accepted-only (C.Depth r) h = absurd (omega arith)
+accepted-only (C.Form r) h = absurd (omega arith)
+accepted-only (C.Names r) h = absurd (omega arith)
+accepted-only (C.Types r) h = absurd (omega arith)
+
+module _ (s : List ℕ) (a : Checked) (e : verdictOf a ≡ check s) {k : ℕ} (is : k ≡ verdictOf a .number) where
+  pub is-accepted : k ≡ 0 → check s ≡ verdict 0 0
+  is-accepted h = sym e ∙ accepted-only a (sym is ∙ h)
+
+  module _ (node room : ℕ) where
+    pub refused-image : {out : List ℕ} → (k ≡ 0 → ⊥) → out ≡ zeros room → refusal (verdictOf a) out ≡ rewrite-bytes s node room
+    unfolding rewrite-bytes asked-of isAccepted choose no-rewrite
+    refused-image h o = rw (← e, ne-eqb (verdictOf a .number) 0 (λ z. h (is ∙ z)), o)
+
+    pub accepted-image : k ≡ 0 → rewritten room (rewrite-call node room (planIn s)) ≡ rewrite-bytes s node room
+    unfolding rewrite-bytes asked-of isAccepted choose
+    accepted-image h = rw (← e, eq-eqb (verdictOf a .number) 0 (sym is ∙ h))
