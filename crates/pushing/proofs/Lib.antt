@@ -32,3 +32,4 @@ pub mod Scoping
 pub mod SideLists
 pub mod ScopeSets
 pub mod JoinScope
+pub mod Supported
