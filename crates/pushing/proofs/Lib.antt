@@ -33,3 +33,5 @@ pub mod SideLists
 pub mod ScopeSets
 pub mod JoinScope
 pub mod Supported
+pub mod Scans
+pub mod ScanShares

@@ -5,7 +5,7 @@
 --     marked-place                 a column is marked exactly if its field is: no field's name is repeated
 --     scan-fields, ..              of a scan that stands in an image: where its fields stand, that they are few, and their set
 -- Assumes nothing.
-use mathlib.Core.Path.{_≡_, refl, sym, ap, subst, _∙_}
+use mathlib.Core.Path.{_≡_, refl, sym, ap, _∙_}
 use mathlib.Core.Bool.{Bool, true, false, not, _||_, Bool·beq}
 use mathlib.Core.List.{List, [], _∷_, map}
 use Prim.Native.Nat.{ℕ, zero, suc, _+_, _*_, _≤_, _<_}

@@ -1,6 +1,6 @@
 // Filter over TableScan: the conjuncts that the scan takes join its filters, the rest stays above, volatile ones last.
-use crate::around::copy_some;
 use crate::arms::keep_filter;
+use crate::around::copy_some;
 use crate::predicates::Predicate;
 use crate::predicates::Written;
 use conjuncts::functions::has_function;
@@ -30,7 +30,7 @@ use writing::kinds::FILTER;
 use writing::kinds::put_kind;
 ghost use mathlib.Core.Path.{_≡_};
 ghost use mathlib.Core.Bool.{Bool, true};
-ghost use mathlib.Core.List.{List, [], _∷_, _++_, map};
+ghost use mathlib.Core.List.{List, _++_};
 ghost use Prim.Native.Nat.{ℕ, _≤_, _<_};
 ghost use lib.ListN.{length};
 ghost use Rattle.image.specs.Limits.{workBytes};
@@ -45,13 +45,13 @@ ghost use Rattle.plan.specs.Trees.{labelE, kidsE, each, planTree};
 ghost use Rattle.plan.proofs.Lists.{All};
 ghost use Rattle.rewrite.specs.Utils.{is-volatile, with-filters};
 ghost use Rattle.rewrite.specs.PushDownFilter.{marked, rewrite-filter};
-ghost use Rattle.conjuncts.specs.Items.{Holds, Item, Present, Lists, Known};
+ghost use Rattle.conjuncts.specs.Items.{Item, Present, Lists, Known};
 ghost use Rattle.utils.specs.Fields.{Names};
 ghost use Rattle.utils.specs.Masks.{Masks};
 ghost use Rattle.writing.specs.Plans.{ThereP};
 ghost use Rattle.pushing.specs.Around.{WroteAll};
 ghost use Rattle.pushing.specs.Arms.{Placed, Rests, Answers};
-ghost use Rattle.pushing.specs.Scans.{told, supports, SomeScan, OverScan};
+ghost use Rattle.pushing.specs.Scans.{told, supports, Shares, Adds, SomeScan, OverScan};
 
 // The kind of the record of a field.
 const FIELD: usize = 48;
@@ -132,4 +132,153 @@ fn marked_fields(s: &[u8], x: usize, k: usize) -> u64
         i += 1;
     }
     set
+}
+
+// What a scan takes of a predicate's conjuncts, and what stays above it; and how many fields it has.
+struct Share {
+    fields: usize,
+    taken: Conjuncts,
+    left: Conjuncts,
+}
+
+// The share of the scan at record x in the predicate p: of what is left the volatile conjuncts come last.
+fn share_of(s: &[u8], x: usize, p: Predicate) -> Share
+    requires { ⌜ OverScan (now s) x p ⌝ }
+    ensures { λ z. ⌜ ((e : Expr) (t : ℕ) (fs : List Field) (es : List Expr) → Rests (now (s .entry)) x p e (scan t fs es) →
+        Shares (now (s .entry)) (z .fields) (z .taken) (z .left) fs e) ⌝ }
+{
+    let list = p.list;
+    let fields = schema_at(s, x, no_fields());
+    let k = fields.len;
+    let marked = marked_fields(s, x, k);
+    let lasting = add_volatile(s, empty(), list, false);
+    let taken = select_supported(s, lasting, fields, marked, true);
+    let rest = select_supported(s, lasting, fields, marked, false);
+    let left = add_volatile(s, rest, list, true);
+    Share {
+        fields: k,
+        taken,
+        left,
+    }
+}
+
+// Appends the child at the start of `part`, which has the number n, unless it is a field.
+fn add_filter(c: Conjuncts, part: &[u8], n: usize) -> Conjuncts
+    requires { ⌜ (32 ≤ length (now part)) × (n < 2048) ⌝ }
+    ensures { λ r. ⌜ ((s : List ℕ) (ds : List Expr) → Lists s c ds → Adds s (labelAt (now (part .entry))) n r ds) ⌝ }
+{
+    if word_at(part, 0) == FIELD {
+        return c;
+    }
+    add(c, n)
+}
+
+// The filters of the scan at record x: its children that are no fields.
+fn scan_filters(s: &[u8], x: usize) -> Conjuncts
+    requires { ⌜ ((k : ℕ) × SomeScan (now s) x k) ⌝ }
+    ensures { λ r. ⌜ ((t : ℕ) (fs : List Field) (es : List Expr) → Placed (now (s .entry)) x (scan t fs es) → Lists (now (s .entry)) r es) ⌝ }
+{
+    let part = record_at(s, x);
+    let mut r = empty();
+    let mut at = word_at(part, FIRST_LINK);
+    while at != 0 {
+        let child = from_record(part, x, at);
+        r = add_filter(r, child, at);
+        at = word_at(child, NEXT_LINK);
+    }
+    r
+}
+
+// Writes the items of a list, one after another. None has its columns replaced: the plan at record x serves as the map.
+fn copy_items(s: &[u8], x: usize, c: Conjuncts, out: &mut [u8], at: usize, level: usize) -> usize
+    requires { ⌜ Known (now s) c × ThereP (now s) x ⌝ }
+    requires { ⌜ (level < 3500) × (length (now out) ≡ workBytes) × (at ≤ 2049) ⌝ }
+    ensures { λ r. ⌜ ((es : List Expr) → Lists (now (s .entry)) c es →
+        WroteAll (now (out .entry)) (now (out .exit)) at r (recsAny level (each labelE kidsE es none))) ⌝ }
+{
+    let part = record_at(s, x);
+    let n = c.len;
+    let mut to = at;
+    let mut i = 0;
+    while i < n {
+        to = copy_item(s, part, x, MAX_DEPTH, item_at(c, i), out, to, level);
+        i += 1;
+    }
+    to
+}
+
+// Writes the scan at record x, which has k fields, with the filters of the list in the place of its own.
+fn write_scan(
+    s: &[u8],
+    x: usize,
+    k: usize,
+    filters: Conjuncts,
+    out: &mut [u8],
+    at: usize,
+    level: usize,
+) -> usize
+    requires { ⌜ SomeScan (now s) x k × Known (now s) filters ⌝ }
+    requires { ⌜ (level < 3400) × (length (now out) ≡ workBytes) × (at ≤ 2049) ⌝ }
+    ensures { λ r. ⌜ ((t : ℕ) (fs : List Field) (es ys : List Expr) → Placed (now (s .entry)) x (scan t fs es) → k ≡ length fs →
+        Lists (now (s .entry)) filters ys → Wrote (now (out .entry)) (now (out .exit)) at level r (planTree (scan t fs ys))) ⌝ }
+{
+    let part = record_at(s, x);
+    let first = copy_some(part, x, MAX_DEPTH, x, x + 1 + k, out, at, level);
+    copy_items(s, x, filters, out, first, level + 1)
+}
+
+// The same under a Filter of what stays above, if anything does.
+fn write_filtered(
+    s: &[u8],
+    x: usize,
+    k: usize,
+    above: Conjuncts,
+    filters: Conjuncts,
+    out: &mut [u8],
+    at: usize,
+    level: usize,
+) -> usize
+    requires { ⌜ SomeScan (now s) x k × Known (now s) above × Known (now s) filters ⌝ }
+    requires { ⌜ (level < 3200) × (length (now out) ≡ workBytes) × (at ≤ 2049) ⌝ }
+    ensures { λ r. ⌜ ((t : ℕ) (fs : List Field) (es xs ys : List Expr) → Placed (now (s .entry)) x (scan t fs es) → k ≡ length fs →
+        Lists (now (s .entry)) above xs → Lists (now (s .entry)) filters ys →
+        Wrote (now (out .entry)) (now (out .exit)) at level r (planTree (with-filters xs (scan t fs ys)))) ⌝ }
+{
+    if above.len == 0 {
+        return write_scan(s, x, k, filters, out, at, level);
+    }
+    let part = record_at(s, x);
+    let predicate = put_kind(out, at, FILTER, 0, level);
+    let input = copy_joined(s, part, x, MAX_DEPTH, above, out, predicate, level + 1);
+    write_scan(s, x, k, filters, out, input, level + 1)
+}
+
+// Filter over TableScan.
+pub fn rewrite_scan(
+    s: &[u8],
+    x: usize,
+    p: Predicate,
+    out: &mut [u8],
+    at: usize,
+    level: usize,
+) -> Written
+    requires { ⌜ OverScan (now s) x p ⌝ }
+    requires { ⌜ (level < 3000) × (length (now out) ≡ workBytes) × (at ≤ 2049) ⌝ }
+    ensures { λ r. ⌜ ((e : Expr) (t : ℕ) (fs : List Field) (es : List Expr) → Rests (now (s .entry)) x p e (scan t fs es) →
+        Answers (now (out .entry)) (now (out .exit)) at level r (rewrite-filter e (scan t fs es))) ⌝ }
+{
+    let share = share_of(s, x, p);
+    let taken = share.taken;
+    if taken.len == 0 {
+        return keep_filter(s, x, p, out, at, level);
+    }
+    let filters = unique(s, scan_filters(s, x), taken);
+    if MAX_LIST < filters.len {
+        return Written {
+            next: NO_ROOM,
+            flag: true,
+        };
+    }
+    let next = write_filtered(s, x, share.fields, share.left, filters, out, at, level);
+    Written { next, flag: true }
 }

@@ -1,9 +1,8 @@
 -- `scanning::marked_fields` meets its contract. The loop's invariant: the set of the marked fields among those passed.
-use mathlib.Core.Path.{_≡_, ap}
+use mathlib.Core.Path.{_≡_}
 use mathlib.Core.List.{List}
 use Prim.Native.Nat.{ℕ, _-_, _≤_}
 use native.Mathlib.Omega.{arith}
-use lib.Dec.{eqb}
 use lib.ListN.{length, length-drop}
 use Rattle.plan.specs.Syntax.{Expr, Field, scan}
 use Rattle.plan.specs.Trees.{each, labelE, kidsE}
@@ -30,12 +29,18 @@ marked-fields-spec =
     (λ c. let p = c .before .before .before .pre in omega (arith, p .placed .standing .small))
     (λ c. let p = c .before .before .before .pre in omega (arith, p .placed .standing .small, scan-few (p .placed), p .count))
     (λ c κs. let p = c .before .before .before .pre in
-    omega (arith, field-room (p .fields) (each labelE kidsE (p .filters) none) (c .before .loop .i) (scan-fields (p .placed))
-    (omega (arith, c .loop-test .taken, p .count))))
+    omega (
+      arith,
+      field-room (p .fields) (each labelE kidsE (p .filters) none) (c .before .loop .i) (scan-fields (p .placed))
+          (omega (arith, c .loop-test .taken, p .count)),
+    ))
     (λ c κs. let p = c .before .before .before .before .pre in
     rw (c .record-at .ensures, length-drop)
-    (omega (arith, field-room (p .fields) (each labelE kidsE (p .filters) none) (c .before .before .loop .i) (scan-fields (p .placed))
-    (omega (arith, c .before .loop-test .taken, p .count)))))
+    (omega (
+      arith,
+      field-room (p .fields) (each labelE kidsE (p .filters) none) (c .before .before .loop .i) (scan-fields (p .placed))
+          (omega (arith, c .before .loop-test .taken, p .count)),
+    )))
     (λ c κs. let p = c .before .before .before .before .before .pre in
     omega (arith, scan-few (p .placed), p .count, c .before .before .loop-test .taken))
     (λ c. let p = c .before .before .before .before .before .before .pre in omega (arith, scan-few (p .placed), p .count))

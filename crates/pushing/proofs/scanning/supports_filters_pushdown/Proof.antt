@@ -12,8 +12,9 @@ supports-filters-pushdown-spec =
     (tie.spec
     (λ c κs. search needs)
     (λ c κs. search needs)
-    (λ c e ns t h k o m. supports-none t e (c .before .is-within .ensures ∙ c .before .before .columns-at .ensures e ns h k o .says _ _ (masks-none ns))
-    (c .if1 .taken))
+    (λ c e ns t h k o m. supports-none t e
+    (c .before .is-within .ensures ∙ c .before .before .columns-at .ensures e ns h k o .says _ _ (masks-none ns)) (c .if1 .taken))
     (λ c κs. search needs)
-    (λ c e ns t h k o m. supports-some t e (c .before .before .is-within .ensures ∙ c .before .before .before .columns-at .ensures e ns h k o .says _ _
-    (masks-none ns)) (c .before .if1 .left) (c .is-within2 .ensures ∙ c .before .before .before .columns-at .ensures e ns h k o .says _ t m)))
+    (λ c e ns t h k o m. let v = c .before .before .before .columns-at .ensures e ns h k o in
+    supports-some t e (c .before .before .is-within .ensures ∙ v .says _ _ (masks-none ns)) (c .before .if1 .left)
+    (c .is-within2 .ensures ∙ v .says _ t m)))
