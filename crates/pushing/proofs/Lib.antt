@@ -32,3 +32,6 @@ pub mod Scoping
 pub mod SideLists
 pub mod ScopeSets
 pub mod JoinScope
+pub mod Supported
+pub mod Scans
+pub mod ScanShares

@@ -11,5 +11,6 @@ pub mod merging;
 pub mod parting;
 pub mod predicates;
 pub mod renaming;
+pub mod scanning;
 pub mod scopes;
 pub mod sides;
