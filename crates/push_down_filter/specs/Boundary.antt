@@ -1,11 +1,19 @@
 -- What the structs of the boundary say, in the words of the definitions.
 use Rattle.acceptance.specs.Check as C
+use mathlib.Core.List.{List}
+use Prim.Native.Nat.{ℕ}
+use Rattle.rewrite.specs.OnBytes as O
 use Rattle.rewrite.specs.RowTest as R
 use Rattle.push_down_filter.specs.declared.Verdict.{Verdict}
 use Rattle.push_down_filter.specs.declared.Tested.{Tested}
+use Rattle.push_down_filter.specs.declared.Rewritten.{Rewritten}
 
 abbrev pub verdictIs : Verdict → C.Verdict
 verdictIs v = C.verdict (v .number) (v .«record»)
 
 abbrev pub testedIs : Tested → R.Tested
 testedIs t = record { number = t .number; place = t .«record»; truth = t .truth }
+
+-- beside the whole output
+abbrev pub rewrittenIs : Rewritten → List ℕ → O.Rewritten
+rewrittenIs r out = record { number = r .number; place = r .«record»; flag = r .flag; records = r .records; output = out }

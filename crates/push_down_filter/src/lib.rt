@@ -3,10 +3,13 @@ use checking::check;
 use checking::number_of;
 use checking::place_of;
 use evaluate::testing::row_test;
+use rewriting::calling::rewrite_bytes;
 ghost use mathlib.Core.Path.{_≡_};
 ghost use Rattle.acceptance.specs.Check as Check;
+ghost use lib.ListN.{length};
+ghost use Rattle.rewrite.specs.OnBytes.{rewrite-bytes};
 ghost use Rattle.rewrite.specs.RowTest.{row-test-bytes};
-ghost use Rattle.push_down_filter.specs.Boundary.{verdictIs, testedIs};
+ghost use Rattle.push_down_filter.specs.Boundary.{verdictIs, testedIs, rewrittenIs};
 
 // Number and record of a refusal; 0 and 0 for an accepted image.
 #[repr(C)]
@@ -25,6 +28,31 @@ pub extern "C" fn push_down_filter_check(image: &[u8]) -> Verdict
     Verdict {
         number: number_of(answer),
         record: place as u32,
+    }
+}
+
+// Number and record of a refusal, or 0, 0, the flag and how many records the answer has.
+#[repr(C)]
+pub struct Rewritten {
+    pub number: u32,
+    pub record: u32,
+    pub flag: u32,
+    pub records: u32,
+}
+
+// PushDownFilter::rewrite of the plan at record `node`; the answer's image goes to `out`, zeros after it, or zeros alone where it is refused.
+#[no_mangle]
+pub extern "C" fn push_down_filter_rewrite(image: &[u8], node: u32, out: &mut [u8]) -> Rewritten
+    ensures { λ r. ⌜ rewrittenIs r (now (out .exit)) ≡ rewrite-bytes (now (image .entry)) node (length (now (out .entry))) ⌝ }
+{
+    let answer = rewrite_bytes(image, node, out);
+    let place = rewriting::calling::place_of(answer);
+    let records = rewriting::calling::records_of(answer);
+    Rewritten {
+        number: rewriting::calling::number_of(answer),
+        record: place as u32,
+        flag: rewriting::calling::flag_of(answer),
+        records: records as u32,
     }
 }
 

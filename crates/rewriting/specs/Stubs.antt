@@ -2,19 +2,12 @@
 use mathlib.Core.List.{List, _++_}
 use mathlib.Core.Option.{Option}
 use Prim.Native.Nat.{ℕ}
-use Rattle.plan.specs.Syntax.{Expr, Plan, Kind, Pair, Entry, AggEntry, WinEntry, Field, scan, project, join, aggregate, window}
+use Rattle.plan.specs.Syntax.{Expr, Plan, Kind, Pair, Entry, AggEntry, WinEntry, project, join, aggregate, window}
 use Rattle.plan.specs.Schema.{schema}
 use Rattle.conjuncts.specs.Items.{Conjuncts}
 use Rattle.pushing.specs.Predicates.{Predicate}
 use Rattle.pushing.specs.Arms.{Placed, Rests}
 use Rattle.pushing.specs.Scopes.{Reads}
-
-pub record OverScan (s : List ℕ) (x : ℕ) (p : Predicate) : Type 0 where
-  pub expr : Expr
-  pub table : ℕ
-  pub fields : List Field
-  pub filters : List Expr
-  pub rests : Rests s x p expr (scan table fields filters)
 
 pub record OverProjection (s : List ℕ) (x : ℕ) (p : Predicate) : Type 0 where
   pub expr : Expr

@@ -2,7 +2,6 @@
 use crate::stubs::rewrite_aggregate;
 use crate::stubs::rewrite_join;
 use crate::stubs::rewrite_projection;
-use crate::stubs::rewrite_scan;
 use crate::stubs::rewrite_window;
 use conjuncts::reading::record_at;
 use image::words::word_at;
@@ -13,6 +12,7 @@ use pushing::predicates::Written;
 use pushing::predicates::is_gone;
 use pushing::renaming::rewrite_alias;
 use pushing::renaming::rewrite_union;
+use pushing::scanning::rewrite_scan;
 use writing::filtering::copy_plan;
 use writing::kinds::PROJECTION;
 ghost use mathlib.Core.Path.{_≡_};

@@ -8,21 +8,12 @@ ghost use mathlib.Core.Option.{Option};
 ghost use Prim.Native.Nat.{ℕ, _≤_, _<_};
 ghost use lib.ListN.{length};
 ghost use Rattle.image.specs.Limits.{workBytes};
-ghost use Rattle.plan.specs.Syntax.{Expr, Plan, Kind, Pair, Entry, AggEntry, WinEntry, Field, scan, project, join, aggregate, window};
+ghost use Rattle.plan.specs.Syntax.{Expr, Plan, Kind, Pair, Entry, AggEntry, WinEntry, project, join, aggregate, window};
 ghost use Rattle.plan.specs.Schema.{schema};
 ghost use Rattle.rewrite.specs.PushDownFilter.{rewrite-filter, push-down-join};
 ghost use Rattle.pushing.specs.Arms.{Placed, Rests, Answers};
 ghost use Rattle.pushing.specs.Scopes.{Reads};
-ghost use Rattle.rewriting.specs.Stubs.{OverScan, OverProjection, OverJoin, OverAggregate, OverWindow, JoinUnder};
-
-pub fn rewrite_scan(s: &[u8], x: usize, p: Predicate, out: &mut [u8], at: usize, level: usize) -> Written
-    requires { ⌜ OverScan (now s) x p ⌝ }
-    requires { ⌜ (level < 3000) × (length (now out) ≡ workBytes) × (at ≤ 2049) ⌝ }
-    ensures { λ r. ⌜ ((e : Expr) (t : ℕ) (fs : List Field) (es : List Expr) → Rests (now (s .entry)) x p e (scan t fs es) →
-        Answers (now (out .entry)) (now (out .exit)) at level r (rewrite-filter e (scan t fs es))) ⌝ }
-{
-    Written { next: 2049, flag: false }
-}
+ghost use Rattle.rewriting.specs.Stubs.{OverProjection, OverJoin, OverAggregate, OverWindow, JoinUnder};
 
 pub fn rewrite_projection(s: &[u8], x: usize, p: Predicate, out: &mut [u8], at: usize, level: usize) -> Written
     requires { ⌜ OverProjection (now s) x p ⌝ }
