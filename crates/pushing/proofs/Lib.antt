@@ -30,5 +30,6 @@ pub mod Growing
 pub mod Siding
 pub mod Scoping
 pub mod SideLists
+pub mod SideItems
 pub mod ScopeSets
 pub mod JoinScope
