@@ -31,5 +31,7 @@ pub mod Siding
 pub mod Scoping
 pub mod SideLists
 pub mod SideItems
+pub mod MovedLists
+pub mod JoinParts
 pub mod ScopeSets
 pub mod JoinScope

@@ -19,13 +19,7 @@ use Rattle.rewrite.specs.PushDownFilter.{simplify-filter, merged}
 use Rattle.rewrite.proofs.Simplify.{simplified-in}
 use Rattle.rewrite.proofs.SimplifyFilter.{reorder-all}
 use Rattle.rewrite.proofs.References.{unique-all}
-
--- it does not split
-pub record Whole (e : Expr) : Type 0 where
-  pub one : split-conjunction e ≡ e ∷ []
-
-abbrev pub Plain : List Expr → Type 0
-Plain es = All Whole es
+use Rattle.pushing.specs.JoinPlans.{Whole, Plain}
 
 pub split-plain : (e : Expr) → Plain (split-conjunction e)
 unfolding split-conjunction

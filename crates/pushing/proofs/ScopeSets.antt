@@ -125,6 +125,10 @@ name-mapped f [] i lt = absurd (omega arith)
 name-mapped f (x ∷ ns) zero lt = refl
 name-mapped f (x ∷ ns) (suc i) lt = name-mapped f ns i (omega arith)
 
+pub map-same : {f g : Name → Name} → ((x : Name) → f x ≡ g x) → (ns : List Name) → map f ns ≡ map g ns
+map-same h [] = refl
+map-same h (x ∷ ns) = ap₂ _∷_ (h x) (map-same h ns)
+
 pub masks-mapped : {m : ℕ} (ns : List Name) (f : Name → Name) (c : Name → Bool) → Masks m (map f ns) c → Masks m ns (λ x. c (f x))
 masks-mapped ns f c h =
     let n = length-map ns f in
