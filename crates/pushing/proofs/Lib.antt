@@ -33,5 +33,8 @@ pub mod SideLists
 pub mod SideItems
 pub mod MovedLists
 pub mod JoinParts
+pub mod JoinWritten
+pub mod JoinCounts
+pub mod JoinsUnder
 pub mod ScopeSets
 pub mod JoinScope
