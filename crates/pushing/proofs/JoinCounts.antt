@@ -3,22 +3,20 @@
 --     fits-few         where none of the lists is too long, none of the answer's is
 --     few-fits         and the other way
 -- Assumes nothing.
-use mathlib.Core.Path.{_≡_, refl, sym, ap, ap₂, _∙_}
-use mathlib.Core.Bool.{Bool, true, false, not, _&&_, cond}
-use mathlib.Core.List.{List, [], _∷_, _++_, map}
+use mathlib.Core.Path.{_≡_, refl, sym, ap, fun-ext, _∙_}
+use mathlib.Core.Bool.{Bool, true, false, not, _&&_}
+use mathlib.Core.List.{List, [], _∷_, _++_}
 use mathlib.Core.Option as O
 use mathlib.Core.Option.{Option, some}
-use Prim.Native.Nat.{ℕ, _+_, _≤_, _<_, max as larger}
+use Prim.Native.Nat.{ℕ, _≤_, max as larger}
 use native.Mathlib.Omega.{arith}
 use native.Mathlib.Nat.{le-trans, le-of-eq, le-refl, max-le, le-max-left, le-max-right}
 use lib.Dec.{leb}
 use lib.ListN.{length, length-append}
 use borrow.Author.Tests.{leb-true, le-leb}
-use Rattle.image.specs.Limits.{maxList}
-use Rattle.plan.specs.Lists.{flat}
 use Rattle.plan.specs.Schema.{has, schema}
 use Rattle.plan.specs.Syntax.{Name, Expr, col, num, bool, nul, bin, and, or, cmp, neg, test, between, inlist, fn, Pair, Kind, Plan, join}
-use Rattle.plan.proofs.Lists.{All, anil, acons, All-map, All-append, All-keep, All-mapped, All-flat, all-of}
+use Rattle.plan.proofs.Lists.{anil, acons, All-map, All-append, All-keep, All-mapped, All-flat, all-of}
 use Rattle.rewrite.specs.Limits.{listP}
 use Rattle.rewrite.specs.Utils.{replace-cols, split-conjunction, split-conjunction?, conjoin, conjunction, with-filters}
 use Rattle.rewrite.specs.PushDownFilter.{both-or, extract-or-clause, is-or, extract-or-clauses-for-join, partner, to-partner, swap-keys}
@@ -30,8 +28,11 @@ use Rattle.conjuncts.specs.Items.{most}
 use Rattle.conjuncts.proofs.Listed.{lists-length}
 use Rattle.utils.specs.Clauses.{or-clause}
 use Rattle.pushing.specs.JoinPlans.{Whole, Plain, Moves, Moved, join-over}
+use Rattle.pushing.specs.Partners.{orSelf}
+use Rattle.pushing.specs.Scopes.{swap}
 use Rattle.pushing.proofs.MovedLists.{lists-count, sides-count}
 use Rattle.pushing.proofs.Plain.{split-plain, split-some, split-joined}
+use Rattle.pushing.proofs.Renames.{renamed-parts}
 use Rattle.pushing.proofs.Siding.{clauses-each}
 
 -- ---- conjuncts that do not split
@@ -53,40 +54,25 @@ whole-one (between n a l u) h = record { one = refl }
 whole-one (inlist n a xs) h = record { one = refl }
 whole-one (fn p q r xs) h = record { one = refl }
 
--- columns replaced by what does not split
-module _ (σ : Name → Expr) (one : (x : Name) → length (split-conjunction (σ x)) ≡ 1) where
-  replaced-parts : (e : Expr) → length (split-conjunction (replace-cols σ e)) ≡ length (split-conjunction e)
-  unfolding split-conjunction replace-cols
-  replaced-parts (bin and a b) =
-      length-append (split-conjunction (replace-cols σ a)) (split-conjunction (replace-cols σ b))
-      ∙ ap₂ _+_ (replaced-parts a) (replaced-parts b) ∙ sym (length-append (split-conjunction a) (split-conjunction b))
-  replaced-parts (bin or a b) = refl
-  replaced-parts (bin (cmp o) a b) = refl
-  replaced-parts (col x) = one x
-  replaced-parts (num z) = refl
-  replaced-parts (bool b) = refl
-  replaced-parts (nul t) = refl
-  replaced-parts (neg a) = refl
-  replaced-parts (test t a) = refl
-  replaced-parts (between n a l u) = refl
-  replaced-parts (inlist n a xs) = refl
-  replaced-parts (fn p q r xs) = refl
-
-  replaced-whole : (e : Expr) → Whole e → Whole (replace-cols σ e)
-  replaced-whole e h = whole-one (replace-cols σ e) (replaced-parts e ∙ ap length (h .one))
-
-swap-one : (on : List Pair) (x : Name) → length (split-conjunction (swap-keys on x)) ≡ 1
-unfolding swap-keys to-partner split-conjunction
-swap-one on x = go (partner on x)
+-- keys are swapped for columns
+swap-column : (on : List Pair) (x : Name) → swap-keys on x ≡ col (swap on x)
+unfolding swap-keys to-partner
+swap-column on x = go (partner on x)
   where
-    go : (o : Option Name) → length (split-conjunction (to-partner x o)) ≡ 1
+    go : (o : Option Name) → to-partner x o ≡ col (orSelf x o)
     go O.none = refl
     go (some y) = refl
+
+swapped-whole : (on : List Pair) (e : Expr) → Whole e → Whole (replace-cols (swap-keys on) e)
+swapped-whole on e h =
+    let f : swap-keys on ≡ (λ x. col (swap on x)) = fun-ext (swap-column on) in
+    whole-one (replace-cols (swap-keys on) e)
+    (ap (λ (σ : Name → Expr). length (split-conjunction (replace-cols σ e))) f ∙ renamed-parts (swap on) e ∙ ap length (h .one))
 
 -- what is inferred
 inferred-plain : (on : List Pair) {es : List Expr} → Plain es → Plain (infer-join-predicates on es)
 unfolding infer-join-predicates
-inferred-plain on h = All-mapped (replace-cols (swap-keys on)) (All-map (replaced-whole (swap-keys on) (swap-one on)) (All-keep _ h))
+inferred-plain on h = All-mapped (replace-cols (swap-keys on)) (All-map (swapped-whole on) (All-keep _ h))
 
 -- the clause of an OR is an OR
 clause-plain : (t : Name → Bool) (e : Expr) → Plain (P.listed (or-clause t e))
@@ -145,7 +131,8 @@ module _ (k : Kind) (s t : List Name) (on : List Pair) {A G : List Expr} (p : Pl
 
   pub conditions-plain : Plain (join-conditions k s t on A G ++ on-filter-join-conditions k s t on A G)
   conditions-plain =
-      All-append (if-plain (is-inner k) (rest-plain (left-preserved k) (right-preserved k) p)) (rest-plain (on-left-preserved k) (on-right-preserved k) g)
+      All-append (if-plain (is-inner k) (rest-plain (left-preserved k) (right-preserved k) p)) (rest-plain (on-left-preserved k)
+      (on-right-preserved k) g)
 
   pub kept-plain : Plain (keep-predicates k s t on A G)
   kept-plain = if-plain (not (is-inner k)) (rest-plain (left-preserved k) (right-preserved k) p)
@@ -218,13 +205,15 @@ answer-over k l r on A G = with-filters (keep-predicates k (schema l) (schema r)
 
 module _ {img : List ℕ} {σ : Name → Expr} {v : Moves} (k : Kind) (l r : Plan) (on : List Pair) {A G : List Expr}
     (h : Moved img σ v k (schema l) (schema r) on A G) (p : Plain A) (g : Plain G) where
-  pub fits-few : listP l ≤ 128 → listP r ≤ 128 → v .left .len ≤ 128 → v .right .len ≤ 128 → v .conditions .len ≤ 128 → listP (answer-over k l r on A G) ≤ 128
+  pub fits-few : listP l ≤ 128 → listP r ≤ 128 → v .left .len ≤ 128 → v .right .len ≤ 128 → v .conditions .len ≤ 128 → listP
+      (answer-over k l r on A G) ≤ 128
   unfolding listP
   fits-few hl hr a b c =
       filters-few (keep-predicates k (schema l) (schema r) on A G) (join-over k l r on A G) (kept-plain k (schema l) (schema r) on p g)
       (le-trans (le-of-eq (lists-length (h .kept .lists) (h .kept .most))) (h .kept .most))
       (max-le
-      (le-trans (le-of-eq (conditions-count _ (conditions-plain k (schema l) (schema r) on p g))) (few-of (v .conditions .len) _ (lists-count (h .conditions)) c))
+      (le-trans (le-of-eq (conditions-count _ (conditions-plain k (schema l) (schema r) on p g))) (few-of (v .conditions .len) _ (lists-count
+      (h .conditions)) c))
       (max-le
       (filters-few _ l (left-plain k (schema l) (schema r) on p g) (few-of (v .left .len) _ (sides-count (h .left)) a) hl)
       (filters-few _ r (right-plain k (schema l) (schema r) on p g) (few-of (v .right .len) _ (sides-count (h .right)) b) hr)))

@@ -13,9 +13,10 @@ use Prim.Native.Nat.{ℕ, suc, _+_, _*_, _≤_, _<_}
 use native.Mathlib.Omega.{arith}
 use native.Mathlib.Nat.{le-trans, le-max-left}
 use lib.Dec.{eqb}
+use borrow.Author.Tests.{ne-eqb}
 use lib.ListN.{length, drop, length-drop}
 use lib.Seq.{length-sets}
-use Rattle.image.specs.Limits.{workBytes, maxList}
+use Rattle.image.specs.Limits.{workBytes}
 use Rattle.image.specs.Room.{Wrote}
 use Rattle.image.specs.Tree.{Label, Forest, none, node, Tree, At, size}
 use Rattle.image.specs.Word.{word}
@@ -25,7 +26,8 @@ use Rattle.plan.specs.Integers.{Fits?}
 use Rattle.plan.specs.Lists.{when}
 use Rattle.plan.specs.Measure.{sizeP}
 use Rattle.plan.specs.Schema.{has, schema}
-use Rattle.plan.specs.Syntax.{Name, nm, Expr, col, num, bool, nul, bin, neg, test, between, inlist, fn, Pair, Kind, Plan, scan, filter, project, join, alias}
+use Rattle.plan.specs.Syntax.{Name, Expr, col, num, bool, nul, bin, neg, test, between, inlist, fn, Pair, Kind, Plan, scan, filter, project, join}
+use Rattle.plan.specs.Syntax.{alias}
 use Rattle.plan.specs.Syntax.{union, distinct, sort, repartition, limit, aggregate, window}
 use Rattle.plan.specs.Trees.{labelE, exprTree, labelP, kidsP, planTree, each, pairLabel, pairKids, filterKids}
 use Rattle.plan.proofs.Lists.{and-l, and-r}
@@ -55,7 +57,7 @@ right-at {s} short {x} {z} {l = l} {r} h e =
 
 -- ---- the filter
 
-plan-kind : (p : Plan) → 32 ≤ labelP p .kind
+plan-kind : (p : Plan) → (32 ≤ labelP p .kind) × (labelP p .kind < 48)
 unfolding labelP
 plan-kind (scan t fs es) = omega arith
 plan-kind (filter e p) = omega arith
@@ -193,38 +195,17 @@ pairs-end {out₀ = out₀} {at₀} {out = out} {to} h = subst (λ l. WroteAll o
 
 -- of a join they are its pairs
 no-plan : (p : Plan) → eqb (labelP p .kind) 50 ≡ false
-unfolding labelP
-no-plan (scan t fs es) = refl
-no-plan (filter e p) = refl
-no-plan (project es p) = refl
-no-plan (join k l r on f) = refl
-no-plan (alias q p) = refl
-no-plan (union ps) = refl
-no-plan (distinct p) = refl
-no-plan (sort f ks p) = refl
-no-plan (repartition p) = refl
-no-plan (limit n k p) = refl
-no-plan (aggregate gs ags p) = refl
-no-plan (window ws p) = refl
+no-plan p = ne-eqb (labelP p .kind) 50 (λ z. omega (arith, plan-kind p))
 
 no-expr : (e : Expr) → eqb (labelE e .kind) 50 ≡ false
-unfolding labelE
-no-expr (col (nm q n)) = refl
-no-expr (num z) = refl
-no-expr (bool b) = refl
-no-expr (nul t) = refl
-no-expr (bin o a b) = refl
-no-expr (neg a) = refl
-no-expr (test t a) = refl
-no-expr (between n a l u) = refl
-no-expr (inlist n a xs) = refl
-no-expr (fn p q r xs) = refl
+no-expr e = ne-eqb (labelE e .kind) 50 (λ z. omega (arith, expr-kind e))
 
 none-when : (b : Bool) (xs ys : List Rec) → b ≡ false → when b xs ++ ys ≡ ys
 unfolding when
 none-when b xs ys e = rw e
 
-pair-run : (d : ℕ) (on : List Pair) (f : Option Expr) → pairRecs d (each pairLabel pairKids on (filterKids f)) ≡ recsAny d (each pairLabel pairKids on none)
+pair-run : (d : ℕ) (on : List Pair) (f : Option Expr) → pairRecs d (each pairLabel pairKids on (filterKids f)) ≡ recsAny d
+    (each pairLabel pairKids on none)
 unfolding each pairRecs when
 pair-run d [] O.none = refl
 pair-run d [] (some e) = none-when (eqb (labelE e .kind) 50) (recs d (exprTree e)) [] (no-expr e)

@@ -76,7 +76,8 @@ column-read c (inlist n a xs) y e h = cc
 column-read c (fn p q r xs) y e h = cc
 
 module _ (s t : List Name) (x : Name) (held : has (s ++ t) x ≡ true) where
-  pub swap-has : (on : List Pair) → all (λ (k : Pair). on-cols (has s) (k .lhs) & on-cols (has t) (k .rhs)) on ≡ true → has (s ++ t) (swap on x) ≡ true
+  pub swap-has : (on : List Pair) → all (λ (k : Pair). on-cols (has s) (k .lhs) & on-cols (has t) (k .rhs)) on ≡ true → has (s ++ t)
+      (swap on x) ≡ true
   unfolding partner pair-of all
   swap-has [] h = held
   swap-has (k ∷ on) h =

@@ -2,7 +2,7 @@
 --     left-some, ..   what a join's lists are to the functions that write them
 --     join-wrote      the label, the inputs, the keys and the filter, one after the other
 -- Assumes nothing.
-use mathlib.Core.Path.{_≡_, refl, sym, ap, subst, _∙_}
+use mathlib.Core.Path.{_≡_, sym, ap, subst, _∙_}
 use mathlib.Core.List.{List, [], _∷_, _++_, append-assoc}
 use mathlib.Core.Option.{Option}
 use Prim.Native.Nat.{ℕ, _+_, _*_, _≤_}
@@ -54,7 +54,8 @@ module _ {s m : List ℕ} {x z : ℕ} {sc : Scope} {v : Moves} {k : Kind} {l r :
 regroup : (x : Rec) (a b y c d : List Rec) → y ≡ c ++ d → x ∷ (a ++ (b ++ y)) ≡ ((((x ∷ []) ++ a) ++ b) ++ c) ++ d
 regroup x a b y c d e = rw e (simp append-assoc)
 
-pub join-wrote : {out o₁ o₂ o₃ o₄ o₅ : List ℕ} {at n₁ n₂ n₃ n₄ n₅ level : ℕ} {top : Label} (k : Kind) (l r L R : Plan) (on : List Pair) (f g : Option Expr)
+pub join-wrote : {out o₁ o₂ o₃ o₄ o₅ : List ℕ} {at n₁ n₂ n₃ n₄ n₅ level : ℕ} {top : Label} (k : Kind) (l r L R : Plan) (on : List Pair)
+    (f g : Option Expr)
     → length out ≡ workBytes → Put out o₁ at level n₁ top → top ≡ labelP (join k l r on f) → Wrote o₁ o₂ n₁ (level + 1) n₂ (planTree L)
     → Wrote o₂ o₃ n₂ (level + 1) n₃ (planTree R) → WroteAll o₃ o₄ n₃ n₄ (pairRecs (level + 1) (kidsP (join k l r on f)))
     → WroteAll o₄ o₅ n₄ n₅ (recsAny (level + 1) (filterKids g)) → Wrote out o₅ at level n₅ (planTree (join k L R on g))

@@ -2,7 +2,7 @@
 --     over-reads, over-under  a Filter's conjuncts read both inputs' fields, though a semi or anti join has only one input's
 --     none-under              no predicate above it
 -- Assumes nothing.
-use mathlib.Core.Path.{_≡_, refl}
+use mathlib.Core.Path.{_≡_}
 use mathlib.Core.Bool.{true}
 use mathlib.Core.List.{List, [], _++_}
 use mathlib.Core.Option.{Option}

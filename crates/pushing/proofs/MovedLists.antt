@@ -1,21 +1,21 @@
 -- Laws of the lists of a join.
 --     lists-append  a list behind another
---     counts-over, counts-none  what a list's count says
+--     counts-none   what a list's count says
 --     moves-flag    whether anything moves, by the counts of the lists
 -- Assumes nothing.
 use mathlib.Core.Path.{_≡_, refl, sym, ap, _∙_}
 use mathlib.Core.Bool.{Bool, true, false, not, _||_}
 use mathlib.Core.List.{List, [], _∷_, _++_, map}
-use Prim.Native.Nat.{ℕ, suc, _+_, _≤_, _<_}
+use Prim.Native.Nat.{ℕ, _+_}
 use native.Mathlib.Omega.{arith}
 use lib.Dec.{eqb}
 use lib.ListN.{length}
 use borrow.Author.Tests.{eq-eqb, ne-eqb}
 use Rattle.plan.specs.Lists.{_&_}
-use Rattle.plan.specs.Syntax.{Name, Expr}
+use Rattle.plan.specs.Syntax.{Name, Expr, col}
 use Rattle.rewrite.specs.Utils.{is-empty}
 use Rattle.conjuncts.specs.Items.{Conjuncts, most, Holds, Items, inil, icons, Lists}
-use Rattle.writing.proofs.Pushing.{each-length}
+use Rattle.writing.proofs.Pushing.{each-length, pushes-of}
 use Rattle.pushing.specs.Sides.{Sides}
 
 -- ---- a list behind another
@@ -34,24 +34,15 @@ module _ {s : List ℕ} where
     items = items-append (h .items) (k .items);
   }
 
-  items-count : {ns : List ℕ} {es : List Expr} → Items s ns es → length es ≡ length ns
-  items-count inil = refl
-  items-count (icons h hs) = ap suc (items-count hs)
-
   -- what a list counts
   pub lists-count : {c : Conjuncts} {es : List Expr} → Lists s c es → c .len ≡ most (length es)
-  lists-count h = h .holds .count ∙ ap most (sym (items-count (h .items)))
+  lists-count h = let p = pushes-of {σ = λ x. col x} h in p .holds .count ∙ ap most (sym (each-length (p .items)))
 
   pub sides-count : {σ : Name → Expr} {ns : List Name} {t : Name → Bool} {c : Conjuncts} {es : List Expr} → Sides s σ ns t c es
       → c .len ≡ most (length es)
   sides-count h = h .holds .count ∙ ap most (sym (each-length (h .items)))
 
--- too many
-pub counts-over : (n : ℕ) (es : List Expr) → n ≡ most (length es) → 128 < n → 128 < length es
-unfolding most
-counts-over n es e h = omega arith
-
--- none
+-- 0 where it is empty
 pub counts-none : (n : ℕ) (es : List Expr) → n ≡ most (length es) → eqb n 0 ≡ is-empty es
 unfolding most
 counts-none n [] e = eq-eqb n 0 e

@@ -279,7 +279,7 @@ fn push_down_all_join(
     Written { next, flag: v.flag }
 }
 
-// push_down_join: c is the predicates above the join at record x.
+// push_down_join: c is the predicates above the join at record x, none for the Join node itself.
 pub fn push_down_join(
     s: &[u8],
     x: usize,
@@ -291,9 +291,9 @@ pub fn push_down_join(
 ) -> Written
     requires { ⌜ JoinUnder (now s) x c ⌝ }
     requires { ⌜ (4128 ≤ length (now m)) × (level < 3000) × (length (now out) ≡ workBytes) × (at ≤ 2049) ⌝ }
-    ensures { λ n. ⌜ ((k : Kind) (l r : Plan) (on : List Pair) (f : Option Expr) (P : List Expr) →
-        Placed (now (s .entry)) x (join k l r on f) → Reads (now (s .entry)) (schema l ++ schema r) c P → Plain P →
-        Answers (now (out .entry)) (now (out .exit)) at level n (push-down-join k l r on f P)) ⌝ }
+    ensures { λ r. ⌜ ((k : Kind) (l q : Plan) (on : List Pair) (f : Option Expr) (P : List Expr) →
+        Placed (now (s .entry)) x (join k l q on f) → Reads (now (s .entry)) (schema l ++ schema q) c P → Plain P →
+        Answers (now (out .entry)) (now (out .exit)) at level r (push-down-join k l q on f P)) ⌝ }
 {
     let g = own_filter(s, x);
     push_down_all_join(s, x, c, g, m, out, at, level)
@@ -311,9 +311,9 @@ pub fn rewrite_join(
 ) -> Written
     requires { ⌜ OverJoin (now s) x p ⌝ }
     requires { ⌜ (4128 ≤ length (now m)) × (level < 3000) × (length (now out) ≡ workBytes) × (at ≤ 2049) ⌝ }
-    ensures { λ n. ⌜ ((e : Expr) (k : Kind) (l r : Plan) (on : List Pair) (f : Option Expr) →
-        Rests (now (s .entry)) x p e (join k l r on f) →
-        Answers (now (out .entry)) (now (out .exit)) at level n (rewrite-filter e (join k l r on f))) ⌝ }
+    ensures { λ r. ⌜ ((e : Expr) (k : Kind) (l q : Plan) (on : List Pair) (f : Option Expr) →
+        Rests (now (s .entry)) x p e (join k l q on f) →
+        Answers (now (out .entry)) (now (out .exit)) at level r (rewrite-filter e (join k l q on f))) ⌝ }
 {
     let list = p.list;
     push_down_join(s, x, list, m, out, at, level)

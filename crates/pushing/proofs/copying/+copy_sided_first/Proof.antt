@@ -72,7 +72,11 @@ pub +copy-sided-first-spec : {M : Type 1} → statement M
         ),
       ),
     ))
-    (λ c. omega (arith, c .before .before .before .before .before .before .before .before .before .before .before .before .before .before .pre .1 .1 .1 .1 .1 .0))
+    (λ c. omega (
+      arith,
+      c .before .before .before .before .before .before .before .before .before .before .before .before .before .before .pre .1 .1
+          .1 .1 .1 .0,
+    ))
     (λ c κs. let p = c .before .before .before .before .before .before .before .before .before .before .before .before .before .before .pre .1 in (
       one-sided-of (p .0) _ _ (omega (arith, p .1 .1 .1 .0))
           (c .before .before .before .before .before .before .before .before .before .before .item-at .ensures),

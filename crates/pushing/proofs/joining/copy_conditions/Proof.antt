@@ -2,7 +2,7 @@ use native.Mathlib.Omega.{arith}
 use borrow.Author.Needs.{needs}
 use Rattle.conjuncts.proofs.Listed.{lists-length}
 use Rattle.writing.proofs.Pushing.{pushes-of}
-use Rattle.plan.specs.Syntax.{Name, Expr, col}
+use Rattle.plan.specs.Syntax.{col}
 use Rattle.pushing.proofs.JoinParts.{conditions-none, conditions-some}
 use Rattle.pushing.proofs.joining.copy_conditions.Statement.{statement}
 use Rattle.pushing.proofs.joining.copy_conditions.Tie as tie

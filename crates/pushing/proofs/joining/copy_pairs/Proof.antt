@@ -1,6 +1,5 @@
 -- `joining::copy_pairs` meets its contract. The loop's invariant: the pairs of what is left of the children complete the run.
 use mathlib.Core.Path.{sym, _∙_}
-use Prim.Native.Nat.{_+_}
 use native.Mathlib.Omega.{arith}
 use lib.ListN.{length-drop}
 use Rattle.image.proofs.Walking.{Chain, chain, round, again, done, left, for-all}
@@ -30,7 +29,8 @@ copy-pairs-spec =
     let u = round _ k (c .before .before .loop-test .taken) in
     let p = c .before .before .before .before .before .before .before .pre in
     (rw (c .before .from-record .ensures) (u .readable), (omega (arith, p .1 .0, k .some), k .so-far .long, k .so-far .small)))
-    (λ c κs. let u = round _ (c .before .before .before .before .before .before .loop .inv) (c .before .before .before .before .before .loop-test .taken) in
+    (λ c κs. let u = round _ (c .before .before .before .before .before .before .loop .inv)
+    (c .before .before .before .before .before .loop-test .taken) in
     rw (c .before .before .before .before .from-record .ensures, length-drop) (omega (arith, u .turn .fits)))
     (λ c. let u = round _ (c .before .before .before .before .before .before .before .loop .inv)
     (c .before .before .before .before .before .before .loop-test .taken) in

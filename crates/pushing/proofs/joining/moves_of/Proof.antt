@@ -32,5 +32,6 @@ moves-of-spec =
       right = right;
       conditions = lists-append (joined .lists) (own .lists) (c .before .append .ensures);
       kept = c .keep-predicates .ensures k l r on P G e sc h;
-      flag = moves-flag _ _ _ (join-conditions k l r on P G) (left-push k l r on P G) (right-push k l r on P G) (lists-count (joined .lists)) (sides-count left) (sides-count right);
+      flag = moves-flag _ _ _ (join-conditions k l r on P G) (left-push k l r on P G) (right-push k l r on P G) (lists-count (joined .lists))
+          (sides-count left) (sides-count right);
     }))

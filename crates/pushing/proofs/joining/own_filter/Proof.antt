@@ -15,8 +15,10 @@ own-filter-spec =
     (tie.spec
     (λ c κs. search needs)
     (λ c κs. rw (c .record-at .ensures) (plan-readable (c .before .before .pre .placed .standing)))
-    (λ c κs. let l = last-found (c .before .before .before .pre .placed) (c .before .record-at .ensures) (c .last-child .ensures) in omega (arith, last-room l))
-    (λ c κs. let l = last-found (c .before .before .before .before .pre .placed) (c .before .before .record-at .ensures) (c .before .last-child .ensures) in
+    (λ c κs. let l = last-found (c .before .before .before .pre .placed) (c .before .record-at .ensures) (c .last-child .ensures) in omega
+    (arith, last-room l))
+    (λ c κs. let l = last-found (c .before .before .before .before .pre .placed) (c .before .before .record-at .ensures)
+    (c .before .last-child .ensures) in
     rw (c .record-at2 .ensures, length-drop) (omega (arith, last-room l)))
     (λ c κs. search needs)
     (λ c κs. let p = c .before .before .before .before .before .before .before .pre .placed in

@@ -14,4 +14,5 @@ rewrite-join-spec =
     (λ c κs. let p = c .before .before .before .before .before .before .pre in (over-under (p .0), p .1))
     (λ c. search needs)
     (λ c. search needs)
-    (λ c e k l r on f h. c .before .before .before .before .push-down-join .ensures k l r on f (split-conjunction e) (h .placed) (over-reads h) (split-plain e)))
+    (λ c e k l r on f h. c .before .before .before .before .push-down-join .ensures k l r on f (split-conjunction e) (h .placed) (over-reads h)
+    (split-plain e)))

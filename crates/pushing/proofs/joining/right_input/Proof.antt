@@ -1,6 +1,5 @@
 use native.Mathlib.Omega.{arith}
 use borrow.Author.Needs.{needs}
-use lib.ListN.{length-drop}
 use Rattle.pushing.proofs.JoinParts.{right-at}
 use Rattle.pushing.proofs.Steps.{left-input}
 use Rattle.pushing.proofs.joining.right_input.Statement.{statement}

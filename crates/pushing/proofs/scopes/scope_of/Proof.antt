@@ -24,7 +24,8 @@ scope-of-spec =
     (λ c κs. search needs)
     (λ c l r on f h e n w p q.
     let ns = l ++ r in
-    let left = masks-left l r n (c .before .before .before .low-places .result) (search needs) (rw (← e) (c .before .before .before .low-places .ensures)) in
+    let left = masks-left l r n (c .before .before .before .low-places .result) (search needs) (rw (← e)
+    (c .before .before .before .low-places .ensures)) in
     let count = names-count h (c .before .before .before .before .before .pre .0) in
     let leftward : Masks (c .before .before .places-among .result) ns (λ x. has l (swap on x)) =
     masks-same (λ i lt. rw (e, place-left l r) (ap (λ o. has l (orSelf (nameAt ns i) o)) (p (nameAt ns i))))
