@@ -43,7 +43,7 @@ module _ (k : Kind) (l r : Plan) (on : List Pair) (f : Option Expr) (h : ok (joi
 
 -- ---- a key's partner is a field
 
-front : (s t : List Name) (y : Name) → has s y ≡ true → has (s ++ t) y ≡ true
+pub front : (s t : List Name) (y : Name) → has s y ≡ true → has (s ++ t) y ≡ true
 unfolding any
 front [] t y h = cc
 front (z ∷ s) t y h = go (same z y) h (front s t y)
@@ -52,7 +52,7 @@ front (z ∷ s) t y h = go (same z y) h (front s t y)
     go true h f = refl
     go false h f = f h
 
-back : (s t : List Name) (y : Name) → has t y ≡ true → has (s ++ t) y ≡ true
+pub back : (s t : List Name) (y : Name) → has t y ≡ true → has (s ++ t) y ≡ true
 unfolding any
 back [] t y h = h
 back (z ∷ s) t y h = rw (back s t y h) (go (same z y))
@@ -76,7 +76,8 @@ column-read c (inlist n a xs) y e h = cc
 column-read c (fn p q r xs) y e h = cc
 
 module _ (s t : List Name) (x : Name) (held : has (s ++ t) x ≡ true) where
-  pub swap-has : (on : List Pair) → all (λ (k : Pair). on-cols (has s) (k .lhs) & on-cols (has t) (k .rhs)) on ≡ true → has (s ++ t) (swap on x) ≡ true
+  pub swap-has : (on : List Pair) → all (λ (k : Pair). on-cols (has s) (k .lhs) & on-cols (has t) (k .rhs)) on ≡ true → has (s ++ t)
+      (swap on x) ≡ true
   unfolding partner pair-of all
   swap-has [] h = held
   swap-has (k ∷ on) h =

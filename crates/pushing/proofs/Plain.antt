@@ -1,31 +1,23 @@
 -- Lists of conjuncts none of which is an And: splitting what was joined gives them back.
-use mathlib.Core.Path.{_≡_, refl, sym, ap, _∙_, subst}
-use mathlib.Core.Bool.{Bool, true, false, not, _||_}
+use mathlib.Core.Path.{_≡_, refl, sym, ap, _∙_}
+use mathlib.Core.Bool.{Bool, true, false}
 use mathlib.Core.List.{List, [], _∷_, _++_, append-assoc, append-nil}
 use mathlib.Core.Option.{Option, none, some}
 use Prim.Native.Nat.{_≤_}
 use native.Mathlib.Nat.{le-refl}
 use native.Mathlib.Omega.{arith}
 use lib.ListN.{length, length-append}
-use lib.Dec.{eqb}
-use Rattle.plan.specs.Lists.{choose}
 use Rattle.plan.specs.Syntax.{Name, Expr, col, num, bool, nul, bin, and, or, cmp, neg, test, between, inlist, fn}
 use Rattle.plan.specs.Values.{ValueRecord}
-use Rattle.plan.proofs.Lists.{All, anil, acons, All-append}
-use Rattle.rewrite.specs.Utils.{split-conjunction, conjoin, conjunction, unique}
+use Rattle.plan.proofs.Lists.{anil, acons, All-append}
+use Rattle.rewrite.specs.Utils.{split-conjunction, conjoin, conjunction}
 use Rattle.rewrite.specs.SimplifyPredicates.{Rel, bound-of, simplify-predicates}
 use Rattle.rewrite.specs.ReorderPredicates.{reorder-predicates}
-use Rattle.rewrite.specs.PushDownFilter.{simplify-filter, merged}
+use Rattle.rewrite.specs.PushDownFilter.{merged}
 use Rattle.rewrite.proofs.Simplify.{simplified-in}
 use Rattle.rewrite.proofs.SimplifyFilter.{reorder-all}
 use Rattle.rewrite.proofs.References.{unique-all}
-
--- it does not split
-pub record Whole (e : Expr) : Type 0 where
-  pub one : split-conjunction e ≡ e ∷ []
-
-abbrev pub Plain : List Expr → Type 0
-Plain es = All Whole es
+use Rattle.pushing.specs.JoinPlans.{Whole, Plain}
 
 pub split-plain : (e : Expr) → Plain (split-conjunction e)
 unfolding split-conjunction

@@ -17,7 +17,8 @@ use borrow.Author.Tests.{ltb-true, ltb-false, lt-ltb, le-ltb}
 use Rattle.image.specs.Tree.{none}
 use Rattle.plan.specs.Lists.{any}
 use Rattle.plan.specs.Schema.{has, same}
-use Rattle.plan.specs.Syntax.{Name, nm, Expr, col, num, bool, nul, bin, neg, test, between, inlist, fn, Pair, Kind, Plan, scan, filter, project, join, alias}
+use Rattle.plan.specs.Syntax.{Name, nm, Expr, col, num, bool, nul, bin, neg, test, between, inlist, fn, Pair, Kind, Plan, scan, filter, project, join}
+use Rattle.plan.specs.Syntax.{alias}
 use Rattle.plan.specs.Syntax.{union, distinct, sort, repartition, limit, aggregate, window}
 use Rattle.plan.specs.Trees.{labelE, kidsE, labelP, kidsP, each, pairLabel, pairKids, filterKids}
 use Rattle.plan.proofs.Names.{nodup, apart}
@@ -124,6 +125,10 @@ name-mapped : (f : Name → Name) (ns : List Name) (i : ℕ) → i < length ns �
 name-mapped f [] i lt = absurd (omega arith)
 name-mapped f (x ∷ ns) zero lt = refl
 name-mapped f (x ∷ ns) (suc i) lt = name-mapped f ns i (omega arith)
+
+pub map-same : {f g : Name → Name} → ((x : Name) → f x ≡ g x) → (ns : List Name) → map f ns ≡ map g ns
+map-same h [] = refl
+map-same h (x ∷ ns) = ap₂ _∷_ (h x) (map-same h ns)
 
 pub masks-mapped : {m : ℕ} (ns : List Name) (f : Name → Name) (c : Name → Bool) → Masks m (map f ns) c → Masks m ns (λ x. c (f x))
 masks-mapped ns f c h =

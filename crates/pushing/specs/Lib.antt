@@ -15,3 +15,4 @@ pub mod Sides
 pub mod Scopes
 pub mod Parts
 pub mod Scans
+pub mod JoinPlans

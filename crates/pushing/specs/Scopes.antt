@@ -1,7 +1,7 @@
 -- The fields of a join's inputs, and lists of conjuncts over them.
 use mathlib.Core.Path.{_≡_}
 use mathlib.Core.Bool.{Bool, true, not}
-use mathlib.Core.List.{List, _++_}
+use mathlib.Core.List.{List, _++_, map}
 use Prim.Native.Nat.{ℕ, _≤_}
 use Rattle.plan.specs.Columns.{on-cols}
 use Rattle.plan.specs.Lists.{keep}
@@ -32,10 +32,11 @@ pub record Reads (s : List ℕ) (ns : List Name) (c : Conjuncts) (es : List Expr
 abbrev pub swap : List Pair → Name → Name
 swap on x = orSelf x (partner on x)
 
--- sc has the fields of inputs with the schemas l and r, and their sets by the join's keys
+-- sc has the fields of inputs with the schemas l and r, their partners, and their sets by the join's keys
 pub record Scopes (sc : Scope) (l r : List Name) (on : List Pair) : Type 0 where
   pub names : Names (sc .fields) (l ++ r)
   pub most : sc .fields .len ≤ 64
+  pub to : Names (sc .to) (map (swap on) (l ++ r))
   pub left : Masks (sc .left) (l ++ r) (has l)
   pub right : Masks (sc .right) (l ++ r) (has r)
   pub alone : Masks (sc .alone) (l ++ r) (λ x. nothing (partner on x))

@@ -10,6 +10,9 @@ use Rattle.plan.specs.Schema.{has}
 use Rattle.plan.specs.Syntax.{Name, Expr}
 use Rattle.conjuncts.specs.Items.{Conjuncts, listed, Holds, Item}
 use Rattle.utils.specs.Clauses.{or-clause}
+use Rattle.utils.specs.Fields.{Fields, Names}
+use Rattle.utils.specs.Masks.{Masks}
+use Rattle.writing.specs.Maps.{Maps}
 use Rattle.writing.specs.Pushed.{Pushed, Each}
 
 -- e is the clause of the item n, which reads ns, for the side whose columns pass t
@@ -44,3 +47,18 @@ pub record OneSided (s : List ℕ) (n : ℕ) : Type 0 where
   pub test : Name → Bool
   pub expr : Expr
   pub sided : Sided s map names test n expr
+
+-- something is written for the list c, which is whole
+pub record SomeSided (s : List ℕ) (c : Conjuncts) : Type 0 where
+  pub map : Name → Expr
+  pub names : List Name
+  pub test : Name → Bool
+  pub exprs : List Expr
+  pub sides : Sides s map names test c exprs
+  pub most : c .len ≤ 128
+
+-- the map at m is σ, and `side` has those of the names ns, which `fields` holds, that pass t
+pub record Side (m : List ℕ) (fields : Fields) (side : ℕ) (σ : Name → Expr) (ns : List Name) (t : Name → Bool) : Type 0 where
+  pub maps : Maps m 0 3 σ
+  pub names : Names fields ns
+  pub masks : Masks side ns t

@@ -26,7 +26,7 @@ ghost use Rattle.utils.specs.Masks.{Masks};
 ghost use Rattle.pushing.specs.Partners.{columnOf, keyIn, partnerIn, orSelf, Told, Swaps};
 
 // The kind of the record of a pair of keys.
-const PAIR: usize = 50;
+pub const PAIR: usize = 50;
 
 // A column, or none.
 pub struct Column {

@@ -55,10 +55,11 @@ pub fn is_inner(kind: usize) -> bool
     kind == 1
 }
 
-// The fields of both inputs of a join, the left one's first, and sets of them: those of each input, those that have no partner by the keys,
-// and those whose partner, or where they have none they themselves, are of each input.
+// The fields of both inputs of a join, the left one's first; the same with each key's partner in its place; and sets of them: those of each
+// input, those that have no partner by the keys, and those whose partner, or where they have none they themselves, are of each input.
 pub struct Scope {
     pub fields: Fields,
+    pub to: Fields,
     pub left: u64,
     pub right: u64,
     pub alone: u64,

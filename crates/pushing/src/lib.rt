@@ -6,6 +6,7 @@ pub mod changing;
 pub mod copying;
 pub mod inferring;
 pub mod inputs;
+pub mod joining;
 pub mod joins;
 pub mod merging;
 pub mod parting;

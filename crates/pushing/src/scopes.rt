@@ -33,10 +33,12 @@ pub fn scope_of(fields: Fields, k: usize, swapped: Swapped) -> Scope
         ((x : Name) → has (l ++ r) x ≡ true → has (l ++ r) (swap on x) ≡ true) → Scopes z l r on) ⌝ }
 {
     let n = fields.len;
+    let to = swapped.to;
     let left = low_places(k);
-    let leftward = places_among(fields, swapped.to, k);
+    let leftward = places_among(fields, to, k);
     Scope {
         fields,
+        to,
         left,
         right: all_but(left, n),
         alone: swapped.alone,

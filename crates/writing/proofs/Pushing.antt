@@ -59,11 +59,11 @@ module _ {s : List ℕ} {σ : Name → Expr} where
 -- ---- lists
 
 module _ {R : ℕ → Expr → Type 0} where
-  each-length : {ns : List ℕ} {es : List Expr} → Each R ns es → length es ≡ length ns
+  pub each-length : {ns : List ℕ} {es : List Expr} → Each R ns es → length es ≡ length ns
   each-length nil = refl
   each-length (cons h hs) = ap suc (each-length hs)
 
-  each-at : {ns : List ℕ} {es : List Expr} (i : ℕ) → Each R ns es → i < length ns → R (getD ns i 0) (getD es i FALSE)
+  pub each-at : {ns : List ℕ} {es : List Expr} (i : ℕ) → Each R ns es → i < length ns → R (getD ns i 0) (getD es i FALSE)
   each-at i nil lt = absurd (omega arith)
   each-at zero (cons h hs) lt = h
   each-at (suc i) (cons h hs) lt = each-at i hs (omega arith)

@@ -25,7 +25,7 @@ ghost use Rattle.writing.specs.Maps.{Maps};
 ghost use Rattle.writing.specs.Pushed.{Pushed, Pushes, One, Some, Predicate, Predicated};
 
 // The operator AND.
-const AND: usize = 1;
+pub const AND: usize = 1;
 
 // Writes what the item n stands for, which is a record or FALSE.
 fn copy_plain(s: &[u8], n: usize, out: &mut [u8], at: usize, level: usize) -> usize

@@ -10,7 +10,7 @@ use Rattle.utils.proofs.Marking.{masks-same, masks-left, masks-right, has-at}
 use Rattle.utils.proofs.Named.{names-count}
 use Rattle.pushing.specs.Partners.{partnerIn, orSelf}
 use Rattle.pushing.specs.Scopes.{swap}
-use Rattle.pushing.proofs.ScopeSets.{place-left, masks-mapped, other-side}
+use Rattle.pushing.proofs.ScopeSets.{map-same, place-left, masks-mapped, other-side}
 use Rattle.pushing.proofs.scopes.scope_of.Statement.{statement}
 use Rattle.pushing.proofs.scopes.scope_of.Tie as tie
 
@@ -24,15 +24,17 @@ scope-of-spec =
     (λ c κs. search needs)
     (λ c l r on f h e n w p q.
     let ns = l ++ r in
-    let left = masks-left l r n (c .before .before .before .low-places .result) (search needs) (rw (← e) (c .before .before .before .low-places .ensures)) in
-    let count = names-count h (c .before .before .before .before .pre .0) in
+    let left = masks-left l r n (c .before .before .before .low-places .result) (search needs) (rw (← e)
+    (c .before .before .before .low-places .ensures)) in
+    let count = names-count h (c .before .before .before .before .before .pre .0) in
     let leftward : Masks (c .before .before .places-among .result) ns (λ x. has l (swap on x)) =
     masks-same (λ i lt. rw (e, place-left l r) (ap (λ o. has l (orSelf (nameAt ns i) o)) (p (nameAt ns i))))
-    (masks-mapped ns (λ x. orSelf x (partnerIn x f)) (λ y. ltb (placeIn ns y) (c .before .before .before .before .args .k))
+    (masks-mapped ns (λ x. orSelf x (partnerIn x f)) (λ y. ltb (placeIn ns y) (c .before .before .before .before .before .args .k))
     (c .before .before .places-among .ensures ns _ h (w .to))) in
     record {
       names = h;
-      most = c .before .before .before .before .pre .0;
+      most = c .before .before .before .before .before .pre .0;
+      to = rw (← map-same (λ x. ap (orSelf x) (p x)) ns) (w .to);
       left = left;
       right = masks-right l r n (c .before .all-but .ensures ns (has l) (sym count) left);
       alone = masks-same (λ i lt. ap nothing (p (nameAt ns i))) (w .alone);
