@@ -30,7 +30,8 @@ use Rattle.pushing.specs.Predicates.{Predicate}
 use Rattle.pushing.specs.Arms.{Rests, Placed, Written, Answers}
 use Rattle.pushing.specs.Scans.{SomeScan}
 use Rattle.pushing.proofs.Answering.{few}
-use Rattle.pushing.proofs.Plain.{Plain, split-plain, split-joined}
+use Rattle.pushing.specs.JoinPlans.{Plain}
+use Rattle.pushing.proofs.Plain.{split-plain, split-joined}
 use Rattle.pushing.proofs.Scoping.{keep-length}
 use Rattle.pushing.proofs.Supported.{scan-few, scan-width}
 

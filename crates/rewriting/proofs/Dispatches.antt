@@ -12,9 +12,10 @@ use Rattle.rewrite.specs.PushDownFilter.{rewrite-filter}
 use Rattle.conjuncts.specs.Standing.{StandingP}
 use Rattle.pushing.specs.Predicates.{Predicate}
 use Rattle.pushing.specs.Scans.{OverScan}
+use Rattle.pushing.specs.JoinPlans.{OverJoin}
 use Rattle.pushing.specs.Arms.{Rests, Written, Answers, OverAlias, OverUnion}
 use Rattle.rewriting.specs.Found.{OnInput}
-use Rattle.rewriting.specs.Stubs.{OverProjection, OverJoin, OverAggregate, OverWindow}
+use Rattle.rewriting.specs.Stubs.{OverProjection, OverAggregate, OverWindow}
 use Rattle.rewriting.proofs.KindOf.{kind-there, when-scan, when-project, when-join, when-alias, when-union, when-aggregate, when-window}
 
 -- the number that is read at a record

@@ -3,27 +3,23 @@ use Prim.Native.Nat.{ℕ}
 use native.Mathlib.Omega.{arith}
 use mathlib.Core.Path.{_≡_, refl, sym, ap, subst, _∙_}
 use mathlib.Core.Bool.{Bool, true, false}
-use mathlib.Core.List.{List, [], _++_}
+use mathlib.Core.List.{List, []}
 use mathlib.Core.Option.{Option}
 use native.Mathlib.Nat.{le-trans}
 use lib.Dec.{eqb}
 use Rattle.plan.specs.Lists.{_&_, all}
-use Rattle.plan.specs.Syntax.{Name, Expr, Kind, Pair, Plan}
+use Rattle.plan.specs.Syntax.{Expr, Kind, Pair, Plan}
 use Rattle.plan.specs.Syntax.{scan, filter, project, join, alias, union, distinct, sort, repartition, limit, aggregate, window}
 use Rattle.plan.specs.Syntax.{pcons}
 use Rattle.plan.specs.Measure.{sizeP, depthP}
 use Rattle.plan.specs.Trees.{labelP, planTree}
 use Rattle.image.specs.Limits.{maxRecords, maxList}
 use borrow.Author.Tests.{le-leb}
-use Rattle.plan.specs.Schema.{schema}
-use Rattle.plan.proofs.Lists.{and-true, and-intro, anil}
+use Rattle.plan.proofs.Lists.{and-true, and-intro}
 use Rattle.rewrite.specs.Limits.{listP, fits}
 use Rattle.rewrite.specs.PushDownFilter.{Transformed, Transformed·no, rewrite, merges, push-down-join}
 use Rattle.rewrite.specs.RewriteAt.{Focus, result-fits}
-use Rattle.conjuncts.specs.Items.{Conjuncts, listed}
-use Rattle.conjuncts.proofs.Listed.{lists-none}
 use Rattle.pushing.specs.Arms.{Placed}
-use Rattle.pushing.specs.Scopes.{Reads}
 use Rattle.writing.proofs.Depths.{deep-tested}
 use Rattle.pushing.specs.Paths.{Ways}
 use Rattle.pushing.proofs.Finding.{path-to}
@@ -122,10 +118,6 @@ placed-inside {s} {node} {w} {c} h e = subst (Placed s node) e (record {
   rules = rule-there eqb node w c (h .there) (h .rules);
   lists = le-trans (lists-there node w c (h .there)) (h .lists);
 })
-
--- no predicate is above it
-pub reads-none : {s : List ℕ} {ns : List Name} {c : Conjuncts} → (listed c ≡ []) × (c .len ≡ 0) → Reads s ns c []
-reads-none h = record { lists = lists-none h; over = anil; most = omega (arith, h .1) }
 
 module _ {c : Focus} {k : Kind} {l q : Plan} {on : List Pair} {f : Option Expr} (is : c .plan ≡ join k l q on f) where
   pub join-outcomes : {work : List ℕ} {r : Outcome} {w : Plan}

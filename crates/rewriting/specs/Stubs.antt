@@ -27,22 +27,3 @@ pub record OverWindow (s : List ℕ) (x : ℕ) (p : Predicate) : Type 0 where
   pub entries : List WinEntry
   pub plan : Plan
   pub rests : Rests s x p expr (window entries plan)
-
-pub record OverJoin (s : List ℕ) (x : ℕ) (p : Predicate) : Type 0 where
-  pub expr : Expr
-  pub kind : Kind
-  pub lhs : Plan
-  pub rhs : Plan
-  pub keys : List Pair
-  pub condition : Option Expr
-  pub rests : Rests s x p expr (join kind lhs rhs keys condition)
-
-pub record JoinUnder (s : List ℕ) (x : ℕ) (c : Conjuncts) : Type 0 where
-  pub kind : Kind
-  pub lhs : Plan
-  pub rhs : Plan
-  pub keys : List Pair
-  pub condition : Option Expr
-  pub exprs : List Expr
-  pub placed : Placed s x (join kind lhs rhs keys condition)
-  pub reads : Reads s (schema lhs ++ schema rhs) c exprs

@@ -1,11 +1,11 @@
 // The match on a Filter's input, once the Filters below are merged into it.
 use crate::stubs::rewrite_aggregate;
-use crate::stubs::rewrite_join;
 use crate::stubs::rewrite_projection;
 use crate::stubs::rewrite_window;
 use conjuncts::reading::record_at;
 use image::words::word_at;
 use pushing::arms::rewrite_through;
+use pushing::joining::rewrite_join;
 use pushing::merging::Settled;
 use pushing::predicates::Predicate;
 use pushing::predicates::Written;

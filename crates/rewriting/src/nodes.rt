@@ -1,12 +1,12 @@
 // PushDownFilter::rewrite of the plan at one record of an image: a Filter by its input, a Join by its own filter, no other.
 use crate::dispatch::JOIN;
 use crate::dispatch::rewrite_settled;
-use crate::stubs::push_down_join;
 use conjuncts::lists::empty;
 use conjuncts::reading::record_at;
 use image::limits::MAX_RECORDS;
 use image::relink::relink;
 use image::words::word_at;
+use pushing::joining::push_down_join;
 use pushing::merging::settle_filter;
 use pushing::predicates::Written;
 use writing::handing_out::is_shallow;

@@ -5,8 +5,11 @@ use native.Mathlib.Omega.{arith}
 use borrow.Author.Needs.{needs}
 use Rattle.plan.specs.Measure.{sizeP}
 use Rattle.rewrite.specs.PushDownFilter.{push-down-join}
+use Rattle.plan.proofs.Lists.{anil}
+use Rattle.pushing.proofs.Scoping.{reads-none}
+use Rattle.pushing.proofs.JoinsUnder.{none-under}
 use Rattle.pushing.proofs.Tested.{few-records, sized, stands-inside, end-within, level-small}
-use Rattle.rewriting.proofs.Outcoming.{the-join, placed-inside, reads-none, join-outcomes}
+use Rattle.rewriting.proofs.Outcoming.{the-join, placed-inside, join-outcomes}
 use Rattle.rewriting.proofs.nodes.rewrite_join.Statement.{statement}
 use Rattle.rewriting.proofs.nodes.rewrite_join.Tie as tie
 
@@ -23,16 +26,7 @@ rewrite-join-spec =
     let j = p .0 in
     let i = j .inside in
     let b = c .before .before .before .before .before .before .before .write-before .ensures (j .whole) (j .spot) (i .root) (i .there) (stands-inside i) in (
-      record {
-        kind = j .kind;
-        lhs = j .lhs;
-        rhs = j .rhs;
-        keys = j .keys;
-        condition = j .condition;
-        exprs = [];
-        placed = placed-inside i (j .is);
-        reads = reads-none (c .before .before .empty .ensures);
-      },
+      none-under (placed-inside i (j .is)) (c .before .before .empty .ensures),
       (
         p .1 .0,
         omega (arith, level-small i (b .level)),
@@ -56,7 +50,7 @@ rewrite-join-spec =
           long = long;
           begun = b;
           answers = c .before .before .before .before .before .before .push-down-join .ensures (j .kind) (j .lhs) (j .rhs) (j .keys) (j .condition) []
-              (placed-inside i (j .is)) (reads-none (c .before .before .before .before .before .before .before .before .before .empty .ensures));
+              (placed-inside i (j .is)) (reads-none (c .before .before .before .before .before .before .before .before .before .empty .ensures)) anil;
         };
       },
       (c .before .before .before .before .before .before .push-down-join .kept .1 .1 .1 .1 .0 ∙ long, c .before .before .before .before .before .before .before .before .before .before .before .before .before .before .write-before .kept .1 .1 .1 .0 ∙ p .1 .2),
@@ -73,5 +67,5 @@ rewrite-join-spec =
       long = c .before .before .before .before .before .before .before .before .before .before .before .before .before .before .before .before .before .write-before .kept .1 .1 .0 ∙ c .before .before .before .before .before .before .before .before .before .before .before .before .before .before .before .before .before .before .before .before .before .before .before .before .pre .1 .1;
       begun = c .before .before .before .before .before .before .before .before .before .before .before .before .before .before .before .before .before .write-before .ensures w f (h .root) (h .there) (stands-inside h);
       answers = c .before .before .before .before .before .before .before .before .before .push-down-join .ensures (a .kind) (a .lhs) (a .rhs) (a .keys) (a .condition) []
-          (placed-inside h (a .is)) (reads-none (c .before .before .before .before .before .before .before .before .before .before .before .before .empty .ensures));
+          (placed-inside h (a .is)) (reads-none (c .before .before .before .before .before .before .before .before .before .before .before .before .empty .ensures)) anil;
     }))))
