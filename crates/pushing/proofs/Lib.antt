@@ -32,3 +32,5 @@ pub mod Scoping
 pub mod SideLists
 pub mod ScopeSets
 pub mod JoinScope
+pub mod Counting
+pub mod Divides

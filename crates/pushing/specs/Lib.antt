@@ -14,3 +14,4 @@ pub mod Partners
 pub mod Sides
 pub mod Scopes
 pub mod Parts
+pub mod Divided

@@ -4,6 +4,7 @@ pub mod around;
 pub mod below;
 pub mod changing;
 pub mod copying;
+pub mod dividing;
 pub mod inferring;
 pub mod inputs;
 pub mod joins;

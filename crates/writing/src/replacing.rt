@@ -43,7 +43,7 @@ fn find(m: &[u8], of: usize, room: usize, p: usize, q: usize) -> usize
 }
 
 // The same for the record at the start of s, if it is a column.
-fn value_for(s: &[u8], m: &[u8], of: usize, room: usize) -> usize
+pub fn value_for(s: &[u8], m: &[u8], of: usize, room: usize) -> usize
     requires { ⌜ 32 ≤ length (now s) ⌝ }
     requires { ⌜ Readable room (now m) of ⌝ }
     ensures { λ r. ⌜ ((t : Tree) → At t (now (m .entry)) of → Leads (valueFor t (labelAt (now (s .entry)))) (now (m .entry)) of r) ⌝ }
