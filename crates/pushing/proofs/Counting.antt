@@ -5,9 +5,9 @@
 --     value-standing     where one does, its expression stands in the image
 --     counts-..          a list that counts
 -- Assumes nothing.
-use Prim.Native.Nat.{ℕ, suc, _+_, _-_, _*_, _≤_, _<_}
+use Prim.Native.Nat.{ℕ, _+_, _-_, _*_, _≤_, _<_}
 use native.Mathlib.Omega.{arith}
-use mathlib.Core.Path.{_≡_, refl, sym, ap, subst, _∙_}
+use mathlib.Core.Path.{_≡_, refl, sym, ap, _∙_}
 use mathlib.Core.Bool.{Bool, true, false, cond}
 use mathlib.Core.List.{List, [], _∷_, _++_}
 use lib.Dec.{ltb}
@@ -18,7 +18,7 @@ use Rattle.image.specs.Limits.{workBytes}
 use Rattle.image.proofs.Walking.{only}
 use Rattle.plan.specs.Lists.{flat}
 use Rattle.plan.specs.Schema.{same}
-use Rattle.plan.specs.Syntax.{Name, Expr, col, num, bool, nul, bin, and, neg, test, between, inlist, fn, Exprs, enil, econs, Entry}
+use Rattle.plan.specs.Syntax.{Name, Expr, col, num, bool, nul, bin, neg, test, between, inlist, fn, Exprs, enil, econs, Entry}
 use Rattle.plan.specs.Syntax.{Plan, scan, filter, project, join, alias, union, distinct, sort, repartition, limit, aggregate, window}
 use Rattle.plan.specs.Integers.{FitsE, FitsEs, FitsP, Every}
 use Rattle.plan.specs.Trees.{labelE, kidsE, exprTree, planTree}
@@ -47,7 +47,8 @@ single-label e h = go (isAnd (labelE e)) refl
     go false i = refl
     go true i =
         let k : Both e = and-label e i in
-        let n : length (split-conjunction (k .lhs) ++ split-conjunction (k .rhs)) ≡ 1 = sym (ap (λ x. length (split-conjunction x)) (k .is)) ∙ ap length h in
+        let n : length (split-conjunction (k .lhs) ++ split-conjunction (k .rhs)) ≡ 1 =
+        sym (ap (λ x. length (split-conjunction x)) (k .is)) ∙ ap length h in
         absurd (omega (arith, split-some (k .lhs), split-some (k .rhs), length-append (split-conjunction (k .lhs)) (split-conjunction (k .rhs))))
 
 -- ---- integers
@@ -108,7 +109,8 @@ module _ {s : List ℕ} {x v : ℕ} (e : Expr) (p : Plan) (k : StandingP s x p) 
   -- none does: what stands at the top of the conjunct stays
   pub value-single : v ≡ 0 → split-conjunction e ≡ e ∷ [] → length (split-conjunction (replace-cols (mapOf p) e)) ≡ 1
   value-single z h =
-      let i : exprTree (replace-cols (mapOf p) e) ≡ _ = sym (replaced-expr (planTree p) (mapOf p) (plan-map p) e) ∙ no-value (planTree p) (labelE e) l z _ in
+      let i : exprTree (replace-cols (mapOf p) e) ≡ _ = sym (replaced-expr (planTree p) (mapOf p) (plan-map p) e)
+      ∙ no-value (planTree p) (labelE e) l z _ in
       let j : labelE (replace-cols (mapOf p) e) ≡ labelE e = ap (λ (t : Tree). t .label) i in
       ap length (single (replace-cols (mapOf p) e) (ap isAnd j ∙ single-label e h))
 

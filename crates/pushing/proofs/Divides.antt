@@ -2,19 +2,19 @@
 --     filters-list     the lists of a plan under a list of conjuncts
 --     pushed-few, -many   the lists of the answer: only what moved can be too long, once its columns are replaced
 -- Assumes nothing.
-use Prim.Native.Nat.{ℕ, suc, _+_, _≤_, _<_, max as larger}
+use Prim.Native.Nat.{ℕ, suc, _≤_, _<_, max as larger}
 use native.Mathlib.Omega.{arith}
 use native.Mathlib.Nat.{max-le, le-trans, le-of-eq, le-max-left, le-max-right}
-use mathlib.Core.Path.{_≡_, refl, sym, ap, ap₂, subst, _∙_}
-use mathlib.Core.Bool.{Bool, true, false, not}
+use mathlib.Core.Path.{_≡_, refl, sym, ap, ap₂, _∙_}
+use mathlib.Core.Bool.{not}
 use mathlib.Core.List.{List, [], _∷_, _++_, map, append-assoc, append-nil}
 use lib.Dec.{eqb}
 use lib.ListN.{length}
 use borrow.Author.Tests.{ne-eqb}
 use Rattle.image.specs.Limits.{maxList}
 use Rattle.plan.specs.Lists.{flat}
-use Rattle.plan.specs.Syntax.{Name, Expr, bin, and, Plan, filter}
-use Rattle.plan.proofs.Lists.{All, anil, acons}
+use Rattle.plan.specs.Syntax.{Name, Expr, bin, and, Plan}
+use Rattle.plan.proofs.Lists.{anil, acons}
 use Rattle.rewrite.specs.Limits.{listP}
 use Rattle.rewrite.specs.Utils.{replace-cols, split-conjunction, conjoin, conjunction, with-filters, is-empty}
 use Rattle.conjuncts.specs.Items.{Conjuncts, Lists}

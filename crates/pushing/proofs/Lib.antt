@@ -34,3 +34,5 @@ pub mod ScopeSets
 pub mod JoinScope
 pub mod Counting
 pub mod Divides
+pub mod Moves
+pub mod Divisions

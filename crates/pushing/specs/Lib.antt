@@ -15,3 +15,4 @@ pub mod Sides
 pub mod Scopes
 pub mod Parts
 pub mod Divided
+pub mod Movable

@@ -9,6 +9,7 @@ pub mod inferring;
 pub mod inputs;
 pub mod joins;
 pub mod merging;
+pub mod moving;
 pub mod parting;
 pub mod predicates;
 pub mod renaming;

@@ -27,7 +27,8 @@ add-replaced-spec =
     (λ c κs. let p = c .before .before .before .before .before .before .pre in
     let h = p .0 .1 .standing in
     let w = p .0 .0 .item .some (c .before .before .before .before .if1 .left) in
-    let l = value-leads (c .before .before .before .record-at .ensures) (c .before .before .record-at2 .ensures) w h (c .before .value-for .ensures) in (
+    let l = value-leads (c .before .before .before .record-at .ensures) (c .before .before .record-at2 .ensures) w h
+    (c .before .value-for .ensures) in (
       record { expr = _; standing = value-standing _ _ h l (p .1) (w .fits) (c .if2 .left) },
       (omega (arith, value-past _ _ h l (c .if2 .left)), p .1),
     ))

@@ -47,7 +47,8 @@ is-over-spec =
           let t = c .before .before .loop-test .taken in
           let lt : i < length es = omega (arith, lists-length h m, t) in
           let w = c .before .before .before .loop .inv .1 es p h o k in
-          counted-next i lt w (c .add-replaced .ensures (getD es i FALSE) p (w .done) (lists-at h m i _ t (c .before .item-at .ensures)) (all-at i o lt) k
+          counted-next i lt w (c .add-replaced .ensures (getD es i FALSE) p (w .done) (lists-at h m i _ t (c .before .item-at .ensures))
+          (all-at i o lt) k
           (w .counts)),
     ))
     (λ c es p h o k. let m = c .before .before .before .before .pre .0 .0 .most in

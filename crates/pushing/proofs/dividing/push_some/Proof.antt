@@ -1,15 +1,14 @@
 -- `dividing::push_some` meets its contract: what is too long is counted first, and nothing is written for it.
-use mathlib.Core.Path.{_≡_, refl, sym, ap, subst, _∙_}
+use mathlib.Core.Path.{refl, sym, _∙_}
 use native.Mathlib.Omega.{arith}
 use mathlib.Core.List.{map}
 use borrow.Author.Needs.{needs}
 use borrow.Author.Tests.{ltb-true, ltb-false}
-use Rattle.image.specs.Room.{Wrote}
 use Rattle.plan.specs.Trees.{planTree}
 use Rattle.rewrite.specs.Utils.{replace-cols, conjunction}
 use Rattle.writing.proofs.Maps.{plan-maps, mapOf}
 use Rattle.writing.proofs.Pushing.{plan-readable}
-use Rattle.pushing.specs.Divided.{pushed, parts}
+use Rattle.pushing.specs.Divided.{parts}
 use Rattle.pushing.proofs.Answering.{answers}
 use Rattle.pushing.proofs.Divides.{pushed-few, pushed-many, some-moved, kept-perhaps, moved-small, moved-perhaps, pushed-is}
 use Rattle.pushing.proofs.dividing.push_some.Statement.{statement}
@@ -58,7 +57,10 @@ push-some-spec =
           most = moved-small k (mapOf q) w;
         },
       ),
-      ((record { plan = q; standing = h }, record { plan = p .0 .plan; standing = rw y (p .0 .takes .input) }), (omega (arith, p .1 .0), p .1 .1, p .1 .2)),
+      (
+        (record { plan = q; standing = h }, record { plan = p .0 .plan; standing = rw y (p .0 .takes .input) }),
+        (omega (arith, p .1 .0), p .1 .1, p .1 .2),
+      ),
     ))
     (λ c. search needs)
     (λ c f q us ds h t k. let o = ltb-false 128 (parts (mapOf (f q)) ds)
