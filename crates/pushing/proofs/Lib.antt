@@ -41,3 +41,7 @@ pub mod JoinScope
 pub mod Supported
 pub mod Scans
 pub mod ScanShares
+pub mod Counting
+pub mod Divides
+pub mod Moves
+pub mod Divisions

@@ -52,7 +52,7 @@ pub record Passes (s : List ℕ) (x : ℕ) (e : Expr) (q : Plan) : Type 0 where
 absurd-of : {A : Type 0} → true ≡ false → A
 absurd-of e = let z : _≡_ {A = ℕ} 0 1 = cc in absurd (omega arith)
 
-at : {s : List ℕ} {m n : ℕ} {p : Plan} → m ≡ n → StandingP s m p → StandingP s n p
+pub at : {s : List ℕ} {m n : ℕ} {p : Plan} → m ≡ n → StandingP s m p → StandingP s n p
 at {s} {p = p} e h = rw (← e) h
 
 pub passes : {s : List ℕ} {x : ℕ} (e : Expr) (q : Plan) → length s ≤ workBytes → StandingP s x q → through q ≡ true → takesNone (labelP q) ≡ false

@@ -16,3 +16,5 @@ pub mod Scopes
 pub mod Parts
 pub mod Scans
 pub mod JoinPlans
+pub mod Divided
+pub mod Movable

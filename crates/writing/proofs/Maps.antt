@@ -84,18 +84,18 @@ NoEntry none = Unit {0}
 NoEntry (node l cs ns) = (eqb (l .kind) 49 ≡ false) × NoEntry ns
 
 -- nothing is found where there is no entry
-lookup-none : (f : Forest) (p q : ℕ) → NoEntry f → lookup f p q ≡ none
+pub lookup-none : (f : Forest) (p q : ℕ) → NoEntry f → lookup f p q ≡ none
 lookup-none none p q h = refl
 lookup-none (node l cs ns) p q h = rw (h .0) (lookup-none ns p q (h .1))
 
 -- the two conjunctions of Booleans are one
-and-is : (a b : Bool) → (a && b) ≡ (a & b)
+pub and-is : (a b : Bool) → (a && b) ≡ (a & b)
 unfolding _&_
 and-is true b = refl
 and-is false b = refl
 
 -- an entry is looked up by its name
-same-entry : (e : Entry) (x : Name) → isEntry (entryLabel e) (qualifier x) (ident x) ≡ same (e .name) x
+pub same-entry : (e : Entry) (x : Name) → isEntry (entryLabel e) (qualifier x) (ident x) ≡ same (e .name) x
 same-entry e x = go (e .name) x
   where
     go : (y x : Name) → (eqb (qualifier y) (qualifier x) && eqb (ident y) (ident x)) ≡ same y x
@@ -132,7 +132,7 @@ mapOf (limit n k p) = col
 mapOf (window ws p) = col
 
 -- a run of parts that are no entries
-parts-none : {A : Type 0} (l : A → Label) (k : A → Forest) (xs : List A) (ns : Forest)
+pub parts-none : {A : Type 0} (l : A → Label) (k : A → Forest) (xs : List A) (ns : Forest)
     → ((x : A) → eqb (l x .kind) 49 ≡ false) → NoEntry ns → NoEntry (each l k xs ns)
 unfolding each
 parts-none l k [] ns f h = h
@@ -153,7 +153,7 @@ expr-none (inlist n a xs) = refl
 expr-none (fn p q r xs) = refl
 
 -- nor is a plan
-plan-none : (p : Plan) → eqb (labelP p .kind) 49 ≡ false
+pub plan-none : (p : Plan) → eqb (labelP p .kind) 49 ≡ false
 unfolding labelP
 plan-none (scan t fs es) = refl
 plan-none (filter e p) = refl

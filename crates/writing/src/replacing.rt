@@ -19,7 +19,7 @@ ghost use Rattle.image.specs.Room.{Wrote};
 ghost use Rattle.writing.specs.Replaced.{Leads, isEntry, lookup, valueFor, replaced};
 
 // Whether the record at the start of s is an entry of this name.
-fn is_entry(s: &[u8], p: usize, q: usize) -> bool
+pub fn is_entry(s: &[u8], p: usize, q: usize) -> bool
     requires { ⌜ 32 ≤ length (now s) ⌝ }
     ensures { λ r. ⌜ r ≡ isEntry (labelAt (now (s .entry))) p q ⌝ }
 {
@@ -27,7 +27,7 @@ fn is_entry(s: &[u8], p: usize, q: usize) -> bool
 }
 
 // The record of the expression that an entry below the record at the start of m gives this name, or 0.
-fn find(m: &[u8], of: usize, room: usize, p: usize, q: usize) -> usize
+pub fn find(m: &[u8], of: usize, room: usize, p: usize, q: usize) -> usize
     requires { ⌜ Readable room (now m) of ⌝ }
     ensures { λ r. ⌜ ((t : Tree) → At t (now (m .entry)) of → Leads (lookup (t .below) p q) (now (m .entry)) of r) ⌝ }
 {
@@ -43,7 +43,7 @@ fn find(m: &[u8], of: usize, room: usize, p: usize, q: usize) -> usize
 }
 
 // The same for the record at the start of s, if it is a column.
-fn value_for(s: &[u8], m: &[u8], of: usize, room: usize) -> usize
+pub fn value_for(s: &[u8], m: &[u8], of: usize, room: usize) -> usize
     requires { ⌜ 32 ≤ length (now s) ⌝ }
     requires { ⌜ Readable room (now m) of ⌝ }
     ensures { λ r. ⌜ ((t : Tree) → At t (now (m .entry)) of → Leads (valueFor t (labelAt (now (s .entry)))) (now (m .entry)) of r) ⌝ }
