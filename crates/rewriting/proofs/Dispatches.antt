@@ -11,11 +11,11 @@ use Rattle.plan.specs.Trees.{labelP}
 use Rattle.rewrite.specs.PushDownFilter.{rewrite-filter}
 use Rattle.conjuncts.specs.Standing.{StandingP}
 use Rattle.pushing.specs.Predicates.{Predicate}
+use Rattle.pushing.specs.Divided.{OverProjection, OverAggregate, OverWindow}
 use Rattle.pushing.specs.Scans.{OverScan}
 use Rattle.pushing.specs.JoinPlans.{OverJoin}
 use Rattle.pushing.specs.Arms.{Rests, Written, Answers, OverAlias, OverUnion}
 use Rattle.rewriting.specs.Found.{OnInput}
-use Rattle.rewriting.specs.Stubs.{OverProjection, OverAggregate, OverWindow}
 use Rattle.rewriting.proofs.KindOf.{kind-there, when-scan, when-project, when-join, when-alias, when-union, when-aggregate, when-window}
 
 -- the number that is read at a record
@@ -45,7 +45,7 @@ module _ {s : List ℕ} {x : ℕ} {p : Predicate} (r : OnInput s x p) {n : ℕ} 
 
   pub over-aggregate : n ≡ 42 → OverAggregate s x p
   over-aggregate i =
-      when-aggregate (λ q. Rests s x p (r .expr) q → OverAggregate s x p) (λ gs ags q h. record { expr = r .expr; groups = gs; aggregates = ags; plan = q; rests = h }) (r .plan) (sym is ∙ i) (r .rests)
+      when-aggregate (λ q. Rests s x p (r .expr) q → OverAggregate s x p) (λ gs ags q h. record { expr = r .expr; groups = gs; entries = ags; plan = q; rests = h }) (r .plan) (sym is ∙ i) (r .rests)
 
   pub over-window : n ≡ 43 → OverWindow s x p
   over-window i =

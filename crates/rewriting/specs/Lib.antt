@@ -1,4 +1,3 @@
-pub mod Stubs
 pub mod Found
 pub mod Outcomes
 pub mod Answer

@@ -1,10 +1,10 @@
 // The match on a Filter's input, once the Filters below are merged into it.
-use crate::stubs::rewrite_aggregate;
-use crate::stubs::rewrite_projection;
-use crate::stubs::rewrite_window;
 use conjuncts::reading::record_at;
 use image::words::word_at;
 use pushing::arms::rewrite_through;
+use pushing::dividing::rewrite_aggregate;
+use pushing::dividing::rewrite_projection;
+use pushing::dividing::rewrite_window;
 use pushing::joining::rewrite_join;
 use pushing::merging::Settled;
 use pushing::predicates::Predicate;

@@ -2,4 +2,3 @@
 pub mod calling;
 pub mod dispatch;
 pub mod nodes;
-pub mod stubs;
