@@ -102,5 +102,5 @@ push-down-filter-rewrite-spec =
     (λ c κs. search needs)
     records-fit
     (λ c. search needs)
-    (λ c. all-are (c .before .number-of .ensures _) (c .before .before .before .place-of .ensures _) (c .flag-of .ensures _) (c .before .before .records-of .ensures _) (output-is _ _)
+    (λ c. all-are (c .before .number-of .ensures _) (c .before .before .before .place-of .ensures _) (c .flag-of .ensures _) (c .before .before .records-of .ensures _) (output-is (c .before .before .before .before .before .before .rewrite-bytes .result) _)
     (c .before .before .before .before .before .before .rewrite-bytes .ensures)))

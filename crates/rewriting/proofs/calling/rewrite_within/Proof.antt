@@ -15,8 +15,11 @@ rewrite-within-spec =
     (λ c κs. search needs)
     (λ c. search needs)
     (λ c. refused-image _ (c .before .before .before .before .before .before .check .result) (c .before .before .before .before .before .before .check .ensures) (c .before .before .before .before .before .number-of .ensures) _ _ (c .before .before .before .before .if1 .taken) (c .before .before .clear .ensures))
-    (λ c κs. (whole (c .before .before .before .before .before .before .before .before .before .before .before .before .args .image .now) (λ i. omega (arith, c .before .before .before .before .before .before .before .before .before .before .before .shared-slice-known .given i))
-    (is-accepted _ (c .before .before .before .before .before .before .check .result) (c .before .before .before .before .before .before .check .ensures) (c .before .before .before .before .before .number-of .ensures) (c .before .before .before .before .if1 .left)), c .before .before .before .before .before .before .before .before .before .before .before .before .pre))
+    (λ c κs. (
+      whole (c .before .before .before .before .before .before .before .before .before .before .before .before .args .image .now) (λ i. omega (arith, c .before .before .before .before .before .before .before .before .before .before .before .shared-slice-known .given i))
+          (is-accepted _ (c .before .before .before .before .before .before .check .result) (c .before .before .before .before .before .before .check .ensures) (c .before .before .before .before .before .number-of .ensures) (c .before .before .before .before .if1 .left)),
+      c .before .before .before .before .before .before .before .before .before .before .before .before .pre,
+    ))
     (λ c. search needs)
     (λ c. search needs)
     (λ c. search needs)
