@@ -20,6 +20,7 @@ use harness::rewrites::{budget, case, nodes, room, Case};
 use harness::rewriting::*;
 use harness::rows::{RowCounts, Rows};
 use harness::source::{Build, ALL, NONE};
+use harness::text::words::{JOINS, PLANS};
 use std::collections::BTreeMap;
 use std::fmt::Display;
 use std::process::ExitCode;
@@ -205,23 +206,6 @@ fn compare_builds(plan: &Tree, node: u32, before: &Rows, counts: &mut Counts) ->
     }
     Ok(patched)
 }
-
-const PLANS: [&str; 12] = [
-    "TableScan",
-    "Filter",
-    "Projection",
-    "Join",
-    "SubqueryAlias",
-    "Union",
-    "Distinct",
-    "Sort",
-    "Repartition",
-    "Limit",
-    "Aggregate",
-    "Window",
-];
-
-const JOINS: [&str; 8] = ["Inner", "Left", "Right", "Full", "LeftSemi", "RightSemi", "LeftAnti", "RightAnti"];
 
 /// A Filter by what it stands over, a join by its kind, another plan by its name.
 fn sort_of(node: Option<&Tree>) -> String {
