@@ -46,7 +46,6 @@ use Rattle.utils.specs.Fields.{Names as NamesOf}
 use Rattle.rewrite.proofs.OnBytes.{tree-length}
 use Rattle.checking.specs.Answer.{verdictOf}
 use Rattle.checking.specs.declared.Checked.{Checked}
-use Rattle.checking.specs.declared.Checked.the-variants.{Accepted, Buffer, Record, Link, Depth, Form, Names, Types}
 use Rattle.rewrite.specs.OnBytes.{planIn, planFromLinks, isAccepted}
 use Rattle.rewrite.specs.RewriteAt.{Focus, focus}
 use Rattle.rewrite.specs.RowTest.{Tested, row-ok, lent, no-functions, no-test, truth-number, test-predicate, test-plan, test-focus, row-test-bytes}
@@ -313,17 +312,6 @@ whole s bytes h = let a = accepted s bytes h in subst Whole (sym (a .1 .image)) 
 
 -- ---- the whole test
 
--- only an accepted image has the number 0
-pub accepted-only : (a : Checked) → verdictOf a .number ≡ 0 → verdictOf a ≡ verdict 0 0
-accepted-only Accepted h = refl
-accepted-only Buffer h = absurd (omega arith)
-accepted-only (Record r) h = absurd (omega arith)
-accepted-only (Link r) h = absurd (omega arith)
-accepted-only (Depth r) h = absurd (omega arith)
-accepted-only (Form r) h = absurd (omega arith)
-accepted-only (Names r) h = absurd (omega arith)
-accepted-only (Types r) h = absurd (omega arith)
-
 module _ (s : List ℕ) (n : ℕ) (zs : List ℤ) (ms : List ℕ) (a : Checked) (e : verdictOf a ≡ check s) {k : ℕ} (is : k ≡ verdictOf a .number) where
   pub refused : (k ≡ 0 → ⊥) → no-test (verdictOf a) ≡ row-test-bytes s n zs ms
   unfolding row-test-bytes isAccepted choose
@@ -332,6 +320,3 @@ module _ (s : List ℕ) (n : ℕ) (zs : List ℤ) (ms : List ℕ) (a : Checked) 
   pub granted : k ≡ 0 → test-focus n (focus n (planIn s)) zs ms ≡ row-test-bytes s n zs ms
   unfolding row-test-bytes isAccepted choose
   granted h = rw (← e, eq-eqb (verdictOf a .number) 0 (sym is ∙ h))
-
-pub is-accepted : (s : List ℕ) (a : Checked) → verdictOf a ≡ check s → {k : ℕ} → k ≡ verdictOf a .number → k ≡ 0 → check s ≡ verdict 0 0
-is-accepted s a e is h = sym e ∙ accepted-only a (sym is ∙ h)
