@@ -1,37 +1,36 @@
 -- Laws of the row test: the parts of a Filter, what stands at a record, and the tests in their order.
 -- Assumes nothing.
 use mathlib.Core.Path.{_≡_, refl, sym, ap, subst, _∙_}
-use mathlib.Core.Bool.{Bool, true, false, not, cond}
+use mathlib.Core.Bool.{Bool, true, false, not}
 use mathlib.Core.List.{List, [], _∷_}
 use mathlib.Core.Option.{Option, none, some}
-use Prim.Native.Nat.{ℕ, suc, _+_, _-_, _*_, _/_, _≤_, _<_}
+use Prim.Native.Nat.{ℕ, suc, _+_, _-_, _*_, _≤_, _<_}
 use native.Mathlib.Omega.{arith}
-use lib.Dec.{eqb, leb}
+use lib.Dec.{leb}
 use lib.IntN.{ℤ}
 use lib.ListN.{length, take, drop, length-take, length-drop}
 use lib.Seq.{drop-drop}
-use borrow.Author.Tests.{eq-eqb, ne-eqb, leb-true, le-leb}
+use borrow.Author.Tests.{eq-eqb, ne-eqb, leb-true}
 use Rattle.image.specs.Word.{Bytes, word}
 use Rattle.image.specs.Flat.{enc}
 use Rattle.image.specs.Limits.{maxDepth}
 use Rattle.image.specs.Lowest.{Found, nothing, found, orElse, unless, lowest, alone}
 use Rattle.image.specs.Tree as T
-use Rattle.image.specs.Tree.{Label, Forest, node, Tree, At, Deep, Readable, Linked, size, link, Stands}
+use Rattle.image.specs.Tree.{Label, Forest, node, At, Deep, Linked, size, Stands}
 use Rattle.image.proofs.Walking.{linked-first}
 use Rattle.plan.specs.Integers.{FitsE}
-use Rattle.plan.specs.Kinds.{planW, what, whatOf, among}
-use Rattle.plan.specs.Lists.{_&_, choose}
+use Rattle.plan.specs.Kinds.{planW, whatOf, among}
+use Rattle.plan.specs.Lists.{choose}
 use Rattle.plan.specs.Measure.{sizeP}
 use Rattle.plan.specs.Schema.{schema}
-use Rattle.plan.specs.Syntax.{Expr, Plan, scan, filter, project, join, alias, union, distinct, sort, repartition, limit, aggregate, window, Value, null}
-use Rattle.plan.specs.Syntax.{int, truth}
+use Rattle.plan.specs.Syntax.{Expr, Plan, scan, filter, project, join, alias, union, distinct, sort, repartition, limit, aggregate, window, Value}
 use Rattle.plan.specs.Trees.{labelE, kidsE, exprTree, labelP, kidsP, planTree}
 use Rattle.plan.specs.Types.{types}
-use Rattle.plan.proofs.Lists.{and-l, and-r}
+use Rattle.plan.proofs.Lists.{and-r}
 use Rattle.plan.proofs.Written.{planAt-back, expr-back}
 use Rattle.meaning.specs.Meaning.{tri, isT, isF, look, eval}
 use Rattle.acceptance.specs.Accepted.{WellFormed}
-use Rattle.acceptance.specs.Check.{Verdict, verdict, check, tooDeep}
+use Rattle.acceptance.specs.Check.{verdict, check, tooDeep}
 use Rattle.acceptance.proofs.Accept.{accepted}
 use Rattle.acceptance.proofs.Converse.{same-tree, stands-alone}
 use Rattle.acceptance.proofs.WellFormed.{well-formed-rules}
@@ -48,7 +47,7 @@ use Rattle.checking.specs.Answer.{verdictOf}
 use Rattle.checking.specs.declared.Checked.{Checked}
 use Rattle.rewrite.specs.OnBytes.{planIn, planFromLinks, isAccepted}
 use Rattle.rewrite.specs.RewriteAt.{Focus, focus}
-use Rattle.rewrite.specs.RowTest.{Tested, row-ok, lent, no-functions, no-test, truth-number, test-predicate, test-plan, test-focus, row-test-bytes}
+use Rattle.rewrite.specs.RowTest.{row-ok, lent, no-functions, no-test, truth-number, test-predicate, test-plan, test-focus, row-test-bytes}
 use Rattle.rewrite.specs.Utils.{any-fn}
 use Rattle.evaluate.specs.Truths.{valueOf}
 use Rattle.evaluate.specs.Operators.{exprIn}
@@ -57,7 +56,6 @@ use Rattle.evaluate.specs.Answer.{testedOf}
 use Rattle.evaluate.specs.declared.logic.Truth.{Truth}
 use Rattle.evaluate.specs.declared.testing.Answer.the-variants.{Is}
 use Rattle.evaluate.proofs.TruthLaws.{never, of-value, of-value-f}
-use Rattle.evaluate.proofs.Quiet.{OtherAt}
 use Rattle.evaluate.proofs.Rows.{types-length}
 use Rattle.evaluate.proofs.Locating.{Place, there, nowhere}
 

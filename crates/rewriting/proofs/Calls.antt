@@ -1,11 +1,10 @@
 -- The call on bytes: the tests 8, 11 and 12 in their order, and what is handed out.
 use Prim.Native.Nat.{ℕ, _*_, _/_, _≤_, _<_}
 use native.Mathlib.Omega.{arith}
-use mathlib.Core.Path.{_≡_, refl, sym, ap, subst, _∙_}
+use mathlib.Core.Path.{_≡_, sym, ap, subst, _∙_}
 use mathlib.Core.Bool.{Bool, true, false}
 use mathlib.Core.List.{List}
 use mathlib.Core.Option.{none, some}
-use lib.Dec.{eqb, leb}
 use lib.ListN.{length, take, drop, length-take}
 use lib.Seq.{take-all}
 use borrow.Author.Tests.{le-leb, lt-leb, eq-eqb, ne-eqb}
@@ -25,7 +24,7 @@ use Rattle.acceptance.proofs.Accept.{accepted}
 use Rattle.acceptance.proofs.Converse.{same-tree}
 use Rattle.checking.specs.Answer.{verdictOf}
 use Rattle.checking.specs.declared.Checked.{Checked}
-use Rattle.rewrite.specs.OnBytes.{planIn, planFromLinks, isAccepted, zeros, filled, imageOf, no-rewrite, rewritten, asked-of, rewrite-bytes}
+use Rattle.rewrite.specs.OnBytes.{planIn, planFromLinks, isAccepted, zeros, filled, no-rewrite, rewritten, asked-of, rewrite-bytes}
 use Rattle.rewrite.specs.PushDownFilter.{rewrite}
 use Rattle.rewrite.specs.RewriteAt.{Focus, focus, granted, result-fits, rewrite-in, rewriteAt, with-room, rewrite-call}
 use Rattle.rewrite.proofs.OnBytes.{tree-length}
@@ -35,7 +34,7 @@ use Rattle.pushing.specs.Merging.{Inside}
 use Rattle.pushing.proofs.Root.{image-length, standing-root}
 use Rattle.pushing.proofs.Marked.{plan-there, found-there, not-found}
 use Rattle.pushing.proofs.Tested.{inside-of}
-use Rattle.rewriting.specs.Answer.{refusal, rewrittenOf, Whole}
+use Rattle.rewriting.specs.Answer.{refusal, Whole}
 use Rattle.rewriting.specs.Outcomes.{Image, answer}
 
 -- an image has room for its records
