@@ -164,8 +164,9 @@ module _ {s : List ℕ} {w : Walk} {q : Plan} (h : Stands s w q) {c : Focus} (e 
 
   module _ (small : w .next < w .records) (left : 0 < w .left) {t : List ℕ} {u : Walk} where
     pub visited-refused : r .fits ≡ false → u .fits ≡ false → u .next ≡ w .next → Visited t u (rest w q)
-    unfolding rest
+    unfolding rest sizeP
     visited-refused f g n = record {
+      near = λ k. omega (arith, n, small, h .image .count, h .well .records);
       refused = λ k. rw (within-some (w .next) (w .records) small, n) (visit-refused (w .next) q (w .visits) (w .changed) (w .left) left (at-11 f));
       going = λ k. no-yes (sym g ∙ k);
     }
@@ -174,6 +175,7 @@ module _ {s : List ℕ} {w : Walk} {q : Plan} (h : Stands s w q) {c : Focus} (e 
     unfolding rest
     visited-granted f k = record {
       refused = λ g. no-yes (sym g ∙ k .fits);
+      near = λ g. no-yes (sym g ∙ k .fits);
       going = λ g. record {
         plan = answer c;
         stands = k .stands;

@@ -7,6 +7,7 @@ use Prim.Native.Nat.{ℕ, suc, _+_, _-_, _≤_, _<_}
 use lib.Dec.{leb}
 use Rattle.plan.specs.Lists.{choose}
 use Rattle.plan.specs.Syntax.{Plan}
+use Rattle.image.specs.Limits.{maxRecords}
 use Rattle.plan.specs.Measure.{sizeP}
 use Rattle.plan.specs.Trees.{bitOf}
 use Rattle.acceptance.specs.Accepted.{WellFormed}
@@ -72,6 +73,7 @@ pub record Going (s : List ℕ) (w : Walk) (x : PassAnswer) : Type 0 where
 -- .. or was refused there
 pub record Visited (s : List ℕ) (w : Walk) (x : PassAnswer) : Type 0 where
   pub refused : w .fits ≡ false → x ≡ pass-refused 11 (w .next)
+  pub near : w .fits ≡ false → w .next < maxRecords
   pub going : w .fits ≡ true → Going s w x
 
 -- the image of a well-formed plan is at the start of the bytes
@@ -89,4 +91,5 @@ pub record Left (s : List ℕ) (w : Walk) (x : PassAnswer) : Type 0 where
 -- .. or was refused there
 pub record Ends (s : List ℕ) (w : Walk) (x : PassAnswer) : Type 0 where
   pub refused : w .fits ≡ false → x ≡ pass-refused 11 (w .next)
+  pub near : w .fits ≡ false → w .next < maxRecords
   pub left : w .fits ≡ true → Left s w x

@@ -25,10 +25,12 @@ pass-on-spec =
     (λ c. search needs)
     (λ c. let w = c .before .before .before .before .before .before .before .before .before .before .before .before .before .before .before .before .before .before .before .before .before .before .before .before .before .before .before .before .before .pre .0 in
     let e = c .before .before .before .before .before .before .before .before .before .before .before .before .before .before .visit-all .ensures _ (w .accepted .well) (copied w (c .before .before .before .before .before .before .before .before .before .before .before .before .before .before .before .before .before .before .before .before .before .copy-image .ensures)) in
-    refused-11 _ (e .refused (untold (c .before .before .before .before .if1 .taken))) (c .before .before .clear .ensures) ∙ called _ _ _)
+    let no = untold (c .before .before .before .before .if1 .taken) in
+    (omega (arith, e .near no), refused-11 _ (e .refused no) (c .before .before .clear .ensures) ∙ called _ _ _))
     (λ c κs. let w = c .before .before .before .before .before .before .before .before .before .before .before .before .before .before .before .before .before .before .before .before .before .before .before .before .before .before .before .pre .0 in
     let e = c .before .before .before .before .before .before .before .before .before .before .before .before .visit-all .ensures _ (w .accepted .well) (copied w (c .before .before .before .before .before .before .before .before .before .before .before .before .before .before .before .before .before .before .before .copy-image .ensures)) in
-    image-room (e .left (told (c .before .before .if1 .left)) .image))
+    (image-room (e .left (told (c .before .before .if1 .left)) .image),
+    omega (arith, c .before .before .before .before .before .before .before .before .before .before .before .before .visit-all .kept, c .before .before .before .before .before .before .before .before .before .before .before .before .before .before .before .before .before .before .before .copy-image .kept, c .before .before .before .before .before .before .before .before .before .before .before .before .before .before .before .before .before .before .before .before .before .before .before .before .before .before .before .pre .1)))
     (λ c. search needs)
     (λ c. search needs)
     (λ c. search needs)
@@ -36,4 +38,5 @@ pass-on-spec =
     (λ c. search needs)
     (λ c. let w = c .before .before .before .before .before .before .before .before .before .before .before .before .before .before .before .before .before .before .before .before .before .before .before .before .before .before .before .before .before .before .pre .0 in
     let e = c .before .before .before .before .before .before .before .before .before .before .before .before .before .before .before .visit-all .ensures _ (w .accepted .well) (copied w (c .before .before .before .before .before .before .before .before .before .before .before .before .before .before .before .before .before .before .before .before .before .before .copy-image .ensures)) in
-    c .before .before .hand-over .ensures _ (e .left (told (c .before .before .before .before .before .if1 .left))) ∙ called _ _ _))
+    let h = c .before .before .hand-over .ensures in
+    (h .0, h .1 _ (e .left (told (c .before .before .before .before .before .if1 .left))) ∙ called _ _ _)))

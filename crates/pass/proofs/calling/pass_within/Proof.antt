@@ -2,8 +2,9 @@
 use mathlib.Core.Path.{_∙_}
 use native.Mathlib.Omega.{arith}
 use borrow.Author.Needs.{needs}
-use Rattle.rewriting.proofs.Calls.{whole, is-accepted}
-use Rattle.pass.proofs.Reports.{refused-image, accepted-image}
+use Rattle.checking.proofs.Accepting.{is-accepted}
+use Rattle.rewriting.proofs.Calls.{whole}
+use Rattle.pass.proofs.Reports.{place-small, refused-image, accepted-image}
 use Rattle.pass.proofs.calling.pass_within.Statement.{statement}
 use Rattle.pass.proofs.calling.pass_within.Tie as tie
 
@@ -15,7 +16,8 @@ pass-within-spec =
     (λ c κs. search needs)
     (λ c κs. search needs)
     (λ c. search needs)
-    (λ c. refused-image _ (c .before .before .before .before .before .before .check .result) (c .before .before .before .before .before .before .check .ensures) (c .before .before .before .before .before .number-of .ensures) _ _ (c .before .before .before .before .if1 .taken) (c .before .before .clear .ensures))
+    (λ c. (place-small _ (c .before .before .before .before .before .before .check .result) (c .before .before .before .before .before .before .check .ensures),
+    refused-image _ (c .before .before .before .before .before .before .check .result) (c .before .before .before .before .before .before .check .ensures) (c .before .before .before .before .before .number-of .ensures) _ _ (c .before .before .before .before .if1 .taken) (c .before .before .clear .ensures)))
     (λ c κs. (
       whole (c .before .before .before .before .before .before .before .before .before .before .before .before .before .before .args .image .now) (λ i. omega (arith, c .before .before .before .before .before .before .before .before .before .before .before .before .before .shared-slice-known .given i))
           (is-accepted _ (c .before .before .before .before .before .before .before .check .result) (c .before .before .before .before .before .before .before .check .ensures) (c .before .before .before .before .before .before .number-of .ensures) (c .before .before .before .before .before .if1 .left)),
@@ -26,5 +28,5 @@ pass-within-spec =
     (λ c. search needs)
     (λ c. search needs)
     (λ c. search needs)
-    (λ c. c .before .before .before .before .before .before .before .before .before .before .pass-on .ensures
-    ∙ accepted-image _ (c .before .before .before .before .before .before .before .before .before .before .before .before .before .before .before .before .before .before .check .result) (c .before .before .before .before .before .before .before .before .before .before .before .before .before .before .before .before .before .before .check .ensures) (c .before .before .before .before .before .before .before .before .before .before .before .before .before .before .before .before .before .number-of .ensures) _ _ (c .before .before .before .before .before .before .before .before .before .before .before .before .before .before .before .before .if1 .left)))
+    (λ c. (c .before .before .before .before .before .before .before .before .before .before .pass-on .ensures .0, c .before .before .before .before .before .before .before .before .before .before .pass-on .ensures .1
+    ∙ accepted-image _ (c .before .before .before .before .before .before .before .before .before .before .before .before .before .before .before .before .before .before .check .result) (c .before .before .before .before .before .before .before .before .before .before .before .before .before .before .before .before .before .before .check .ensures) (c .before .before .before .before .before .before .before .before .before .before .before .before .before .before .before .before .before .number-of .ensures) _ _ (c .before .before .before .before .before .before .before .before .before .before .before .before .before .before .before .before .if1 .left))))
