@@ -33,8 +33,15 @@ module _ (room : ℕ) {s out : List ℕ} {w : Walk} {x : PassAnswer} (h : Left s
   no-room few o = rw (h .is, lt-leb (32 * sizeP (h .plan)) room (omega (arith, h .image .count)), o)
 
   pub some-room : w .records ≤ room / 32 → out ≡ filled room (take (32 * w .records) s)
-      → record { number = 0; place = 0; visits = w .visits; changed = w .changed; finished = bitOf (leb (w .records) (w .next)); records = w .records; output = out }
-      ≡ reported room (pass-with-room room x)
+      → record {
+        number = 0;
+        place = 0;
+        visits = w .visits;
+        changed = w .changed;
+        finished = bitOf (leb (w .records) (w .next));
+        records = w .records;
+        output = out;
+      } ≡ reported room (pass-with-room room x)
   unfolding reported pass-with-room choose
   some-room few o = rw (h .is, le-leb (32 * sizeP (h .plan)) room (omega (arith, h .image .count)), o, h .image .bytes, h .image .count)
 

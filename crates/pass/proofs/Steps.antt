@@ -8,6 +8,7 @@ use mathlib.Core.List.{List}
 use mathlib.Core.Option.{none, some}
 use lib.ListN.{length, take, drop}
 use borrow.Author.Tests.{le-leb, lt-leb}
+use Rattle.image.specs.Limits.{workBytes, maxRecords}
 use Rattle.image.specs.Word.{word}
 use Rattle.image.specs.Tree.{labelAt}
 use Rattle.plan.specs.Kinds.{isPlan}
@@ -32,7 +33,7 @@ use Rattle.rewriting.proofs.Finishes.{no-yes}
 use Rattle.rewriting.proofs.Calls.{image-room}
 use Rattle.rewriting.specs.Found.{Found}
 use Rattle.rewriting.specs.Outcomes.{Image, Outcome, Outcomes, answer}
-use Rattle.pass.specs.Walks.{Walk, within, Next, Counted, rest, Stands, Standing, Continues, Visited}
+use Rattle.pass.specs.Walks.{Walk, within, Next, Counted, rest, Stands, Standing, Continues, Came, Comes, Visited, Lent}
 
 -- ---- the next record
 
@@ -50,7 +51,8 @@ pub accepted-part : {s : List ℕ} {records : ℕ} {q : Plan} → WellFormed q �
 accepted-part w i = record { image = i .bytes; well = w }
 
 -- what was copied
-pub image-copied : {s t : List ℕ} {records : ℕ} {q : Plan} → take (32 * records) t ≡ take (32 * records) s → Image s records q → Image t records q
+pub image-copied : {s t : List ℕ} {records : ℕ} {q : Plan} → take (32 * records) t ≡ take (32 * records) s
+    → Image s records q → Image t records q
 image-copied e i = record { count = i .count; bytes = e ∙ i .bytes }
 
 module _ {s : List ℕ} {q : Plan} (a : Accepted s q) where
@@ -95,7 +97,8 @@ module _ {w : Walk} (k : Counted w) where
   raised-small flag = omega (arith, bit-small flag)
 
   pub continued : {s : List ℕ} {flag : Bool} {r : Walk} {q : Plan} → WellFormed q → Image s (r .records) q → Next q (w .next + 1) (r .next)
-      → r .fits ≡ true → r .left ≡ w .left - 1 → r .visits ≡ w .visits + 1 → r .changed ≡ w .changed + bitOf flag → Continues s w flag r q
+      → r .fits ≡ true → r .left ≡ w .left - 1 → r .visits ≡ w .visits + 1 → r .changed ≡ w .changed + bitOf flag
+      → Continues s w flag r q
   unfolding rest
   continued {s} {flag} {r} {q} well i n f l v c = record {
     fits = f;
@@ -125,61 +128,92 @@ module _ (n : ℕ) (q : Plan) (v c : ℕ) where
       let z : suc left - 1 ≡ left = omega arith in
       rw (e, visits) (ap (λ b. visits b (plan-from (suc n) t) t (v + 1) (c + bitOf f)) (sym z))
 
--- what stands there, in numbers
-module _ {s : List ℕ} {w : Walk} (h : Standing s w) where
-  pub counted : 0 < w .left → Counted w
-  counted l = record { some-left = l; most = h .stands .most; raised = h .stands .raised }
-
-  pub room-there : 32 * w .records ≤ length s
-  room-there = image-room (h .stands .image)
-
--- the next plan can be rewritten
-pub found-next : {s : List ℕ} {w : Walk} → Standing s w → w .next < w .records → Found (take (32 * w .records) s) (w .next)
-found-next h small =
-    let p = h .stands .there small in
-    record { whole = h .plan; spot = p .spot; inside = inside-of _ (h .plan) (accepted-part (h .stands .well) (h .stands .image)) (p .there) }
-
+-- the next plan is rewritten
 module _ {s : List ℕ} {w : Walk} {q : Plan} (h : Stands s w q) (small : w .next < w .records) where
-  pub inside-next : Inside (take (32 * w .records) s) (w .next) q (h .there small .spot)
+  inside-next : Inside (take (32 * w .records) s) (w .next) q (h .there small .spot)
   inside-next = inside-of _ q (accepted-part (h .well) (h .image)) (h .there small .there)
 
--- what stands at the next record is c
-module _ {s : List ℕ} {w : Walk} {q : Plan} (h : Stands s w q) {c : Focus} (e : focus (w .next) q ≡ some c)
-    {work : List ℕ} {r : Outcome} (o : Outcomes work r q c) where
+  pub came-to : {work : List ℕ} {r : Outcome} → 0 < w .left
+      → ((p : Plan) (c : Focus) → Inside (take (32 * w .records) s) (w .next) p c → Outcomes work r p c) → Came s work w r q
+  came-to l o = record {
+    stands = h;
+    small = small;
+    some-left = l;
+    spot = h .there small .spot;
+    there = h .there small .there;
+    outcomes = o q (h .there small .spot) inside-next;
+  }
+
+pub found-next : {s : List ℕ} {w : Walk} → Standing s w → w .next < w .records → Found (take (32 * w .records) s) (w .next)
+found-next h small = record { whole = h .plan; spot = _; inside = inside-next (h .stands) small }
+
+-- what the rewrite came to
+module _ {s work : List ℕ} {w : Walk} {r : Outcome} {q : Plan} (k : Came s work w r q) where
   at-11 : r .fits ≡ false → rewriteAt (w .next) q ≡ refused 11 (w .next)
   unfolding rewriteAt rewrite-in choose
-  at-11 f = rw (e, ← o .fit, f)
+  at-11 f = rw (k .there, ← k .outcomes .fit, f)
 
-  at-granted : r .fits ≡ true → rewriteAt (w .next) q ≡ granted (r .flag) (answer c)
+  at-granted : r .fits ≡ true → rewriteAt (w .next) q ≡ granted (r .flag) (answer (k .spot))
   unfolding rewriteAt rewrite-in choose
-  at-granted f = rw (o .flag f, e, ← o .fit, f)
+  at-granted f = rw (k .outcomes .flag f, k .there, ← k .outcomes .fit, f)
 
-  -- what the rewrite leaves is accepted again
-  pub next-well : r .fits ≡ true → WellFormed (answer c)
-  next-well f = granted-well (w .next) q (h .well) (r .flag) (answer c) (at-granted f)
+  -- what it leaves is accepted again
+  pub next-well : r .fits ≡ true → WellFormed (answer (k .spot))
+  next-well f = granted-well (w .next) q (k .stands .well) (r .flag) (answer (k .spot)) (at-granted f)
 
-  -- the image stays where nothing is written
-  pub image-stays : r .fits ≡ true → r .written ≡ false → Image s (w .records) (answer c)
-  image-stays f g = subst (Image s (w .records)) (sym (o .same f g)) (h .image)
+  -- its image was written and copied; or nothing was written, and the image stays
+  pub next-image : {t : List ℕ} → r .fits ≡ true → r .written ≡ true → take (32 * r .records) t ≡ take (32 * r .records) work
+      → Image t (r .records) (answer (k .spot))
+  next-image f y e = image-copied e (k .outcomes .image f y)
 
-  module _ (small : w .next < w .records) (left : 0 < w .left) {t : List ℕ} {u : Walk} where
+  pub same-image : r .fits ≡ true → r .written ≡ false → Image s (w .records) (answer (k .spot))
+  same-image f y = subst (Image s (w .records)) (sym (k .outcomes .same f y)) (k .stands .image)
+
+  module _ {t : List ℕ} {u : Walk} where
     pub visited-refused : r .fits ≡ false → u .fits ≡ false → u .next ≡ w .next → Visited t u (rest w q)
     unfolding rest sizeP
     visited-refused f g n = record {
-      near = λ k. omega (arith, n, small, h .image .count, h .well .records);
-      refused = λ k. rw (within-some (w .next) (w .records) small, n) (visit-refused (w .next) q (w .visits) (w .changed) (w .left) left (at-11 f));
-      going = λ k. no-yes (sym g ∙ k);
+      near = λ y. omega (arith, n, k .small, k .stands .image .count, k .stands .well .records);
+      refused = λ y.
+          rw (within-some (w .next) (w .records) (k .small), n)
+          (visit-refused (w .next) q (w .visits) (w .changed) (w .left) (k .some-left) (at-11 f));
+      going = λ y. no-yes (sym g ∙ y);
     }
 
-    pub visited-granted : r .fits ≡ true → Continues t w (r .flag) u (answer c) → Visited t u (rest w q)
+    pub visited-granted : r .fits ≡ true → Continues t w (r .flag) u (answer (k .spot)) → Visited t u (rest w q)
     unfolding rest
-    visited-granted f k = record {
-      refused = λ g. no-yes (sym g ∙ k .fits);
-      near = λ g. no-yes (sym g ∙ k .fits);
-      going = λ g. record {
-        plan = answer c;
-        stands = k .stands;
+    visited-granted f c = record {
+      refused = λ y. no-yes (sym y ∙ c .fits);
+      near = λ y. no-yes (sym y ∙ c .fits);
+      going = λ y. record {
+        plan = answer (k .spot);
+        stands = c .stands;
         comes =
-            rw (within-some (w .next) (w .records) small) (visit-granted (w .next) q (w .visits) (w .changed) (w .left) left (at-granted f) ∙ sym (k .comes));
+            rw (within-some (w .next) (w .records) (k .small))
+            (visit-granted (w .next) q (w .visits) (w .changed) (w .left) (k .some-left) (at-granted f) ∙ sym (c .comes));
       };
     }
+
+-- ---- in numbers
+
+-- space of the same lengths
+pub lent-still : {a m work levels a' m' work' levels' : List ℕ} → Lent a m work levels → length a' ≡ length a → length m' ≡ length m
+    → length work' ≡ length work → length levels' ≡ length levels → Lent a' m' work' levels'
+lent-still l e f g h =
+    record { image-long = e ∙ l .image-long; m-long = omega (arith, l .m-long); work-long = g ∙ l .work-long; levels-long = h ∙ l .levels-long }
+
+pub room-there : {s : List ℕ} {w : Walk} → Standing s w → 32 * w .records ≤ length s
+room-there h = image-room (h .stands .image)
+
+module _ {s work : List ℕ} {w : Walk} {r : Outcome} (h : Comes s work w r) where
+  pub counted : Counted w
+  counted = let k = h .came in record { some-left = k .some-left; most = k .stands .most; raised = k .stands .raised }
+
+  pub room-here : 32 * w .records ≤ length s
+  room-here = image-room (h .came .stands .image)
+
+  pub next-few : length s ≡ workBytes → w .next < maxRecords
+  next-few e = let k = h .came .small in omega (arith, room-here)
+
+  pub room-written : r .fits ≡ true → r .written ≡ true → 32 * r .records ≤ length work
+  room-written f y = image-room (h .came .outcomes .image f y)

@@ -76,7 +76,8 @@ module _ (w : Walk) (t : goes-on w ≡ true) where
 
 -- ---- the end
 
-halts : (left : ℕ) (b : Bool) (n : ℕ) → (b ≡ false → left ≡ 0) → (q : Plan) (v c : ℕ) → visits left (choose b none (some n)) q v c ≡ passed v c (bitOf b) q
+halts : (left : ℕ) (b : Bool) (n : ℕ) → (b ≡ false → left ≡ 0) → (q : Plan) (v c : ℕ)
+    → visits left (choose b none (some n)) q v c ≡ passed v c (bitOf b) q
 unfolding visits choose
 halts zero true n h q v c = refl
 halts zero false n h q v c = refl

@@ -5,6 +5,8 @@ use mathlib.Core.List.{List}
 use mathlib.Core.Option.{Option, none, some}
 use Prim.Native.Nat.{ℕ, suc, _+_, _-_, _≤_, _<_}
 use lib.Dec.{leb}
+use lib.ListN.{length}
+use Rattle.image.specs.Limits.{workBytes, maxRecords}
 use Rattle.plan.specs.Lists.{choose}
 use Rattle.plan.specs.Syntax.{Plan}
 use Rattle.image.specs.Limits.{maxRecords}
@@ -14,7 +16,7 @@ use Rattle.acceptance.specs.Accepted.{WellFormed}
 use Rattle.rewrite.specs.Pass.{PassAnswer, passed, pass-refused}
 use Rattle.rewrite.specs.RewriteAt.{Focus, focus}
 use Rattle.rewrite.proofs.PassByRecords.{plan-from, visits}
-use Rattle.rewriting.specs.Outcomes.{Image}
+use Rattle.rewriting.specs.Outcomes.{Image, Outcome, Outcomes}
 use Rattle.pass.specs.declared.walking.Walk as declared
 
 -- the struct of the code
@@ -34,6 +36,13 @@ pub record Planned (q : Plan) (n : ℕ) : Type 0 where
 pub record Next (q : Plan) (from r : ℕ) : Type 0 where
   pub next : plan-from from q ≡ within r (sizeP q)
   pub there : r < sizeP q → Planned q r
+
+-- the space that is lent: for the image as it stands, for a rewrite's scratch image, for what it writes, for the levels of its records
+pub record Lent (image m work levels : List ℕ) : Type 0 where
+  pub image-long : length image ≡ workBytes
+  pub m-long : 4128 ≤ length m
+  pub work-long : length work ≡ workBytes
+  pub levels-long : length levels ≡ maxRecords
 
 -- one visit more can be counted
 pub record Counted (w : Walk) : Type 0 where
@@ -63,6 +72,20 @@ pub record Continues (s : List ℕ) (w : Walk) (flag : Bool) (r : Walk) (q : Pla
   pub fits : r .fits ≡ true
   pub stands : Stands s r q
   pub comes : rest r q ≡ visits (w .left - 1) (plan-from (suc (w .next)) q) q (w .visits + 1) (w .changed + bitOf flag)
+
+-- the rewrite of the next plan of a pass that stands at w came to r
+pub record Came (s work : List ℕ) (w : Walk) (r : Outcome) (q : Plan) : Type 0 where
+  pub stands : Stands s w q
+  pub small : w .next < w .records
+  pub some-left : 0 < w .left
+  pub spot : Focus
+  pub there : focus (w .next) q ≡ some spot
+  pub outcomes : Outcomes work r q spot
+
+-- with some plan
+pub record Comes (s work : List ℕ) (w : Walk) (r : Outcome) : Type 0 where
+  pub plan : Plan
+  pub came : Came s work w r plan
 
 -- a pass that comes to x stands at w
 pub record Going (s : List ℕ) (w : Walk) (x : PassAnswer) : Type 0 where

@@ -11,12 +11,12 @@ ghost use mathlib.Core.Path.{_≡_};
 ghost use mathlib.Core.List.{List};
 ghost use Prim.Native.Nat.{ℕ, _*_, _≤_};
 ghost use lib.ListN.{length};
-ghost use Rattle.image.specs.Limits.{workBytes, maxRecords};
+ghost use Rattle.image.specs.Limits.{workBytes};
 ghost use Rattle.rewrite.specs.OnBytes.{planIn, reported, pass-bytes};
 ghost use Rattle.rewrite.specs.Pass.{PassAnswer, pass-with-room, pass-call};
 ghost use Rattle.rewriting.specs.Answer.{Whole};
 ghost use Rattle.pass.specs.Answer.{passedOf, Small};
-ghost use Rattle.pass.specs.Walks.{Left};
+ghost use Rattle.pass.specs.Walks.{Left, Lent};
 
 // Visits, flags raised, whether no plan is left to visit, and the number of records; or what stands against it: a test of the image, a rewrite
 // whose answer is too large, at this record of the plan as it then stood, an output that is too short.
@@ -52,7 +52,7 @@ fn pass_on(
     out: &mut [u8],
 ) -> Answer
     requires { ⌜ Whole (now image) ⌝ }
-    requires { ⌜ (length (now a) ≡ workBytes) × (4128 ≤ length (now m)) × (length (now work) ≡ workBytes) × (length (now levels) ≡ maxRecords) ⌝ }
+    requires { ⌜ Lent (now a) (now m) (now work) (now levels) ⌝ }
     ensures { λ r. ⌜ Small r × (passedOf r (now (out .exit))
         ≡ reported (length (now (out .entry))) (pass-call budget (length (now (out .entry))) (planIn (now (image .entry))))) ⌝ }
 {
@@ -75,7 +75,7 @@ fn pass_within(
     levels: &mut [u32],
     out: &mut [u8],
 ) -> Answer
-    requires { ⌜ (length (now a) ≡ workBytes) × (4128 ≤ length (now m)) × (length (now work) ≡ workBytes) × (length (now levels) ≡ maxRecords) ⌝ }
+    requires { ⌜ Lent (now a) (now m) (now work) (now levels) ⌝ }
     ensures { λ r. ⌜ Small r × (passedOf r (now (out .exit)) ≡ pass-bytes (now (image .entry)) budget (length (now (out .entry)))) ⌝ }
 {
     let answer = check(image);

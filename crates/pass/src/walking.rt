@@ -2,6 +2,7 @@
 use conjuncts::reading::record_at;
 use image::limits::RECORD_BYTES;
 use image::words::word_at;
+use rewriting::nodes::Outcome;
 use rewriting::nodes::rewrite;
 use utils::fields::is_plan;
 ghost use mathlib.Core.Path.{_≡_};
@@ -12,7 +13,7 @@ ghost use Rattle.plan.specs.Syntax.{Plan};
 ghost use Rattle.acceptance.specs.Accepted.{WellFormed, Accepted};
 ghost use Rattle.rewrite.specs.Pass.{pass};
 ghost use Rattle.rewriting.specs.Outcomes.{Image};
-ghost use Rattle.pass.specs.Walks.{Next, Counted, Stands, Standing, rest, Continues, Visited, Begins, Ends};
+ghost use Rattle.pass.specs.Walks.{Next, Counted, Stands, Standing, rest, Continues, Came, Comes, Visited, Begins, Ends, Lent};
 
 // Where a pass stands: whether each rewrite was within the limits; how many records the image has now, and the one to visit next, if it is one
 // of them; what is left of the budget; the visits and the flags raised so far.
@@ -71,15 +72,13 @@ fn go_on(w: Walk, records: usize, flag: bool, image: &[u8]) -> Walk
     }
 }
 
-// Visits the next plan.
-fn visit(w: Walk, image: &mut [u8], m: &mut [u8], work: &mut [u8], levels: &mut [u32]) -> Walk
-    requires { ⌜ Standing (now image) w ⌝ }
-    requires { ⌜ (w .next < w .records) × (0 < w .left) ⌝ }
-    requires { ⌜ (length (now image) ≡ workBytes) × (4128 ≤ length (now m)) × (length (now work) ≡ workBytes) × (length (now levels) ≡ maxRecords) ⌝ }
-    ensures { λ r. ⌜ (r .left < w .left) × ((q : Plan) → Stands (now (image .entry)) w q → Visited (now (image .exit)) r (rest w q)) ⌝ }
+// What the rewrite at the next plan wrote takes the place of the image, and the walk goes on; or it ends there, if the answer is too large.
+fn take_over(w: Walk, r: Outcome, work: &[u8], image: &mut [u8]) -> Walk
+    requires { ⌜ Comes (now image) (now work) w r ⌝ }
+    requires { ⌜ (length (now work) ≡ workBytes) × (length (now image) ≡ workBytes) ⌝ }
+    ensures { λ u. ⌜ (u .left < w .left)
+        × ((q : Plan) → Came (now (image .entry)) (now (work .entry)) w r q → Visited (now (image .exit)) u (rest w q)) ⌝ }
 {
-    let end = RECORD_BYTES * w.records;
-    let r = rewrite(&image[..end], w.next, m, work, levels);
     if !r.fits {
         return Walk {
             fits: false,
@@ -97,6 +96,18 @@ fn visit(w: Walk, image: &mut [u8], m: &mut [u8], work: &mut [u8], levels: &mut 
     go_on(w, w.records, r.flag, image)
 }
 
+// Visits the next plan.
+fn visit(w: Walk, image: &mut [u8], m: &mut [u8], work: &mut [u8], levels: &mut [u32]) -> Walk
+    requires { ⌜ Standing (now image) w ⌝ }
+    requires { ⌜ (w .next < w .records) × (0 < w .left) ⌝ }
+    requires { ⌜ Lent (now image) (now m) (now work) (now levels) ⌝ }
+    ensures { λ r. ⌜ (r .left < w .left) × ((q : Plan) → Stands (now (image .entry)) w q → Visited (now (image .exit)) r (rest w q)) ⌝ }
+{
+    let end = RECORD_BYTES * w.records;
+    let r = rewrite(&image[..end], w.next, m, work, levels);
+    take_over(w, r, work, image)
+}
+
 // Visits one plan after the other, from the root on, until none or nothing of the budget is left, or a rewrite is refused.
 pub fn visit_all(
     records: usize,
@@ -107,7 +118,7 @@ pub fn visit_all(
     levels: &mut [u32],
 ) -> Walk
     requires { ⌜ Begins (now image) records ⌝ }
-    requires { ⌜ (length (now image) ≡ workBytes) × (4128 ≤ length (now m)) × (length (now work) ≡ workBytes) × (length (now levels) ≡ maxRecords) ⌝ }
+    requires { ⌜ Lent (now image) (now m) (now work) (now levels) ⌝ }
     ensures { λ r. ⌜ ((q : Plan) → WellFormed q → Image (now (image .entry)) records q → Ends (now (image .exit)) r (pass budget q)) ⌝ }
 {
     let mut w = Walk {

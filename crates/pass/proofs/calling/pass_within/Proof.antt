@@ -16,17 +16,21 @@ pass-within-spec =
     (λ c κs. search needs)
     (λ c κs. search needs)
     (λ c. search needs)
-    (λ c. (place-small _ (c .before .before .before .before .before .before .check .result) (c .before .before .before .before .before .before .check .ensures),
-    refused-image _ (c .before .before .before .before .before .before .check .result) (c .before .before .before .before .before .before .check .ensures) (c .before .before .before .before .before .number-of .ensures) _ _ (c .before .before .before .before .if1 .taken) (c .before .before .clear .ensures)))
-    (λ c κs. (
-      whole (c .before .before .before .before .before .before .before .before .before .before .before .before .before .before .args .image .now) (λ i. omega (arith, c .before .before .before .before .before .before .before .before .before .before .before .before .before .shared-slice-known .given i))
-          (is-accepted _ (c .before .before .before .before .before .before .before .check .result) (c .before .before .before .before .before .before .before .check .ensures) (c .before .before .before .before .before .before .number-of .ensures) (c .before .before .before .before .before .if1 .left)),
-      c .before .before .before .before .before .before .before .before .before .before .before .before .before .before .pre,
-    ))
+    (λ c. let b = c .before .before .before .before in
+    let d = b .before .before in
+    (place-small _ (d .check .result) (d .check .ensures),
+    refused-image _ (d .check .result) (d .check .ensures) (b .before .number-of .ensures) _ _ (b .if1 .taken) (c .before .before .clear .ensures)))
+    (λ c κs. let b = c .before .before .before .before .before in
+    let d = b .before .before in
+    let s = d .before .before .before .before .before .before in
+    let k = is-accepted _ (d .check .result) (d .check .ensures) (b .before .number-of .ensures) (b .if1 .left) in
+    (whole (s .before .args .image .now) (λ i. omega (arith, s .shared-slice-known .given i)) k, s .before .pre))
     (λ c. search needs)
     (λ c. search needs)
     (λ c. search needs)
     (λ c. search needs)
     (λ c. search needs)
-    (λ c. (c .before .before .before .before .before .before .before .before .before .before .pass-on .ensures .0, c .before .before .before .before .before .before .before .before .before .before .pass-on .ensures .1
-    ∙ accepted-image _ (c .before .before .before .before .before .before .before .before .before .before .before .before .before .before .before .before .before .before .check .result) (c .before .before .before .before .before .before .before .before .before .before .before .before .before .before .before .before .before .before .check .ensures) (c .before .before .before .before .before .before .before .before .before .before .before .before .before .before .before .before .before .number-of .ensures) _ _ (c .before .before .before .before .before .before .before .before .before .before .before .before .before .before .before .before .if1 .left))))
+    (λ c. let b = c .before .before .before .before .before .before .before .before .before .before .before .before .before .before .before .before in
+    let d = b .before .before in
+    let p = c .before .before .before .before .before .before .before .before .before .before .pass-on .ensures in
+    (p .0, p .1 ∙ accepted-image _ (d .check .result) (d .check .ensures) (b .before .number-of .ensures) _ _ (b .if1 .left))))

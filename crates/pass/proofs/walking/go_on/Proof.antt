@@ -18,5 +18,10 @@ go-on-spec =
     (λ c. search needs)
     (λ c. search needs)
     (λ c. search needs)
-    (λ c. omega (arith, raised-small (c .before .before .before .before .before .before .before .pre .0) (c .before .before .before .before .before .before .before .args .flag)))
-    (λ c. (omega arith, λ q w i. continued (c .before .before .before .before .before .before .before .pre .0) w i (c .before .before .before .next-plan .ensures q (accepted-part w i)) refl refl refl refl)))
+    (λ c. let b = c .before .before .before .before .before .before .before in omega (arith, raised-small (b .pre .0) (b .args .flag)))
+    (λ c. (
+      omega arith,
+      λ q w i.
+          let n = c .before .before .before .next-plan .ensures q (accepted-part w i) in
+          continued (c .before .before .before .before .before .before .before .pre .0) w i n refl refl refl refl,
+    )))

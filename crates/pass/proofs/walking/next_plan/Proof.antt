@@ -27,8 +27,14 @@ next-plan-spec =
     (λ c κs. omega arith)
     (λ c κs. rw (c .record-at .ensures, length-drop) (omega (arith, c .before .loop-test .taken)))
     (λ c κs. search needs)
-    (λ c q a. searched (c .before .before .before .before .before .loop .inv q a) (stops-here a (omega (arith, records-are a, c .before .before .before .before .loop-test .taken)) (c .before .before .before .record-at .ensures) (c .before .before .word-at .ensures .0) (c .before .is-plan .ensures) (c .if1 .taken)))
+    (λ c q a. let b = c .before .before .before in
+    searched (b .before .before .loop .inv q a)
+    (stops-here a (omega (arith, records-are a, b .before .loop-test .taken)) (b .record-at .ensures) (c .before .before .word-at .ensures .0)
+    (c .before .is-plan .ensures) (c .if1 .taken)))
     (λ c. omega arith)
     (λ c. omega arith)
-    (λ c q a. c .before .before .before .before .before .loop .inv q a ∙ passes-by a (omega (arith, records-are a, c .before .before .before .before .loop-test .taken)) (c .before .before .before .record-at .ensures) (c .before .before .word-at .ensures .0) (c .before .is-plan .ensures) (c .if1 .left))
+    (λ c q a. let b = c .before .before .before in
+    b .before .before .loop .inv q a
+    ∙ passes-by a (omega (arith, records-are a, b .before .loop-test .taken)) (b .record-at .ensures) (c .before .before .word-at .ensures .0)
+    (c .before .is-plan .ensures) (c .if1 .left))
     (λ c q a. searched (c .before .loop .inv q a) (no-more q (omega (arith, records-are a, c .loop-test .left)) (records-are a))))

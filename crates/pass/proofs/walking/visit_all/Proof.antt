@@ -1,5 +1,5 @@
 -- `walking::visit_all` meets its contract. The loop's invariant: from where the walk stands, the pass comes to what it comes to from the start.
-use mathlib.Core.Path.{_≡_, refl, _∙_}
+use mathlib.Core.Path.{_≡_, refl}
 use native.Mathlib.Omega.{arith}
 use lib.ListN.{length}
 use Rattle.plan.specs.Syntax.{Plan}
@@ -7,6 +7,7 @@ use Rattle.acceptance.specs.Accepted.{WellFormed}
 use Rattle.rewrite.specs.Pass.{pass}
 use Rattle.rewriting.specs.Outcomes.{Image}
 use Rattle.pass.specs.Walks.{Visited}
+use Rattle.pass.proofs.Steps.{lent-still}
 use Rattle.pass.proofs.Walked.{begun, visited-as, goes-fit, goes-small, goes-left, standing, ended}
 use Rattle.pass.proofs.walking.visit_all.Statement.{statement}
 use Rattle.pass.proofs.walking.visit_all.Tie as tie
@@ -26,22 +27,23 @@ visit-all-spec =
     Inv-loop
     μ-loop
     (λ c. (refl, refl, refl, refl, λ q w i. begun _ w i (omega arith)))
-    (λ c κs. let b = c .before .before .before .before .before .before .before .before .before .before .before .before .before .pre .0 in
+    (λ c κs. let b = c .before .before .before .before .before .before .before .before in
+    let p = b .before .before .before .before .before .pre in
     let t = c .before .before .before .before .if1 .taken in
-    let k = c .before .before .before .before .before .before .before .before .loop .inv in
-    let w = c .before .before .before .before .before .before .before .before .loop .w in
-    let l = c .before .before .before .before .before .before .before .before .before .before .before .before .before .pre .1 in
-    (standing w t (k .4 (b .plan) (b .well) (b .image)), ((goes-small w t, goes-left w t), (k .0 ∙ l .0, omega (arith, k, l), k .2 ∙ l .2, k .3 ∙ l .3))))
+    let k = b .loop .inv in
+    let w = b .loop .w in
+    (standing w t (k .4 (p .0 .plan) (p .0 .well) (p .0 .image)), ((goes-small w t, goes-left w t), lent-still (p .1) (k .0) (k .1) (k .2) (k .3))))
     (λ c. c .before .before .before .before .before .before .before .before .visit .ensures .0)
-    (λ c. let k = c .before .before .before .before .before .before .before .before .before .before .before .before .before .before .before .before .before .loop .inv in
-    let e = c .before .before .before .before .before .before .before .before .visit .kept in (
+    (λ c. let b = c .before .before .before .before .before .before .before .before in
+    let d = b .before .before .before .before .before .before .before .before .before in
+    let k = d .loop .inv in
+    let e = b .visit .kept in (
       omega (arith, k, e),
       omega (arith, k, e),
       omega (arith, k, e),
       omega (arith, k, e),
-      λ q w i.
-          let g = k .4 q w i .going (goes-fit (c .before .before .before .before .before .before .before .before .before .before .before .before .before .before .before .before .before .loop .w) (c .before .before .before .before .before .before .before .before .before .before .before .before .before .if1 .taken)) in
-          visited-as (g .comes) (c .before .before .before .before .before .before .before .before .visit .ensures .1 (g .plan) (g .stands)),
+      λ q w i. let g = k .4 q w i .going (goes-fit (d .loop .w) (b .before .before .before .before .before .if1 .taken)) in
+          visited-as (g .comes) (b .visit .ensures .1 (g .plan) (g .stands)),
     ))
     (λ c. c .before .before .before .before .loop .inv .0)
     (λ c. c .before .before .before .before .loop .inv .1)
