@@ -1,15 +1,18 @@
 //! The functions that the static library exports, each behind a safe one. A `&[u8]` crosses as pointer and length.
-//! Without the feature `library` nothing is linked, and each answers none.
+//! Without the feature that says that the library exports it nothing is linked, and each answers none.
 
 use crate::checker::Verdict;
-use crate::rewriting::Rewritten;
+use crate::rewriting::{Passed, Rewritten};
 use crate::row_tests::Tested;
 
-/// Whether the library is linked.
+/// Whether the library is linked: the check and the row test.
 pub const LINKED: bool = cfg!(feature = "library");
 
 /// Whether it exports the rewrite.
 pub const REWRITES: bool = cfg!(feature = "rewrite");
+
+/// Whether it exports the pass.
+pub const PASSES: bool = cfg!(feature = "pass");
 
 #[cfg(feature = "library")]
 mod exported {
@@ -33,10 +36,21 @@ mod exported {
         pub fn push_down_filter_rewrite(
             image: *const u8,
             len: usize,
-            node: u64,
+            node: u32,
             out: *mut u8,
             room: usize,
-        ) -> crate::rewriting::Rewritten;
+        ) -> super::Rewritten;
+    }
+
+    #[cfg(feature = "pass")]
+    unsafe extern "C" {
+        pub fn push_down_filter_pass(
+            image: *const u8,
+            len: usize,
+            budget: u64,
+            out: *mut u8,
+            room: usize,
+        ) -> super::Passed;
     }
 }
 
@@ -72,24 +86,45 @@ pub fn row_test(_image: &[u8], _node: u32, _values: &[i64], _marks: &[u8]) -> Op
     None
 }
 
-/// The result and the whole output, which held no zero before the call.
-#[cfg(feature = "rewrite")]
+/// What an output holds before a call: no byte of it is 0, so that a byte which was not written shows.
+const UNWRITTEN: u8 = 0xA5;
+
+/// The result and the whole output.
 pub fn rewrite(image: &[u8], node: u32, room: usize) -> Option<(Rewritten, Vec<u8>)> {
-    let mut output = vec![0xA5; room];
-    // SAFETY: both pointers and lengths are those of slices that live through the call; it writes to the second alone.
-    let result = unsafe {
-        exported::push_down_filter_rewrite(
-            image.as_ptr(),
-            image.len(),
-            u64::from(node),
-            output.as_mut_ptr(),
-            output.len(),
-        )
-    };
+    let mut output = vec![UNWRITTEN; room];
+    let result = rewrite_into(image, node, &mut output)?;
     Some((result, output))
 }
 
+#[cfg(feature = "rewrite")]
+pub fn rewrite_into(image: &[u8], node: u32, output: &mut [u8]) -> Option<Rewritten> {
+    // SAFETY: both pointers and lengths are those of slices that live through the call; it writes to the second alone.
+    Some(unsafe {
+        exported::push_down_filter_rewrite(image.as_ptr(), image.len(), node, output.as_mut_ptr(), output.len())
+    })
+}
+
 #[cfg(not(feature = "rewrite"))]
-pub fn rewrite(_image: &[u8], _node: u32, _room: usize) -> Option<(Rewritten, Vec<u8>)> {
+pub fn rewrite_into(_image: &[u8], _node: u32, _output: &mut [u8]) -> Option<Rewritten> {
+    None
+}
+
+/// The result and the whole output.
+pub fn pass(image: &[u8], budget: u64, room: usize) -> Option<(Passed, Vec<u8>)> {
+    let mut output = vec![UNWRITTEN; room];
+    let result = pass_into(image, budget, &mut output)?;
+    Some((result, output))
+}
+
+#[cfg(feature = "pass")]
+pub fn pass_into(image: &[u8], budget: u64, output: &mut [u8]) -> Option<Passed> {
+    // SAFETY: both pointers and lengths are those of slices that live through the call; it writes to the second alone.
+    Some(unsafe {
+        exported::push_down_filter_pass(image.as_ptr(), image.len(), budget, output.as_mut_ptr(), output.len())
+    })
+}
+
+#[cfg(not(feature = "pass"))]
+pub fn pass_into(_image: &[u8], _budget: u64, _output: &mut [u8]) -> Option<Passed> {
     None
 }

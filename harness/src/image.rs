@@ -18,6 +18,13 @@ pub struct Label {
     pub hi: u32,
 }
 
+impl Label {
+    /// A label whose other words are 0.
+    pub fn of(kind: u32, p: u32) -> Label {
+        Label { kind, p, ..Label::default() }
+    }
+}
+
 #[derive(Clone, Copy, Debug, Default, PartialEq, Eq)]
 pub struct Record {
     pub label: Label,

@@ -1,5 +1,6 @@
 //! What proofs cannot cover, tested: the boundary to C, and that the definitions are the right ones.
 
+pub mod calls;
 pub mod checker;
 pub mod damage;
 pub mod differences;
@@ -17,6 +18,7 @@ pub mod sets;
 pub mod source;
 pub mod sweeps;
 pub mod terms;
+pub mod text;
 
 /// The limits of an image. Every other file takes them from here.
 pub mod limits {

@@ -7,7 +7,6 @@ use crate::image::{Tree, RECORD_BYTES};
 use crate::kinds::*;
 use crate::limits::RECORDS;
 use crate::random::{accepted, drawn_for, size, Aim, Draw, Field, Random};
-use crate::rewriting::Answer;
 use near_limits::{near_depth, near_list, near_records};
 
 /// A plan, and how it was drawn. Plans near a limit may lie beyond it.
@@ -63,12 +62,9 @@ pub fn nodes(random: &mut Random, plan: &Tree) -> Vec<u32> {
     nodes
 }
 
-/// Mostly room for the answer, or for more, or for less. A refused call may have any.
-pub fn room(random: &mut Random, image: &[u8], answer: &Answer) -> usize {
-    let needed = match answer {
-        Answer::Granted { plan, .. } => plan.image().len(),
-        Answer::Refused(_) => image.len(),
-    };
+/// Mostly room for the plan that was made, or for more, or for less. A call that made none may have any.
+pub fn room(random: &mut Random, image: &[u8], made: Option<&Tree>) -> usize {
+    let needed = made.map_or(image.len(), |plan| plan.image().len());
     match random.below(10) {
         0 => needed - 1,
         1 => random.below(needed),
@@ -77,6 +73,13 @@ pub fn room(random: &mut Random, image: &[u8], answer: &Answer) -> usize {
         4 => RECORDS * RECORD_BYTES,
         _ => needed,
     }
+}
+
+/// Budgets that end before, at and after the last node.
+pub fn budget(random: &mut Random, plan: &Tree) -> u64 {
+    let plans = plan.parent_first().iter().filter(|(_, tree)| is_plan(tree.label.kind)).count();
+    let some = random.below(plans + 2) as u64;
+    *random.pick(&[0, 1, 2, 5, some, some, 10_000, 10_000, u64::MAX])
 }
 
 /// One plan in three may hold volatile functions; the others can be compared by their rows.

@@ -23,6 +23,18 @@ pub struct Rewritten {
     pub records: u32,
 }
 
+/// What a call of pass hands back, beside the output.
+#[derive(Clone, Copy, Debug, PartialEq, Eq)]
+#[repr(C)]
+pub struct Passed {
+    pub number: u32,
+    pub record: u32,
+    pub visits: u64,
+    pub changed: u64,
+    pub finished: u32,
+    pub records: u32,
+}
+
 /// The whole call: the image, the record, and an output of `room` bytes.
 pub fn rewrite(build: Build, image: &[u8], node: u32, room: usize) -> (Rewritten, Vec<u8>) {
     let answer = match check(image) {
@@ -48,19 +60,19 @@ pub fn rewrite_at(build: Build, plan: &Tree, node: u32) -> Answer {
 
 /// Test 12, and what the caller sees: the image of the answer, then zeros; all zeros for a refusal.
 pub fn handed_back(answer: &Answer, room: usize) -> (Rewritten, Vec<u8>) {
-    let too_short = Verdict { number: 12, record: 0 };
+    let refused =
+        |Verdict { number, record }: Verdict| (Rewritten { number, record, flag: 0, records: 0 }, vec![0; room]);
     match answer {
         Answer::Granted { flag, plan } => match in_room(plan, room) {
             Some((records, output)) => (Rewritten { number: 0, record: 0, flag: u32::from(*flag), records }, output),
-            None => refusal(too_short, room),
+            None => refused(TOO_SHORT),
         },
-        Answer::Refused(verdict) => refusal(*verdict, room),
+        Answer::Refused(verdict) => refused(*verdict),
     }
 }
 
-fn refusal(Verdict { number, record }: Verdict, room: usize) -> (Rewritten, Vec<u8>) {
-    (Rewritten { number, record, flag: 0, records: 0 }, vec![0; room])
-}
+/// Test 12.
+const TOO_SHORT: Verdict = Verdict { number: 12, record: 0 };
 
 /// The number of records and the output that they fill, if there is room for them.
 fn in_room(plan: &Tree, room: usize) -> Option<(u32, Vec<u8>)> {
@@ -100,12 +112,38 @@ fn conjuncts(predicate: &Tree) -> usize {
 
 #[derive(Clone, Debug, PartialEq, Eq)]
 pub enum PassAnswer {
-    Passed { visits: u32, changed: u32, finished: bool, plan: Tree },
+    Passed { visits: u64, changed: u64, finished: bool, plan: Tree },
     Refused(Verdict),
 }
 
+/// The whole call: the image, the budget, and an output of `room` bytes.
+pub fn pass(build: Build, image: &[u8], budget: u64, room: usize) -> (Passed, Vec<u8>) {
+    let answer = match check(image) {
+        Verdict::ACCEPTED => pass_over(build, &Tree::of_records(&image::read(image)), budget),
+        refusal => PassAnswer::Refused(refusal),
+    };
+    pass_handed_back(&answer, room)
+}
+
+/// Test 12, on the last plan alone, and what the caller sees.
+pub fn pass_handed_back(answer: &PassAnswer, room: usize) -> (Passed, Vec<u8>) {
+    let refused = |Verdict { number, record }: Verdict| {
+        (Passed { number, record, visits: 0, changed: 0, finished: 0, records: 0 }, vec![0; room])
+    };
+    match answer {
+        PassAnswer::Passed { visits, changed, finished, plan } => match in_room(plan, room) {
+            Some((records, output)) => {
+                let (visits, changed, finished) = (*visits, *changed, u32::from(*finished));
+                (Passed { number: 0, record: 0, visits, changed, finished, records }, output)
+            }
+            None => refused(TOO_SHORT),
+        },
+        PassAnswer::Refused(verdict) => refused(*verdict),
+    }
+}
+
 /// The pass over an accepted plan.
-pub fn pass(build: Build, plan: &Tree, budget: u32) -> PassAnswer {
+pub fn pass_over(build: Build, plan: &Tree, budget: u64) -> PassAnswer {
     let mut walk = Walk { build, plan: plan.clone(), budget, visits: 0, changed: 0 };
     match walk.visit(0) {
         Ok(finished) => PassAnswer::Passed { visits: walk.visits, changed: walk.changed, finished, plan: walk.plan },
@@ -117,9 +155,9 @@ pub fn pass(build: Build, plan: &Tree, budget: u32) -> PassAnswer {
 struct Walk {
     build: Build,
     plan: Tree,
-    budget: u32,
-    visits: u32,
-    changed: u32,
+    budget: u64,
+    visits: u64,
+    changed: u64,
 }
 
 impl Walk {
@@ -132,7 +170,7 @@ impl Walk {
         self.visits += 1;
         match rewrite_at(self.build, &self.plan, at as u32) {
             Answer::Granted { flag, plan } => {
-                self.changed += u32::from(flag);
+                self.changed += u64::from(flag);
                 self.plan = plan;
             }
             Answer::Refused(refusal) => return Err(refusal),

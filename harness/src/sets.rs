@@ -1,10 +1,11 @@
-//! Fixed sets of accepted images for measuring speed: ordinary plans of three sizes, and plans chosen to make the check
-//! work hard. A hard plan is built for a number of records; depth, fields and lists grow with it, up to their limits.
+//! Fixed sets of accepted images for measuring speed: ordinary plans of three sizes, plans of three sizes that the rewrite
+//! has much to do with, and plans chosen to make the check work hard. A hard plan is built for a number of records; depth,
+//! fields and lists grow with it, up to their limits.
 
 use crate::image::Tree;
 use crate::kinds::*;
 use crate::limits::{DEPTH, FIELDS, LIST, RECORDS};
-use crate::random::{accepted, Random};
+use crate::random::{drawn_for, Aim, Random};
 
 pub struct Set {
     pub name: String,
@@ -14,6 +15,7 @@ pub struct Set {
 enum Plans {
     /// The first plans drawn for `wanted` records that have `low` to `high` of them.
     Drawn {
+        aim: Aim,
         wanted: usize,
         low: usize,
         high: usize,
@@ -28,17 +30,17 @@ impl Set {
     pub fn images(&self) -> Vec<Vec<u8>> {
         match self.plans {
             Plans::Built { build, records } => vec![build(Size::of(records)).image()],
-            Plans::Drawn { wanted, low, high } => {
-                let drawn = (0..).map(|case| accepted(&mut Random::of_case(1, case), wanted).plan);
+            Plans::Drawn { aim, wanted, low, high } => {
+                let drawn = (0..).map(|case| drawn_for(aim, &mut Random::of_case(1, case), wanted).plan);
                 let fitting = drawn.filter(|plan| (low..=high).contains(&plan.size()));
-                fitting.take(ORDINARY).map(|plan| plan.image()).collect()
+                fitting.take(DRAWN).map(|plan| plan.image()).collect()
             }
         }
     }
 }
 
-/// How many ordinary plans a set has.
-const ORDINARY: usize = 16;
+/// How many plans a set of drawn ones has.
+const DRAWN: usize = 16;
 
 type Build = fn(Size) -> Tree;
 
@@ -58,14 +60,31 @@ const HARD: [(&str, Build); 13] = [
     ("unions-over-deep-joins", unions_over_joins),
 ];
 
-/// All sets; those of the hard plans at half size and at full size.
+fn drawn(name: &str, aim: Aim, wanted: usize, low: usize, high: usize) -> Set {
+    Set { name: name.into(), plans: Plans::Drawn { aim, wanted, low, high } }
+}
+
+fn ordinary() -> Vec<Set> {
+    vec![
+        drawn("small", Aim::Check, 10, 10, 10),
+        drawn("medium", Aim::Check, 100, 90, 110),
+        drawn("full", Aim::Check, 1800, 1950, RECORDS),
+    ]
+}
+
+/// Sets for the rewrite: the ordinary plans, and plans with Filters everywhere; the largest of these have room to grow.
+pub fn rewrite_sets() -> Vec<Set> {
+    let aim = Aim::Rewrite { volatile: false };
+    let mut sets = ordinary();
+    sets.push(drawn("small-filters", aim, 10, 10, 14));
+    sets.push(drawn("medium-filters", aim, 100, 90, 110));
+    sets.push(drawn("large-filters", aim, 1400, 1400, 1700));
+    sets
+}
+
+/// Sets for the check: the ordinary plans, and the hard ones at half size and at full size.
 pub fn sets() -> Vec<Set> {
-    let drawn = |name: &str, wanted: usize, low: usize, high: usize| Set {
-        name: name.into(),
-        plans: Plans::Drawn { wanted, low, high },
-    };
-    let mut sets = vec![drawn("small", 10, 10, 10), drawn("medium", 100, 90, 110)];
-    sets.push(drawn("full", 1800, 1950, RECORDS));
+    let mut sets = ordinary();
     for (name, build) in HARD {
         for (suffix, part) in [("-half", 2), ("", 1)] {
             let plans = Plans::Built { build, records: RECORDS / part };
@@ -231,7 +250,7 @@ mod tests {
 
     #[test]
     fn the_sets_are_accepted_and_as_large_as_they_say() {
-        for set in sets() {
+        for set in sets().into_iter().chain(rewrite_sets()) {
             assert!(set.images().iter().all(|image| check(image) == Verdict::ACCEPTED), "{}", set.name);
         }
         for (name, build) in HARD {

@@ -57,8 +57,8 @@ fn answer(term: &Term) -> Option<Answer> {
 fn pass_answer(term: &Term) -> Option<PassAnswer> {
     Some(match head(term)? {
         ("passed", [visits, changed, finished, made]) => PassAnswer::Passed {
-            visits: number(visits)?,
-            changed: number(changed)?,
+            visits: u64::from(number(visits)?),
+            changed: u64::from(number(changed)?),
             finished: number(finished)? == 1,
             plan: plan(made)?,
         },

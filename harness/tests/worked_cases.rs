@@ -3,7 +3,7 @@
 
 use harness::image::{Tree, RECORD_BYTES};
 use harness::kinds::*;
-use harness::rewriting::{pass, rewrite, rewrite_at, Answer, PassAnswer, Rewritten};
+use harness::rewriting::{pass, pass_over, rewrite, rewrite_at, Answer, PassAnswer, Passed, Rewritten};
 use harness::source::{Build, ALL};
 
 const PATCHED: Build = Build::Patched(ALL);
@@ -123,8 +123,15 @@ fn a_call_settles_every_byte() {
     assert_eq!(rewrite(PATCHED, &[0; RECORD_BYTES], 0, 3), (refused(2, 0), vec![0; 3]));
 
     let passed = |visits, changed, finished, plan| PassAnswer::Passed { visits, changed, finished, plan };
-    assert_eq!(pass(PATCHED, &given, 10_000), passed(1, 1, true, made));
-    assert_eq!(pass(PATCHED, &given, 0), passed(0, 0, false, given.clone()));
+    assert_eq!(pass_over(PATCHED, &given, 10_000), passed(1, 1, true, made.clone()));
+    assert_eq!(pass_over(PATCHED, &given, 0), passed(0, 0, false, given.clone()));
+
+    let refused = |number, record| Passed { number, record, visits: 0, changed: 0, finished: 0, records: 0 };
+    let (result, output) = pass(PATCHED, &given.image(), u64::MAX, bytes + 7);
+    assert_eq!(result, Passed { number: 0, record: 0, visits: 1, changed: 1, finished: 1, records: 5 });
+    assert_eq!(output, [made.image(), vec![0; 7]].concat());
+    assert_eq!(pass(PATCHED, &given.image(), 1, bytes - 1), (refused(12, 0), vec![0; bytes - 1]));
+    assert_eq!(pass(PATCHED, &[0; RECORD_BYTES], 0, 3), (refused(2, 0), vec![0; 3]));
 }
 
 /// Merges are seen by the sets that the source collects: it must collect them nowhere else.

@@ -6,12 +6,13 @@ use mathlib.Core.List.{List}
 use lib.Dec.{leb}
 use lib.ListN.{length, take}
 use borrow.Author.Tests.{le-leb, lt-leb, eq-eqb, ne-eqb}
-use Rattle.image.specs.Limits.{workBytes}
+use Rattle.image.specs.Limits.{workBytes, maxRecords}
 use Rattle.plan.specs.Lists.{choose}
 use Rattle.plan.specs.Measure.{sizeP}
 use Rattle.plan.specs.Syntax.{Plan}
 use Rattle.plan.specs.Trees.{bitOf}
 use Rattle.acceptance.specs.Check.{verdict, check}
+use Rattle.acceptance.proofs.Places.{place-within}
 use Rattle.checking.specs.Answer.{verdictOf}
 use Rattle.checking.specs.declared.Checked.{Checked}
 use Rattle.rewrite.specs.OnBytes.{planIn, isAccepted, zeros, filled, no-pass, reported, pass-bytes}
@@ -77,3 +78,7 @@ module _ (s : List ℕ) (a : Checked) (e : verdictOf a ≡ check s) {k : ℕ} (i
   pub accepted-image : k ≡ 0 → reported room (pass-call budget room (planIn s)) ≡ pass-bytes s budget room
   unfolding pass-bytes isAccepted choose
   accepted-image h = rw (← e, eq-eqb (verdictOf a .number) 0 (sym is ∙ h))
+
+-- the record that the check names is small
+pub place-small : (s : List ℕ) (a : Checked) → verdictOf a ≡ check s → verdictOf a .place ≤ maxRecords
+place-small s a e = rw e (omega (arith, place-within s))

@@ -171,8 +171,9 @@ module _ {s work : List ℕ} {w : Walk} {r : Outcome} {q : Plan} (k : Came s wor
 
   module _ {t : List ℕ} {u : Walk} where
     pub visited-refused : r .fits ≡ false → u .fits ≡ false → u .next ≡ w .next → Visited t u (rest w q)
-    unfolding rest
+    unfolding rest sizeP
     visited-refused f g n = record {
+      near = λ y. omega (arith, n, k .small, k .stands .image .count, k .stands .well .records);
       refused = λ y.
           rw (within-some (w .next) (w .records) (k .small), n)
           (visit-refused (w .next) q (w .visits) (w .changed) (w .left) (k .some-left) (at-11 f));
@@ -183,6 +184,7 @@ module _ {s work : List ℕ} {w : Walk} {r : Outcome} {q : Plan} (k : Came s wor
     unfolding rest
     visited-granted f c = record {
       refused = λ y. no-yes (sym y ∙ c .fits);
+      near = λ y. no-yes (sym y ∙ c .fits);
       going = λ y. record {
         plan = answer (k .spot);
         stands = c .stands;

@@ -33,6 +33,7 @@ pub begun : {s : List ℕ} {records : ℕ} (budget : ℕ) {q : Plan} → WellFor
 unfolding rest pass-by-records
 begun {s} {records} budget {q} w i b = record {
   refused = λ e. no-yes (sym e);
+  near = λ e. no-yes (sym e);
   going = λ e. record {
     plan = q;
     stands = record { well = w; image = i; there = λ h. record { spot = _; there = found-here whole q }; most = omega arith; raised = omega arith };
@@ -46,6 +47,7 @@ begun {s} {records} budget {q} w i b = record {
 pub visited-as : {s : List ℕ} {w : Walk} {x y : PassAnswer} → x ≡ y → Visited s w y → Visited s w x
 visited-as e v = record {
   refused = λ f. e ∙ v .refused f;
+  near = v .near;
   going = λ f. let g = v .going f in record { plan = g .plan; stands = g .stands; comes = e ∙ g .comes };
 }
 
@@ -90,5 +92,6 @@ module _ (w : Walk) (t : goes-on w ≡ false) where
   pub ended : {s : List ℕ} {x : PassAnswer} → Visited s w x → Ends s w x
   ended v = record {
     refused = v .refused;
+    near = v .near;
     left = λ f. let g = v .going f in record { plan = g .plan; image = g .stands .image; is = g .comes ∙ stopped (g .plan) f };
   }

@@ -1,6 +1,7 @@
 -- The number, the record, the visits, the flags and the count of each case of the pass's answer, beside the output.
 use mathlib.Core.List.{List}
-use Prim.Native.Nat.{ℕ}
+use Prim.Native.Nat.{ℕ, _≤_}
+use Rattle.image.specs.Limits.{maxRecords}
 use Rattle.plan.specs.Trees.{bitOf}
 use Rattle.acceptance.specs.Check.{Verdict, verdict}
 use Rattle.checking.specs.Answer.{verdictOf}
@@ -18,3 +19,10 @@ passedOf (Refused n) out = refusal (verdict 11 n) out
 passedOf NoRoom out = refusal (verdict 12 0) out
 passedOf (Is v c f n) out =
     record { number = 0; place = 0; visits = v; changed = c; finished = bitOf f; records = n; output = out }
+
+-- the record and the count are small
+abbrev pub Small : Answer → Type 0
+Small (Image a) = verdictOf a .place ≤ maxRecords
+Small (Refused n) = n ≤ maxRecords
+Small NoRoom = Unit {0}
+Small (Is v c f n) = n ≤ maxRecords

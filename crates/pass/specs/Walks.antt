@@ -9,6 +9,7 @@ use lib.ListN.{length}
 use Rattle.image.specs.Limits.{workBytes, maxRecords}
 use Rattle.plan.specs.Lists.{choose}
 use Rattle.plan.specs.Syntax.{Plan}
+use Rattle.image.specs.Limits.{maxRecords}
 use Rattle.plan.specs.Measure.{sizeP}
 use Rattle.plan.specs.Trees.{bitOf}
 use Rattle.acceptance.specs.Accepted.{WellFormed}
@@ -95,6 +96,7 @@ pub record Going (s : List ℕ) (w : Walk) (x : PassAnswer) : Type 0 where
 -- .. or was refused there
 pub record Visited (s : List ℕ) (w : Walk) (x : PassAnswer) : Type 0 where
   pub refused : w .fits ≡ false → x ≡ pass-refused 11 (w .next)
+  pub near : w .fits ≡ false → w .next < maxRecords
   pub going : w .fits ≡ true → Going s w x
 
 -- no rewrite was refused, a plan is left, and something of the budget
@@ -116,4 +118,5 @@ pub record Left (s : List ℕ) (w : Walk) (x : PassAnswer) : Type 0 where
 -- .. or was refused there
 pub record Ends (s : List ℕ) (w : Walk) (x : PassAnswer) : Type 0 where
   pub refused : w .fits ≡ false → x ≡ pass-refused 11 (w .next)
+  pub near : w .fits ≡ false → w .next < maxRecords
   pub left : w .fits ≡ true → Left s w x

@@ -11,10 +11,11 @@ ghost use mathlib.Core.Path.{_≡_};
 ghost use mathlib.Core.List.{List};
 ghost use Prim.Native.Nat.{ℕ, _*_, _≤_};
 ghost use lib.ListN.{length};
+ghost use Rattle.image.specs.Limits.{workBytes};
 ghost use Rattle.rewrite.specs.OnBytes.{planIn, reported, pass-bytes};
 ghost use Rattle.rewrite.specs.Pass.{PassAnswer, pass-with-room, pass-call};
 ghost use Rattle.rewriting.specs.Answer.{Whole};
-ghost use Rattle.pass.specs.Answer.{passedOf};
+ghost use Rattle.pass.specs.Answer.{passedOf, Small};
 ghost use Rattle.pass.specs.Walks.{Left, Lent};
 
 // Visits, flags raised, whether no plan is left to visit, and the number of records; or what stands against it: a test of the image, a rewrite
@@ -28,8 +29,8 @@ pub enum Answer {
 
 // Hands out the image at which the walk ended, if it finds room.
 fn hand_over(image: &[u8], w: Walk, out: &mut [u8]) -> Answer
-    requires { ⌜ 32 * w .records ≤ length (now image) ⌝ }
-    ensures { λ r. ⌜ ((x : PassAnswer) → Left (now (image .entry)) w x →
+    requires { ⌜ (32 * w .records ≤ length (now image)) × (length (now image) ≡ workBytes) ⌝ }
+    ensures { λ r. ⌜ Small r × ((x : PassAnswer) → Left (now (image .entry)) w x →
         passedOf r (now (out .exit)) ≡ reported (length (now (out .entry))) (pass-with-room (length (now (out .entry))) x)) ⌝ }
 {
     if out.len() / RECORD_BYTES < w.records {
@@ -52,8 +53,8 @@ fn pass_on(
 ) -> Answer
     requires { ⌜ Whole (now image) ⌝ }
     requires { ⌜ Lent (now a) (now m) (now work) (now levels) ⌝ }
-    ensures { λ r. ⌜ passedOf r (now (out .exit))
-        ≡ reported (length (now (out .entry))) (pass-call budget (length (now (out .entry))) (planIn (now (image .entry)))) ⌝ }
+    ensures { λ r. ⌜ Small r × (passedOf r (now (out .exit))
+        ≡ reported (length (now (out .entry))) (pass-call budget (length (now (out .entry))) (planIn (now (image .entry))))) ⌝ }
 {
     copy_image(image, image.len(), a);
     let w = visit_all(image.len() / RECORD_BYTES, budget, a, m, work, levels);
@@ -75,7 +76,7 @@ fn pass_within(
     out: &mut [u8],
 ) -> Answer
     requires { ⌜ Lent (now a) (now m) (now work) (now levels) ⌝ }
-    ensures { λ r. ⌜ passedOf r (now (out .exit)) ≡ pass-bytes (now (image .entry)) budget (length (now (out .entry))) ⌝ }
+    ensures { λ r. ⌜ Small r × (passedOf r (now (out .exit)) ≡ pass-bytes (now (image .entry)) budget (length (now (out .entry)))) ⌝ }
 {
     let answer = check(image);
     if checking::number_of(answer) != 0 {
@@ -87,7 +88,7 @@ fn pass_within(
 
 // Every slice, budget and output get their answer.
 pub fn pass_bytes(image: &[u8], budget: u64, out: &mut [u8]) -> Answer
-    ensures { λ r. ⌜ passedOf r (now (out .exit)) ≡ pass-bytes (now (image .entry)) budget (length (now (out .entry))) ⌝ }
+    ensures { λ r. ⌜ Small r × (passedOf r (now (out .exit)) ≡ pass-bytes (now (image .entry)) budget (length (now (out .entry)))) ⌝ }
 {
     let mut a = [0u8; 65536];
     let mut m = [0u8; 4128];

@@ -95,13 +95,7 @@ fn rewrite_filter(
 }
 
 // The Join at record `node`.
-fn rewrite_join(
-    s: &[u8],
-    node: usize,
-    m: &mut [u8],
-    work: &mut [u8],
-    levels: &mut [u32],
-) -> Outcome
+fn rewrite_join(s: &[u8], node: usize, m: &mut [u8], work: &mut [u8], levels: &mut [u32]) -> Outcome
     requires { ⌜ JoinInside (now s) node ⌝ }
     requires { ⌜ (4128 ≤ length (now m)) × (length (now work) ≡ workBytes) × (length (now levels) ≡ maxRecords) ⌝ }
     ensures { λ r. ⌜ ((w : Plan) (c : Focus) → Inside (now (s .entry)) node w c → Outcomes (now (work .exit)) r w c) ⌝ }
@@ -112,13 +106,7 @@ fn rewrite_join(
 }
 
 // The plan at record `node`.
-pub fn rewrite(
-    s: &[u8],
-    node: usize,
-    m: &mut [u8],
-    work: &mut [u8],
-    levels: &mut [u32],
-) -> Outcome
+pub fn rewrite(s: &[u8], node: usize, m: &mut [u8], work: &mut [u8], levels: &mut [u32]) -> Outcome
     requires { ⌜ Found (now s) node ⌝ }
     requires { ⌜ (4128 ≤ length (now m)) × (length (now work) ≡ workBytes) × (length (now levels) ≡ maxRecords) ⌝ }
     ensures { λ r. ⌜ ((w : Plan) (c : Focus) → Inside (now (s .entry)) node w c → Outcomes (now (work .exit)) r w c) ⌝ }

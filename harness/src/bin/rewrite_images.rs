@@ -1,9 +1,10 @@
-//! Runs rewrites of random plans through the source, unchanged and with D1 to D5, and, with the feature `rewrite`, through
-//! the exported function. Every plan is rewritten at every record, present or not. Compared are
+//! Runs rewrites of random plans, and passes over them, through the source, unchanged and with D1 to D5, and, with the
+//! features `rewrite` and `pass`, through the exported functions. Every plan is rewritten at every record, present or not,
+//! and passed over once. Compared are
 //! - the unchanged source with the patched one: a difference must be one of D1 to D5, and with all five switched off there
 //!   must be none;
-//! - the patched source with the exported function: number, record, flag, records and every byte of the output, for
-//!   damaged images too;
+//! - the patched source with the exported functions: number, record, flag, counts, records and every byte of the output,
+//!   for damaged images too;
 //! - the rows of a plan without volatile functions before and after each rewrite, and after a pass, over small tables.
 //!
 //! Options: --plans N --seed S. Stops at the first difference, prints the plan as hex, and exits non-zero.
@@ -15,12 +16,13 @@ use harness::ffi;
 use harness::image::{to_hex, Tree};
 use harness::kinds::{is_plan, FILTER, JOIN, SCAN};
 use harness::random::Random;
-use harness::rewrites::{case, nodes, room, Case};
-use harness::rewriting::{handed_back, pass, rewrite, rewrite_at, Answer, PassAnswer, Rewritten};
+use harness::rewrites::{budget, case, nodes, room, Case};
+use harness::rewriting::*;
 use harness::rows::{RowCounts, Rows};
 use harness::source::{Build, ALL, NONE};
+use harness::text::words::{JOINS, PLANS};
 use std::collections::BTreeMap;
-use std::fmt::Display;
+use std::fmt::{Debug, Display};
 use std::process::ExitCode;
 use std::time::Instant;
 
@@ -42,7 +44,9 @@ struct Counts {
     differences: BTreeMap<String, u64>,
     rows_changed_by_source: BTreeMap<String, u64>,
     exported: u64,
-    passes: u64,
+    passes: BTreeMap<u32, u64>,
+    unfinished: u64,
+    exported_passes: u64,
     rows: RowCounts,
 }
 
@@ -59,7 +63,11 @@ fn main() -> ExitCode {
         eprintln!("usage: rewrite_images [--plans N] [--seed S]");
         return ExitCode::FAILURE;
     };
-    let exported = if ffi::REWRITES { ", and the exported rewrite" } else { "; the exported rewrite is not linked" };
+    let exported = match (ffi::REWRITES, ffi::PASSES) {
+        (true, true) => ", and the exported rewrite and pass",
+        (true, false) => ", and the exported rewrite; the exported pass is not linked",
+        _ => "; the exported rewrite and pass are not linked",
+    };
     println!(
         "running the source, unchanged and with D1 to D5{exported}: seed {}, {} plans",
         options.seed, options.plans
@@ -103,7 +111,9 @@ fn print(counts: &Counts) {
     println!("flag raised: {}, plan altered, by passes too: {}", counts.flags, counts.altered);
     print_all("unchanged and patched source differ by", &counts.differences);
     print_all("of these the unchanged source changes the rows, by", &counts.rows_changed_by_source);
-    println!("compared with the exported rewrite: {}, passes: {}", counts.exported, counts.passes);
+    print_all("passes with number", &counts.passes);
+    println!("passes that were granted and left nodes unvisited: {}", counts.unfinished);
+    println!("compared with the exported rewrite: {}, pass: {}", counts.exported, counts.exported_passes);
     let RowCounts { compared, not_empty, too_many } = counts.rows;
     println!(
         "rows compared: {compared}, of these not empty {not_empty}; left out, as there were too many rows: {too_many}"
@@ -130,10 +140,14 @@ fn compare_plan(options: &Options, number: u64, counts: &mut Counts) -> Result<(
     for node in nodes(random, &plan) {
         let named = |difference: String| format!("rewrite at {node}: {difference}\n{}", to_hex(&image));
         let answer = compare_builds(&plan, node, &before, counts).map_err(named)?;
-        let expected = handed_back(&answer, room(random, &image, &answer));
+        let made = match &answer {
+            Answer::Granted { plan, .. } => Some(plan),
+            Answer::Refused(_) => None,
+        };
+        let expected = handed_back(&answer, room(random, &image, made));
         compare_exported(&image, node, expected, counts).map_err(named)?;
         let (altered, with_rows) = (counts.altered, counts.rows.not_empty);
-        if let Answer::Granted { plan: after, .. } = &answer {
+        if let Some(after) = made {
             compare_plans(&plan, after, &before, counts).map_err(named)?;
         }
         let of_sort = counts.nodes.entry(sort_of(plan.node(node as usize))).or_default();
@@ -157,13 +171,16 @@ fn compare_plans(plan: &Tree, after: &Tree, before: &Rows, counts: &mut Counts) 
 }
 
 fn compare_pass(random: &mut Random, plan: &Tree, before: &Rows, counts: &mut Counts) -> Result<(), String> {
-    let budget = *random.pick(&[1, 2, 5, 10_000]);
-    if let PassAnswer::Passed { plan: after, .. } = pass(Build::Patched(ALL), plan, budget) {
-        counts.passes += 1;
-        let named = |difference: String| format!("pass of {budget}: {difference}\n{}", to_hex(&plan.image()));
-        compare_plans(plan, &after, before, counts).map_err(named)?;
-    }
-    Ok(())
+    let (image, budget) = (plan.image(), budget(random, plan));
+    let named = |difference: String| format!("pass of {budget}: {difference}\n{}", to_hex(&image));
+    let answer = pass_over(Build::Patched(ALL), plan, budget);
+    let made = match &answer {
+        PassAnswer::Passed { plan, .. } => Some(plan),
+        PassAnswer::Refused(_) => None,
+    };
+    let expected = pass_handed_back(&answer, room(random, &image, made));
+    compare_exported_pass(&image, budget, expected, counts).map_err(named)?;
+    made.map_or(Ok(()), |after| compare_plans(plan, after, before, counts)).map_err(named)
 }
 
 /// The answer of the patched source, if the unchanged one differs from it by D1 to D5 alone.
@@ -190,23 +207,6 @@ fn compare_builds(plan: &Tree, node: u32, before: &Rows, counts: &mut Counts) ->
     Ok(patched)
 }
 
-const PLANS: [&str; 12] = [
-    "TableScan",
-    "Filter",
-    "Projection",
-    "Join",
-    "SubqueryAlias",
-    "Union",
-    "Distinct",
-    "Sort",
-    "Repartition",
-    "Limit",
-    "Aggregate",
-    "Window",
-];
-
-const JOINS: [&str; 8] = ["Inner", "Left", "Right", "Full", "LeftSemi", "RightSemi", "LeftAnti", "RightAnti"];
-
 /// A Filter by what it stands over, a join by its kind, another plan by its name.
 fn sort_of(node: Option<&Tree>) -> String {
     let name = |tree: &Tree| match tree.label.kind {
@@ -219,6 +219,18 @@ fn sort_of(node: Option<&Tree>) -> String {
         Some(_) => "a record that is no plan".to_string(),
         None => "an absent record".to_string(),
     }
+}
+
+/// The result and every byte of the output.
+fn same<R: Debug + PartialEq>(expected: &(R, Vec<u8>), exported: &(R, Vec<u8>)) -> Result<(), String> {
+    if expected == exported {
+        return Ok(());
+    }
+    let room = expected.1.len();
+    let byte = (0..room).find(|&at| expected.1[at] != exported.1[at]);
+    let output = byte.map_or("the same".to_string(), |at| format!("other from byte {at} on"));
+    let results = format!("the source gives {:?}, the export {:?}", expected.0, exported.0);
+    Err(format!("room {room}: {results}, the output is {output}"))
 }
 
 /// What the caller sees must be what the export hands back.
@@ -234,18 +246,34 @@ fn compare_exported(
     let room = expected.1.len();
     let Some(exported) = ffi::rewrite(image, node, room) else { return Ok(()) };
     counts.exported += 1;
-    if exported != expected {
-        return Err(format!("room {room}: the source gives {:?}, the export {:?}", expected.0, exported.0));
-    }
-    Ok(())
+    same(&expected, &exported)
 }
 
-/// A rewrite of an image that most often is refused.
+/// The same for a pass.
+fn compare_exported_pass(
+    image: &[u8],
+    budget: u64,
+    expected: (Passed, Vec<u8>),
+    counts: &mut Counts,
+) -> Result<(), String> {
+    *counts.passes.entry(expected.0.number).or_default() += 1;
+    counts.unfinished += u64::from(expected.0.number == 0 && expected.0.finished == 0);
+    let room = expected.1.len();
+    let Some(exported) = ffi::pass(image, budget, room) else { return Ok(()) };
+    counts.exported_passes += 1;
+    same(&expected, &exported)
+}
+
+/// A rewrite and a pass of an image that most often is refused.
 fn compare_damaged(options: &Options, number: u64, counts: &mut Counts) -> Result<(), String> {
     let image = damage::case(options.seed, number).image;
     let random = &mut Random::of_case(options.seed ^ u64::MAX, number);
     let (node, room) = (random.below(4) as u32, random.below(image.len() + 100));
+    let named = |difference: String| format!("damaged image, at {node}: {difference}\n{}", to_hex(&image));
     let expected = rewrite(Build::Patched(ALL), &image, node, room);
-    let named = |difference: String| format!("damaged image, rewrite at {node}: {difference}\n{}", to_hex(&image));
-    compare_exported(&image, node, expected, counts).map_err(named)
+    compare_exported(&image, node, expected, counts).map_err(named)?;
+    // a pass of as many visits as the node's number
+    let budget = u64::from(node);
+    let expected = pass(Build::Patched(ALL), &image, budget, room);
+    compare_exported_pass(&image, budget, expected, counts).map_err(named)
 }

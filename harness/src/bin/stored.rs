@@ -1,12 +1,13 @@
 //! Compares the harness with the stored cases, which the formal definitions computed: the verdicts of images, the
 //! records of plans, the numbers that tests 6 and 7 give to plans, and the answers to rewrites and passes, which the
-//! patched source must give as well. With the feature `library` the exported check answers for the images too. Reads
-//! crates/cases/specs/*.antt, or the folder named on the command line.
+//! patched source must give as well. The exported check, rewrite and pass answer too, as far as they are linked (features
+//! `library`, `rewrite`, `pass`). Reads crates/cases/specs/*.antt, or the folder named on the command line.
 
 use harness::checker::{check, Verdict};
 use harness::ffi;
-use harness::image;
-use harness::rewriting::{pass, rewrite_at};
+use harness::image::{self, RECORD_BYTES};
+use harness::limits::RECORDS;
+use harness::rewriting::*;
 use harness::source::{Build, ALL};
 use harness::terms::{pass_of, plan_of, records_of, rewrite_of};
 use std::path::{Path, PathBuf};
@@ -79,7 +80,10 @@ fn statements(text: &str, asked: &str) -> Vec<String> {
 fn main() -> ExitCode {
     let folder = std::env::args().nth(1).map_or_else(default_folder, PathBuf::from);
     let text = files(&folder).iter().map(|file| std::fs::read_to_string(file).unwrap_or_default()).collect::<String>();
-    println!("the exported check is {}", if ffi::LINKED { "compared as well" } else { "not linked" });
+    let linked = [("check", ffi::LINKED), ("rewrite", ffi::REWRITES), ("pass", ffi::PASSES)];
+    for (name, is_linked) in linked {
+        println!("the exported {name} is {}", if is_linked { "compared as well" } else { "not linked" });
+    }
     let agreed = SORTS.iter().filter(|sort| agrees(sort, &text)).count();
     if agreed == SORTS.len() {
         ExitCode::SUCCESS
@@ -153,18 +157,28 @@ fn number_of_plan(case: &str) -> Option<Result<(), String>> {
     Some(same("checker", stored, check(&plan_of(plan)?.image()).number))
 }
 
+/// Room for every answer.
+const ROOM: usize = RECORDS * RECORD_BYTES;
+
 /// `0 (plan) (granted true (plan))`
 fn answer_of_rewrite(case: &str) -> Option<Result<(), String>> {
     let stored = rewrite_of(case)?;
     let answer = rewrite_at(Build::Patched(ALL), &stored.plan, stored.number);
-    Some(agree(stored.answer == answer, || format!("stored {:?}, source {answer:?}", stored.answer)))
+    let exported = ffi::rewrite(&stored.plan.image(), stored.number, ROOM);
+    let is_same = exported.is_none_or(|exported| exported == handed_back(&answer, ROOM));
+    let of_source = agree(stored.answer == answer, || format!("stored {:?}, source {answer:?}", stored.answer));
+    Some(of_source.and_then(|()| agree(is_same, || "the exported rewrite answers otherwise".to_string())))
 }
 
 /// `10000 (plan) (passed 1 1 1 (plan))`
 fn answer_of_pass(case: &str) -> Option<Result<(), String>> {
     let stored = pass_of(case)?;
-    let answer = pass(Build::Patched(ALL), &stored.plan, stored.number);
-    Some(agree(stored.answer == answer, || format!("stored {:?}, source {answer:?}", stored.answer)))
+    let budget = u64::from(stored.number);
+    let answer = pass_over(Build::Patched(ALL), &stored.plan, budget);
+    let exported = ffi::pass(&stored.plan.image(), budget, ROOM);
+    let is_same = exported.is_none_or(|exported| exported == pass_handed_back(&answer, ROOM));
+    let of_source = agree(stored.answer == answer, || format!("stored {:?}, source {answer:?}", stored.answer));
+    Some(of_source.and_then(|()| agree(is_same, || "the exported pass answers otherwise".to_string())))
 }
 
 fn agree(is_same: bool, difference: impl Fn() -> String) -> Result<(), String> {

@@ -4,6 +4,7 @@
 
 mod from_plan;
 mod into_plan;
+pub mod rule;
 mod words;
 
 pub use patched::switches::{Switches, ALL, NONE};

@@ -1,4 +1,5 @@
 -- `calling::hand_over` meets its contract.
+use native.Mathlib.Omega.{arith}
 use borrow.Author.Needs.{needs}
 use Rattle.pass.proofs.Reports.{no-room, some-room}
 use Rattle.pass.proofs.calling.hand_over.Statement.{statement}
@@ -10,8 +11,8 @@ hand-over-spec =
     (tie.spec
     (λ c κs. search needs)
     (λ c. search needs)
-    (λ c x h. no-room _ h (c .before .before .before .before .if1 .taken) (c .before .before .clear .ensures))
+    (λ c. (tt, λ x h. no-room _ h (c .before .before .before .before .if1 .taken) (c .before .before .clear .ensures)))
     (λ c. search needs)
     (λ c κs. search needs)
     (λ c. search needs)
-    (λ c x h. some-room _ h (c .before .before .before .before .before .before .if1 .left) (c .before .before .before .hand-out .ensures)))
+    (λ c. (omega (arith, c .before .before .before .before .before .before .before .before .before .before .pre), λ x h. some-room _ h (c .before .before .before .before .before .before .if1 .left) (c .before .before .before .hand-out .ensures))))

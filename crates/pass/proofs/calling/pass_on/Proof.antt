@@ -30,12 +30,14 @@ pass-on-spec =
     let d = b .before .before .before .before .before .before .before in
     let w = d .before .before .before .before .before .before .before .before .pre .0 in
     let e = b .visit-all .ensures _ (w .accepted .well) (copied w (d .copy-image .ensures)) in
-    refused-11 _ (e .refused (untold (c .before .before .before .before .if1 .taken))) (c .before .before .clear .ensures) ∙ called _ _ _)
+    let no = untold (c .before .before .before .before .if1 .taken) in
+    (omega (arith, e .near no), refused-11 _ (e .refused no) (c .before .before .clear .ensures) ∙ called _ _ _))
     (λ c κs. let b = c .before .before .before .before .before .before .before .before .before .before .before .before in
     let d = b .before .before .before .before .before .before .before in
     let w = d .before .before .before .before .before .before .before .before .pre .0 in
     let e = b .visit-all .ensures _ (w .accepted .well) (copied w (d .copy-image .ensures)) in
-    image-room (e .left (told (c .before .before .if1 .left)) .image))
+    (image-room (e .left (told (c .before .before .if1 .left)) .image),
+    omega (arith, b .visit-all .kept, d .copy-image .kept, d .before .before .before .before .before .before .before .before .pre .1)))
     (λ c. search needs)
     (λ c. search needs)
     (λ c. search needs)
@@ -45,4 +47,5 @@ pass-on-spec =
     let d = b .before .before .before .before .before .before .before in
     let w = d .before .before .before .before .before .before .before .before .pre .0 in
     let e = b .visit-all .ensures _ (w .accepted .well) (copied w (d .copy-image .ensures)) in
-    c .before .before .hand-over .ensures _ (e .left (told (c .before .before .before .before .before .if1 .left))) ∙ called _ _ _))
+    let h = c .before .before .hand-over .ensures in
+    (h .0, h .1 _ (e .left (told (c .before .before .before .before .before .if1 .left))) ∙ called _ _ _)))

@@ -2,8 +2,9 @@
 use mathlib.Core.Path.{_∙_}
 use native.Mathlib.Omega.{arith}
 use borrow.Author.Needs.{needs}
-use Rattle.rewriting.proofs.Calls.{whole, is-accepted}
-use Rattle.pass.proofs.Reports.{refused-image, accepted-image}
+use Rattle.checking.proofs.Accepting.{is-accepted}
+use Rattle.rewriting.proofs.Calls.{whole}
+use Rattle.pass.proofs.Reports.{place-small, refused-image, accepted-image}
 use Rattle.pass.proofs.calling.pass_within.Statement.{statement}
 use Rattle.pass.proofs.calling.pass_within.Tie as tie
 
@@ -17,7 +18,8 @@ pass-within-spec =
     (λ c. search needs)
     (λ c. let b = c .before .before .before .before in
     let d = b .before .before in
-    refused-image _ (d .check .result) (d .check .ensures) (b .before .number-of .ensures) _ _ (b .if1 .taken) (c .before .before .clear .ensures))
+    (place-small _ (d .check .result) (d .check .ensures),
+    refused-image _ (d .check .result) (d .check .ensures) (b .before .number-of .ensures) _ _ (b .if1 .taken) (c .before .before .clear .ensures)))
     (λ c κs. let b = c .before .before .before .before .before in
     let d = b .before .before in
     let s = d .before .before .before .before .before .before in
@@ -30,5 +32,5 @@ pass-within-spec =
     (λ c. search needs)
     (λ c. let b = c .before .before .before .before .before .before .before .before .before .before .before .before .before .before .before .before in
     let d = b .before .before in
-    c .before .before .before .before .before .before .before .before .before .before .pass-on .ensures
-    ∙ accepted-image _ (d .check .result) (d .check .ensures) (b .before .number-of .ensures) _ _ (b .if1 .left)))
+    let p = c .before .before .before .before .before .before .before .before .before .before .pass-on .ensures in
+    (p .0, p .1 ∙ accepted-image _ (d .check .result) (d .check .ensures) (b .before .number-of .ensures) _ _ (b .if1 .left))))
