@@ -20,7 +20,7 @@ use Rattle.pushing.proofs.Perhapsing.{both}
 use Rattle.pushing.proofs.Root.{plan-fits}
 use Rattle.rewriting.specs.Outcomes.{Image}
 use Rattle.rewriting.proofs.Finishes.{no-yes, told, untold}
-use Rattle.pass.specs.Walks.{Walk, within, rest, Standing, Visited, Ends}
+use Rattle.pass.specs.Walks.{Walk, within, rest, Standing, Visited, goes-on, Ends}
 use Rattle.pass.proofs.Steps.{within-some}
 
 -- ---- the start
@@ -52,9 +52,6 @@ visited-as e v = record {
 }
 
 -- ---- whether it goes on
-
-abbrev goes-on : Walk → Bool
-goes-on w = (w .fits && ltb (w .next) (w .records)) && not (eqb (w .left) 0)
 
 module _ (w : Walk) (t : goes-on w ≡ true) where
   still-fits : (w .fits && ltb (w .next) (w .records)) ≡ true

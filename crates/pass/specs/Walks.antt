@@ -1,10 +1,10 @@
 -- Where a pass stands, in the code's numbers, and what it comes to from there.
 use mathlib.Core.Path.{_≡_}
-use mathlib.Core.Bool.{Bool, true, false}
+use mathlib.Core.Bool.{Bool, true, false, not, _&&_}
 use mathlib.Core.List.{List}
 use mathlib.Core.Option.{Option, none, some}
 use Prim.Native.Nat.{ℕ, suc, _+_, _-_, _≤_, _<_}
-use lib.Dec.{leb}
+use lib.Dec.{eqb, leb, ltb}
 use lib.ListN.{length}
 use Rattle.image.specs.Limits.{workBytes, maxRecords}
 use Rattle.plan.specs.Lists.{choose}
@@ -98,6 +98,10 @@ pub record Visited (s : List ℕ) (w : Walk) (x : PassAnswer) : Type 0 where
   pub refused : w .fits ≡ false → x ≡ pass-refused 11 (w .next)
   pub near : w .fits ≡ false → w .next < maxRecords
   pub going : w .fits ≡ true → Going s w x
+
+-- no rewrite was refused, a plan is left, and something of the budget
+abbrev pub goes-on : Walk → Bool
+goes-on w = (w .fits && ltb (w .next) (w .records)) && not (eqb (w .left) 0)
 
 -- the image of a well-formed plan is at the start of the bytes
 pub record Begins (s : List ℕ) (records : ℕ) : Type 0 where

@@ -13,7 +13,7 @@ ghost use Rattle.plan.specs.Syntax.{Plan};
 ghost use Rattle.acceptance.specs.Accepted.{WellFormed, Accepted};
 ghost use Rattle.rewrite.specs.Pass.{pass};
 ghost use Rattle.rewriting.specs.Outcomes.{Image};
-ghost use Rattle.pass.specs.Walks.{Next, Counted, Stands, Standing, rest, Continues, Came, Comes, Visited, Begins, Ends, Lent};
+ghost use Rattle.pass.specs.Walks.{Next, Counted, Stands, Standing, rest, Continues, Came, Comes, Visited, goes-on, Begins, Ends, Lent};
 
 // Where a pass stands: whether each rewrite was within the limits; how many records the image has now, and the one to visit next, if it is one
 // of them; what is left of the budget; the visits and the flags raised so far.
@@ -108,6 +108,13 @@ fn visit(w: Walk, image: &mut [u8], m: &mut [u8], work: &mut [u8], levels: &mut 
     take_over(w, r, work, image)
 }
 
+// Whether a plan is left to visit, and something of the budget.
+fn goes_on(w: Walk) -> bool
+    ensures { λ r. ⌜ r ≡ goes-on w ⌝ }
+{
+    w.fits & (w.next < w.records) & (w.left != 0)
+}
+
 // Visits one plan after the other, from the root on, until none or nothing of the budget is left, or a rewrite is refused.
 pub fn visit_all(
     records: usize,
@@ -129,7 +136,7 @@ pub fn visit_all(
         visits: 0,
         changed: 0,
     };
-    while w.fits & (w.next < w.records) & (w.left != 0) {
+    while goes_on(w) {
         w = visit(w, image, m, work, levels);
     }
     w

@@ -15,4 +15,5 @@ hand-over-spec =
     (λ c. search needs)
     (λ c κs. search needs)
     (λ c. search needs)
-    (λ c. (omega (arith, c .before .before .before .before .before .before .before .before .before .before .pre), λ x h. some-room _ h (c .before .before .before .before .before .before .if1 .left) (c .before .before .before .hand-out .ensures))))
+    (λ c. let b = c .before .before .before .before .before .before in
+    (omega (arith, b .before .before .before .before .pre), λ x h. some-room _ h (b .if1 .left) (c .before .before .before .hand-out .ensures))))

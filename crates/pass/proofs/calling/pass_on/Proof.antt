@@ -35,9 +35,10 @@ pass-on-spec =
     (λ c κs. let b = c .before .before .before .before .before .before .before .before .before .before .before .before in
     let d = b .before .before .before .before .before .before .before in
     let w = d .before .before .before .before .before .before .before .before .pre .0 in
-    let e = b .visit-all .ensures _ (w .accepted .well) (copied w (d .copy-image .ensures)) in
-    (image-room (e .left (told (c .before .before .if1 .left)) .image),
-    omega (arith, b .visit-all .kept, d .copy-image .kept, d .before .before .before .before .before .before .before .before .pre .1)))
+    let e = b .visit-all .ensures _ (w .accepted .well) (copied w (d .copy-image .ensures)) in (
+      image-room (e .left (told (c .before .before .if1 .left)) .image),
+      omega (arith, b .visit-all .kept, d .copy-image .kept, d .before .before .before .before .before .before .before .before .pre .1),
+    ))
     (λ c. search needs)
     (λ c. search needs)
     (λ c. search needs)

@@ -17,9 +17,10 @@ pass-within-spec =
     (λ c κs. search needs)
     (λ c. search needs)
     (λ c. let b = c .before .before .before .before in
-    let d = b .before .before in
-    (place-small _ (d .check .result) (d .check .ensures),
-    refused-image _ (d .check .result) (d .check .ensures) (b .before .number-of .ensures) _ _ (b .if1 .taken) (c .before .before .clear .ensures)))
+    let d = b .before .before in (
+      place-small _ (d .check .result) (d .check .ensures),
+      refused-image _ (d .check .result) (d .check .ensures) (b .before .number-of .ensures) _ _ (b .if1 .taken) (c .before .before .clear .ensures),
+    ))
     (λ c κs. let b = c .before .before .before .before .before in
     let d = b .before .before in
     let s = d .before .before .before .before .before .before in

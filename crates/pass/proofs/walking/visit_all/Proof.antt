@@ -1,7 +1,8 @@
 -- `walking::visit_all` meets its contract. The loop's invariant: from where the walk stands, the pass comes to what it comes to from the start.
-use mathlib.Core.Path.{_≡_, refl}
+use mathlib.Core.Path.{_≡_, refl, sym, _∙_}
 use native.Mathlib.Omega.{arith}
 use lib.ListN.{length}
+use borrow.Author.Needs.{needs}
 use Rattle.plan.specs.Syntax.{Plan}
 use Rattle.acceptance.specs.Accepted.{WellFormed}
 use Rattle.rewrite.specs.Pass.{pass}
@@ -27,26 +28,27 @@ visit-all-spec =
     Inv-loop
     μ-loop
     (λ c. (refl, refl, refl, refl, λ q w i. begun _ w i (omega arith)))
-    (λ c κs. let b = c .before .before .before .before .before .before .before .before in
+    (λ c κs. search needs)
+    (λ c κs. let b = c .before .before .before .before .before .before in
     let p = b .before .before .before .before .before .pre in
-    let t = c .before .before .before .before .if1 .taken in
+    let t = sym (c .before .before .before .before .before .goes-on .ensures) ∙ c .before .before .before .before .if1 .taken in
     let k = b .loop .inv in
     let w = b .loop .w in
     (standing w t (k .4 (p .0 .plan) (p .0 .well) (p .0 .image)), ((goes-small w t, goes-left w t), lent-still (p .1) (k .0) (k .1) (k .2) (k .3))))
     (λ c. c .before .before .before .before .before .before .before .before .visit .ensures .0)
     (λ c. let b = c .before .before .before .before .before .before .before .before in
-    let d = b .before .before .before .before .before .before .before .before .before in
+    let d = b .before .before .before .before .before .before .before in
     let k = d .loop .inv in
-    let e = b .visit .kept in (
+    let e = b .visit .kept in
+    let t = sym (b .before .before .before .before .before .before .goes-on .ensures) ∙ b .before .before .before .before .before .if1 .taken in (
       omega (arith, k, e),
       omega (arith, k, e),
       omega (arith, k, e),
       omega (arith, k, e),
-      λ q w i. let g = k .4 q w i .going (goes-fit (d .loop .w) (b .before .before .before .before .before .if1 .taken)) in
-          visited-as (g .comes) (b .visit .ensures .1 (g .plan) (g .stands)),
+      λ q w i. let g = k .4 q w i .going (goes-fit (d .loop .w) t) in visited-as (g .comes) (b .visit .ensures .1 (g .plan) (g .stands)),
     ))
-    (λ c. c .before .before .before .before .loop .inv .0)
-    (λ c. c .before .before .before .before .loop .inv .1)
-    (λ c. c .before .before .before .before .loop .inv .2)
-    (λ c. c .before .before .before .before .loop .inv .3)
-    (λ c q w i. ended (c .before .before .before .before .loop .w) (c .if1 .left) (c .before .before .before .before .loop .inv .4 q w i)))
+    (λ c. c .before .before .loop .inv .0)
+    (λ c. c .before .before .loop .inv .1)
+    (λ c. c .before .before .loop .inv .2)
+    (λ c. c .before .before .loop .inv .3)
+    (λ c q w i. ended (c .before .before .loop .w) (sym (c .before .goes-on .ensures) ∙ c .if1 .left) (c .before .before .loop .inv .4 q w i)))
