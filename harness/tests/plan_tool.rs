@@ -78,7 +78,10 @@ fn the_grammar_is_the_readme_s() {
 #[test]
 fn the_examples_are_plans() {
     let folder = concat!(env!("CARGO_MANIFEST_DIR"), "/../examples/plans");
-    let files = std::fs::read_dir(folder).expect("the folder of examples").flatten();
-    let shown = files.map(|file| printed(&["pass", &file.path().display().to_string()], b"")).count();
-    assert!(shown > 0);
+    let files: Vec<_> = std::fs::read_dir(folder).expect("the folder of examples").flatten().collect();
+    assert!(!files.is_empty());
+    for file in files {
+        let passed = printed(&["pass", &file.path().display().to_string()], b"");
+        assert!(passed.contains("finished 1\n"), "{passed}");
+    }
 }

@@ -2,8 +2,8 @@
 --     at-column, at-literal, at-operator
 -- Assumes nothing.
 use mathlib.Core.Path.{_≡_, refl, sym, ap, _∙_}
-use mathlib.Core.Bool.{Bool, true, false, cond}
-use mathlib.Core.List.{List, [], _∷_}
+use mathlib.Core.Bool.{Bool, true, false}
+use mathlib.Core.List.{List}
 use Prim.Native.Nat.{ℕ}
 use native.Mathlib.Omega.{arith}
 use lib.Dec.{eqb}
@@ -15,10 +15,9 @@ use Rattle.plan.specs.Kinds.{What, expr, plan, part, unknown, what, whatOf, amo
 use Rattle.plan.specs.Read.{exprBy, headE, tailE}
 use Rattle.plan.specs.Syntax.{Value, null, nm, Exprs, enil, econs}
 use Rattle.plan.specs.Values.{ValueRecord, caseOf, literalOf}
-use Rattle.plan.specs.declared.values.Literal.{Literal}
 use Rattle.plan.specs.declared.values.Literal.the-variants.{Of, Not}
 use Rattle.plan.proofs.Rebuilt.{kind-e}
-use Rattle.meaning.specs.Meaning.{Env, eval, evals, binary, not3, negate, tested, within, in-list}
+use Rattle.meaning.specs.Meaning.{Env, eval, evals}
 use Rattle.rewrite.specs.RowTest.{no-functions}
 use Rattle.evaluate.specs.Operators.{operand, operated}
 

@@ -11,7 +11,6 @@ use Rattle.image.specs.Tree.{Label, Forest, none, node, Tree}
 use Rattle.plan.specs.Read.{exprsOf}
 use Rattle.plan.specs.Syntax.{Value, Name, nm}
 use Rattle.plan.specs.Values.{ValueRecord, caseOf, literalOf}
-use Rattle.plan.specs.declared.values.Literal.{Literal}
 use Rattle.plan.specs.declared.values.Literal.the-variants.{Of, Not}
 use Rattle.meaning.specs.Meaning.{Env, look, eval, evals}
 use Rattle.rewrite.specs.RowTest.{lent, no-functions}

@@ -1,25 +1,25 @@
 -- Where the plans of an image stand: `focus` finds a plan at a record exactly if the record is a plan's, and it stands there.
 -- Assumes nothing.
-use mathlib.Core.Path.{_≡_, refl, sym, ap, subst, _∙_}
+use mathlib.Core.Path.{_≡_, refl}
 use mathlib.Core.Bool.{Bool, true, false}
 use mathlib.Core.List.{List, [], _∷_}
 use mathlib.Core.Option.{Option, none, some}
-use Prim.Native.Nat.{ℕ, zero, suc, _+_, _-_, _*_, _≤_, _<_}
+use Prim.Native.Nat.{ℕ, suc, _+_, _-_, _*_, _≤_, _<_}
 use native.Mathlib.Omega.{arith}
 use lib.Dec.{eqb, leb}
 use lib.ListN.{drop}
 use lib.Seq.{drop-drop}
 use borrow.Author.Tests.{eqb-true, eqb-false, leb-true, leb-false}
 use Rattle.image.specs.Tree as T
-use Rattle.image.specs.Tree.{Label, Forest, node, Tree, size, Stands, At, Deep}
-use Rattle.plan.specs.Lists.{_&_, choose}
+use Rattle.image.specs.Tree.{Label, Forest, node, size, Stands, At, Deep}
+use Rattle.plan.specs.Lists.{choose}
 use Rattle.plan.proofs.Lists.{and-l, and-r}
-use Rattle.plan.specs.Integers.{FitsP, FitsPs}
+use Rattle.plan.specs.Integers.{FitsPs}
 use Rattle.plan.specs.Measure.{sizeE, sizeP, sizes}
 use Rattle.plan.specs.Syntax.{Expr, Entry, Pair, Key, AggEntry, WinEntry, Kind, Plan, scan, filter, project, join, alias, union, distinct, sort}
 use Rattle.plan.specs.Syntax.{repartition, limit, aggregate, window}
 use Rattle.plan.specs.Syntax.{Plans, pnil, pcons}
-use Rattle.plan.specs.Trees.{before, each, entryLabel, entryKids, pairLabel, pairKids, keyLabel, keyKids, aggLabel, aggKids, winLabel, winKids}
+use Rattle.plan.specs.Trees.{each, entryLabel, entryKids, pairLabel, pairKids, keyLabel, keyKids, aggLabel, aggKids, winLabel, winKids}
 use Rattle.plan.specs.Trees.{filterKids, labelP, kidsP, forestP, planTree, labelE, kidsE}
 use Rattle.plan.proofs.Measure.{size-filter, size-project, size-join, size-alias, size-union, size-distinct, size-sort, size-repartition}
 use Rattle.plan.proofs.Measure.{size-limit, size-aggregate, size-window, size-pcons, size-each}

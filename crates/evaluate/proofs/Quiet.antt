@@ -4,7 +4,7 @@
 --     region, region-each     so no record where such a forest stands, or where a run of parts does
 --     past-each       what stands after a run of parts
 -- Assumes nothing.
-use mathlib.Core.Path.{_≡_, refl, sym, ap, subst, _∙_}
+use mathlib.Core.Path.{_≡_, refl, sym, subst}
 use mathlib.Core.Bool.{Bool, true, false}
 use mathlib.Core.List.{List, [], _∷_}
 use mathlib.Core.Option as O

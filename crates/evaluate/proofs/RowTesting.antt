@@ -1,37 +1,36 @@
 -- Laws of the row test: the parts of a Filter, what stands at a record, and the tests in their order.
 -- Assumes nothing.
 use mathlib.Core.Path.{_≡_, refl, sym, ap, subst, _∙_}
-use mathlib.Core.Bool.{Bool, true, false, not, cond}
+use mathlib.Core.Bool.{Bool, true, false, not}
 use mathlib.Core.List.{List, [], _∷_}
 use mathlib.Core.Option.{Option, none, some}
-use Prim.Native.Nat.{ℕ, suc, _+_, _-_, _*_, _/_, _≤_, _<_}
+use Prim.Native.Nat.{ℕ, suc, _+_, _-_, _*_, _≤_, _<_}
 use native.Mathlib.Omega.{arith}
-use lib.Dec.{eqb, leb}
+use lib.Dec.{leb}
 use lib.IntN.{ℤ}
 use lib.ListN.{length, take, drop, length-take, length-drop}
 use lib.Seq.{drop-drop}
-use borrow.Author.Tests.{eq-eqb, ne-eqb, leb-true, le-leb}
+use borrow.Author.Tests.{eq-eqb, ne-eqb, leb-true}
 use Rattle.image.specs.Word.{Bytes, word}
 use Rattle.image.specs.Flat.{enc}
 use Rattle.image.specs.Limits.{maxDepth}
 use Rattle.image.specs.Lowest.{Found, nothing, found, orElse, unless, lowest, alone}
 use Rattle.image.specs.Tree as T
-use Rattle.image.specs.Tree.{Label, Forest, node, Tree, At, Deep, Readable, Linked, size, link, Stands}
+use Rattle.image.specs.Tree.{Label, Forest, node, At, Deep, Linked, size, Stands}
 use Rattle.image.proofs.Walking.{linked-first}
 use Rattle.plan.specs.Integers.{FitsE}
-use Rattle.plan.specs.Kinds.{planW, what, whatOf, among}
-use Rattle.plan.specs.Lists.{_&_, choose}
+use Rattle.plan.specs.Kinds.{planW, whatOf, among}
+use Rattle.plan.specs.Lists.{choose}
 use Rattle.plan.specs.Measure.{sizeP}
 use Rattle.plan.specs.Schema.{schema}
-use Rattle.plan.specs.Syntax.{Expr, Plan, scan, filter, project, join, alias, union, distinct, sort, repartition, limit, aggregate, window, Value, null}
-use Rattle.plan.specs.Syntax.{int, truth}
+use Rattle.plan.specs.Syntax.{Expr, Plan, scan, filter, project, join, alias, union, distinct, sort, repartition, limit, aggregate, window, Value}
 use Rattle.plan.specs.Trees.{labelE, kidsE, exprTree, labelP, kidsP, planTree}
 use Rattle.plan.specs.Types.{types}
-use Rattle.plan.proofs.Lists.{and-l, and-r}
+use Rattle.plan.proofs.Lists.{and-r}
 use Rattle.plan.proofs.Written.{planAt-back, expr-back}
 use Rattle.meaning.specs.Meaning.{tri, isT, isF, look, eval}
 use Rattle.acceptance.specs.Accepted.{WellFormed}
-use Rattle.acceptance.specs.Check.{Verdict, verdict, check, tooDeep}
+use Rattle.acceptance.specs.Check.{verdict, check, tooDeep}
 use Rattle.acceptance.proofs.Accept.{accepted}
 use Rattle.acceptance.proofs.Converse.{same-tree, stands-alone}
 use Rattle.acceptance.proofs.WellFormed.{well-formed-rules}
@@ -46,10 +45,9 @@ use Rattle.utils.specs.Fields.{Names as NamesOf}
 use Rattle.rewrite.proofs.OnBytes.{tree-length}
 use Rattle.checking.specs.Answer.{verdictOf}
 use Rattle.checking.specs.declared.Checked.{Checked}
-use Rattle.checking.specs.declared.Checked.the-variants.{Accepted, Buffer, Record, Link, Depth, Form, Names, Types}
 use Rattle.rewrite.specs.OnBytes.{planIn, planFromLinks, isAccepted}
 use Rattle.rewrite.specs.RewriteAt.{Focus, focus}
-use Rattle.rewrite.specs.RowTest.{Tested, row-ok, lent, no-functions, no-test, truth-number, test-predicate, test-plan, test-focus, row-test-bytes}
+use Rattle.rewrite.specs.RowTest.{row-ok, lent, no-functions, no-test, truth-number, test-predicate, test-plan, test-focus, row-test-bytes}
 use Rattle.rewrite.specs.Utils.{any-fn}
 use Rattle.evaluate.specs.Truths.{valueOf}
 use Rattle.evaluate.specs.Operators.{exprIn}
@@ -58,7 +56,6 @@ use Rattle.evaluate.specs.Answer.{testedOf}
 use Rattle.evaluate.specs.declared.logic.Truth.{Truth}
 use Rattle.evaluate.specs.declared.testing.Answer.the-variants.{Is}
 use Rattle.evaluate.proofs.TruthLaws.{never, of-value, of-value-f}
-use Rattle.evaluate.proofs.Quiet.{OtherAt}
 use Rattle.evaluate.proofs.Rows.{types-length}
 use Rattle.evaluate.proofs.Locating.{Place, there, nowhere}
 
@@ -313,17 +310,6 @@ whole s bytes h = let a = accepted s bytes h in subst Whole (sym (a .1 .image)) 
 
 -- ---- the whole test
 
--- only an accepted image has the number 0
-pub accepted-only : (a : Checked) → verdictOf a .number ≡ 0 → verdictOf a ≡ verdict 0 0
-accepted-only Accepted h = refl
-accepted-only Buffer h = absurd (omega arith)
-accepted-only (Record r) h = absurd (omega arith)
-accepted-only (Link r) h = absurd (omega arith)
-accepted-only (Depth r) h = absurd (omega arith)
-accepted-only (Form r) h = absurd (omega arith)
-accepted-only (Names r) h = absurd (omega arith)
-accepted-only (Types r) h = absurd (omega arith)
-
 module _ (s : List ℕ) (n : ℕ) (zs : List ℤ) (ms : List ℕ) (a : Checked) (e : verdictOf a ≡ check s) {k : ℕ} (is : k ≡ verdictOf a .number) where
   pub refused : (k ≡ 0 → ⊥) → no-test (verdictOf a) ≡ row-test-bytes s n zs ms
   unfolding row-test-bytes isAccepted choose
@@ -332,6 +318,3 @@ module _ (s : List ℕ) (n : ℕ) (zs : List ℤ) (ms : List ℕ) (a : Checked) 
   pub granted : k ≡ 0 → test-focus n (focus n (planIn s)) zs ms ≡ row-test-bytes s n zs ms
   unfolding row-test-bytes isAccepted choose
   granted h = rw (← e, eq-eqb (verdictOf a .number) 0 (sym is ∙ h))
-
-pub is-accepted : (s : List ℕ) (a : Checked) → verdictOf a ≡ check s → {k : ℕ} → k ≡ verdictOf a .number → k ≡ 0 → check s ≡ verdict 0 0
-is-accepted s a e is h = sym e ∙ accepted-only a (sym is ∙ h)

@@ -1,5 +1,4 @@
 -- The number, the record and the truth of each case of the row test's answer.
-use Prim.Native.Nat.{ℕ}
 use Rattle.acceptance.specs.Check.{verdict}
 use Rattle.checking.specs.Answer.{verdictOf}
 use Rattle.rewrite.specs.RowTest.{Tested, no-test, truth-number}

@@ -7,6 +7,7 @@ use Rattle.rewrite.specs.RowTest as R
 use Rattle.push_down_filter.specs.declared.Verdict.{Verdict}
 use Rattle.push_down_filter.specs.declared.Tested.{Tested}
 use Rattle.push_down_filter.specs.declared.Rewritten.{Rewritten}
+use Rattle.push_down_filter.specs.declared.Passed.{Passed}
 
 abbrev pub verdictIs : Verdict → C.Verdict
 verdictIs v = C.verdict (v .number) (v .«record»)
@@ -17,3 +18,15 @@ testedIs t = record { number = t .number; place = t .«record»; truth = t .trut
 -- beside the whole output
 abbrev pub rewrittenIs : Rewritten → List ℕ → O.Rewritten
 rewrittenIs r out = record { number = r .number; place = r .«record»; flag = r .flag; records = r .records; output = out }
+
+abbrev pub passedIs : Passed → List ℕ → O.Passed
+passedIs r out =
+    record {
+      number = r .number;
+      place = r .«record»;
+      visits = r .visits;
+      changed = r .changed;
+      finished = r .finished;
+      records = r .records;
+      output = out;
+    }

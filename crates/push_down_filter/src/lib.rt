@@ -3,13 +3,14 @@ use checking::check;
 use checking::number_of;
 use checking::place_of;
 use evaluate::testing::row_test;
+use pass::calling::pass_bytes;
 use rewriting::calling::rewrite_bytes;
 ghost use mathlib.Core.Path.{_≡_};
 ghost use Rattle.acceptance.specs.Check as Check;
 ghost use lib.ListN.{length};
-ghost use Rattle.rewrite.specs.OnBytes.{rewrite-bytes};
+ghost use Rattle.rewrite.specs.OnBytes.{rewrite-bytes, pass-bytes};
 ghost use Rattle.rewrite.specs.RowTest.{row-test-bytes};
-ghost use Rattle.push_down_filter.specs.Boundary.{verdictIs, testedIs, rewrittenIs};
+ghost use Rattle.push_down_filter.specs.Boundary.{verdictIs, testedIs, rewrittenIs, passedIs};
 
 // Number and record of a refusal; 0 and 0 for an accepted image.
 #[repr(C)]
@@ -52,6 +53,35 @@ pub extern "C" fn push_down_filter_rewrite(image: &[u8], node: u32, out: &mut [u
         number: rewriting::calling::number_of(answer),
         record: place as u32,
         flag: rewriting::calling::flag_of(answer),
+        records: records as u32,
+    }
+}
+
+// Number and record of a refusal, or 0, 0, the visits, the flags raised, whether no plan was left to visit, and how many records there are.
+#[repr(C)]
+pub struct Passed {
+    pub number: u32,
+    pub record: u32,
+    pub visits: u64,
+    pub changed: u64,
+    pub finished: u32,
+    pub records: u32,
+}
+
+// A pass from the root on, of at most `budget` visits; the image that it leaves goes to `out`, zeros after it, or zeros alone where it is refused.
+#[no_mangle]
+pub extern "C" fn push_down_filter_pass(image: &[u8], budget: u64, out: &mut [u8]) -> Passed
+    ensures { λ r. ⌜ passedIs r (now (out .exit)) ≡ pass-bytes (now (image .entry)) budget (length (now (out .entry))) ⌝ }
+{
+    let answer = pass_bytes(image, budget, out);
+    let place = pass::calling::place_of(answer);
+    let records = pass::calling::records_of(answer);
+    Passed {
+        number: pass::calling::number_of(answer),
+        record: place as u32,
+        visits: pass::calling::visits_of(answer),
+        changed: pass::calling::changed_of(answer),
+        finished: pass::calling::finished_of(answer),
         records: records as u32,
     }
 }

@@ -1,8 +1,8 @@
 -- Answers whose lists are none too long.
-use Prim.Native.Nat.{ℕ, _≤_, _<_, max as larger}
+use Prim.Native.Nat.{ℕ, _≤_}
 use native.Mathlib.Omega.{arith}
 use native.Mathlib.Nat.{max-le, le-trans, le-of-eq}
-use mathlib.Core.Path.{_≡_, refl, sym, ap, _∙_}
+use mathlib.Core.Path.{_≡_, sym}
 use mathlib.Core.List.{List}
 use lib.ListN.{length}
 use Rattle.image.specs.Limits.{maxList}

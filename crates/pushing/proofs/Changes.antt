@@ -1,8 +1,8 @@
 -- Predicates whose columns are replaced when they are written.
-use Prim.Native.Nat.{ℕ, suc, _+_, _≤_, _<_}
+use Prim.Native.Nat.{ℕ, suc, _+_, _≤_}
 use native.Mathlib.Omega.{arith}
 use native.Mathlib.Nat.{le-trans, le-of-eq}
-use mathlib.Core.Path.{_≡_, refl, sym, ap, _∙_}
+use mathlib.Core.Path.{_≡_, refl, ap, _∙_}
 use mathlib.Core.List.{List, [], _∷_, _++_, map}
 use mathlib.Core.Option.{some}
 use lib.ListN.{drop, length}

@@ -3,7 +3,7 @@ use Prim.Native.Nat.{ℕ, _+_}
 use mathlib.Core.Path.{_≡_}
 use mathlib.Core.Option.{some}
 use Rattle.plan.specs.Syntax.{Plan, Plans}
-use Rattle.rewrite.specs.RewriteAt.{Focus, FocusAll, focus}
+use Rattle.rewrite.specs.RewriteAt.{Focus, focus}
 use Rattle.writing.proofs.Focused.{Way, through-filter, through-project, through-left, through-right, through-alias, through-distinct, through-sort}
 use Rattle.writing.proofs.Focused.{through-repartition, through-limit, through-aggregate, through-window, Place, one, all, Within, itself, below}
 use Rattle.writing.proofs.Focused.{input, first, later, focus-within}

@@ -1,5 +1,5 @@
 -- The kinds of plans whose input is their last child are frames.
-use Prim.Native.Nat.{ℕ, suc, _+_, _-_, _≤_, _<_}
+use Prim.Native.Nat.{ℕ, suc, _+_}
 use native.Mathlib.Omega.{arith}
 use mathlib.Core.Path.{_≡_, refl, sym, ap, subst, _∙_}
 use mathlib.Core.List.{List, [], _∷_, _++_, append-assoc, append-nil}
@@ -7,12 +7,12 @@ use mathlib.Core.Option.{Option}
 use lib.ListN.{length, take, length-append}
 use lib.Seq.{take-at}
 use Rattle.image.specs.Tree.{Label, Forest, none, node}
-use Rattle.image.proofs.Relinking.{Rec, recs, recsAny, recs-any-length, flats-flat, recs-length}
+use Rattle.image.proofs.Relinking.{Rec, recs, recsAny}
 use Rattle.image.specs.Limits.{workBytes}
 use Rattle.image.specs.Room.{Wrote}
-use Rattle.plan.specs.Syntax.{Expr, Entry, Key, AggEntry, WinEntry, Plan, scan, filter, project, alias, distinct, sort, repartition, limit, aggregate, window}
-use Rattle.plan.specs.Measure.{sizeE, sizes}
-use Rattle.plan.specs.Trees.{labelE, kidsE, labelP, kidsP, planTree, each, entryLabel, entryKids, keyLabel, keyKids, aggLabel, aggKids, winLabel}
+use Rattle.plan.specs.Syntax.{Entry, Key, AggEntry, WinEntry, Plan, scan, project, alias, distinct, sort, repartition, aggregate, window}
+use Rattle.plan.specs.Measure.{sizes}
+use Rattle.plan.specs.Trees.{labelP, kidsP, planTree, each, entryLabel, entryKids, keyLabel, keyKids, aggLabel, aggKids, winLabel}
 use Rattle.plan.specs.Trees.{winKids}
 use Rattle.pushing.specs.Around.{WroteAll, window as run}
 use Rattle.pushing.specs.Frames.{Frame}

@@ -1,21 +1,20 @@
 -- Whether a plan stands at a record is read off the image: by the record's kind.
 use Prim.Native.Nat.{ℕ, zero, suc, _+_, _-_, _*_, _≤_, _<_}
 use native.Mathlib.Omega.{arith}
-use mathlib.Core.Path.{_≡_, refl, sym, ap, subst, _∙_}
+use mathlib.Core.Path.{_≡_, refl, sym, ap, _∙_}
 use mathlib.Core.Bool.{Bool, true, false}
 use mathlib.Core.List.{List, [], _∷_, _++_}
 use mathlib.Core.Option.{Option, some}
 use mathlib.Core.Option as O
 use lib.ListN.{length, getD, drop, length-append}
 use lib.Seq.{drop-drop}
-use Rattle.image.specs.Tree.{Label, Forest, none, node, size, Stands, At, labelAt}
+use Rattle.image.specs.Tree.{Forest, none, node, size, Stands, labelAt}
 use Rattle.plan.specs.Syntax.{Plan}
 use Rattle.plan.specs.Kinds.{isPlan}
-use Rattle.plan.specs.Trees.{planTree, labelP, kidsP}
+use Rattle.plan.specs.Trees.{kidsP}
 use Rattle.plan.specs.Measure.{sizeP}
 use Rattle.rewrite.specs.RewriteAt.{Focus, focus}
 use Rattle.rewrite.proofs.Marks.{marks, plan-marks, focus-marks, is-some}
-use Rattle.rewrite.proofs.PlanFrom.{focus-end}
 use Rattle.conjuncts.specs.Standing.{StandingP}
 
 -- a place in a list of two

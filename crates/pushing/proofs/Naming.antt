@@ -4,7 +4,7 @@ use mathlib.Core.Path.{_≡_}
 use mathlib.Core.Bool.{Bool, true}
 use mathlib.Core.Option.{some}
 use Rattle.plan.proofs.Lists.{and-l, and-r}
-use Rattle.plan.specs.Syntax.{Plan, Plans}
+use Rattle.plan.specs.Syntax.{Plan}
 use Rattle.acceptance.proofs.NamesRule.{rule, rule-all}
 use Rattle.rewrite.specs.RewriteAt.{Focus, focus}
 use Rattle.pushing.specs.Paths.{Ways}

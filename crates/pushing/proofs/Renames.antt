@@ -1,10 +1,8 @@
 -- Renamed predicates: no longer than they were, and read off a predicate whose columns are to be replaced.
-use Prim.Native.Nat.{ℕ, _+_, _≤_, _<_, max as larger}
-use native.Mathlib.Omega.{arith}
+use Prim.Native.Nat.{ℕ, _+_, _≤_}
 use native.Mathlib.Nat.{le-trans, le-of-eq, max-le}
-use mathlib.Core.Path.{_≡_, refl, sym, ap, ap₂, _∙_}
-use mathlib.Core.Bool.{true}
-use mathlib.Core.List.{List, _++_, map}
+use mathlib.Core.Path.{_≡_, refl, sym, ap₂, _∙_}
+use mathlib.Core.List.{List, map}
 use mathlib.Core.Option.{some}
 use lib.ListN.{length, length-append}
 use borrow.Author.Tests.{leb-true}
@@ -13,7 +11,7 @@ use Rattle.plan.specs.Syntax.{Name, Expr, col, num, bool, nul, bin, and, or, cm
 use Rattle.plan.specs.Schema.{schema, requalify}
 use Rattle.plan.proofs.Lists.{and-l, and-r}
 use Rattle.acceptance.specs.Names.{sound}
-use Rattle.acceptance.proofs.NamesRule.{ok, rule}
+use Rattle.acceptance.proofs.NamesRule.{rule}
 use Rattle.rewrite.specs.Utils.{replace-cols, split-conjunction}
 use Rattle.rewrite.specs.Limits.{listP}
 use Rattle.rewrite.specs.PushDownFilter.{renamed, ren}

@@ -1,19 +1,18 @@
 -- What an accepted image holds: its plan stands at record 0, within the limits, and keeps the name rules.
-use Prim.Native.Nat.{ℕ, suc, _+_, _-_, _*_, _≤_, _<_, max as larger}
+use Prim.Native.Nat.{ℕ, suc, _-_, _*_, _≤_}
 use native.Mathlib.Omega.{arith}
 use native.Mathlib.Nat.{le-trans, le-max-left, le-max-right}
-use mathlib.Core.Path.{_≡_, refl, sym, ap, subst, _∙_}
-use mathlib.Core.Bool.{Bool, true}
+use mathlib.Core.Path.{_≡_, ap, _∙_}
+use mathlib.Core.Bool.{true}
 use mathlib.Core.List.{List}
-use lib.ListN.{length, drop}
+use lib.ListN.{length}
 use borrow.Author.Tests.{leb-true, le-leb}
 use Rattle.image.specs.Tree.{Forest, none, node, Deep}
-use Rattle.image.specs.Flat.{sizeT, enc}
 use Rattle.image.specs.Limits.{maxRecords, maxDepth, maxList, workBytes}
 use Rattle.plan.specs.Syntax.{Plan}
 use Rattle.plan.specs.Trees.{planTree, kidsP}
 use Rattle.plan.specs.Measure.{depth, sizeP, depthP}
-use Rattle.plan.proofs.Lists.{and-l, and-r, and-intro}
+use Rattle.plan.proofs.Lists.{and-r, and-intro}
 use Rattle.acceptance.specs.Accepted.{WellFormed, Accepted}
 use Rattle.acceptance.proofs.Converse.{stands-alone}
 use Rattle.acceptance.proofs.NamesRule.{ok}

@@ -1,10 +1,10 @@
 -- The records of a run of parts.
-use Prim.Native.Nat.{ℕ, suc, _+_}
+use Prim.Native.Nat.{ℕ, _+_}
 use native.Mathlib.Omega.{arith}
 use mathlib.Core.Path.{_≡_, refl, sym, ap, _∙_}
 use mathlib.Core.List.{List, [], _∷_, _++_, append-assoc}
 use lib.ListN.{length, length-append}
-use Rattle.image.specs.Tree.{Label, Forest, none, size}
+use Rattle.image.specs.Tree.{Label, Forest, none}
 use Rattle.image.proofs.Relinking.{recsAny, recs-any-length}
 use Rattle.plan.specs.Measure.{sizes}
 use Rattle.plan.specs.Trees.{each}

@@ -1,10 +1,10 @@
 -- The rewrite of a Filter is the rewrite from where its merging comes to rest.
-use mathlib.Core.Path.{_≡_, refl, ap}
+use mathlib.Core.Path.{_≡_, refl}
 use mathlib.Core.Option.{Option, none, some}
 use Rattle.plan.specs.Syntax.{Expr, Plan, scan, filter, project, join, alias, union, distinct, sort, repartition, limit, aggregate, window}
 use Rattle.rewrite.specs.Utils.{conjunction}
-use Rattle.rewrite.specs.PushDownFilter.{Transformed, Transformed·yes, merged, simplify-merged, rewrite-filter, resume}
-use Rattle.pushing.specs.Settled.{Settled, gone, rests, settled-by, settle, rewrite-settled}
+use Rattle.rewrite.specs.PushDownFilter.{merged, simplify-merged, rewrite-filter, resume}
+use Rattle.pushing.specs.Settled.{settled-by, settle, rewrite-settled}
 
 pub settle-rewrite : (e : Expr) (p : Plan) → rewrite-filter e p ≡ rewrite-settled (settle e p)
 unfolding settle rewrite-filter

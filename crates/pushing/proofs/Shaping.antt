@@ -1,11 +1,10 @@
 -- What is written for a predicate in its shape, and for a list.
-use Prim.Native.Nat.{ℕ, _+_, _≤_, _<_}
+use Prim.Native.Nat.{ℕ, _≤_}
 use native.Mathlib.Omega.{arith}
-use mathlib.Core.Path.{_≡_, refl, sym, ap, subst, _∙_}
+use mathlib.Core.Path.{_≡_, refl, sym}
 use mathlib.Core.List.{List, [], _∷_}
-use mathlib.Core.Option.{Option, none, some}
+use mathlib.Core.Option.{none, some}
 use lib.ListN.{length}
-use Rattle.image.specs.Limits.{maxList}
 use Rattle.plan.specs.Syntax.{Name, Expr, Plan}
 use Rattle.rewrite.specs.Utils.{split-conjunction, conjoin, conjunction, with-filters}
 use Rattle.conjuncts.specs.Items.{Conjuncts, Item, Lists}

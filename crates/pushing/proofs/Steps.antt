@@ -1,14 +1,14 @@
 -- Where the parts of a plan stand that stands in an image.
-use Prim.Native.Nat.{ℕ, suc, _+_, _-_, _*_, _≤_, _<_}
+use Prim.Native.Nat.{ℕ, suc, _+_, _-_, _*_, _≤_}
 use native.Mathlib.Omega.{arith}
-use mathlib.Core.Path.{_≡_, refl, sym, ap, subst, _∙_}
+use mathlib.Core.Path.{_≡_, subst}
 use mathlib.Core.List.{List, [], _∷_}
 use mathlib.Core.Option.{Option, some}
 use lib.ListN.{length, drop, length-drop}
 use lib.Seq.{drop-drop}
-use Rattle.image.specs.Tree.{Label, Forest, none, node, Tree, size, Deep, Stands, At}
+use Rattle.image.specs.Tree.{Label, Forest, none, node, size, Deep, Stands, At}
 use Rattle.image.specs.Limits.{workBytes}
-use Rattle.plan.specs.Syntax.{Expr, Plan, Plans, filter, project, join, alias, union, distinct, sort, repartition, limit, aggregate, window, pcons}
+use Rattle.plan.specs.Syntax.{Expr, Plan, Plans, filter, project, join, alias, union, distinct, sort, repartition, limit, aggregate, window}
 use Rattle.plan.specs.Syntax.{Entry, AggEntry, WinEntry, Pair, Key, Kind}
 use Rattle.plan.specs.Integers.{FitsE, FitsP, FitsPs}
 use Rattle.plan.specs.Measure.{sizeE, sizeP, sizes}

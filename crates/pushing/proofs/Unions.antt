@@ -1,18 +1,18 @@
 -- The inputs of a Union, each under its own Filter.
-use Prim.Native.Nat.{ℕ, suc, _+_, _-_, _*_, _≤_, _<_, max as larger}
+use Prim.Native.Nat.{ℕ, _+_, _-_, _*_, _≤_, _<_}
 use native.Mathlib.Omega.{arith}
 use native.Mathlib.Nat.{le-trans, le-of-eq, max-le, le-max-left, le-max-right}
-use mathlib.Core.Path.{_≡_, refl, sym, ap, subst, _∙_}
+use mathlib.Core.Path.{_≡_, refl, sym, subst}
 use mathlib.Core.Bool.{true}
 use mathlib.Core.List.{List}
 use mathlib.Core.Option.{some}
-use lib.Dec.{eqb, leb}
+use lib.Dec.{eqb}
 use lib.ListN.{length, drop, length-drop}
 use lib.Seq.{drop-drop}
 use borrow.Author.Tests.{leb-true, eqb-true}
 use Rattle.image.specs.Limits.{maxList, maxFields, workBytes}
 use Rattle.image.specs.Room.{Put, Wrote}
-use Rattle.image.specs.Tree.{Label, Forest, none, node, Tree, Deep, Stands, At}
+use Rattle.image.specs.Tree.{Label, Forest, none, node, Tree, Deep, At}
 use Rattle.image.proofs.Room.{Left, put-start, left-next, left-end}
 use Rattle.image.proofs.Walking.{only}
 use Rattle.plan.specs.Syntax.{Name, Expr, Plan, Plans, pnil, pcons, filter, union}
@@ -21,7 +21,7 @@ use Rattle.plan.specs.Trees.{labelP, kidsP, forestP, planTree}
 use Rattle.plan.specs.Integers.{FitsP, FitsPs}
 use Rattle.plan.proofs.Lists.{and-l, and-r}
 use Rattle.acceptance.specs.Names.{sound}
-use Rattle.acceptance.proofs.NamesRule.{ok, ok-all, rule, rule-sound}
+use Rattle.acceptance.proofs.NamesRule.{ok-all, rule, rule-sound}
 use Rattle.rewrite.specs.Utils.{replace-cols}
 use Rattle.rewrite.specs.Limits.{listP, listPs}
 use Rattle.rewrite.specs.PushDownFilter.{filter-each, renamed, ren, rewrite-filter}

@@ -1,8 +1,8 @@
 -- Laws of runs of records, written flat.
-use Prim.Native.Nat.{ℕ, zero, suc, _+_, _-_, _*_, _≤_, _<_}
+use Prim.Native.Nat.{ℕ, zero, suc, _+_, _*_, _≤_, _<_}
 use native.Mathlib.Omega.{arith}
 use native.Mathlib.Nat.{add-zero}
-use mathlib.Core.Path.{_≡_, refl, sym, ap, ap₂, subst, _∙_}
+use mathlib.Core.Path.{_≡_, refl, sym, ap, subst, _∙_}
 use mathlib.Core.Bool.{Bool, true, false}
 use mathlib.Core.List.{List, [], _∷_, _++_, append-assoc, append-nil}
 use lib.ListN.{length, take, drop, length-append}
@@ -14,7 +14,7 @@ use Rattle.image.specs.Tree.{Label, Forest, none, node, Tree, size, link}
 use Rattle.image.specs.Flat.{bytesOf}
 use Rattle.image.specs.Room.{cap, Put, Wrote}
 use Rattle.image.proofs.Room.{cap-le, cap-is, cap-add, sets-next}
-use Rattle.image.proofs.Relinking.{Rec, recs, recsAny, flats, flats-length, flats-flat, recs-length, recs-any-length}
+use Rattle.image.proofs.Relinking.{Rec, recs, recsAny, flats, flats-length, flats-flat, recs-length}
 use Rattle.plan.specs.Lists.{_&_, put}
 use Rattle.plan.proofs.Lists.{and-true}
 use Rattle.pushing.specs.Around.{window, WroteAll}

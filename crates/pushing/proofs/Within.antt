@@ -4,7 +4,7 @@ use native.Mathlib.Nat.{le-refl, le-trans, le-max-left, le-max-right}
 use mathlib.Core.Path.{_≡_}
 use mathlib.Core.Option.{some}
 use lib.ListN.{length}
-use Rattle.plan.specs.Syntax.{Plan, Plans}
+use Rattle.plan.specs.Syntax.{Plan}
 use Rattle.rewrite.specs.Utils.{split-conjunction, split-conjunction?}
 use Rattle.rewrite.specs.Limits.{listP, listPs}
 use Rattle.rewrite.specs.RewriteAt.{Focus, focus}

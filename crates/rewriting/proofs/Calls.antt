@@ -1,11 +1,10 @@
 -- The call on bytes: the tests 8, 11 and 12 in their order, and what is handed out.
 use Prim.Native.Nat.{ℕ, _*_, _/_, _≤_, _<_}
 use native.Mathlib.Omega.{arith}
-use mathlib.Core.Path.{_≡_, refl, sym, ap, subst, _∙_}
+use mathlib.Core.Path.{_≡_, sym, ap, subst, _∙_}
 use mathlib.Core.Bool.{Bool, true, false}
 use mathlib.Core.List.{List}
 use mathlib.Core.Option.{none, some}
-use lib.Dec.{eqb, leb}
 use lib.ListN.{length, take, drop, length-take}
 use lib.Seq.{take-all}
 use borrow.Author.Tests.{le-leb, lt-leb, eq-eqb, ne-eqb}
@@ -25,8 +24,7 @@ use Rattle.acceptance.proofs.Accept.{accepted}
 use Rattle.acceptance.proofs.Converse.{same-tree}
 use Rattle.checking.specs.Answer.{verdictOf}
 use Rattle.checking.specs.declared.Checked.{Checked}
-use Rattle.checking.specs.declared.Checked.the-variants as C
-use Rattle.rewrite.specs.OnBytes.{planIn, planFromLinks, isAccepted, zeros, filled, imageOf, no-rewrite, rewritten, asked-of, rewrite-bytes}
+use Rattle.rewrite.specs.OnBytes.{planIn, planFromLinks, isAccepted, zeros, filled, no-rewrite, rewritten, asked-of, rewrite-bytes}
 use Rattle.rewrite.specs.PushDownFilter.{rewrite}
 use Rattle.rewrite.specs.RewriteAt.{Focus, focus, granted, result-fits, rewrite-in, rewriteAt, with-room, rewrite-call}
 use Rattle.rewrite.proofs.OnBytes.{tree-length}
@@ -36,7 +34,7 @@ use Rattle.pushing.specs.Merging.{Inside}
 use Rattle.pushing.proofs.Root.{image-length, standing-root}
 use Rattle.pushing.proofs.Marked.{plan-there, found-there, not-found}
 use Rattle.pushing.proofs.Tested.{inside-of}
-use Rattle.rewriting.specs.Answer.{refusal, rewrittenOf, Whole}
+use Rattle.rewriting.specs.Answer.{refusal, Whole}
 use Rattle.rewriting.specs.Outcomes.{Image, answer}
 
 -- an image has room for its records
@@ -122,26 +120,11 @@ whole s bytes h =
     let back : planIn s ≡ p = ap planIn (a .1 .image) ∙ ap planFromLinks (same-tree p (a .1 .well)) ∙ planAt-back p (a .1 .well .integers) in
     record { accepted = subst (Accepted s) (sym back) (a .1) }
 
--- only an accepted image has the number 0
-accepted-only : (a : Checked) → verdictOf a .number ≡ 0 → verdictOf a ≡ verdict 0 0
-accepted-only C.Accepted h = refl
-accepted-only C.Buffer h = absurd (omega arith)
-accepted-only (C.Record r) h = absurd (omega arith)
-accepted-only (C.Link r) h = absurd (omega arith)
-accepted-only (C.Depth r) h = absurd (omega arith)
-accepted-only (C.Form r) h = absurd (omega arith)
-accepted-only (C.Names r) h = absurd (omega arith)
-accepted-only (C.Types r) h = absurd (omega arith)
+module _ (s : List ℕ) (node room : ℕ) (a : Checked) (e : verdictOf a ≡ check s) {k : ℕ} (is : k ≡ verdictOf a .number) where
+  pub refused-image : {out : List ℕ} → (k ≡ 0 → ⊥) → out ≡ zeros room → refusal (verdictOf a) out ≡ rewrite-bytes s node room
+  unfolding rewrite-bytes asked-of isAccepted choose no-rewrite
+  refused-image h o = rw (← e, ne-eqb (verdictOf a .number) 0 (λ z. h (is ∙ z)), o)
 
-module _ (s : List ℕ) (a : Checked) (e : verdictOf a ≡ check s) {k : ℕ} (is : k ≡ verdictOf a .number) where
-  pub is-accepted : k ≡ 0 → check s ≡ verdict 0 0
-  is-accepted h = sym e ∙ accepted-only a (sym is ∙ h)
-
-  module _ (node room : ℕ) where
-    pub refused-image : {out : List ℕ} → (k ≡ 0 → ⊥) → out ≡ zeros room → refusal (verdictOf a) out ≡ rewrite-bytes s node room
-    unfolding rewrite-bytes asked-of isAccepted choose no-rewrite
-    refused-image h o = rw (← e, ne-eqb (verdictOf a .number) 0 (λ z. h (is ∙ z)), o)
-
-    pub accepted-image : k ≡ 0 → rewritten room (rewrite-call node room (planIn s)) ≡ rewrite-bytes s node room
-    unfolding rewrite-bytes asked-of isAccepted choose
-    accepted-image h = rw (← e, eq-eqb (verdictOf a .number) 0 (sym is ∙ h))
+  pub accepted-image : k ≡ 0 → rewritten room (rewrite-call node room (planIn s)) ≡ rewrite-bytes s node room
+  unfolding rewrite-bytes asked-of isAccepted choose
+  accepted-image h = rw (← e, eq-eqb (verdictOf a .number) 0 (sym is ∙ h))

@@ -1,6 +1,5 @@
 -- What a rewrite at a record comes to, of a Filter, of a Join, and of any other plan.
 use Prim.Native.Nat.{ℕ}
-use native.Mathlib.Omega.{arith}
 use mathlib.Core.Path.{_≡_, refl, sym, ap, subst, _∙_}
 use mathlib.Core.Bool.{Bool, true, false}
 use mathlib.Core.List.{List, []}
@@ -24,7 +23,7 @@ use Rattle.writing.proofs.Depths.{deep-tested}
 use Rattle.pushing.specs.Paths.{Ways}
 use Rattle.pushing.proofs.Finding.{path-to}
 use Rattle.pushing.specs.Merging.{Inside, FilterInside, Rest, Settles, settle-first}
-use Rattle.pushing.specs.Settled.{Settled, rewrite-settled}
+use Rattle.pushing.specs.Settled.{rewrite-settled}
 use Rattle.pushing.proofs.FirstFilter.{first-rewrite}
 use Rattle.pushing.proofs.Naming.{rule-there}
 use Rattle.pushing.proofs.Within.{lists-there}

@@ -1,8 +1,6 @@
 -- The number, the record, the flag and the count of each case of the rewrite's answer, beside the output.
-use mathlib.Core.Path.{_≡_}
 use mathlib.Core.List.{List}
 use Prim.Native.Nat.{ℕ}
-use Rattle.plan.specs.Syntax.{Plan}
 use Rattle.plan.specs.Trees.{bitOf}
 use Rattle.acceptance.specs.Accepted.{Accepted}
 use Rattle.acceptance.specs.Check.{Verdict, verdict}

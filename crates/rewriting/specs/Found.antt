@@ -3,7 +3,7 @@ use mathlib.Core.Path.{_≡_}
 use mathlib.Core.Bool.{false}
 use mathlib.Core.List.{List}
 use Prim.Native.Nat.{ℕ}
-use Rattle.plan.specs.Syntax.{Expr, Plan, filter, join, Kind, Pair}
+use Rattle.plan.specs.Syntax.{Expr, Plan, join, Kind, Pair}
 use mathlib.Core.Option.{Option}
 use Rattle.rewrite.specs.RewriteAt.{Focus}
 use Rattle.pushing.specs.Predicates.{Predicate}

@@ -22,7 +22,8 @@ pass      a pass over an image, microseconds an image
 exported  the library, from image to image: check, rewrite, the answer's records, zeros to the end of 2,048 records
 rule      PushDownFilter::rewrite of the patched source, compiled over the stand-ins, on a LogicalPlan that is built already;
           for turn and pass at the root, then below it, as an optimizer does; building and dropping plans is not counted
-whole     image to LogicalPlan, that rule, LogicalPlan to image, zeros to the end of 2,048 records; nothing is checked
+whole     image to LogicalPlan, that rule, LogicalPlan to image, zeros to the end of 2,048 records; nothing is checked;
+          for turn at every plan, as the library does, and for pass once around the whole
 ratios    exported by rule, and exported by whole
 ";
 
@@ -162,28 +163,40 @@ fn is_plan_at(image: &[u8], at: u32) -> bool {
 fn exported(job: Job, (image, node): Call, buffers: &mut [Vec<u8>; 2]) -> usize {
     let records = match job {
         Job::Each => ffi::rewrite_into(image, node, &mut buffers[0]).map(|result| result.records as usize),
-        Job::Turn => in_turn(image, buffers),
+        Job::Turn => Some(in_turn(image, buffers, |image, node, output| {
+            ffi::rewrite_into(image, node, output).map(|result| result.records as usize).unwrap_or(0)
+        })),
         Job::Pass => ffi::pass_into(image, u64::MAX, &mut buffers[0]).map(|result| result.records as usize),
     };
     records.expect("built with the features rewrite and pass")
 }
 
-/// Rewrites at all plans, parents first. The buffers change places.
-fn in_turn(image: &[u8], [now, next]: &mut [Vec<u8>; 2]) -> Option<usize> {
+/// Rewrites at all plans, parents first, each from image to image; a rewrite answers how many records it left, 0 where it is
+/// refused. The buffers change places.
+fn in_turn(image: &[u8], [now, next]: &mut [Vec<u8>; 2], rewrite: impl Fn(&[u8], u32, &mut [u8]) -> usize) -> usize {
     now[..image.len()].copy_from_slice(image);
     let mut records = image.len() / RECORD_BYTES;
     let mut at = 0;
     while (at as usize) < records {
         if is_plan_at(now, at) {
-            let result = ffi::rewrite_into(&now[..records * RECORD_BYTES], at, next)?;
-            if result.number == 0 {
+            let left = rewrite(&now[..records * RECORD_BYTES], at, next);
+            if left != 0 {
                 std::mem::swap(now, next);
-                records = result.records as usize;
+                records = left;
             }
         }
         at += 1;
     }
-    Some(records)
+    records
+}
+
+/// The source's call, from image to image. The answer stands in the first buffer.
+fn by_the_source(job: Job, call: Call, buffers: &mut [Vec<u8>; 2]) {
+    match job {
+        Job::Each => there_and_back(at_root, call, &mut buffers[0]),
+        Job::Turn => in_turn(call.0, buffers, |image, node, output| there_and_back(at_root, (image, node), output)),
+        Job::Pass => there_and_back(top_down, call, &mut buffers[0]),
+    };
 }
 
 fn rule_of(job: Job) -> Rule {
@@ -193,8 +206,9 @@ fn rule_of(job: Job) -> Rule {
     }
 }
 
-/// Image to plan, the rule, and back to an image with zeros after it. One that is too long is cut off.
-fn there_and_back(rule: Rule, (image, node): Call, output: &mut [u8]) {
+/// Image to plan, the rule, and back to an image with zeros after it; how many records it has. One that is too long is cut off,
+/// and has none.
+fn there_and_back(rule: Rule, (image, node): Call, output: &mut [u8]) -> usize {
     let mut plan = plan_of(image);
     let at = plan.node_mut(node as usize).expect("the node is one of the image");
     *at = tree(&rule(built(at)));
@@ -202,16 +216,21 @@ fn there_and_back(rule: Rule, (image, node): Call, output: &mut [u8]) {
     let length = image.len().min(output.len());
     output[..length].copy_from_slice(&image[..length]);
     output[length..].fill(0);
+    if length < image.len() {
+        return 0;
+    }
+    length / RECORD_BYTES
 }
 
 /// How often the library and the source leave different plans, refusals aside.
 fn differences(job: Job, calls: &[Call]) -> usize {
     let mut buffers = [vec![0; ROOM], vec![0; ROOM]];
-    let mut output = vec![0; ROOM];
+    let mut outputs = buffers.clone();
     let mut differ = 0;
     for call in calls {
         let length = exported(job, *call, &mut buffers) * RECORD_BYTES;
-        there_and_back(rule_of(job), *call, &mut output);
+        by_the_source(job, *call, &mut outputs);
+        let output = &outputs[0];
         let is_same = buffers[0][..length] == output[..length] && output[length..].iter().all(|byte| *byte == 0);
         differ += usize::from(length > 0 && !is_same);
     }
@@ -228,7 +247,7 @@ fn medians(job: Job, calls: &[Call]) -> [f64; 3] {
     let mut round = |side: Side| match side {
         Side::Exported => exported_round(job, calls, &mut buffers),
         Side::Rule => rule_round(job, &nodes),
-        Side::Whole => whole_round(job, calls, &mut buffers[0]),
+        Side::Whole => whole_round(job, calls, &mut buffers),
     };
     let first = SIDES.map(&mut round);
     let repeats = first.map(|time| 1 + (BATCH.as_nanos() / time.as_nanos().max(1)) as u32);
@@ -270,10 +289,10 @@ fn rule_round(job: Job, nodes: &[Tree]) -> Duration {
     time
 }
 
-fn whole_round(job: Job, calls: &[Call], output: &mut [u8]) -> Duration {
+fn whole_round(job: Job, calls: &[Call], buffers: &mut [Vec<u8>; 2]) -> Duration {
     let start = Instant::now();
     for call in calls {
-        there_and_back(rule_of(job), black_box(*call), black_box(output));
+        by_the_source(job, black_box(*call), black_box(buffers));
     }
     let time = start.elapsed();
     forget_merges();

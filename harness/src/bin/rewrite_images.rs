@@ -22,7 +22,7 @@ use harness::rows::{RowCounts, Rows};
 use harness::source::{Build, ALL, NONE};
 use harness::text::words::{JOINS, PLANS};
 use std::collections::BTreeMap;
-use std::fmt::Display;
+use std::fmt::{Debug, Display};
 use std::process::ExitCode;
 use std::time::Instant;
 
@@ -221,6 +221,18 @@ fn sort_of(node: Option<&Tree>) -> String {
     }
 }
 
+/// The result and every byte of the output.
+fn same<R: Debug + PartialEq>(expected: &(R, Vec<u8>), exported: &(R, Vec<u8>)) -> Result<(), String> {
+    if expected == exported {
+        return Ok(());
+    }
+    let room = expected.1.len();
+    let byte = (0..room).find(|&at| expected.1[at] != exported.1[at]);
+    let output = byte.map_or("the same".to_string(), |at| format!("other from byte {at} on"));
+    let results = format!("the source gives {:?}, the export {:?}", expected.0, exported.0);
+    Err(format!("room {room}: {results}, the output is {output}"))
+}
+
 /// What the caller sees must be what the export hands back.
 fn compare_exported(
     image: &[u8],
@@ -234,10 +246,7 @@ fn compare_exported(
     let room = expected.1.len();
     let Some(exported) = ffi::rewrite(image, node, room) else { return Ok(()) };
     counts.exported += 1;
-    if exported != expected {
-        return Err(format!("room {room}: the source gives {:?}, the export {:?}", expected.0, exported.0));
-    }
-    Ok(())
+    same(&expected, &exported)
 }
 
 /// The same for a pass.
@@ -252,10 +261,7 @@ fn compare_exported_pass(
     let room = expected.1.len();
     let Some(exported) = ffi::pass(image, budget, room) else { return Ok(()) };
     counts.exported_passes += 1;
-    if exported != expected {
-        return Err(format!("room {room}: the source gives {:?}, the export {:?}", expected.0, exported.0));
-    }
-    Ok(())
+    same(&expected, &exported)
 }
 
 /// A rewrite and a pass of an image that most often is refused.

@@ -1,7 +1,7 @@
 -- `push_down_filter_rewrite` meets its contract: the record fits 32 bits, since it is the node, 0, or a record of the image, and so does the
 -- count of records, which is at most 2,048.
 use native.Mathlib.Omega.{arith}
-use mathlib.Core.Path.{_≡_, refl, ap, _∙_}
+use mathlib.Core.Path.{_≡_, refl}
 use mathlib.Core.Bool.{Bool, true, false}
 use mathlib.Core.List.{List}
 use mathlib.Core.Option.{Option, none, some}
@@ -10,9 +10,8 @@ use lib.Dec.{leb}
 use borrow.Author.Needs.{needs}
 use borrow.Author.Tests.{leb-true}
 use Rattle.image.specs.Limits.{maxRecords}
-use Rattle.plan.specs.Lists.{_&_, choose}
+use Rattle.plan.specs.Lists.{choose}
 use Rattle.plan.specs.Measure.{sizeP}
-use Rattle.plan.specs.Syntax.{Plan}
 use Rattle.plan.proofs.Lists.{and-l}
 use Rattle.acceptance.proofs.Places.{place-within}
 use Rattle.rewrite.specs.Limits.{fits}

@@ -1,10 +1,10 @@
 -- `push_down_filter_row_test` meets its contract: the record fits 32 bits, since it is the node, 0, or a record of the image.
 use native.Mathlib.Omega.{arith}
-use mathlib.Core.Path.{_≡_, refl, ap, _∙_}
+use mathlib.Core.Path.{_≡_}
 use mathlib.Core.Bool.{Bool, true, false, not}
 use mathlib.Core.List.{List}
 use mathlib.Core.Option.{Option, none, some}
-use Prim.Native.Nat.{ℕ, _≤_, _<_}
+use Prim.Native.Nat.{ℕ, _<_}
 use lib.IntN.{ℤ}
 use borrow.Author.Needs.{needs}
 use Rattle.plan.specs.Lists.{choose}

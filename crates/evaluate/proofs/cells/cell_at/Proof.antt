@@ -2,7 +2,7 @@
 use mathlib.Core.Path.{sym, _∙_}
 use lib.IntN.{pos}
 use lib.ListN.{length}
-use Rattle.evaluate.proofs.Rows.{lent-at, lent-short, Short, first, short-by, long-by, marked-null, unmarked, held}
+use Rattle.evaluate.proofs.Rows.{lent-at, lent-short, first, short-by, long-by, marked-null, unmarked, held}
 use borrow.Author.Needs.{needs}
 use Rattle.evaluate.proofs.cells.cell_at.Statement.{statement}
 use Rattle.evaluate.proofs.cells.cell_at.Tie as tie

@@ -1,6 +1,6 @@
 -- `cells::column` meets its contract.
 use native.Mathlib.Omega.{arith}
-use mathlib.Core.Path.{sym, _∙_}
+use mathlib.Core.Path.{_∙_}
 use Rattle.evaluate.proofs.Rows.{look-place, lent-length}
 use borrow.Author.Needs.{needs}
 use Rattle.evaluate.proofs.cells.column.Statement.{statement}

@@ -1,7 +1,7 @@
 -- `expressions::evaluate` meets its contract.
 use native.Mathlib.Omega.{arith}
 use borrow.Author.Needs.{needs}
-use mathlib.Core.Path.{_≡_, sym, _∙_}
+use mathlib.Core.Path.{sym, _∙_}
 use lib.ListN.{length-drop}
 use Rattle.image.proofs.Walking.{Chain, chain, round, again, done, left, only}
 use Rattle.evaluate.proofs.Folding.{Done, seen-none, seen-next, seen-all, tree-column, tree-literal, tree-operator}

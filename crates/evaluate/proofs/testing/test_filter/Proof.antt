@@ -1,6 +1,5 @@
 -- `testing::test_filter` meets its contract.
 use native.Mathlib.Omega.{arith}
-use mathlib.Core.Path.{_∙_}
 use mathlib.Core.List.{[]}
 use lib.ListN.{length-drop}
 use Rattle.plan.specs.Syntax.{filter}

@@ -1,12 +1,8 @@
 -- `arms::push_filter` meets its contract: the input is the plan's last child.
-use mathlib.Core.Path.{_≡_, refl, sym, subst, _∙_}
+use mathlib.Core.Path.{refl, _∙_}
 use mathlib.Core.Option.{none, some}
-use Prim.Native.Nat.{_+_, _≤_}
 use native.Mathlib.Omega.{arith}
-use native.Mathlib.Nat.{le-of-eq, le-trans}
 use borrow.Author.Needs.{needs}
-use Rattle.image.specs.Limits.{maxList}
-use Rattle.plan.specs.Syntax.{filter}
 use Rattle.plan.specs.Trees.{planTree}
 use Rattle.writing.proofs.Maps.{plan-maps, mapOf}
 use Rattle.writing.proofs.Pushing.{plan-readable}

@@ -1,4 +1,3 @@
-use mathlib.Core.Path.{refl}
 use borrow.Author.Needs.{needs}
 use Rattle.pushing.proofs.arms.takes_none.Statement.{statement}
 use Rattle.pushing.proofs.arms.takes_none.Tie as tie

@@ -1,14 +1,10 @@
 -- `around::copy_some` meets its contract. The measure is the depth.
 -- The loop's invariant: what is left of the children completes the run.
-use mathlib.Core.Path.{_≡_, refl, sym, ap, subst, _∙_}
-use mathlib.Core.Bool.{true}
+use mathlib.Core.Path.{sym, _∙_}
 use Prim.Native.Nat.{ℕ, _+_, _<_}
 use native.Mathlib.Omega.{arith}
 use lib.ListN.{length-drop}
-use borrow.Author.Tests.{lt-ltb}
-use Rattle.image.specs.Tree.{Tree}
 use Rattle.image.proofs.Walking.{Chain, chain, round, again, done, left, for-all}
-use Rattle.plan.specs.Lists.{_&_}
 use Rattle.pushing.proofs.Windows.{Rest, rest-all, rest-next, rest-end, wrote-none, window-past, yes-within}
 use borrow.Fn.Kinds.{In}
 use borrow.Fn.PlainCycle.{Measures, is, falls, and}

@@ -1,9 +1,6 @@
-use mathlib.Core.Path.{sym, ap, subst, _∙_}
+use mathlib.Core.Path.{sym, _∙_}
 use borrow.Author.Needs.{needs}
-use Rattle.image.specs.Room.{Wrote}
-use Rattle.plan.specs.Trees.{planTree}
 use Rattle.writing.proofs.Pushing.{maps-readable}
-use Rattle.pushing.specs.Over.{under}
 use Rattle.pushing.proofs.Perhapsing.{none-left, some-left, predicated}
 use Rattle.pushing.proofs.below.copy_under.Statement.{statement}
 use Rattle.pushing.proofs.below.copy_under.Tie as tie

@@ -1,8 +1,6 @@
-use mathlib.Core.Path.{sym, ap, subst, _∙_}
 use native.Mathlib.Omega.{arith}
 use borrow.Author.Needs.{needs}
 use lib.Seq.{length-sets}
-use Rattle.image.proofs.Room.{cap-le}
 use Rattle.writing.proofs.Pushing.{plan-readable}
 use Rattle.plan.specs.Trees.{planTree}
 use Rattle.pushing.specs.Over.{under}

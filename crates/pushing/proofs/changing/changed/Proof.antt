@@ -1,5 +1,5 @@
 -- `changing::changed` meets its contract. The loop's invariant: what is listed, and then the rest changed, is all changed.
-use mathlib.Core.Path.{_≡_, refl, sym, ap, _∙_}
+use mathlib.Core.Path.{_≡_, refl, sym, _∙_}
 use mathlib.Core.List.{List, [], _∷_, _++_, map, append-nil, append-assoc}
 use Prim.Native.Nat.{ℕ, _+_, _-_, _≤_, _<_}
 use native.Mathlib.Omega.{arith}
@@ -9,7 +9,6 @@ use Rattle.plan.specs.Syntax.{Name, Expr}
 use Rattle.rewrite.specs.Utils.{replace-cols}
 use Rattle.conjuncts.specs.Items.{FALSE, Lists}
 use Rattle.conjuncts.proofs.Listed.{lists-at, lists-length, lists-room, at-end, next}
-use Rattle.writing.specs.Pushed.{Pushes}
 use Rattle.writing.proofs.Pushing.{pushes-none, pushes-add, pushed-changed}
 use Rattle.pushing.proofs.Changes.{Made}
 use Rattle.pushing.proofs.changing.changed.Statement.{statement}

@@ -1,6 +1,6 @@
 -- `inputs::last_child` meets its contract. The loop's invariant: the last of what is left, or else the last met, is the last of all.
-use mathlib.Core.Path.{_≡_, sym, ap, _∙_}
-use Prim.Native.Nat.{ℕ, _+_}
+use mathlib.Core.Path.{_≡_}
+use Prim.Native.Nat.{_+_}
 use native.Mathlib.Omega.{arith}
 use lib.ListN.{length-drop}
 use Rattle.image.proofs.Walking.{Chain, chain, round, again, done, left, for-all}

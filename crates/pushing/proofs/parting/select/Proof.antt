@@ -2,10 +2,10 @@
 use mathlib.Core.Path.{_≡_, refl, sym, _∙_}
 use mathlib.Core.Bool.{Bool, true}
 use mathlib.Core.List.{List, [], _++_, append-nil, append-assoc}
-use Prim.Native.Nat.{ℕ, _-_, _≤_, _<_}
+use Prim.Native.Nat.{_-_, _≤_, _<_}
 use native.Mathlib.Omega.{arith}
 use borrow.Author.Needs.{needs}
-use lib.ListN.{getD, drop, length}
+use lib.ListN.{getD, length}
 use Rattle.plan.specs.Syntax.{Name, Expr}
 use Rattle.plan.specs.Columns.{on-cols}
 use Rattle.plan.specs.Schema.{has}

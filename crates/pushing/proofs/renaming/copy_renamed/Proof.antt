@@ -1,5 +1,3 @@
-use mathlib.Core.Path.{sym, _∙_}
-use Prim.Native.Nat.{_+_, _*_}
 use native.Mathlib.Omega.{arith}
 use borrow.Author.Needs.{needs}
 use Rattle.plan.specs.Syntax.{Name, Expr, col}

@@ -1,9 +1,7 @@
-use mathlib.Core.Path.{refl, sym, subst, _∙_}
-use Prim.Native.Nat.{_+_}
+use mathlib.Core.Path.{refl}
 use native.Mathlib.Omega.{arith}
 use borrow.Author.Needs.{needs}
 use lib.Seq.{length-sets}
-use Rattle.image.proofs.Room.{cap-le}
 use Rattle.plan.specs.Syntax.{filter, alias}
 use Rattle.plan.specs.Schema.{schema}
 use Rattle.plan.specs.Trees.{planTree}

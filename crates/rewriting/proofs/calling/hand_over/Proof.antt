@@ -1,5 +1,4 @@
 -- `calling::hand_over` meets its contract.
-use native.Mathlib.Omega.{arith}
 use borrow.Author.Needs.{needs}
 use Rattle.rewriting.proofs.Calls.{no-room, some-room}
 use Rattle.rewriting.proofs.calling.hand_over.Statement.{statement}

@@ -2,7 +2,8 @@
 use mathlib.Core.Path.{_∙_}
 use native.Mathlib.Omega.{arith}
 use borrow.Author.Needs.{needs}
-use Rattle.rewriting.proofs.Calls.{whole, is-accepted, refused-image, accepted-image}
+use Rattle.checking.proofs.Accepting.{is-accepted}
+use Rattle.rewriting.proofs.Calls.{whole, refused-image, accepted-image}
 use Rattle.rewriting.proofs.calling.rewrite_within.Statement.{statement}
 use Rattle.rewriting.proofs.calling.rewrite_within.Tie as tie
 
@@ -14,7 +15,7 @@ rewrite-within-spec =
     (λ c κs. search needs)
     (λ c κs. search needs)
     (λ c. search needs)
-    (λ c. refused-image _ (c .before .before .before .before .before .before .check .result) (c .before .before .before .before .before .before .check .ensures) (c .before .before .before .before .before .number-of .ensures) _ _ (c .before .before .before .before .if1 .taken) (c .before .before .clear .ensures))
+    (λ c. refused-image _ _ _ (c .before .before .before .before .before .before .check .result) (c .before .before .before .before .before .before .check .ensures) (c .before .before .before .before .before .number-of .ensures) (c .before .before .before .before .if1 .taken) (c .before .before .clear .ensures))
     (λ c κs. (
       whole (c .before .before .before .before .before .before .before .before .before .before .before .before .args .image .now) (λ i. omega (arith, c .before .before .before .before .before .before .before .before .before .before .before .shared-slice-known .given i))
           (is-accepted _ (c .before .before .before .before .before .before .check .result) (c .before .before .before .before .before .before .check .ensures) (c .before .before .before .before .before .number-of .ensures) (c .before .before .before .before .if1 .left)),
@@ -25,4 +26,4 @@ rewrite-within-spec =
     (λ c. search needs)
     (λ c. search needs)
     (λ c. c .before .before .before .before .before .before .before .before .rewrite-at .ensures
-    ∙ accepted-image _ (c .before .before .before .before .before .before .before .before .before .before .before .before .before .before .before .check .result) (c .before .before .before .before .before .before .before .before .before .before .before .before .before .before .before .check .ensures) (c .before .before .before .before .before .before .before .before .before .before .before .before .before .before .number-of .ensures) _ _ (c .before .before .before .before .before .before .before .before .before .before .before .before .before .if1 .left)))
+    ∙ accepted-image _ _ _ (c .before .before .before .before .before .before .before .before .before .before .before .before .before .before .before .check .result) (c .before .before .before .before .before .before .before .before .before .before .before .before .before .before .before .check .ensures) (c .before .before .before .before .before .before .before .before .before .before .before .before .before .before .number-of .ensures) (c .before .before .before .before .before .before .before .before .before .before .before .before .before .if1 .left)))

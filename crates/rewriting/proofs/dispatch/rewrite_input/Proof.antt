@@ -1,5 +1,5 @@
 -- `dispatch::rewrite_input` meets its contract: the number of a plan tells its arm.
-use mathlib.Core.Path.{refl, sym, _∙_}
+use mathlib.Core.Path.{_∙_}
 use native.Mathlib.Omega.{arith}
 use borrow.Author.Needs.{needs}
 use Rattle.rewriting.proofs.KindOf.{when-through}

@@ -1,0 +1,170 @@
+// The call `pass` on any bytes, for any budget and any room: the image is checked, the pass made and its plan handed out, or it is refused.
+use crate::walking::Walk;
+use crate::walking::copy_image;
+use crate::walking::visit_all;
+use checking::Checked;
+use checking::check;
+use image::limits::RECORD_BYTES;
+use writing::handing_out::clear;
+use writing::handing_out::hand_out;
+ghost use mathlib.Core.Path.{_≡_};
+ghost use mathlib.Core.List.{List};
+ghost use Prim.Native.Nat.{ℕ, _*_, _≤_};
+ghost use lib.ListN.{length};
+ghost use Rattle.image.specs.Limits.{workBytes};
+ghost use Rattle.rewrite.specs.OnBytes.{planIn, reported, pass-bytes};
+ghost use Rattle.rewrite.specs.Pass.{PassAnswer, pass-with-room, pass-call};
+ghost use Rattle.rewriting.specs.Answer.{Whole};
+ghost use Rattle.pass.specs.Answer.{passedOf, Small};
+ghost use Rattle.pass.specs.Walks.{Left, Lent};
+
+// Visits, flags raised, whether no plan is left to visit, and the number of records; or what stands against it: a test of the image, a rewrite
+// whose answer is too large, at this record of the plan as it then stood, an output that is too short.
+pub enum Answer {
+    Image(Checked),
+    Refused(usize),
+    NoRoom,
+    Is(u64, u64, bool, usize),
+}
+
+// Hands out the image at which the walk ended, if it finds room.
+fn hand_over(image: &[u8], w: Walk, out: &mut [u8]) -> Answer
+    requires { ⌜ (32 * w .records ≤ length (now image)) × (length (now image) ≡ workBytes) ⌝ }
+    ensures { λ r. ⌜ Small r × ((x : PassAnswer) → Left (now (image .entry)) w x →
+        passedOf r (now (out .exit)) ≡ reported (length (now (out .entry))) (pass-with-room (length (now (out .entry))) x)) ⌝ }
+{
+    if out.len() / RECORD_BYTES < w.records {
+        clear(out);
+        return Answer::NoRoom;
+    }
+    hand_out(image, RECORD_BYTES * w.records, out);
+    Answer::Is(w.visits, w.changed, w.records <= w.next, w.records)
+}
+
+// The pass over an accepted image; `a` holds the image as it stands.
+fn pass_on(
+    image: &[u8],
+    budget: u64,
+    a: &mut [u8],
+    m: &mut [u8],
+    work: &mut [u8],
+    levels: &mut [u32],
+    out: &mut [u8],
+) -> Answer
+    requires { ⌜ Whole (now image) ⌝ }
+    requires { ⌜ Lent (now a) (now m) (now work) (now levels) ⌝ }
+    ensures { λ r. ⌜ Small r × (passedOf r (now (out .exit))
+        ≡ reported (length (now (out .entry))) (pass-call budget (length (now (out .entry))) (planIn (now (image .entry))))) ⌝ }
+{
+    copy_image(image, image.len(), a);
+    let w = visit_all(image.len() / RECORD_BYTES, budget, a, m, work, levels);
+    if !w.fits {
+        clear(out);
+        return Answer::Refused(w.next);
+    }
+    hand_over(a, w, out)
+}
+
+// The same of any bytes, with work space lent.
+fn pass_within(
+    image: &[u8],
+    budget: u64,
+    a: &mut [u8],
+    m: &mut [u8],
+    work: &mut [u8],
+    levels: &mut [u32],
+    out: &mut [u8],
+) -> Answer
+    requires { ⌜ Lent (now a) (now m) (now work) (now levels) ⌝ }
+    ensures { λ r. ⌜ Small r × (passedOf r (now (out .exit)) ≡ pass-bytes (now (image .entry)) budget (length (now (out .entry)))) ⌝ }
+{
+    let answer = check(image);
+    if checking::number_of(answer) != 0 {
+        clear(out);
+        return Answer::Image(answer);
+    }
+    pass_on(image, budget, a, m, work, levels, out)
+}
+
+// Every slice, budget and output get their answer.
+pub fn pass_bytes(image: &[u8], budget: u64, out: &mut [u8]) -> Answer
+    ensures { λ r. ⌜ Small r × (passedOf r (now (out .exit)) ≡ pass-bytes (now (image .entry)) budget (length (now (out .entry)))) ⌝ }
+{
+    let mut a = [0u8; 65536];
+    let mut m = [0u8; 4128];
+    let mut work = [0u8; 65536];
+    let mut levels = [0u32; 2048];
+    pass_within(image, budget, &mut a, &mut m, &mut work, &mut levels, out)
+}
+
+// Document 01's number of an answer.
+pub fn number_of(answer: Answer) -> u32
+    ensures { λ r. ⌜ ((out : List ℕ) → r ≡ passedOf answer out .number) ⌝ }
+{
+    match answer {
+        Answer::Image(a) => checking::number_of(a),
+        Answer::Refused(_) => 11,
+        Answer::NoRoom => 12,
+        Answer::Is(_, _, _, _) => 0,
+    }
+}
+
+// The record that an answer names.
+pub fn place_of(answer: Answer) -> usize
+    ensures { λ r. ⌜ ((out : List ℕ) → r ≡ passedOf answer out .place) ⌝ }
+{
+    match answer {
+        Answer::Image(a) => checking::place_of(a),
+        Answer::Refused(n) => n,
+        Answer::NoRoom => 0,
+        Answer::Is(_, _, _, _) => 0,
+    }
+}
+
+// How many plans were visited.
+pub fn visits_of(answer: Answer) -> u64
+    ensures { λ r. ⌜ ((out : List ℕ) → r ≡ passedOf answer out .visits) ⌝ }
+{
+    match answer {
+        Answer::Image(_) => 0,
+        Answer::Refused(_) => 0,
+        Answer::NoRoom => 0,
+        Answer::Is(n, _, _, _) => n,
+    }
+}
+
+// How many of the visits raised the flag.
+pub fn changed_of(answer: Answer) -> u64
+    ensures { λ r. ⌜ ((out : List ℕ) → r ≡ passedOf answer out .changed) ⌝ }
+{
+    match answer {
+        Answer::Image(_) => 0,
+        Answer::Refused(_) => 0,
+        Answer::NoRoom => 0,
+        Answer::Is(_, n, _, _) => n,
+    }
+}
+
+// 1 where no plan is left to visit.
+pub fn finished_of(answer: Answer) -> u32
+    ensures { λ r. ⌜ ((out : List ℕ) → r ≡ passedOf answer out .finished) ⌝ }
+{
+    match answer {
+        Answer::Image(_) => 0,
+        Answer::Refused(_) => 0,
+        Answer::NoRoom => 0,
+        Answer::Is(_, _, finished, _) => finished as u32,
+    }
+}
+
+// How many records the plan has that is handed out; none where the pass is refused.
+pub fn records_of(answer: Answer) -> usize
+    ensures { λ r. ⌜ ((out : List ℕ) → r ≡ passedOf answer out .records) ⌝ }
+{
+    match answer {
+        Answer::Image(_) => 0,
+        Answer::Refused(_) => 0,
+        Answer::NoRoom => 0,
+        Answer::Is(_, _, _, n) => n,
+    }
+}
