@@ -1,13 +1,14 @@
 -- The call on bytes: the tests 8, 11 and 12 in their order, and what is handed out.
 use Prim.Native.Nat.{ℕ, _*_, _/_, _≤_, _<_}
 use native.Mathlib.Omega.{arith}
-use mathlib.Core.Path.{_≡_, sym, ap, subst, _∙_}
-use mathlib.Core.Bool.{Bool, true, false}
-use mathlib.Core.List.{List}
+use mathlib.Core.Path.{_≡_, refl, sym, ap, subst, _∙_}
+use mathlib.Core.Bool.{Bool, true, false, not, _&&_}
+use mathlib.Core.List.{List, []}
 use mathlib.Core.Option.{none, some}
+use lib.Dec.{eqb}
 use lib.ListN.{length, take, drop, length-take}
 use lib.Seq.{take-all}
-use borrow.Author.Tests.{le-leb, lt-leb, eq-eqb, ne-eqb}
+use borrow.Author.Tests.{le-leb, lt-leb, eq-eqb, ne-eqb, eqb-false}
 use Rattle.image.specs.Word.{Bytes, word}
 use Rattle.image.specs.Tree.{labelAt}
 use Rattle.plan.specs.Kinds.{isPlan}
@@ -16,7 +17,7 @@ use Rattle.names.proofs.KindRanges.{plan-range}
 use Rattle.utils.specs.Inputs.{isPlan as plan-number}
 use Rattle.plan.specs.Measure.{sizeP}
 use Rattle.plan.specs.Syntax.{Plan}
-use Rattle.plan.specs.Trees.{bitOf, planTree}
+use Rattle.plan.specs.Trees.{bitOf, labelP, planTree}
 use Rattle.plan.proofs.Written.{planAt-back}
 use Rattle.acceptance.specs.Accepted.{Accepted}
 use Rattle.acceptance.specs.Check.{verdict, check}
@@ -34,8 +35,11 @@ use Rattle.pushing.specs.Merging.{Inside}
 use Rattle.pushing.proofs.Root.{image-length, standing-root}
 use Rattle.pushing.proofs.Marked.{plan-there, found-there, not-found}
 use Rattle.pushing.proofs.Tested.{inside-of}
-use Rattle.rewriting.specs.Answer.{refusal, Whole}
+use Rattle.pushing.proofs.Perhapsing.{both}
+use Rattle.rewriting.specs.Answer.{refusal, Whole, Here}
 use Rattle.rewriting.specs.Outcomes.{Image, answer}
+use Rattle.rewriting.proofs.Finishes.{untold}
+use Rattle.rewriting.proofs.Outcoming.{other-outcomes}
 
 -- an image has room for its records
 pub image-room : {bytes : List ℕ} {records : ℕ} {q : Plan} → Image bytes records q → 32 * records ≤ length bytes
@@ -74,11 +78,6 @@ module _ (room n : ℕ) (p : Plan) where
 
 -- ---- what stands at a record of an accepted image
 
--- a plan does
-pub record Here (s : List ℕ) (n : ℕ) : Type 0 where
-  pub spot : Focus
-  pub inside : Inside s n (planIn s) spot
-
 module _ {s : List ℕ} (w : Whole s) where
   pub records-are : length s ≡ 32 * sizeP (planIn s)
   records-are = image-length s (planIn s) (w .accepted)
@@ -100,7 +99,7 @@ module _ {s : List ℕ} (w : Whole s) where
     pub a-plan : b ≡ true → Here s n
     a-plan e =
         let f = found-there (focus n (planIn s)) (plan-told ∙ e) in
-        record { spot = f .0; inside = inside-of s (planIn s) (w .accepted) (f .1) }
+        record { whole = w; spot = f .0; inside = inside-of s (planIn s) (w .accepted) (f .1) }
 
   -- the image that was read is its plan's
   pub whole-image : {records : ℕ} → records ≡ length s / 32 → Image s records (planIn s)
@@ -109,6 +108,21 @@ module _ {s : List ℕ} (w : Whole s) where
         count = omega (arith, records-are);
         bytes = take-all (32 * records) s (omega (arith, records-are)) ∙ w .accepted .image;
       }
+
+-- ---- a plan that stays as it is
+
+-- its number is neither a Filter's nor a Join's
+pub neither : {k : ℕ} → (not (eqb k 33) && not (eqb k 35)) ≡ true → (k ≡ 33 → ⊥) × (k ≡ 35 → ⊥)
+neither {k} h =
+    let b = both (not (eqb k 33)) (not (eqb k 35)) h in
+    (eqb-false k 33 (untold (b .0)), eqb-false k 35 (untold (b .1)))
+
+pub stayed : {s : List ℕ} {n k : ℕ} (room : ℕ) (h : Here s n) → k ≡ labelP (h .spot .plan) .kind → (k ≡ 33 → ⊥) × (k ≡ 35 → ⊥)
+    → rewritten room (with-room room (granted false (planIn s))) ≡ rewritten room (rewrite-call n room (planIn s))
+stayed {s} {n} room h e k =
+    let o = other-outcomes {work = []} {r = record { fits = true; flag = false; written = false; records = 0 }} (h .inside)
+    (λ f. k .0 (e ∙ f)) (λ j. k .1 (e ∙ j)) refl refl refl in
+    granted-call room n (planIn s) (h .inside .there) (sym (o .fit)) (o .flag refl) (sym (o .same refl refl))
 
 -- ---- the tests of the image
 

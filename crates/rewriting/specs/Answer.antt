@@ -6,6 +6,8 @@ use Rattle.acceptance.specs.Accepted.{Accepted}
 use Rattle.acceptance.specs.Check.{Verdict, verdict}
 use Rattle.checking.specs.Answer.{verdictOf}
 use Rattle.rewrite.specs.OnBytes.{Rewritten, planIn}
+use Rattle.rewrite.specs.RewriteAt.{Focus}
+use Rattle.pushing.specs.Merging.{Inside}
 use Rattle.rewriting.specs.declared.calling.Answer.{Answer}
 use Rattle.rewriting.specs.declared.calling.Answer.the-variants.{Image, NoPlan, TooLarge, NoRoom, Is}
 
@@ -23,3 +25,9 @@ rewrittenOf (Is f n) out = record { number = 0; place = 0; flag = bitOf f; recor
 -- the plan in the bytes s is accepted
 pub record Whole (s : List ℕ) : Type 0 where
   pub accepted : Accepted s (planIn s)
+
+-- a plan stands at record n of it
+pub record Here (s : List ℕ) (n : ℕ) : Type 0 where
+  pub whole : Whole s
+  pub spot : Focus
+  pub inside : Inside s n (planIn s) spot

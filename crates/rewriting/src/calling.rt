@@ -1,6 +1,7 @@
 // The call `rewrite` on any bytes, for any record and any room: the image is checked, rewritten and handed out, or refused.
 use crate::nodes::Outcome;
 use crate::nodes::rewrite;
+use crate::nodes::stays;
 use checking::Checked;
 use checking::check;
 use conjuncts::reading::record_at;
@@ -17,7 +18,7 @@ ghost use Rattle.image.specs.Limits.{workBytes, maxRecords};
 ghost use Rattle.plan.specs.Syntax.{Plan};
 ghost use Rattle.rewrite.specs.OnBytes.{rewritten, rewrite-bytes, planIn};
 ghost use Rattle.rewrite.specs.RewriteAt.{granted, with-room, rewrite-call};
-ghost use Rattle.rewriting.specs.Answer.{rewrittenOf, Whole};
+ghost use Rattle.rewriting.specs.Answer.{rewrittenOf, Whole, Here};
 ghost use Rattle.rewriting.specs.Outcomes.{Image};
 
 // The flag and the number of records, or what stands against it: a test of the image, no plan at this record, an answer that is too large for
@@ -44,8 +45,8 @@ fn hand_over(image: &[u8], records: usize, flag: bool, out: &mut [u8]) -> Answer
     Answer::Is(flag, records)
 }
 
-// The rewrite at record `node` of an accepted image.
-fn rewrite_at(
+// The rewrite of the plan at record `node` of an accepted image, with work space lent.
+fn rewrite_within(
     image: &[u8],
     node: usize,
     m: &mut [u8],
@@ -53,19 +54,11 @@ fn rewrite_at(
     levels: &mut [u32],
     out: &mut [u8],
 ) -> Answer
-    requires { ⌜ Whole (now image) ⌝ }
+    requires { ⌜ Here (now image) node ⌝ }
     requires { ⌜ (4128 ≤ length (now m)) × (length (now work) ≡ workBytes) × (length (now levels) ≡ maxRecords) ⌝ }
     ensures { λ r. ⌜ rewrittenOf r (now (out .exit))
         ≡ rewritten (length (now (out .entry))) (rewrite-call node (length (now (out .entry))) (planIn (now (image .entry)))) ⌝ }
 {
-    if image.len() / RECORD_BYTES <= node {
-        clear(out);
-        return Answer::NoPlan(node);
-    }
-    if !is_plan(word_at(record_at(image, node), 0)) {
-        clear(out);
-        return Answer::NoPlan(node);
-    }
     let r = rewrite(image, node, m, work, levels);
     if !r.fits {
         clear(out);
@@ -77,16 +70,42 @@ fn rewrite_at(
     hand_over(image, image.len() / RECORD_BYTES, r.flag, out)
 }
 
-// The same of any bytes, with work space lent.
-fn rewrite_within(
-    image: &[u8],
-    node: usize,
-    m: &mut [u8],
-    work: &mut [u8],
-    levels: &mut [u32],
-    out: &mut [u8],
-) -> Answer
-    requires { ⌜ (4128 ≤ length (now m)) × (length (now work) ≡ workBytes) × (length (now levels) ≡ maxRecords) ⌝ }
+// Lends the work space.
+fn rewrite_here(image: &[u8], node: usize, out: &mut [u8]) -> Answer
+    requires { ⌜ Here (now image) node ⌝ }
+    ensures { λ r. ⌜ rewrittenOf r (now (out .exit))
+        ≡ rewritten (length (now (out .entry))) (rewrite-call node (length (now (out .entry))) (planIn (now (image .entry)))) ⌝ }
+{
+    let mut m = [0u8; 4128];
+    let mut work = [0u8; 65536];
+    let mut levels = [0u32; 2048];
+    rewrite_within(image, node, &mut m, &mut work, &mut levels, out)
+}
+
+// The rewrite at record `node` of an accepted image.
+fn rewrite_at(image: &[u8], node: usize, out: &mut [u8]) -> Answer
+    requires { ⌜ Whole (now image) ⌝ }
+    ensures { λ r. ⌜ rewrittenOf r (now (out .exit))
+        ≡ rewritten (length (now (out .entry))) (rewrite-call node (length (now (out .entry))) (planIn (now (image .entry)))) ⌝ }
+{
+    if image.len() / RECORD_BYTES <= node {
+        clear(out);
+        return Answer::NoPlan(node);
+    }
+    let kind = word_at(record_at(image, node), 0);
+    if !is_plan(kind) {
+        clear(out);
+        return Answer::NoPlan(node);
+    }
+    // A plan that stays as it is needs no work space.
+    if stays(kind) {
+        return hand_over(image, image.len() / RECORD_BYTES, false, out);
+    }
+    rewrite_here(image, node, out)
+}
+
+// Every slice, node and output get their answer.
+pub fn rewrite_bytes(image: &[u8], node: u32, out: &mut [u8]) -> Answer
     ensures { λ r. ⌜ rewrittenOf r (now (out .exit)) ≡ rewrite-bytes (now (image .entry)) node (length (now (out .entry))) ⌝ }
 {
     let answer = check(image);
@@ -94,17 +113,7 @@ fn rewrite_within(
         clear(out);
         return Answer::Image(answer);
     }
-    rewrite_at(image, node, m, work, levels, out)
-}
-
-// Every slice, node and output get their answer.
-pub fn rewrite_bytes(image: &[u8], node: u32, out: &mut [u8]) -> Answer
-    ensures { λ r. ⌜ rewrittenOf r (now (out .exit)) ≡ rewrite-bytes (now (image .entry)) node (length (now (out .entry))) ⌝ }
-{
-    let mut m = [0u8; 4128];
-    let mut work = [0u8; 65536];
-    let mut levels = [0u32; 2048];
-    rewrite_within(image, node as usize, &mut m, &mut work, &mut levels, out)
+    rewrite_at(image, node as usize, out)
 }
 
 // Document 01's number of an answer.

@@ -15,7 +15,9 @@ use writing::splicing::Spot;
 use writing::splicing::write_after;
 use writing::splicing::write_before;
 ghost use mathlib.Core.Path.{_≡_};
+ghost use mathlib.Core.Bool.{not, _&&_};
 ghost use Prim.Native.Nat.{ℕ, _≤_, _<_};
+ghost use lib.Dec.{eqb};
 ghost use lib.ListN.{length};
 ghost use Rattle.image.specs.Limits.{workBytes, maxRecords};
 ghost use Rattle.plan.specs.Syntax.{Plan};
@@ -103,6 +105,13 @@ fn rewrite_join(s: &[u8], node: usize, m: &mut [u8], work: &mut [u8], levels: &m
     let spot = write_before(s, node, work, levels);
     let new = push_down_join(s, node, empty(), m, work, node, spot.level);
     finish(s, spot, levels, new, work)
+}
+
+// Whether a plan of this kind stays as it is.
+pub fn stays(kind: usize) -> bool
+    ensures { λ r. ⌜ r ≡ (not (eqb kind 33) && not (eqb kind 35)) ⌝ }
+{
+    (kind != FILTER) & (kind != JOIN)
 }
 
 // The plan at record `node`.

@@ -1,9 +1,8 @@
 -- `calling::rewrite_within` meets its contract.
-use mathlib.Core.Path.{_∙_}
-use native.Mathlib.Omega.{arith}
+use mathlib.Core.Path.{refl, sym, _∙_}
 use borrow.Author.Needs.{needs}
-use Rattle.checking.proofs.Accepting.{is-accepted}
-use Rattle.rewriting.proofs.Calls.{whole, refused-image, accepted-image}
+use Rattle.rewriting.proofs.Finishes.{told, untold}
+use Rattle.rewriting.proofs.Calls.{image-room, refused-11, granted-call, whole-image}
 use Rattle.rewriting.proofs.calling.rewrite_within.Statement.{statement}
 use Rattle.rewriting.proofs.calling.rewrite_within.Tie as tie
 
@@ -13,17 +12,31 @@ rewrite-within-spec =
     (tie.spec
     (λ c κs. search needs)
     (λ c κs. search needs)
+    (λ c. search needs)
+    (λ c. search needs)
+    (λ c. search needs)
+    (λ c. search needs)
+    (λ c. let h = c .before .before .before .before .before .before .before .before .before .before .before .before .before .before .before .before .before .before .before .before .before .pre .0 in
+    let o = c .before .before .before .before .before .before .before .before .before .before .before .before .rewrite .ensures _ (h .spot) (h .inside) in
+    refused-11 _ _ _ (h .inside .there) (sym (o .fit) ∙ untold (c .before .before .before .before .if1 .taken)) (c .before .before .clear .ensures))
+    (λ c κs. let h = c .before .before .before .before .before .before .before .before .before .before .before .before .before .before .before .before .before .before .before .before .pre .0 in
+    let o = c .before .before .before .before .before .before .before .before .before .before .before .rewrite .ensures _ (h .spot) (h .inside) in
+    image-room (o .image (told (c .before .before .before .if1 .left)) (c .before .before .if2 .taken)))
+    (λ c. search needs)
+    (λ c. search needs)
+    (λ c. search needs)
+    (λ c. search needs)
+    (λ c. let h = c .before .before .before .before .before .before .before .before .before .before .before .before .before .before .before .before .before .before .before .before .before .before .before .pre .0 in
+    let o = c .before .before .before .before .before .before .before .before .before .before .before .before .before .before .rewrite .ensures _ (h .spot) (h .inside) in
+    let y = told (c .before .before .before .before .before .before .if1 .left) in
+    c .before .before .hand-over .ensures _ (o .image y (c .before .before .before .before .before .if2 .taken)) ∙ granted-call _ _ _ (h .inside .there) (sym (o .fit) ∙ y) (o .flag y) refl)
     (λ c κs. search needs)
     (λ c. search needs)
-    (λ c. refused-image _ _ _ (c .before .before .before .before .before .before .check .result) (c .before .before .before .before .before .before .check .ensures) (c .before .before .before .before .before .number-of .ensures) (c .before .before .before .before .if1 .taken) (c .before .before .clear .ensures))
-    (λ c κs. (
-      whole (c .before .before .before .before .before .before .before .before .before .before .before .before .args .image .now) (λ i. omega (arith, c .before .before .before .before .before .before .before .before .before .before .before .shared-slice-known .given i))
-          (is-accepted _ (c .before .before .before .before .before .before .check .result) (c .before .before .before .before .before .before .check .ensures) (c .before .before .before .before .before .number-of .ensures) (c .before .before .before .before .if1 .left)),
-      c .before .before .before .before .before .before .before .before .before .before .before .before .pre,
-    ))
     (λ c. search needs)
     (λ c. search needs)
     (λ c. search needs)
-    (λ c. search needs)
-    (λ c. c .before .before .before .before .before .before .before .before .rewrite-at .ensures
-    ∙ accepted-image _ _ _ (c .before .before .before .before .before .before .before .before .before .before .before .before .before .before .before .check .result) (c .before .before .before .before .before .before .before .before .before .before .before .before .before .before .before .check .ensures) (c .before .before .before .before .before .before .before .before .before .before .before .before .before .before .number-of .ensures) (c .before .before .before .before .before .before .before .before .before .before .before .before .before .if1 .left)))
+    (λ c. let h = c .before .before .before .before .before .before .before .before .before .before .before .before .before .before .before .before .before .before .before .before .before .before .pre .0 in
+    let o = c .before .before .before .before .before .before .before .before .before .before .before .before .before .rewrite .ensures _ (h .spot) (h .inside) in
+    let y = told (c .before .before .before .before .before .if1 .left) in
+    c .before .before .hand-over2 .ensures _ (whole-image (h .whole) refl)
+    ∙ granted-call _ _ _ (h .inside .there) (sym (o .fit) ∙ y) (o .flag y) (sym (o .same y (c .before .before .before .before .if2 .left)))))
