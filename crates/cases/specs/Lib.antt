@@ -8,6 +8,7 @@ pub mod Small
 pub mod Medium
 pub mod Lists
 pub mod Bounds
+pub mod Corners
 pub mod Edges
 pub mod Verdicts
 pub mod Records
