@@ -72,13 +72,20 @@ fn ordinary() -> Vec<Set> {
     ]
 }
 
-/// Sets for the rewrite: the ordinary plans, and plans with Filters everywhere; the largest of these have room to grow.
+/// Plans that make the rewrite work hard.
+const HARD_TO_REWRITE: [(&str, Build); 2] = [("stacked-filters", stacked_filters), ("growing", growing)];
+
+/// Sets for the rewrite: the ordinary plans, plans with Filters everywhere, of which the largest have room to grow, and the
+/// hard ones.
 pub fn rewrite_sets() -> Vec<Set> {
     let aim = Aim::Rewrite { volatile: false };
     let mut sets = ordinary();
     sets.push(drawn("small-filters", aim, 10, 10, 14));
     sets.push(drawn("medium-filters", aim, 100, 90, 110));
     sets.push(drawn("large-filters", aim, 1400, 1400, 1700));
+    let hard =
+        |(name, build): (&str, Build)| Set { name: name.into(), plans: Plans::Built { build, records: RECORDS } };
+    sets.extend(HARD_TO_REWRITE.map(hard));
     sets
 }
 
@@ -135,6 +142,25 @@ fn deep_filters(size: Size) -> Tree {
     let predicate = in_list(false, references(1, size.fields, each));
     let chain = (0..levels - 1).fold(table(1, 1, size.fields, 0), |input, _| filter(predicate.clone(), input));
     referring(size, 1, size.fields, chain)
+}
+
+/// Filters over each other, nearly as many as a list holds, no two with the same predicate: they merge one by one.
+fn stacked_filters(size: Size) -> Tree {
+    let levels = size.list - 8;
+    let items = size.records / levels - 4;
+    let predicate = |level: usize| {
+        let numbers = (0..items).map(|item| integer((item + level * usize::from(item + 1 == items)) as i64));
+        in_list(false, std::iter::once(column(1, 1)).chain(numbers).collect())
+    };
+    (0..levels).fold(table(1, 1, 1, 0), |input, level| filter(predicate(level), input))
+}
+
+/// A Filter that refers again and again to a Projection's entry of half of the records: it would grow to half a million.
+fn growing(size: Size) -> Tree {
+    let half = size.records / 2 - 4;
+    let large = in_list(false, references(1, 1, half));
+    let often = function(1, 0, 2, vec![column(2, 1); half]);
+    filter(often, over(PROJECTION, vec![entry(2, 1, large)], table(1, 1, 1, 0)))
 }
 
 /// Projections of one entry each; the references are above them all.
