@@ -1,4 +1,4 @@
-//! Rewrite and pass by the library where it exports them, else by the patched source; and what the numbers of refusals say.
+//! Rewrite and pass by the library where it is linked, else by the patched source; and what the numbers of refusals say.
 
 use crate::ffi;
 use crate::rewriting::{self, Passed, Rewritten};
@@ -14,9 +14,9 @@ pub fn pass(image: &[u8], budget: u64, room: usize) -> (Passed, Vec<u8>) {
     ffi::pass(image, budget, room).unwrap_or_else(|| rewriting::pass(PATCHED, image, budget, room))
 }
 
-/// Who answers a call, by whether the library exports it.
-pub fn answered_by(is_linked: bool) -> &'static str {
-    match is_linked {
+/// Who answers a call.
+pub fn answered_by() -> &'static str {
+    match ffi::LINKED {
         true => "the library",
         false => "the patched source (the library's is not linked)",
     }

@@ -1,18 +1,12 @@
 //! The functions that the static library exports, each behind a safe one. A `&[u8]` crosses as pointer and length.
-//! Without the feature that says that the library exports it nothing is linked, and each answers none.
+//! Without the feature `library` nothing is linked, and each answers none.
 
 use crate::checker::Verdict;
 use crate::rewriting::{Passed, Rewritten};
 use crate::row_tests::Tested;
 
-/// Whether the library is linked: the check and the row test.
+/// Whether the library is linked.
 pub const LINKED: bool = cfg!(feature = "library");
-
-/// Whether it exports the rewrite.
-pub const REWRITES: bool = cfg!(feature = "rewrite");
-
-/// Whether it exports the pass.
-pub const PASSES: bool = cfg!(feature = "pass");
 
 #[cfg(feature = "library")]
 mod exported {
@@ -29,10 +23,6 @@ mod exported {
             marks: *const u8,
             marks_len: usize,
         ) -> Tested;
-    }
-
-    #[cfg(feature = "rewrite")]
-    unsafe extern "C" {
         pub fn push_down_filter_rewrite(
             image: *const u8,
             len: usize,
@@ -40,10 +30,6 @@ mod exported {
             out: *mut u8,
             room: usize,
         ) -> super::Rewritten;
-    }
-
-    #[cfg(feature = "pass")]
-    unsafe extern "C" {
         pub fn push_down_filter_pass(
             image: *const u8,
             len: usize,
@@ -96,7 +82,7 @@ pub fn rewrite(image: &[u8], node: u32, room: usize) -> Option<(Rewritten, Vec<u
     Some((result, output))
 }
 
-#[cfg(feature = "rewrite")]
+#[cfg(feature = "library")]
 pub fn rewrite_into(image: &[u8], node: u32, output: &mut [u8]) -> Option<Rewritten> {
     // SAFETY: both pointers and lengths are those of slices that live through the call; it writes to the second alone.
     Some(unsafe {
@@ -104,7 +90,7 @@ pub fn rewrite_into(image: &[u8], node: u32, output: &mut [u8]) -> Option<Rewrit
     })
 }
 
-#[cfg(not(feature = "rewrite"))]
+#[cfg(not(feature = "library"))]
 pub fn rewrite_into(_image: &[u8], _node: u32, _output: &mut [u8]) -> Option<Rewritten> {
     None
 }
@@ -116,7 +102,7 @@ pub fn pass(image: &[u8], budget: u64, room: usize) -> Option<(Passed, Vec<u8>)>
     Some((result, output))
 }
 
-#[cfg(feature = "pass")]
+#[cfg(feature = "library")]
 pub fn pass_into(image: &[u8], budget: u64, output: &mut [u8]) -> Option<Passed> {
     // SAFETY: both pointers and lengths are those of slices that live through the call; it writes to the second alone.
     Some(unsafe {
@@ -124,7 +110,7 @@ pub fn pass_into(image: &[u8], budget: u64, output: &mut [u8]) -> Option<Passed>
     })
 }
 
-#[cfg(not(feature = "pass"))]
+#[cfg(not(feature = "library"))]
 pub fn pass_into(_image: &[u8], _budget: u64, _output: &mut [u8]) -> Option<Passed> {
     None
 }

@@ -6,7 +6,6 @@ pub struct Verdict {
     pub record: u32,
 }
 
-#[cfg(feature = "rewrite")]
 #[repr(C)]
 pub struct Rewritten {
     pub number: u32,
@@ -15,7 +14,6 @@ pub struct Rewritten {
     pub records: u32,
 }
 
-#[cfg(feature = "pass")]
 #[repr(C)]
 pub struct Passed {
     pub number: u32,
@@ -46,12 +44,10 @@ unsafe extern "C" {
     ) -> Tested;
 }
 
-#[cfg(feature = "rewrite")]
 unsafe extern "C" {
     fn push_down_filter_rewrite(image: *const u8, length: usize, node: u32, out: *mut u8, room: usize) -> Rewritten;
 }
 
-#[cfg(feature = "pass")]
 unsafe extern "C" {
     fn push_down_filter_pass(image: *const u8, length: usize, budget: u64, out: *mut u8, room: usize) -> Passed;
 }
@@ -63,12 +59,10 @@ pub fn check(image: &[u8]) -> Verdict {
     unsafe { push_down_filter_check(image.as_ptr(), image.len()) }
 }
 
-#[cfg(feature = "rewrite")]
 pub fn rewrite(image: &[u8], node: u32, out: &mut [u8]) -> Rewritten {
     unsafe { push_down_filter_rewrite(image.as_ptr(), image.len(), node, out.as_mut_ptr(), out.len()) }
 }
 
-#[cfg(feature = "pass")]
 pub fn pass(image: &[u8], budget: u64, out: &mut [u8]) -> Passed {
     unsafe { push_down_filter_pass(image.as_ptr(), image.len(), budget, out.as_mut_ptr(), out.len()) }
 }

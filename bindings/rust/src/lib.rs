@@ -110,7 +110,6 @@ impl Rewritten {
 }
 
 /// Rewrites the plan at record `node` in its place; the answer is the whole image.
-#[cfg(feature = "rewrite")]
 pub fn rewrite(image: &[u8], node: u32, out: &mut [u8]) -> Result<Rewritten, Refusal> {
     let result = exported::rewrite(image, node, out);
     let rewritten = Rewritten { changed: result.flag == 1, records: result.records as usize };
@@ -138,7 +137,6 @@ impl Passed {
 }
 
 /// Rewrites the root, then likewise, in order, the plans below what stands there now, until `budget` nodes were visited.
-#[cfg(feature = "pass")]
 pub fn pass(image: &[u8], budget: u64, out: &mut [u8]) -> Result<Passed, Refusal> {
     let result = exported::pass(image, budget, out);
     let passed = Passed {

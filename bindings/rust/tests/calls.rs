@@ -16,7 +16,6 @@ fn image() -> Vec<u8> {
 }
 
 /// The scan with the predicate, which is what a rewrite or a pass leaves.
-#[cfg(feature = "rewrite")]
 fn answer() -> Vec<u8> {
     const ANSWER: [[u32; 8]; 5] = [
         [32, 1, 0, 0, 0, 0, 1, 0],
@@ -52,7 +51,6 @@ fn a_row_is_tested() {
     assert_eq!(row_test(&image(), 0, &[], &[]), refused(Reason::Row, 0));
 }
 
-#[cfg(feature = "rewrite")]
 #[test]
 fn a_plan_is_rewritten() {
     use push_down_filter::{rewrite, Rewritten};
@@ -65,7 +63,6 @@ fn a_plan_is_rewritten() {
     assert_eq!(rewrite(&[], 0, &mut []), refused(Reason::Buffer, 0));
 }
 
-#[cfg(feature = "pass")]
 #[test]
 fn a_plan_is_passed_over() {
     use push_down_filter::{pass, Passed};

@@ -1,4 +1,4 @@
-//! Measures the exported rewrite, and with the feature `pass` the exported pass, on fixed sets of images, beside the patched
+//! Measures the exported rewrite and the exported pass, on fixed sets of images, beside the patched
 //! source over the stand-ins in the same run. The lines that it prints first say what is counted.
 //! Options: the names of sets, for these alone; --count SET N [each|turn|pass], for N exported calls of one set, or N images
 //! rewritten in turn, and nothing else.
@@ -109,9 +109,7 @@ fn compare(names: &[&str]) -> Result<(), String> {
         measure(&set.name, Job::Each, &images)?;
         images.retain(|image| is_granted(image));
         measure(&set.name, Job::Turn, &images)?;
-        if ffi::PASSES {
-            measure(&set.name, Job::Pass, &images)?;
-        }
+        measure(&set.name, Job::Pass, &images)?;
     }
     Ok(())
 }
@@ -168,7 +166,7 @@ fn exported(job: Job, (image, node): Call, buffers: &mut [Vec<u8>; 2]) -> usize 
         })),
         Job::Pass => ffi::pass_into(image, u64::MAX, &mut buffers[0]).map(|result| result.records as usize),
     };
-    records.expect("built with the features rewrite and pass")
+    records.expect("built with the feature library")
 }
 
 /// Rewrites at all plans, parents first, each from image to image; a rewrite answers how many records it left, 0 where it is

@@ -2,7 +2,6 @@
 
 use harness::calls::{self, answered_by, reason};
 use harness::checker::{check, Verdict};
-use harness::ffi;
 use harness::image::{read, Tree, RECORD_BYTES};
 use harness::limits::RECORDS;
 use harness::text::{self, Written, GRAMMAR};
@@ -96,7 +95,7 @@ fn rewrite(node: u32, file: &str) -> Result<String, String> {
     let plan = plan_of(file)?;
     let (result, output) = calls::rewrite(&plan.image(), node, ROOM);
     let after = answer(Verdict { number: result.number, record: result.record }, result.records, &output)?;
-    let by = answered_by(ffi::REWRITES);
+    let by = answered_by();
     Ok(format!("{}flag {}\nrewrite at {node} by {by}\n", columns(&plan, &after), result.flag))
 }
 
@@ -105,7 +104,7 @@ fn pass(budget: u64, file: &str) -> Result<String, String> {
     let (result, output) = calls::pass(&plan.image(), budget, ROOM);
     let after = answer(Verdict { number: result.number, record: result.record }, result.records, &output)?;
     let counts = format!("visits {} changed {} finished {}", result.visits, result.changed, result.finished);
-    Ok(format!("{}{counts}\npass of {budget} by {}\n", columns(&plan, &after), answered_by(ffi::PASSES)))
+    Ok(format!("{}{counts}\npass of {budget} by {}\n", columns(&plan, &after), answered_by()))
 }
 
 /// The plan that stands in an output.

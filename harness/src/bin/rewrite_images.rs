@@ -1,5 +1,5 @@
 //! Runs rewrites of random plans, and passes over them, through the source, unchanged and with D1 to D5, and, with the
-//! features `rewrite` and `pass`, through the exported functions. Every plan is rewritten at every record, present or not,
+//! feature `library`, through the exported functions. Every plan is rewritten at every record, present or not,
 //! and passed over once. Compared are
 //! - the unchanged source with the patched one: a difference must be one of D1 to D5, and with all five switched off there
 //!   must be none;
@@ -63,10 +63,9 @@ fn main() -> ExitCode {
         eprintln!("usage: rewrite_images [--plans N] [--seed S]");
         return ExitCode::FAILURE;
     };
-    let exported = match (ffi::REWRITES, ffi::PASSES) {
-        (true, true) => ", and the exported rewrite and pass",
-        (true, false) => ", and the exported rewrite; the exported pass is not linked",
-        _ => "; the exported rewrite and pass are not linked",
+    let exported = match ffi::LINKED {
+        true => ", and the exported rewrite and pass",
+        false => "; the exported rewrite and pass are not linked",
     };
     println!(
         "running the source, unchanged and with D1 to D5{exported}: seed {}, {} plans",

@@ -3,7 +3,7 @@
 //! call the image must be accepted, by the exported check too if it is linked, and its rows over random tables must be those
 //! of the first image, as often and in the same order; and an output must be the answer, then zeros.
 //!
-//! The calls are the library's with the features `rewrite` and `pass`, else the patched source's. Options: --cases N --seed S.
+//! The calls are the library's with the feature `library`, else the patched source's. Options: --cases N --seed S.
 //! Stops at the first difference, prints the plan and the calls, and exits non-zero.
 
 use harness::calls::{self, answered_by};
@@ -56,7 +56,7 @@ fn main() -> ExitCode {
         eprintln!("usage: sequences [--cases N] [--seed S]");
         return ExitCode::FAILURE;
     };
-    println!("rewrites by {}, passes by {}", answered_by(ffi::REWRITES), answered_by(ffi::PASSES));
+    println!("rewrites and passes by {}", answered_by());
     println!("the exported check is {}", if ffi::LINKED { "asked as well" } else { "not linked" });
     println!("running: seed {}, {} plans", options.seed, options.cases);
     let start = Instant::now();

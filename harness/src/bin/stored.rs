@@ -1,7 +1,7 @@
 //! Compares the harness with the stored cases, which the formal definitions computed: the verdicts of images, the
 //! records of plans, the numbers that tests 6 and 7 give to plans, and the answers to rewrites and passes, which the
-//! patched source must give as well. The exported check, rewrite and pass answer too, as far as they are linked (features
-//! `library`, `rewrite`, `pass`). Reads crates/cases/specs/*.antt, or the folder named on the command line.
+//! patched source must give as well. With the feature `library` the exported check, rewrite and
+//! pass answer too. Reads crates/cases/specs/*.antt, or the folder named on the command line.
 
 use harness::checker::{check, Verdict};
 use harness::ffi;
@@ -80,10 +80,7 @@ fn statements(text: &str, asked: &str) -> Vec<String> {
 fn main() -> ExitCode {
     let folder = std::env::args().nth(1).map_or_else(default_folder, PathBuf::from);
     let text = files(&folder).iter().map(|file| std::fs::read_to_string(file).unwrap_or_default()).collect::<String>();
-    let linked = [("check", ffi::LINKED), ("rewrite", ffi::REWRITES), ("pass", ffi::PASSES)];
-    for (name, is_linked) in linked {
-        println!("the exported {name} is {}", if is_linked { "compared as well" } else { "not linked" });
-    }
+    println!("the exported functions are {}", if ffi::LINKED { "compared as well" } else { "not linked" });
     let agreed = SORTS.iter().filter(|sort| agrees(sort, &text)).count();
     if agreed == SORTS.len() {
         ExitCode::SUCCESS
