@@ -141,7 +141,8 @@ module _ (P : Plan → Type 0) where
   when-window f′ (window ws p) h = f′ ws p
 
 -- what is none of the others is one that a Filter passes, or stays above, as it is
-pub when-through : (q : Plan) → is-filter q ≡ false → (labelP q .kind ≡ 32 → ⊥) → (labelP q .kind ≡ 34 → ⊥) → (labelP q .kind ≡ 35 → ⊥) → (labelP q .kind ≡ 36 → ⊥) → (labelP q .kind ≡ 37 → ⊥) → (labelP q .kind ≡ 42 → ⊥) → (labelP q .kind ≡ 43 → ⊥) → through q ≡ true
+pub when-through : (q : Plan) → is-filter q ≡ false → (labelP q .kind ≡ 32 → ⊥) → (labelP q .kind ≡ 34 → ⊥) → (labelP q .kind ≡ 35 → ⊥) → (labelP
+    q .kind ≡ 36 → ⊥) → (labelP q .kind ≡ 37 → ⊥) → (labelP q .kind ≡ 42 → ⊥) → (labelP q .kind ≡ 43 → ⊥) → through q ≡ true
 unfolding labelP
 when-through (scan t fs es) h n1 n2 n3 n4 n5 n6 n7 = absurd (n1 refl)
 when-through (filter e p) h n1 n2 n3 n4 n5 n6 n7 = sym h

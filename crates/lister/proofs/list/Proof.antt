@@ -23,8 +23,21 @@ list-spec =
     (λ c. search needs)
     (λ c. search needs)
     (λ c. search needs)
-    (λ c κs. let r = records-room _ _ _ (c .before .before .before .before .before .before .before .push-down-filter-pass .ensures) in
-    (omega (arith, r, c .before .before .before .before .before .before .before .push-down-filter-pass .kept, c .before .before .before .before .before .before .before .before .before .before .before .before .pre), omega (arith, r, c .before .before .before .before .before .before .before .before .before .before .before .before .pre)))
+    (λ c κs. let r = records-room _ _ _ (c .before .before .before .before .before .before .before .push-down-filter-pass .ensures) in (
+      omega (
+        arith,
+        r,
+        c .before .before .before .before .before .before .before .push-down-filter-pass .kept,
+        c .before .before .before .before
+            .before .before .before .before .before .before .before .before .pre,
+      ),
+      omega (
+        arith,
+        r,
+        c .before .before .before .before .before .before
+            .before .before .before .before .before .before .pre,
+      ),
+    ))
     (λ c. search needs)
     (λ c κs. search needs)
     (λ c κs. search needs)

@@ -44,7 +44,8 @@ place-fits c =
 records-fit : tie.Need-cast-t14
 records-fit c =
     let a = c .before .before .before .before .before .before .before .before .pass-bytes in
-    let h : c .before .before .before .before .records-of .result < 4294967296 = small-count (a .result) (a .ensures .0) (c .before .before .before .before .records-of .ensures []) in
+    let h : c .before .before .before .before .records-of .result < 4294967296 = small-count (a .result) (a .ensures .0) (c .before .before
+    .before .before .records-of .ensures []) in
     search needs
 
 pub push-down-filter-pass-spec : {M : Type 1} → statement M
@@ -61,5 +62,7 @@ push-down-filter-pass-spec =
     (λ c κs. search needs)
     records-fit
     (λ c. search needs)
-    (λ c. all-are (c .before .before .before .number-of .ensures _) (c .before .before .before .before .before .place-of .ensures _) (c .before .before .visits-of .ensures _) (c .before .changed-of .ensures _)
-    (c .finished-of .ensures _) (c .before .before .before .before .records-of .ensures _) (output-is (c .before .before .before .before .before .before .before .before .pass-bytes .result) _) (c .before .before .before .before .before .before .before .before .pass-bytes .ensures .1)))
+    (λ c. all-are (c .before .before .before .number-of .ensures _) (c .before .before .before .before .before .place-of .ensures _) (c .before
+    .before .visits-of .ensures _) (c .before .changed-of .ensures _)
+    (c .finished-of .ensures _) (c .before .before .before .before .records-of .ensures _) (output-is (c .before .before .before .before .before
+    .before .before .before .pass-bytes .result) _) (c .before .before .before .before .before .before .before .before .pass-bytes .ensures .1)))

@@ -79,14 +79,16 @@ place-fits : tie.Need-cast-t10
 place-fits c =
     let args = c .before .before .before .before .before .before .before .before .before .args in
     let h : c .before .before .place-of .result < 4294967296 =
-    read (λ t. t .place) (c .before .before .place-of .ensures _) (c .before .before .before .before .before .rewrite-bytes .ensures) (small (args .node) (search needs) _ _ .0) in
+    read (λ t. t .place) (c .before .before .place-of .ensures _) (c .before .before .before .before .before .rewrite-bytes .ensures) (small
+    (args .node) (search needs) _ _ .0) in
     search needs
 
 records-fit : tie.Need-cast-t12
 records-fit c =
     let args = c .before .before .before .before .before .before .before .before .before .before .args in
     let h : c .before .before .records-of .result < 4294967296 =
-    read (λ t. t .records) (c .before .before .records-of .ensures _) (c .before .before .before .before .before .before .rewrite-bytes .ensures) (small (args .node) (search needs) _ _ .1) in
+    read (λ t. t .records) (c .before .before .records-of .ensures _) (c .before .before .before .before .before .before .rewrite-bytes .ensures)
+    (small (args .node) (search needs) _ _ .1) in
     search needs
 
 pub push-down-filter-rewrite-spec : {M : Type 1} → statement M
@@ -101,5 +103,6 @@ push-down-filter-rewrite-spec =
     (λ c κs. search needs)
     records-fit
     (λ c. search needs)
-    (λ c. all-are (c .before .number-of .ensures _) (c .before .before .before .place-of .ensures _) (c .flag-of .ensures _) (c .before .before .records-of .ensures _) (output-is (c .before .before .before .before .before .before .rewrite-bytes .result) _)
+    (λ c. all-are (c .before .number-of .ensures _) (c .before .before .before .place-of .ensures _) (c .flag-of .ensures _) (c .before .before
+    .records-of .ensures _) (output-is (c .before .before .before .before .before .before .rewrite-bytes .result) _)
     (c .before .before .before .before .before .before .rewrite-bytes .ensures)))

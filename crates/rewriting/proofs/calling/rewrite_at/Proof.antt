@@ -16,24 +16,33 @@ rewrite-at-spec =
     (tie.spec
     (λ c κs. search needs)
     (λ c. search needs)
-    (λ c. refused-8 _ _ _ (absent (c .before .before .before .before .before .before .before .pre) (c .before .before .before .before .if1 .taken)) (c .before .before .clear .ensures))
+    (λ c. refused-8 _ _ _ (absent (c .before .before .before .before .before .before .before .pre) (c .before .before .before .before .if1
+    .taken)) (c .before .before .clear .ensures))
     (λ c κs. search needs)
     (λ c κs. rw (c .record-at .ensures, length-drop) (omega (arith, c .before .if1 .left)))
     (λ c κs. search needs)
     (λ c κs. search needs)
     (λ c. search needs)
     (λ c. refused-8 _ _ _
-    (no-plan (c .before .before .before .before .before .before .before .before .before .before .before .pre) (c .before .before .before .before .before .before .before .before .if1 .left) (c .before .before .before .before .before .before .before .record-at .ensures) (c .before .before .before .before .before .before .word-at .ensures .0) (c .before .before .before .before .before .is-plan .ensures)
+    (no-plan (c .before .before .before .before .before .before .before .before .before .before .before .pre) (c .before .before .before .before
+    .before .before .before .before .if1 .left) (c .before .before .before .before .before .before .before .record-at .ensures) (c .before
+    .before .before .before .before .before .word-at .ensures .0) (c .before .before .before .before .before .is-plan .ensures)
     (untold (c .before .before .before .before .if2 .taken))) (c .before .before .clear2 .ensures))
     (λ c κs. search needs)
     (λ c κs. search needs)
     (λ c. search needs)
-    (λ c. let h = a-plan (c .before .before .before .before .before .before .before .before .before .before .before .before .before .pre) (c .before .before .before .before .before .before .before .before .before .before .if1 .left) (c .before .before .before .before .before .before .before .before .before .record-at .ensures) (c .before .before .before .before .before .before .before .before .word-at .ensures .0) (c .before .before .before .before .before .before .before .is-plan .ensures)
+    (λ c. let h = a-plan (c .before .before .before .before .before .before .before .before .before .before .before .before .before .pre) (c
+    .before .before .before .before .before .before .before .before .before .before .if1 .left) (c .before .before .before .before .before
+    .before .before .before .before .record-at .ensures) (c .before .before .before .before .before .before .before .before .word-at .ensures .0)
+    (c .before .before .before .before .before .before .before .is-plan .ensures)
     (told (c .before .before .before .before .before .before .if2 .left)) in
     c .before .before .hand-over .ensures _ (whole-image (h .whole) refl)
-    ∙ stayed _ h (read-kind (c .before .before .before .before .before .before .before .before .before .record-at .ensures) (c .before .before .before .before .before .before .before .before .word-at .ensures .0) (stands-inside (h .inside)))
+    ∙ stayed _ h (read-kind (c .before .before .before .before .before .before .before .before .before .record-at .ensures) (c .before .before
+    .before .before .before .before .before .before .word-at .ensures .0) (stands-inside (h .inside)))
     (neither (sym (c .before .before .before .before .before .stays .ensures) ∙ c .before .before .before .before .if3 .taken)))
-    (λ c κs. a-plan (c .before .before .before .before .before .before .before .before .before .before .pre) (c .before .before .before .before .before .before .before .if1 .left) (c .before .before .before .before .before .before .record-at .ensures) (c .before .before .before .before .before .word-at .ensures .0) (c .before .before .before .before .is-plan .ensures)
+    (λ c κs. a-plan (c .before .before .before .before .before .before .before .before .before .before .pre) (c .before .before .before .before
+    .before .before .before .if1 .left) (c .before .before .before .before .before .before .record-at .ensures) (c .before .before .before
+    .before .before .word-at .ensures .0) (c .before .before .before .before .is-plan .ensures)
     (told (c .before .before .before .if2 .left)))
     (λ c. search needs)
     (λ c. search needs))

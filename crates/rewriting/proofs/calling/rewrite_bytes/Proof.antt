@@ -15,9 +15,17 @@ rewrite-bytes-spec =
     (λ c κs. search needs)
     (λ c κs. search needs)
     (λ c. search needs)
-    (λ c. refused-image _ _ _ (c .before .before .before .before .before .before .check .result) (c .before .before .before .before .before .before .check .ensures) (c .before .before .before .before .before .number-of .ensures) (c .before .before .before .before .if1 .taken) (c .before .before .clear .ensures))
-    (λ c κs. whole (c .before .before .before .before .before .before .args .image .now) (λ i. omega (arith, c .before .before .before .before .before .shared-slice-known .given i))
-    (is-accepted _ (c .before .before .before .check .result) (c .before .before .before .check .ensures) (c .before .before .number-of .ensures) (c .before .if1 .left)))
+    (λ c. refused-image _ _ _ (c .before .before .before .before .before .before .check .result) (c .before .before .before .before .before
+    .before .check .ensures) (c .before .before .before .before .before .number-of .ensures) (c .before .before .before .before .if1 .taken) (c
+    .before .before .clear .ensures))
+    (λ c κs. whole (c .before .before .before .before .before .before .args .image .now) (λ i. omega (
+      arith,
+      c .before .before .before .before
+          .before .shared-slice-known .given i,
+    ))
+    (is-accepted _ (c .before .before .before .check .result) (c .before .before .before .check .ensures) (c .before .before .number-of .ensures)
+    (c .before .if1 .left)))
     (λ c. search needs)
     (λ c. c .before .before .rewrite-at .ensures
-    ∙ accepted-image _ _ _ (c .before .before .before .before .before .before .check .result) (c .before .before .before .before .before .before .check .ensures) (c .before .before .before .before .before .number-of .ensures) (c .before .before .before .before .if1 .left)))
+    ∙ accepted-image _ _ _ (c .before .before .before .before .before .before .check .result) (c .before .before .before .before .before .before
+    .check .ensures) (c .before .before .before .before .before .number-of .ensures) (c .before .before .before .before .if1 .left)))

@@ -17,7 +17,8 @@ rewrite-spec =
     (λ c κs. let p = c .before .before .before .before .before .before .before .before .before .before .pre in
     let f = p .0 in
     let a = a-filter (f .spot .plan)
-    (sym (read-kind (c .before .before .before .before .before .record-at .ensures) (c .before .before .before .before .word-at .ensures .0) (stands-inside (f .inside))) ∙ c .before .before .before .if1 .taken) in
+    (sym (read-kind (c .before .before .before .before .before .record-at .ensures) (c .before .before .before .before .word-at .ensures .0)
+    (stands-inside (f .inside))) ∙ c .before .before .before .if1 .taken) in
     (record { whole = f .whole; spot = f .spot; inside = f .inside; expr = a .expr; plan = a .plan; is = a .is }, p .1))
     (λ c. search needs)
     (λ c. search needs)
@@ -26,7 +27,8 @@ rewrite-spec =
     (λ c κs. let p = c .before .before .before .before .before .before .before .before .before .before .before .pre in
     let f = p .0 in
     let a = a-join (f .spot .plan)
-    (sym (read-kind (c .before .before .before .before .before .before .record-at .ensures) (c .before .before .before .before .before .word-at .ensures .0) (stands-inside (f .inside))) ∙ c .before .before .before .if2 .taken) in (
+    (sym (read-kind (c .before .before .before .before .before .before .record-at .ensures) (c .before .before .before .before .before .word-at
+    .ensures .0) (stands-inside (f .inside))) ∙ c .before .before .before .if2 .taken) in (
       record {
         whole = f .whole;
         spot = f .spot;

@@ -25,7 +25,8 @@ rewrite-join-spec =
     (λ c κs. let p = c .before .before .before .before .before .before .before .before .before .before .before .before .before .before .pre in
     let j = p .0 in
     let i = j .inside in
-    let b = c .before .before .before .before .before .before .before .write-before .ensures (j .whole) (j .spot) (i .root) (i .there) (stands-inside i) in (
+    let b = c .before .before .before .before .before .before .before .write-before .ensures (j .whole) (j .spot) (i .root) (i .there)
+    (stands-inside i) in (
       none-under (placed-inside i (j .is)) (c .before .before .empty .ensures),
       (
         p .1 .0,
@@ -34,11 +35,14 @@ rewrite-join-spec =
         omega (arith, end-within i, few-records i),
       ),
     ))
-    (λ c κs. let p = c .before .before .before .before .before .before .before .before .before .before .before .before .before .before .before .before .before .before .before .before .before .pre in
+    (λ c κs. let p = c .before .before .before .before .before .before .before .before .before .before .before .before .before .before .before
+    .before .before .before .before .before .before .pre in
     let j = p .0 in
     let i = j .inside in
-    let b = c .before .before .before .before .before .before .before .before .before .before .before .before .before .before .write-before .ensures (j .whole) (j .spot) (i .root) (i .there) (stands-inside i) in
-    let long = c .before .before .before .before .before .before .before .before .before .before .before .before .before .before .write-before .kept .1 .1 .0 ∙ p .1 .1 in (
+    let b = c .before .before .before .before .before .before .before .before .before .before .before .before .before .before .write-before
+    .ensures (j .whole) (j .spot) (i .root) (i .there) (stands-inside i) in
+    let long = c .before .before .before .before .before .before .before .before .before .before .before .before .before .before .write-before
+    .kept .1 .1 .0 ∙ p .1 .1 in (
       record {
         node = _;
         whole = j .whole;
@@ -53,19 +57,29 @@ rewrite-join-spec =
               (placed-inside i (j .is)) (reads-none (c .before .before .before .before .before .before .before .before .before .empty .ensures)) anil;
         };
       },
-      (c .before .before .before .before .before .before .push-down-join .kept .1 .1 .1 .1 .0 ∙ long, c .before .before .before .before .before .before .before .before .before .before .before .before .before .before .write-before .kept .1 .1 .1 .0 ∙ p .1 .2),
+      (
+        c .before .before .before .before .before .before .push-down-join .kept .1 .1 .1 .1 .0 ∙ long,
+        c .before .before .before .before .before
+            .before .before .before .before .before .before .before .before .before .write-before .kept .1 .1 .1 .0 ∙ p .1 .2,
+      ),
     ))
     (λ c. search needs)
     (λ c. search needs)
     (λ c. search needs)
-    (λ c w f h. let a = the-join (c .before .before .before .before .before .before .before .before .before .before .before .before .before .before .before .before .before .before .before .before .before .before .before .before .pre .0) h in
+    (λ c w f h. let a = the-join (c .before .before .before .before .before .before .before .before .before .before .before .before .before
+    .before .before .before .before .before .before .before .before .before .before .before .pre .0) h in
     join-outcomes (a .is)
     (c .before .before .finish .ensures _ w f (push-down-join (a .kind) (a .lhs) (a .rhs) (a .keys) (a .condition) [])
     (record {
       inside = h;
       before = _;
-      long = c .before .before .before .before .before .before .before .before .before .before .before .before .before .before .before .before .before .write-before .kept .1 .1 .0 ∙ c .before .before .before .before .before .before .before .before .before .before .before .before .before .before .before .before .before .before .before .before .before .before .before .before .pre .1 .1;
-      begun = c .before .before .before .before .before .before .before .before .before .before .before .before .before .before .before .before .before .write-before .ensures w f (h .root) (h .there) (stands-inside h);
-      answers = c .before .before .before .before .before .before .before .before .before .push-down-join .ensures (a .kind) (a .lhs) (a .rhs) (a .keys) (a .condition) []
-          (placed-inside h (a .is)) (reads-none (c .before .before .before .before .before .before .before .before .before .before .before .before .empty .ensures)) anil;
+      long = c .before .before .before .before .before .before .before .before .before .before .before .before .before .before .before .before
+          .before .write-before .kept .1 .1 .0 ∙ c .before .before .before .before .before .before .before .before .before .before .before
+          .before .before .before .before .before .before .before .before .before .before .before .before .before .pre .1 .1;
+      begun = c .before .before .before .before .before .before .before .before .before .before .before .before .before .before .before .before
+          .before .write-before .ensures w f (h .root) (h .there) (stands-inside h);
+      answers = c .before .before .before .before .before .before .before .before .before .push-down-join .ensures (a .kind) (a .lhs) (a .rhs) (a
+          .keys) (a .condition) []
+          (placed-inside h (a .is)) (reads-none (c .before .before .before .before .before .before .before .before .before .before .before
+          .before .empty .ensures)) anil;
     }))))
