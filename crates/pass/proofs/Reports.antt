@@ -17,7 +17,7 @@ use Rattle.checking.specs.Answer.{verdictOf}
 use Rattle.checking.specs.declared.Checked.{Checked}
 use Rattle.rewrite.specs.OnBytes.{planIn, isAccepted, zeros, filled, no-pass, reported, pass-bytes}
 use Rattle.rewrite.specs.Pass.{PassAnswer, pass-refused, pass, pass-with-room, pass-call}
-use Rattle.pushing.proofs.Root.{image-short}
+use Rattle.merging.proofs.Root.{image-short}
 use Rattle.rewriting.specs.Answer.{Whole}
 use Rattle.rewriting.specs.Outcomes.{Image}
 use Rattle.rewriting.proofs.Calls.{records-are, whole-image}

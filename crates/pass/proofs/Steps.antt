@@ -24,10 +24,10 @@ use Rattle.rewrite.specs.RewriteAt.{Focus, focus, granted, refused, rewrite-in,
 use Rattle.rewrite.proofs.Marks.{is-some}
 use Rattle.rewrite.proofs.PassByRecords.{plan-from, visits}
 use Rattle.rewrite.proofs.PlanFrom.{from-here, from-later, from-end}
-use Rattle.pushing.proofs.Root.{image-length, standing-root}
-use Rattle.pushing.proofs.Marked.{plan-there, found-there, not-found}
-use Rattle.pushing.proofs.Tested.{inside-of}
-use Rattle.pushing.specs.Merging.{Inside}
+use Rattle.merging.proofs.Root.{image-length, standing-root}
+use Rattle.rewriting.proofs.Marked.{plan-there, found-there, not-found}
+use Rattle.merging.proofs.Tested.{inside-of}
+use Rattle.merging.specs.Merging.{Inside}
 use Rattle.preservation.proofs.Granted.{granted-well}
 use Rattle.rewriting.proofs.Finishes.{no-yes}
 use Rattle.rewriting.proofs.Calls.{image-room}

@@ -16,8 +16,8 @@ use Rattle.rewrite.specs.Pass.{PassAnswer, passed, pass}
 use Rattle.rewrite.proofs.Holes.{found-here, whole}
 use Rattle.rewrite.proofs.PassAgrees.{pass-agrees}
 use Rattle.rewrite.proofs.PassByRecords.{visits, pass-by-records}
-use Rattle.pushing.proofs.Perhapsing.{both}
-use Rattle.pushing.proofs.Root.{plan-fits}
+use Rattle.filters.proofs.Perhapsing.{both}
+use Rattle.merging.proofs.Root.{plan-fits}
 use Rattle.rewriting.specs.Outcomes.{Image}
 use Rattle.rewriting.proofs.Finishes.{no-yes, told, untold}
 use Rattle.pass.specs.Walks.{Walk, within, rest, Standing, Visited, goes-on, Ends}

@@ -11,11 +11,11 @@ use Rattle.rewrite.specs.Utils.{replace-cols, split-conjunction, conjoin, conju
 use Rattle.conjuncts.specs.Items.{Conjuncts, most}
 use Rattle.writing.specs.Pushed.{Pushes, Each, nil, cons}
 use Rattle.writing.proofs.Pushing.{pushes-length, pushed-changed}
-use Rattle.pushing.specs.Predicates.{Predicate, Perhaps, left}
-use Rattle.pushing.specs.Arms.{Shaped}
-use Rattle.pushing.proofs.Plain.{split-some}
+use Rattle.filters.specs.Predicates.{Predicate, Perhaps, left}
+use Rattle.filters.specs.Arms.{Shaped}
+use Rattle.filters.proofs.Plain.{split-some}
 use Rattle.pushing.proofs.Shaping.{joins-back, standing-item}
-use Rattle.pushing.proofs.Answering.{few}
+use Rattle.filters.proofs.Answering.{few}
 
 -- so much is listed, and the rest completes it
 pub record Made (s : List ℕ) (σ : Name → Expr) (r : Conjuncts) (es : List Expr) (i : ℕ) : Type 0 where

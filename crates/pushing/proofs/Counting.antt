@@ -34,8 +34,8 @@ use Rattle.writing.proofs.Entries.{value, no-value}
 use Rattle.writing.proofs.Maps.{mapOf, plan-map, replaced-expr}
 use Rattle.writing.proofs.Pushing.{plan-readable}
 use Rattle.pushing.specs.Divided.{parts, Counts}
-use Rattle.pushing.proofs.Plain.{split-some}
-use Rattle.pushing.proofs.Steps.{deep-more}
+use Rattle.filters.proofs.Plain.{split-some}
+use Rattle.filters.proofs.Steps.{deep-more}
 
 -- ---- conjuncts are no Ands
 

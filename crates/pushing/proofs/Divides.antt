@@ -23,8 +23,8 @@ use Rattle.writing.specs.Pushed.{Pushes}
 use Rattle.writing.proofs.Maps.{mapOf}
 use Rattle.writing.proofs.Pushing.{pushes-of}
 use Rattle.pushing.specs.Over.{under}
-use Rattle.pushing.specs.Predicates.{Perhaps}
-use Rattle.pushing.specs.Arms.{Placed, Takes}
+use Rattle.filters.specs.Predicates.{Perhaps}
+use Rattle.filters.specs.Arms.{Placed, Takes}
 use Rattle.pushing.specs.Divided.{Divided, Singles, Divides, pushed, parts}
 use Rattle.pushing.proofs.Shaping.{under-list, list-perhaps}
 use Rattle.pushing.proofs.Changes.{pushes-small, map-count}

@@ -31,19 +31,19 @@ use Rattle.conjuncts.specs.Items.{Conjuncts, listed, Lists}
 use Rattle.conjuncts.specs.Standing.{StandingP}
 use Rattle.conjuncts.proofs.Listed.{lists-none, known-of}
 use Rattle.writing.proofs.Maps.{plan-none}
-use Rattle.pushing.specs.Predicates.{Predicate}
-use Rattle.pushing.specs.Parting.{agrees}
-use Rattle.pushing.specs.Arms.{Shaped, Placed, Takes}
+use Rattle.filters.specs.Predicates.{Predicate}
+use Rattle.filters.specs.Parting.{agrees}
+use Rattle.filters.specs.Arms.{Shaped, Placed, Takes}
 use Rattle.pushing.specs.Divided.{Divided, Singles, Divides, pushed}
 use Rattle.pushing.specs.Movable.{mayMove, entryFirst}
-use Rattle.pushing.proofs.Answering.{few}
+use Rattle.filters.proofs.Answering.{few}
 use Rattle.pushing.proofs.Framing.{project-frame, aggregate-frame, window-frame}
-use Rattle.pushing.proofs.LastChild.{project-last, aggregate-last, window-last}
+use Rattle.filters.proofs.LastChild.{project-last, aggregate-last, window-last}
 use Rattle.pushing.proofs.Moves.{project-moves, group-moves, window-moves}
 use Rattle.pushing.proofs.Passing.{at}
-use Rattle.pushing.proofs.Plain.{split-plain}
-use Rattle.pushing.proofs.Scoping.{keep-length}
-use Rattle.pushing.proofs.Steps.{project-input, aggregate-input, window-input}
+use Rattle.filters.proofs.Plain.{split-plain}
+use Rattle.filters.proofs.Scoping.{keep-length}
+use Rattle.filters.proofs.Steps.{project-input, aggregate-input, window-input}
 
 -- ---- the input of each kind of plan
 

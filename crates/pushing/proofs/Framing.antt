@@ -14,10 +14,10 @@ use Rattle.plan.specs.Syntax.{Entry, Key, AggEntry, WinEntry, Plan, scan, proje
 use Rattle.plan.specs.Measure.{sizes}
 use Rattle.plan.specs.Trees.{labelP, kidsP, planTree, each, entryLabel, entryKids, keyLabel, keyKids, aggLabel, aggKids, winLabel}
 use Rattle.plan.specs.Trees.{winKids}
-use Rattle.pushing.specs.Around.{WroteAll, window as run}
-use Rattle.pushing.specs.Frames.{Frame}
-use Rattle.pushing.proofs.Runs.{run-recs, run-count}
-use Rattle.pushing.proofs.Windows.{window-take, wrote-then, wrote-tree, tree-wrote}
+use Rattle.filters.specs.Around.{WroteAll, window as run}
+use Rattle.filters.specs.Frames.{Frame}
+use Rattle.filters.proofs.Runs.{run-recs, run-count}
+use Rattle.filters.proofs.Windows.{window-take, wrote-then, wrote-tree, tree-wrote}
 
 -- a plan to read a frame's label from
 abbrev none-read : Plan

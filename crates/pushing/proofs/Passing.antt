@@ -13,12 +13,12 @@ use Rattle.plan.specs.Trees.{labelP, keyKids}
 use Rattle.rewrite.specs.Limits.{listP}
 use Rattle.rewrite.specs.PushDownFilter.{Transformed·no, Transformed·yes, rewrite-filter}
 use Rattle.conjuncts.specs.Standing.{StandingP}
-use Rattle.pushing.specs.Predicates.{Predicate}
-use Rattle.pushing.specs.Arms.{Rests, Takes}
+use Rattle.filters.specs.Predicates.{Predicate}
+use Rattle.filters.specs.Arms.{Rests, Takes}
 use Rattle.pushing.specs.Through.{through, takesNone}
 use Rattle.pushing.proofs.Framing.{sort-frame, distinct-frame, repartition-frame}
-use Rattle.pushing.proofs.LastChild.{sort-last, distinct-last, repartition-last}
-use Rattle.pushing.proofs.Steps.{sort-input, distinct-input, repartition-input}
+use Rattle.filters.proofs.LastChild.{sort-last, distinct-last, repartition-last}
+use Rattle.filters.proofs.Steps.{sort-input, distinct-input, repartition-input}
 
 -- it takes none: both stay as they are
 pub stays : (e : Expr) (q : Plan) → through q ≡ true → takesNone (labelP q) ≡ true → rewrite-filter e q ≡ Transformed·no (filter e q)

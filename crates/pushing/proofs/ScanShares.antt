@@ -26,13 +26,13 @@ use Rattle.conjuncts.specs.Items.{Conjuncts, Lists}
 use Rattle.conjuncts.proofs.Listed.{known-of}
 use Rattle.utils.specs.Fields.{Fields, Names}
 use Rattle.utils.proofs.Named.{names-count, names-fit}
-use Rattle.pushing.specs.Predicates.{Predicate}
-use Rattle.pushing.specs.Arms.{Rests, Placed, Written, Answers}
+use Rattle.filters.specs.Predicates.{Predicate}
+use Rattle.filters.specs.Arms.{Rests, Placed, Written, Answers}
 use Rattle.pushing.specs.Scans.{SomeScan}
-use Rattle.pushing.proofs.Answering.{few}
-use Rattle.pushing.specs.JoinPlans.{Plain}
-use Rattle.pushing.proofs.Plain.{split-plain, split-joined}
-use Rattle.pushing.proofs.Scoping.{keep-length}
+use Rattle.filters.proofs.Answering.{few}
+use Rattle.filters.specs.Plain.{Plain}
+use Rattle.filters.proofs.Plain.{split-plain, split-joined}
+use Rattle.filters.proofs.Scoping.{keep-length}
 use Rattle.pushing.proofs.Supported.{scan-few, scan-width}
 
 keep-both : {A : Type 0} (f : A → Bool) (xs : List A) → length (keep f xs) + length (keep (λ x. not (f x)) xs) ≡ length xs

@@ -21,12 +21,12 @@ use Rattle.plan.specs.Trees.{labelE, kidsE, labelP, kidsP, exprTree, planTree, 
 use Rattle.conjuncts.specs.Items.{Conjuncts, FALSE, listed, Lists}
 use Rattle.conjuncts.specs.Standing.{Standing}
 use Rattle.conjuncts.proofs.Listed.{lists-none, next, at-end}
-use Rattle.pushing.specs.Around.{WroteAll, window}
-use Rattle.pushing.specs.Arms.{Placed}
+use Rattle.filters.specs.Around.{WroteAll, window}
+use Rattle.filters.specs.Arms.{Placed}
 use Rattle.pushing.specs.Scans.{Adds}
-use Rattle.pushing.proofs.Runs.{run-recs, run-count}
+use Rattle.filters.proofs.Runs.{run-recs, run-count}
 use Rattle.pushing.proofs.Shaping.{standing-item}
-use Rattle.pushing.proofs.Windows.{window-take, wrote-none, wrote-then, wrote-tree, tree-wrote}
+use Rattle.filters.proofs.Windows.{window-take, wrote-none, wrote-then, wrote-tree, tree-wrote}
 
 -- ---- the scan's own filters
 

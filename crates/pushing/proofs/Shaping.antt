@@ -13,9 +13,9 @@ use Rattle.writing.specs.Pushed.{Pushes, Joined}
 use Rattle.writing.specs.Pushed as W
 use Rattle.writing.proofs.Pushing.{pushed-plain, pushes-of, pushes-length}
 use Rattle.pushing.specs.Over.{under}
-use Rattle.pushing.specs.Predicates.{Predicate, Perhaps, gone, left}
-use Rattle.pushing.specs.Arms.{Shaped}
-use Rattle.pushing.proofs.Plain.{split-some}
+use Rattle.filters.specs.Predicates.{Predicate, Perhaps, gone, left}
+use Rattle.filters.specs.Arms.{Shaped}
+use Rattle.filters.proofs.Plain.{split-some}
 
 -- a plan under the conjunction of a list is the plan under the list
 pub under-list : (es : List Expr) (p : Plan) → under (conjunction es) p ≡ with-filters es p

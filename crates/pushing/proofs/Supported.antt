@@ -28,10 +28,10 @@ use Rattle.acceptance.proofs.NamesRule.{rule-sound, names-nodup}
 use Rattle.rewrite.specs.PushDownFilter.{marked}
 use Rattle.utils.specs.Masks.{nameAt, Masks}
 use Rattle.utils.proofs.Marking.{has-at}
-use Rattle.pushing.specs.Arms.{Placed}
+use Rattle.filters.specs.Arms.{Placed}
 use Rattle.pushing.specs.Scans.{told, supports}
-use Rattle.pushing.proofs.Growing.{Marks, masks-start, masks-step, masks-end}
-use Rattle.pushing.proofs.Steps.{On, rest-trees, children}
+use Rattle.filters.proofs.Masking.{Marks, masks-start, masks-step, masks-end}
+use Rattle.filters.proofs.Steps.{On, rest-trees, children}
 
 -- ---- one conjunct
 

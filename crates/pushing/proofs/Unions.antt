@@ -27,11 +27,11 @@ use Rattle.rewrite.specs.Limits.{listP, listPs}
 use Rattle.rewrite.specs.PushDownFilter.{filter-each, renamed, ren, rewrite-filter}
 use Rattle.conjuncts.specs.Standing.{StandingP}
 use Rattle.utils.specs.Fields.{Fields, Names}
-use Rattle.pushing.specs.Predicates.{Predicate, Perhaps}
+use Rattle.filters.specs.Predicates.{Predicate, Perhaps}
 use Rattle.pushing.specs.Renaming.{Renamed}
-use Rattle.pushing.specs.Arms.{Rests}
-use Rattle.pushing.proofs.Answering.{few}
-use Rattle.pushing.proofs.Renames.{renamed-parts}
+use Rattle.filters.specs.Arms.{Rests}
+use Rattle.filters.proofs.Answering.{few}
+use Rattle.filters.proofs.Plain.{renamed-parts}
 
 -- of the inputs, whose names are ns by place, `rest` is left, the trees of `f`: each of one width, and to be written from record `to` on
 pub record Inputs (ns : List Name) (e : Expr) (all : Plans) (out₀ : List ℕ) (at₀ level : ℕ) (out : List ℕ) (to : ℕ) (f : Forest) : Type 0 where

@@ -11,8 +11,8 @@ use Rattle.rewrite.specs.Utils.{replace-cols, split-conjunction, with-filters, 
 use Rattle.rewrite.specs.PushDownFilter.{Transformed}
 use Rattle.conjuncts.specs.Items.{Conjuncts, Lists}
 use Rattle.writing.proofs.Maps.{mapOf}
-use Rattle.pushing.specs.Predicates.{Predicate}
-use Rattle.pushing.specs.Arms.{Placed, Rests, Takes}
+use Rattle.filters.specs.Predicates.{Predicate}
+use Rattle.filters.specs.Arms.{Placed, Rests, Takes}
 use Rattle.pushing.specs.declared.dividing.Divided as declared
 
 -- the struct of the code

@@ -9,7 +9,7 @@ use Rattle.plan.specs.Schema.{schema}
 use Rattle.rewrite.specs.Utils.{replace-cols}
 use Rattle.conjuncts.specs.Standing.{StandingP}
 use Rattle.utils.specs.Fields.{Fields, Names}
-use Rattle.pushing.specs.Predicates.{Predicate, Perhaps}
+use Rattle.filters.specs.Predicates.{Predicate, Perhaps}
 
 -- p is e over the names ns, which `from` holds, its columns to be replaced; q stands at record y and has as many fields
 pub record Renamed (s : List ℕ) (from : Fields) (p : Predicate) (y : ℕ) (e : Expr) (q : Plan) (ns : List Name) : Type 0 where

@@ -12,8 +12,8 @@ use Rattle.plan.specs.Trees.{labelE}
 use Rattle.rewrite.specs.Utils.{no-columns}
 use Rattle.rewrite.specs.PushDownFilter.{supported-filters, unsupported-filters, volatile-filters}
 use Rattle.conjuncts.specs.Items.{Conjuncts, Item, Lists}
-use Rattle.pushing.specs.Predicates.{Predicate}
-use Rattle.pushing.specs.Arms.{Placed, Rests}
+use Rattle.filters.specs.Predicates.{Predicate}
+use Rattle.filters.specs.Arms.{Placed, Rests}
 
 -- those that pass the test, or those that do not
 abbrev pub told : Bool → (Expr → Bool) → Expr → Bool

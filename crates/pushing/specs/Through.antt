@@ -6,8 +6,8 @@ use Prim.Native.Nat.{ℕ}
 use lib.Dec.{eqb}
 use Rattle.image.specs.Tree.{Label}
 use Rattle.plan.specs.Syntax.{Expr, Plan, scan, filter, project, join, alias, union, distinct, sort, repartition, limit, aggregate, window}
-use Rattle.pushing.specs.Predicates.{Predicate}
-use Rattle.pushing.specs.Arms.{Rests}
+use Rattle.filters.specs.Predicates.{Predicate}
+use Rattle.filters.specs.Arms.{Rests}
 
 -- it is one of these
 abbrev pub through : Plan → Bool

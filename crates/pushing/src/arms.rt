@@ -1,10 +1,10 @@
 // The arms of the match on a Filter's input that take the predicate in its shape, or leave it where it is.
 use crate::below::write_over;
-use crate::inputs::last_child;
-use crate::predicates::Predicate;
-use crate::predicates::Written;
 use conjuncts::lists::empty;
 use conjuncts::reading::record_at;
+use filters::inputs::last_child;
+use filters::predicates::Predicate;
+use filters::predicates::Written;
 use image::limits::MAX_DEPTH;
 use image::words::word_at;
 use writing::filtering::copy_filter;
@@ -16,7 +16,7 @@ ghost use Rattle.image.specs.Limits.{workBytes};
 ghost use Rattle.image.specs.Tree.{labelAt};
 ghost use Rattle.plan.specs.Syntax.{Expr, Plan, filter};
 ghost use Rattle.rewrite.specs.PushDownFilter.{Transformed·no, Transformed·yes, rewrite-filter};
-ghost use Rattle.pushing.specs.Arms.{Rests, Resting, Answers, Takes, Taken};
+ghost use Rattle.filters.specs.Arms.{Rests, Resting, Answers, Takes, Taken};
 ghost use Rattle.pushing.specs.Through.{through, takesNone, OverThrough};
 
 // Filter over a plan that takes nothing: both stay as they are.
@@ -64,7 +64,7 @@ pub fn push_filter(
 }
 
 // Whether the plan at the start of `part`, a Distinct, a Sort, a Repartition or a Limit, takes no Filter: it counts rows.
-fn takes_none(part: &[u8]) -> bool
+pub fn takes_none(part: &[u8]) -> bool
     requires { ⌜ 32 ≤ length (now part) ⌝ }
     ensures { λ r. ⌜ r ≡ takesNone (labelAt (now (part .entry))) ⌝ }
 {

@@ -12,7 +12,7 @@ ghost use Rattle.image.specs.Limits.{workBytes};
 ghost use Rattle.image.specs.Tree.{Tree, At, Readable, labelAt};
 ghost use Rattle.image.proofs.Relinking.{recs};
 ghost use Rattle.plan.specs.Lists.{put};
-ghost use Rattle.pushing.specs.Around.{window, WroteAll};
+ghost use Rattle.filters.specs.Around.{window, WroteAll};
 
 // Writes the label of the record at the start of `part`, if told.
 fn put_if(part: &[u8], out: &mut [u8], at: usize, level: usize, yes: bool) -> usize

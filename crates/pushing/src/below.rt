@@ -1,8 +1,8 @@
 // Plans written again, with a Filter over their input and one above them.
 use crate::around::copy_some;
-use crate::predicates::Predicate;
-use crate::predicates::is_gone;
 use conjuncts::reading::record_at;
+use filters::predicates::Predicate;
+use filters::predicates::is_gone;
 use image::limits::MAX_DEPTH;
 use writing::filtering::copy_filter;
 use writing::filtering::copy_plan;
@@ -21,8 +21,8 @@ ghost use Rattle.conjuncts.specs.Standing.{StandingP};
 ghost use Rattle.writing.specs.Maps.{Maps};
 ghost use Rattle.writing.specs.Plans.{ThereP};
 ghost use Rattle.pushing.specs.Over.{under};
-ghost use Rattle.pushing.specs.Frames.{Frame};
-ghost use Rattle.pushing.specs.Predicates.{Perhaps, Writable};
+ghost use Rattle.filters.specs.Frames.{Frame};
+ghost use Rattle.filters.specs.Predicates.{Perhaps, Writable};
 
 // Writes the plan at record x under a Filter, if there is a predicate.
 pub fn copy_under(

@@ -1,9 +1,9 @@
 // Predicates whose columns are to be replaced when they are written: 2,048 is added to each item.
-use crate::predicates::Predicate;
 use conjuncts::lists::Conjuncts;
 use conjuncts::lists::add;
 use conjuncts::lists::empty;
 use conjuncts::lists::item_at;
+use filters::predicates::Predicate;
 use image::limits::MAX_RECORDS;
 ghost use mathlib.Core.List.{List, map};
 ghost use mathlib.Core.Option.{some};
@@ -12,8 +12,8 @@ ghost use Rattle.plan.specs.Syntax.{Name, Expr};
 ghost use Rattle.rewrite.specs.Utils.{replace-cols};
 ghost use Rattle.conjuncts.specs.Items.{Lists};
 ghost use Rattle.writing.specs.Pushed.{Pushes};
-ghost use Rattle.pushing.specs.Arms.{Shaped, Shapely};
-ghost use Rattle.pushing.specs.Predicates.{Perhaps, Listing};
+ghost use Rattle.filters.specs.Arms.{Shaped, Shapely};
+ghost use Rattle.filters.specs.Predicates.{Perhaps, Listing};
 
 // The items of a list, their columns to be replaced.
 pub fn changed(c: Conjuncts) -> Conjuncts

@@ -2,17 +2,17 @@
 use crate::arms::keep_filter;
 use crate::below::write_over;
 use crate::changing::changed;
-use crate::inputs::last_child;
 use crate::moving::movable;
-use crate::parting::select;
-use crate::predicates::Predicate;
-use crate::predicates::Written;
 use conjuncts::lists::Conjuncts;
 use conjuncts::lists::add;
 use conjuncts::lists::empty;
 use conjuncts::lists::item_at;
 use conjuncts::reading::record_at;
 use conjuncts::splitting::split_at;
+use filters::inputs::last_child;
+use filters::parting::select;
+use filters::predicates::Predicate;
+use filters::predicates::Written;
 use image::limits::MAX_DEPTH;
 use image::limits::MAX_LIST;
 use image::limits::NO_ROOM;
@@ -39,7 +39,7 @@ ghost use Rattle.conjuncts.specs.Items.{Item, Present, Lists, Known};
 ghost use Rattle.conjuncts.specs.Standing.{StandingP};
 ghost use Rattle.writing.specs.Plans.{ThereP};
 ghost use Rattle.writing.proofs.Maps.{mapOf};
-ghost use Rattle.pushing.specs.Arms.{Placed, Rests, Resting, Answers, Takes};
+ghost use Rattle.filters.specs.Arms.{Placed, Rests, Resting, Answers, Takes};
 ghost use Rattle.pushing.specs.Divided.{Singles, Divides, Dividing, pushed, parts, Counts, OverProjection, OverAggregate, OverWindow};
 ghost use Rattle.pushing.specs.Movable.{entryFirst, mayMove};
 
@@ -85,7 +85,7 @@ fn is_over(s: &[u8], x: usize, c: Conjuncts) -> bool
 }
 
 // Parts the conjuncts of the predicate over the plan at record x by whether they may move below it.
-fn divide(s: &[u8], x: usize, p: Predicate) -> Divided
+pub fn divide(s: &[u8], x: usize, p: Predicate) -> Divided
     requires { ⌜ Resting (now s) x p ⌝ }
     ensures { λ d. ⌜ ((e : Expr) (q : Plan) → Rests (now (s .entry)) x p e q →
         Divides (now (s .entry)) d (stay (on-cols (mayMove (planTree q))) e) (move (on-cols (mayMove (planTree q))) e)) ⌝ }
@@ -112,7 +112,7 @@ fn has_groups(part: &[u8], base: usize) -> bool
 }
 
 // Parts them over an Aggregate: without group entries nothing moves, not even a conjunct without columns.
-fn divide_groups(s: &[u8], x: usize, p: Predicate) -> Divided
+pub fn divide_groups(s: &[u8], x: usize, p: Predicate) -> Divided
     requires { ⌜ OverAggregate (now s) x p ⌝ }
     ensures { λ d. ⌜ ((e : Expr) (gs : List Entry) (ags : List AggEntry) (q : Plan) → Rests (now (s .entry)) x p e (aggregate gs ags q) →
         Divides (now (s .entry)) d (stay (in-groups gs) e) (move (in-groups gs) e)) ⌝ }

@@ -1,9 +1,9 @@
 // Filters whose columns are renamed by place: over the input of a SubqueryAlias, and over the inputs of a Union.
 use crate::around::copy_some;
 use crate::changing::changed_predicate;
-use crate::predicates::Predicate;
-use crate::predicates::Written;
 use conjuncts::reading::record_at;
+use filters::predicates::Predicate;
+use filters::predicates::Written;
 use image::copying::put_label;
 use image::limits::MAX_DEPTH;
 use image::records::FIRST_LINK;
@@ -27,7 +27,7 @@ ghost use Rattle.plan.specs.Trees.{planTree};
 ghost use Rattle.rewrite.specs.PushDownFilter.{renamed, rewrite-filter};
 ghost use Rattle.conjuncts.specs.Standing.{StandingP};
 ghost use Rattle.utils.specs.Fields.{Names};
-ghost use Rattle.pushing.specs.Arms.{Rests, Answers, OverAlias, OverUnion};
+ghost use Rattle.filters.specs.Arms.{Rests, Answers, OverAlias, OverUnion};
 ghost use Rattle.pushing.specs.Renaming.{Renamed, Renaming};
 
 // Writes the plan at record y under a Filter, whose columns get the names of the plan's own fields in the places of those of `from`.

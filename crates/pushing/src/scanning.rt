@@ -1,8 +1,6 @@
 // Filter over TableScan: the conjuncts that the scan takes join its filters, the rest stays above, volatile ones last.
 use crate::arms::keep_filter;
 use crate::around::copy_some;
-use crate::predicates::Predicate;
-use crate::predicates::Written;
 use conjuncts::functions::has_function;
 use conjuncts::lists::Conjuncts;
 use conjuncts::lists::add;
@@ -11,6 +9,8 @@ use conjuncts::lists::empty;
 use conjuncts::lists::item_at;
 use conjuncts::reading::record_at;
 use conjuncts::unique::unique;
+use filters::predicates::Predicate;
+use filters::predicates::Written;
 use image::limits::MAX_DEPTH;
 use image::limits::MAX_LIST;
 use image::limits::NO_ROOM;
@@ -49,8 +49,8 @@ ghost use Rattle.conjuncts.specs.Items.{Item, Present, Lists, Known};
 ghost use Rattle.utils.specs.Fields.{Names};
 ghost use Rattle.utils.specs.Masks.{Masks};
 ghost use Rattle.writing.specs.Plans.{ThereP};
-ghost use Rattle.pushing.specs.Around.{WroteAll};
-ghost use Rattle.pushing.specs.Arms.{Placed, Rests, Answers};
+ghost use Rattle.filters.specs.Around.{WroteAll};
+ghost use Rattle.filters.specs.Arms.{Placed, Rests, Answers};
 ghost use Rattle.pushing.specs.Scans.{told, supports, Shares, Adds, SomeScan, OverScan};
 
 // The kind of the record of a field.
@@ -135,14 +135,14 @@ fn marked_fields(s: &[u8], x: usize, k: usize) -> u64
 }
 
 // What a scan takes of a predicate's conjuncts, and what stays above it; and how many fields it has.
-struct Share {
-    fields: usize,
-    taken: Conjuncts,
-    left: Conjuncts,
+pub struct Share {
+    pub fields: usize,
+    pub taken: Conjuncts,
+    pub left: Conjuncts,
 }
 
 // The share of the scan at record x in the predicate p: of what is left the volatile conjuncts come last.
-fn share_of(s: &[u8], x: usize, p: Predicate) -> Share
+pub fn share_of(s: &[u8], x: usize, p: Predicate) -> Share
     requires { ⌜ OverScan (now s) x p ⌝ }
     ensures { λ z. ⌜ ((e : Expr) (t : ℕ) (fs : List Field) (es : List Expr) → Rests (now (s .entry)) x p e (scan t fs es) →
         Shares (now (s .entry)) (z .fields) (z .taken) (z .left) fs e) ⌝ }

@@ -31,11 +31,11 @@ use Rattle.rewrite.specs.RewriteAt.{Focus, focus, granted, result-fits, rewrite
 use Rattle.rewrite.proofs.OnBytes.{tree-length}
 use Rattle.rewrite.proofs.PlanFrom.{focus-end}
 use Rattle.rewrite.proofs.Marks.{is-some}
-use Rattle.pushing.specs.Merging.{Inside}
-use Rattle.pushing.proofs.Root.{image-length, standing-root}
-use Rattle.pushing.proofs.Marked.{plan-there, found-there, not-found}
-use Rattle.pushing.proofs.Tested.{inside-of}
-use Rattle.pushing.proofs.Perhapsing.{both}
+use Rattle.merging.specs.Merging.{Inside}
+use Rattle.merging.proofs.Root.{image-length, standing-root}
+use Rattle.rewriting.proofs.Marked.{plan-there, found-there, not-found}
+use Rattle.merging.proofs.Tested.{inside-of}
+use Rattle.filters.proofs.Perhapsing.{both}
 use Rattle.rewriting.specs.Answer.{refusal, Whole, Here}
 use Rattle.rewriting.specs.Outcomes.{Image, answer}
 use Rattle.rewriting.proofs.Finishes.{untold}

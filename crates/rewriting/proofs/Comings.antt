@@ -8,11 +8,11 @@ use lib.Dec.{eqb}
 use borrow.Author.Tests.{eqb-true}
 use Rattle.plan.specs.Syntax.{Expr, Plan}
 use Rattle.conjuncts.proofs.Listed.{lists-length}
-use Rattle.pushing.specs.Arms.{Placed, Rests}
-use Rattle.pushing.specs.Merging.{is-filter, Rest, Comes, alone, resting}
-use Rattle.pushing.specs.Settled.{Settled, gone, rests}
-use Rattle.pushing.proofs.Plain.{split-some}
-use Rattle.pushing.proofs.Perhapsing.{is-gone, both}
+use Rattle.filters.specs.Arms.{Placed, Rests}
+use Rattle.merging.specs.Merging.{is-filter, Rest, Comes, alone, resting}
+use Rattle.merging.specs.Settled.{Settled, gone, rests}
+use Rattle.filters.proofs.Plain.{split-some}
+use Rattle.filters.proofs.Perhapsing.{is-gone, both}
 use Rattle.rewriting.proofs.Finishes.{no-yes}
 
 pub record Alone (s : List ℕ) (r : Rest) (t : Settled) : Type 0 where

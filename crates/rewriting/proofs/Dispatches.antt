@@ -10,11 +10,11 @@ use Rattle.plan.specs.Syntax.{scan, project, join, alias, union, aggregate, win
 use Rattle.plan.specs.Trees.{labelP}
 use Rattle.rewrite.specs.PushDownFilter.{rewrite-filter}
 use Rattle.conjuncts.specs.Standing.{StandingP}
-use Rattle.pushing.specs.Predicates.{Predicate}
+use Rattle.filters.specs.Predicates.{Predicate}
 use Rattle.pushing.specs.Divided.{OverProjection, OverAggregate, OverWindow}
 use Rattle.pushing.specs.Scans.{OverScan}
-use Rattle.pushing.specs.JoinPlans.{OverJoin}
-use Rattle.pushing.specs.Arms.{Rests, Written, Answers, OverAlias, OverUnion}
+use Rattle.joining.specs.JoinPlans.{OverJoin}
+use Rattle.filters.specs.Arms.{Rests, Written, Answers, OverAlias, OverUnion}
 use Rattle.rewriting.specs.Found.{OnInput}
 use Rattle.rewriting.proofs.KindOf.{kind-there, when-scan, when-project, when-join, when-alias, when-union, when-aggregate, when-window}
 

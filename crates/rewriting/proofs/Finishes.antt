@@ -21,8 +21,8 @@ use Rattle.writing.specs.Splicing.{Ran}
 use Rattle.writing.proofs.Whole.{wrote-small}
 use Rattle.writing.proofs.Splice.{Begun, spliced}
 use Rattle.writing.proofs.Fitting.{list-back, fits-over, fits-long}
-use Rattle.pushing.specs.Arms.{Written}
-use Rattle.pushing.proofs.Tested.{few-records, fits-is}
+use Rattle.filters.specs.Arms.{Written}
+use Rattle.merging.proofs.Tested.{few-records, fits-is}
 use Rattle.rewriting.specs.Outcomes.{Outcome, Replaces, Finishes}
 
 pub no-yes : {A : Type 0} → false ≡ true → A

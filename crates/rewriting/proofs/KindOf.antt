@@ -11,7 +11,7 @@ use Rattle.plan.specs.Syntax.{Expr, Field, Entry, AggEntry, WinEntry, Kind, Pai
 use Rattle.plan.specs.Syntax.{scan, filter, project, join, alias, union, distinct, sort, repartition, limit, aggregate, window}
 use Rattle.plan.specs.Trees.{labelP}
 use Rattle.conjuncts.specs.Standing.{StandingP}
-use Rattle.pushing.specs.Merging.{is-filter}
+use Rattle.merging.specs.Merging.{is-filter}
 use Rattle.pushing.specs.Through.{through}
 
 -- the number at a record is that of the plan that stands there

@@ -1,3 +1,4 @@
+pub mod Marked
 pub mod Finishes
 pub mod KindOf
 pub mod Dispatches

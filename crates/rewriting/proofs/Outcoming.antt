@@ -18,16 +18,16 @@ use Rattle.plan.proofs.Lists.{and-true, and-intro}
 use Rattle.rewrite.specs.Limits.{listP, fits}
 use Rattle.rewrite.specs.PushDownFilter.{Transformed, Transformed·no, rewrite, merges, push-down-join}
 use Rattle.rewrite.specs.RewriteAt.{Focus, result-fits}
-use Rattle.pushing.specs.Arms.{Placed}
+use Rattle.filters.specs.Arms.{Placed}
 use Rattle.writing.proofs.Depths.{deep-tested}
-use Rattle.pushing.specs.Paths.{Ways}
-use Rattle.pushing.proofs.Finding.{path-to}
-use Rattle.pushing.specs.Merging.{Inside, FilterInside, Rest, Settles, settle-first}
-use Rattle.pushing.specs.Settled.{rewrite-settled}
-use Rattle.pushing.proofs.FirstFilter.{first-rewrite}
-use Rattle.pushing.proofs.Naming.{rule-there}
-use Rattle.pushing.proofs.Within.{lists-there}
-use Rattle.pushing.proofs.Tested.{few-records, stands-inside}
+use Rattle.filters.specs.Paths.{Ways}
+use Rattle.filters.proofs.Finding.{path-to}
+use Rattle.merging.specs.Merging.{Inside, FilterInside, Rest, Settles, settle-first}
+use Rattle.merging.specs.Settled.{rewrite-settled}
+use Rattle.merging.proofs.FirstFilter.{first-rewrite}
+use Rattle.merging.proofs.Naming.{rule-there}
+use Rattle.merging.proofs.Within.{lists-there}
+use Rattle.merging.proofs.Tested.{few-records, stands-inside}
 use Rattle.rewriting.specs.Found.{JoinInside}
 use Rattle.rewriting.specs.Outcomes.{Outcome, Finishes, answer, Outcomes}
 use Rattle.rewriting.proofs.Finishes.{no-yes}

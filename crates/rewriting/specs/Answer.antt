@@ -7,7 +7,7 @@ use Rattle.acceptance.specs.Check.{Verdict, verdict}
 use Rattle.checking.specs.Answer.{verdictOf}
 use Rattle.rewrite.specs.OnBytes.{Rewritten, planIn}
 use Rattle.rewrite.specs.RewriteAt.{Focus}
-use Rattle.pushing.specs.Merging.{Inside}
+use Rattle.merging.specs.Merging.{Inside}
 use Rattle.rewriting.specs.declared.calling.Answer.{Answer}
 use Rattle.rewriting.specs.declared.calling.Answer.the-variants.{Image, NoPlan, TooLarge, NoRoom, Is}
 

@@ -6,10 +6,10 @@ use Prim.Native.Nat.{ℕ}
 use Rattle.plan.specs.Syntax.{Expr, Plan, join, Kind, Pair}
 use mathlib.Core.Option.{Option}
 use Rattle.rewrite.specs.RewriteAt.{Focus}
-use Rattle.pushing.specs.Predicates.{Predicate}
-use Rattle.pushing.specs.Arms.{Rests}
-use Rattle.pushing.specs.Merging.{Inside, is-filter, Rest, Comes}
-use Rattle.pushing.specs.Settled.{Settled}
+use Rattle.filters.specs.Predicates.{Predicate}
+use Rattle.filters.specs.Arms.{Rests}
+use Rattle.merging.specs.Merging.{Inside, is-filter, Rest, Comes}
+use Rattle.merging.specs.Settled.{Settled}
 
 -- some predicate rests on a plan at record x, which is no Filter
 pub record OnInput (s : List ℕ) (x : ℕ) (p : Predicate) : Type 0 where

@@ -13,8 +13,8 @@ use Rattle.rewrite.specs.PushDownFilter.{Transformed, rewrite}
 use Rattle.rewrite.specs.RewriteAt.{Focus, result-fits}
 use Rattle.writing.specs.declared.splicing.Spot.{Spot}
 use Rattle.writing.specs.Splicing.{Before}
-use Rattle.pushing.specs.Arms.{Written, Answers}
-use Rattle.pushing.specs.Merging.{Inside}
+use Rattle.filters.specs.Arms.{Written, Answers}
+use Rattle.merging.specs.Merging.{Inside}
 use Rattle.rewriting.specs.declared.nodes.Outcome as declared
 
 -- the struct of the code

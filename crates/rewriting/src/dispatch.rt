@@ -1,15 +1,15 @@
 // The match on a Filter's input, once the Filters below are merged into it.
 use conjuncts::reading::record_at;
+use filters::predicates::Predicate;
+use filters::predicates::Written;
+use filters::predicates::is_gone;
 use image::words::word_at;
+use joining::push_down::rewrite_join;
+use merging::Settled;
 use pushing::arms::rewrite_through;
 use pushing::dividing::rewrite_aggregate;
 use pushing::dividing::rewrite_projection;
 use pushing::dividing::rewrite_window;
-use pushing::joining::rewrite_join;
-use pushing::merging::Settled;
-use pushing::predicates::Predicate;
-use pushing::predicates::Written;
-use pushing::predicates::is_gone;
 use pushing::renaming::rewrite_alias;
 use pushing::renaming::rewrite_union;
 use pushing::scanning::rewrite_scan;
@@ -22,10 +22,10 @@ ghost use lib.ListN.{length};
 ghost use Rattle.image.specs.Limits.{workBytes};
 ghost use Rattle.plan.specs.Syntax.{Expr, Plan};
 ghost use Rattle.rewrite.specs.PushDownFilter.{rewrite-filter};
-ghost use Rattle.pushing.specs.Arms.{Rests, Answers};
-ghost use Rattle.pushing.specs.Merging.{is-filter, Comes};
-ghost use Rattle.pushing.specs.Settled as S;
-ghost use Rattle.pushing.specs.Settled.{rewrite-settled};
+ghost use Rattle.filters.specs.Arms.{Rests, Answers};
+ghost use Rattle.merging.specs.Merging.{is-filter, Comes};
+ghost use Rattle.merging.specs.Settled as S;
+ghost use Rattle.merging.specs.Settled.{rewrite-settled};
 ghost use Rattle.rewriting.specs.Found.{OnInput, SomeComes};
 
 const TABLE_SCAN: usize = 32;

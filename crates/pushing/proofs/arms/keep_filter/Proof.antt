@@ -4,7 +4,7 @@ use borrow.Author.Needs.{needs}
 use Rattle.writing.proofs.Maps.{plan-maps, mapOf}
 use Rattle.writing.proofs.Pushing.{plan-readable}
 use Rattle.pushing.proofs.Shaping.{shaped-predicate}
-use Rattle.pushing.proofs.Answering.{answers, filter-few}
+use Rattle.filters.proofs.Answering.{answers, filter-few}
 use Rattle.pushing.proofs.arms.keep_filter.Statement.{statement}
 use Rattle.pushing.proofs.arms.keep_filter.Tie as tie
 

@@ -6,9 +6,9 @@ use borrow.Author.Needs.{needs}
 use Rattle.plan.specs.Trees.{planTree}
 use Rattle.writing.proofs.Maps.{plan-maps, mapOf}
 use Rattle.writing.proofs.Pushing.{plan-readable}
-use Rattle.pushing.specs.Predicates.{gone}
+use Rattle.filters.specs.Predicates.{gone}
 use Rattle.pushing.proofs.Shaping.{shaped-perhaps}
-use Rattle.pushing.proofs.Answering.{answers, taken-few}
+use Rattle.filters.proofs.Answering.{answers, taken-few}
 use Rattle.pushing.proofs.arms.push_filter.Statement.{statement}
 use Rattle.pushing.proofs.arms.push_filter.Tie as tie
 

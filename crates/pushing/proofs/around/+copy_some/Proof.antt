@@ -5,7 +5,7 @@ use Prim.Native.Nat.{ℕ, _+_, _<_}
 use native.Mathlib.Omega.{arith}
 use lib.ListN.{length-drop}
 use Rattle.image.proofs.Walking.{Chain, chain, round, again, done, left, for-all}
-use Rattle.pushing.proofs.Windows.{Rest, rest-all, rest-next, rest-end, wrote-none, window-past, yes-within}
+use Rattle.filters.proofs.Windows.{Rest, rest-all, rest-next, rest-end, wrote-none, window-past, yes-within}
 use borrow.Fn.Kinds.{In}
 use borrow.Fn.PlainCycle.{Measures, is, falls, and}
 use Rattle.pushing.proofs.around.copy_some.Reads as copy-some

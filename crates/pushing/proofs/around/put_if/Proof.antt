@@ -1,5 +1,5 @@
 use borrow.Author.Needs.{needs}
-use Rattle.pushing.proofs.Windows.{wrote-yes, wrote-no}
+use Rattle.filters.proofs.Windows.{wrote-yes, wrote-no}
 use Rattle.pushing.proofs.around.put_if.Statement.{statement}
 use Rattle.pushing.proofs.around.put_if.Tie as tie
 

@@ -1,7 +1,7 @@
 use mathlib.Core.Path.{sym, _∙_}
 use borrow.Author.Needs.{needs}
 use Rattle.writing.proofs.Pushing.{maps-readable}
-use Rattle.pushing.proofs.Perhapsing.{none-left, some-left, predicated}
+use Rattle.filters.proofs.Perhapsing.{none-left, some-left, predicated}
 use Rattle.pushing.proofs.below.copy_under.Statement.{statement}
 use Rattle.pushing.proofs.below.copy_under.Tie as tie
 

@@ -6,7 +6,7 @@ use Rattle.image.proofs.Room.{cap-le}
 use Rattle.writing.proofs.Pushing.{maps-readable}
 use Rattle.writing.proofs.Written.{wrote-filter}
 use Rattle.pushing.specs.Over.{under}
-use Rattle.pushing.proofs.Perhapsing.{none-left, some-left, predicated}
+use Rattle.filters.proofs.Perhapsing.{none-left, some-left, predicated}
 use Rattle.pushing.proofs.below.write_over.Statement.{statement}
 use Rattle.pushing.proofs.below.write_over.Tie as tie
 

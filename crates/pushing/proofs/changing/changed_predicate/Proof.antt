@@ -3,7 +3,7 @@ use native.Mathlib.Nat.{le-trans, le-of-eq}
 use mathlib.Core.Path.{refl}
 use Rattle.plan.specs.Syntax.{col}
 use Rattle.rewrite.specs.Utils.{replace-cols, split-conjunction}
-use Rattle.pushing.proofs.Answering.{few}
+use Rattle.filters.proofs.Answering.{few}
 use Rattle.pushing.proofs.Changes.{pushes-small, map-count, changed-list, changed-written}
 use Rattle.pushing.proofs.changing.changed_predicate.Statement.{statement}
 use Rattle.pushing.proofs.changing.changed_predicate.Tie as tie

@@ -4,7 +4,7 @@ use borrow.Author.Needs.{needs}
 use lib.Dec.{eqb}
 use lib.ListN.{length-drop}
 use Rattle.pushing.specs.Movable.{entryFirst}
-use Rattle.pushing.proofs.Partnering.{first-turn, none-below, kind-at}
+use Rattle.filters.proofs.FirstChild.{first-turn, none-below, kind-at}
 use Rattle.pushing.proofs.dividing.has_groups.Statement.{statement}
 use Rattle.pushing.proofs.dividing.has_groups.Tie as tie
 

@@ -10,7 +10,7 @@ use Rattle.conjuncts.specs.Standing.{StandingP}
 use Rattle.conjuncts.proofs.Listed.{lists-at, lists-length, lists-room}
 use Rattle.writing.proofs.Maps.{mapOf}
 use Rattle.pushing.specs.Divided.{Singles}
-use Rattle.pushing.proofs.Selecting.{all-at}
+use Rattle.filters.proofs.Selecting.{all-at}
 use Rattle.pushing.proofs.Counting.{Counted, counted-start, counted-next, counted-all}
 use Rattle.pushing.proofs.dividing.is_over.Statement.{statement}
 use Rattle.pushing.proofs.dividing.is_over.Tie as tie

@@ -9,7 +9,7 @@ use Rattle.rewrite.specs.Utils.{replace-cols, conjunction}
 use Rattle.writing.proofs.Maps.{plan-maps, mapOf}
 use Rattle.writing.proofs.Pushing.{plan-readable}
 use Rattle.pushing.specs.Divided.{parts}
-use Rattle.pushing.proofs.Answering.{answers}
+use Rattle.filters.proofs.Answering.{answers}
 use Rattle.pushing.proofs.Divides.{pushed-few, pushed-many, some-moved, kept-perhaps, moved-small, moved-perhaps, pushed-is}
 use Rattle.pushing.proofs.dividing.push_some.Statement.{statement}
 use Rattle.pushing.proofs.dividing.push_some.Tie as tie

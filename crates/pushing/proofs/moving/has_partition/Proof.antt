@@ -6,7 +6,7 @@ use lib.ListN.{length-drop}
 use Rattle.image.proofs.Walking.{Chain, round, again, done, left, for-all}
 use Rattle.plan.specs.Syntax.{nm}
 use Rattle.pushing.specs.Movable.{isNamed, namedIn, partitionIn}
-use Rattle.pushing.proofs.Partnering.{first-turn, none-below}
+use Rattle.filters.proofs.FirstChild.{first-turn, none-below}
 use Rattle.pushing.proofs.Moves.{named-stop, named-step, partition-chain}
 use Rattle.pushing.proofs.moving.has_partition.Statement.{statement}
 use Rattle.pushing.proofs.moving.has_partition.Tie as tie

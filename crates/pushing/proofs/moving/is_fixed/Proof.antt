@@ -3,7 +3,7 @@ use native.Mathlib.Omega.{arith}
 use borrow.Author.Needs.{needs}
 use lib.ListN.{length-drop}
 use Rattle.pushing.specs.Movable.{leafFirst}
-use Rattle.pushing.proofs.Partnering.{first-turn, none-below}
+use Rattle.filters.proofs.FirstChild.{first-turn, none-below}
 use Rattle.pushing.proofs.moving.is_fixed.Statement.{statement}
 use Rattle.pushing.proofs.moving.is_fixed.Tie as tie
 

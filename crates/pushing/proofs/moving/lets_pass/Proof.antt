@@ -3,7 +3,7 @@ use mathlib.Core.Bool.{true, false, not}
 use borrow.Author.Needs.{needs}
 use Rattle.plan.specs.Syntax.{nm}
 use Rattle.writing.specs.Replaced.{isEntry}
-use Rattle.pushing.proofs.Partnering.{kind-at}
+use Rattle.filters.proofs.FirstChild.{kind-at}
 use Rattle.pushing.proofs.Moves.{lets-window, lets-other}
 use Rattle.pushing.proofs.moving.lets_pass.Statement.{statement}
 use Rattle.pushing.proofs.moving.lets_pass.Tie as tie

@@ -1,6 +1,6 @@
 use mathlib.Core.Path.{sym, _∙_}
 use borrow.Author.Needs.{needs}
-use Rattle.pushing.proofs.Partnering.{kind-at}
+use Rattle.filters.proofs.FirstChild.{kind-at}
 use Rattle.pushing.proofs.Moves.{move-group, move-other, some-linked}
 use Rattle.pushing.proofs.moving.may_move.Statement.{statement}
 use Rattle.pushing.proofs.moving.may_move.Tie as tie

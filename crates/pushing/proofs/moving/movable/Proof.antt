@@ -10,7 +10,7 @@ use Rattle.utils.specs.Fields.{Names}
 use Rattle.utils.specs.Masks.{nameAt, Masks}
 use Rattle.utils.proofs.Named.{names-count}
 use Rattle.pushing.specs.Movable.{mayMove}
-use Rattle.pushing.proofs.Growing.{masks-start, masks-step, masks-end}
+use Rattle.filters.proofs.Masking.{masks-start, masks-step, masks-end}
 use Rattle.pushing.proofs.moving.movable.Statement.{statement}
 use Rattle.pushing.proofs.moving.movable.Tie as tie
 

@@ -7,10 +7,10 @@ use Rattle.plan.specs.Schema.{schema}
 use Rattle.plan.specs.Trees.{planTree}
 use Rattle.rewrite.specs.PushDownFilter.{rewrite-filter, renamed}
 use Rattle.writing.proofs.Pushing.{plan-readable}
-use Rattle.pushing.proofs.Answering.{answers}
+use Rattle.filters.proofs.Answering.{answers}
 use Rattle.pushing.proofs.Framing.{alias-frame, wrote-framed}
 use Rattle.pushing.proofs.Renames.{alias-few, alias-wide, alias-lists}
-use Rattle.pushing.proofs.Steps.{alias-input}
+use Rattle.filters.proofs.Steps.{alias-input}
 use Rattle.pushing.proofs.renaming.rewrite_alias.Statement.{statement}
 use Rattle.pushing.proofs.renaming.rewrite_alias.Tie as tie
 

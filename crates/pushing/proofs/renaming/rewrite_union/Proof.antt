@@ -9,8 +9,8 @@ use Rattle.plan.specs.Syntax.{Expr, Plans, union}
 use Rattle.plan.specs.Schema.{schema}
 use Rattle.rewrite.specs.PushDownFilter.{rewrite-filter}
 use Rattle.plan.specs.Trees.{planTree}
-use Rattle.pushing.proofs.Answering.{answers}
-use Rattle.pushing.proofs.Steps.{deep-more}
+use Rattle.filters.proofs.Answering.{answers}
+use Rattle.filters.proofs.Steps.{deep-more}
 use Rattle.pushing.proofs.Unions.{Inputs, Spread, spread-of, all-inputs, first, renames-first, more, none-more, union-lists, union-wrote, deep-as}
 use Rattle.pushing.proofs.renaming.rewrite_union.Statement.{statement}
 use Rattle.pushing.proofs.renaming.rewrite_union.Tie as tie

@@ -7,7 +7,7 @@ use lib.ListN.{length, length-drop}
 use Rattle.plan.specs.Syntax.{Expr, Field, scan}
 use Rattle.plan.specs.Trees.{each, labelE, kidsE}
 use Rattle.image.specs.Tree.{none}
-use Rattle.pushing.specs.Arms.{Placed}
+use Rattle.filters.specs.Arms.{Placed}
 use Rattle.pushing.proofs.Supported.{Passed, scan-fields, scan-few, field-room, passed-start, passed-next, passed-end}
 use Rattle.pushing.proofs.scanning.marked_fields.Statement.{statement}
 use Rattle.pushing.proofs.scanning.marked_fields.Tie as tie

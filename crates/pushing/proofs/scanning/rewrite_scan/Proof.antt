@@ -4,7 +4,7 @@ use native.Mathlib.Omega.{arith}
 use native.Mathlib.Nat.{le-trans, le-of-eq}
 use borrow.Author.Needs.{needs}
 use Rattle.conjuncts.proofs.Listed.{known-of, lists-length}
-use Rattle.pushing.proofs.Answering.{answers}
+use Rattle.filters.proofs.Answering.{answers}
 use Rattle.pushing.proofs.ScanShares.{some-scan, taken-few, left-few, own-few, left-plain, scan-kept, scan-pushed, pushed-fits, pushed-over}
 use Rattle.pushing.proofs.scanning.rewrite_scan.Statement.{statement}
 use Rattle.pushing.proofs.scanning.rewrite_scan.Tie as tie

@@ -7,9 +7,9 @@ use lib.ListN.{drop, length-drop}
 use Rattle.image.proofs.Walking.{Chain, chain, round, again, done, left}
 use Rattle.plan.specs.Syntax.{Expr, Field, scan}
 use Rattle.plan.specs.Trees.{planTree}
-use Rattle.pushing.specs.Arms.{Placed}
+use Rattle.filters.specs.Arms.{Placed}
 use Rattle.pushing.proofs.Scans.{Filters, filters-start, filters-next, filters-end}
-use Rattle.pushing.proofs.Steps.{deep-more}
+use Rattle.filters.proofs.Steps.{deep-more}
 use Rattle.pushing.proofs.Unions.{deep-as}
 use Rattle.pushing.proofs.scanning.scan_filters.Statement.{statement}
 use Rattle.pushing.proofs.scanning.scan_filters.Tie as tie

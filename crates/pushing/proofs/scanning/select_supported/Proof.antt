@@ -16,7 +16,7 @@ use Rattle.conjuncts.proofs.Kept.{Kept, kept-start, kept-next, kept-end}
 use Rattle.utils.specs.Fields.{Names}
 use Rattle.utils.specs.Masks.{Masks}
 use Rattle.pushing.specs.Scans.{told, supports}
-use Rattle.pushing.proofs.Selecting.{all-at}
+use Rattle.filters.proofs.Selecting.{all-at}
 use Rattle.pushing.proofs.Supported.{told-is}
 use Rattle.pushing.proofs.scanning.select_supported.Statement.{statement}
 use Rattle.pushing.proofs.scanning.select_supported.Tie as tie

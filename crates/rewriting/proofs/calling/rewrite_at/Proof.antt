@@ -3,7 +3,7 @@ use mathlib.Core.Path.{refl, sym, _∙_}
 use native.Mathlib.Omega.{arith}
 use lib.ListN.{length-drop}
 use borrow.Author.Needs.{needs}
-use Rattle.pushing.proofs.Tested.{stands-inside}
+use Rattle.merging.proofs.Tested.{stands-inside}
 use Rattle.rewriting.proofs.Finishes.{told, untold}
 use Rattle.rewriting.proofs.Dispatches.{read-kind}
 use Rattle.rewriting.proofs.Calls.{refused-8, absent, no-plan, a-plan, whole-image, neither, stayed}

@@ -2,7 +2,7 @@
 use mathlib.Core.Path.{refl, sym, _∙_}
 use native.Mathlib.Omega.{arith}
 use borrow.Author.Needs.{needs}
-use Rattle.pushing.proofs.Answering.{answers}
+use Rattle.filters.proofs.Answering.{answers}
 use Rattle.rewriting.proofs.Comings.{came-alone, came-resting}
 use Rattle.rewriting.proofs.dispatch.rewrite_settled.Statement.{statement}
 use Rattle.rewriting.proofs.dispatch.rewrite_settled.Tie as tie

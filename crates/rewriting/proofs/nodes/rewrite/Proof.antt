@@ -2,7 +2,7 @@
 use mathlib.Core.Path.{refl, sym, _∙_}
 use native.Mathlib.Omega.{arith}
 use borrow.Author.Needs.{needs}
-use Rattle.pushing.proofs.Tested.{stands-inside}
+use Rattle.merging.proofs.Tested.{stands-inside}
 use Rattle.rewriting.proofs.Dispatches.{read-kind}
 use Rattle.rewriting.proofs.Outcoming.{a-filter, a-join, other-outcomes}
 use Rattle.rewriting.proofs.nodes.rewrite.Statement.{statement}

@@ -3,9 +3,9 @@ use mathlib.Core.Path.{refl, _∙_}
 use native.Mathlib.Omega.{arith}
 use borrow.Author.Needs.{needs}
 use Rattle.plan.specs.Measure.{sizeP}
-use Rattle.pushing.specs.Settled.{rewrite-settled}
-use Rattle.pushing.specs.Merging.{settle-first}
-use Rattle.pushing.proofs.Tested.{few-records, sized, stands-inside, end-within, level-small}
+use Rattle.merging.specs.Settled.{rewrite-settled}
+use Rattle.merging.specs.Merging.{settle-first}
+use Rattle.merging.proofs.Tested.{few-records, sized, stands-inside, end-within, level-small}
 use Rattle.rewriting.proofs.Finishes.{told, untold}
 use Rattle.rewriting.proofs.Outcoming.{refuses, the-filter, merge-unfit, filter-outcomes}
 use Rattle.rewriting.proofs.nodes.rewrite_filter.Statement.{statement}

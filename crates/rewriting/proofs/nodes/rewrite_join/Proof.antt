@@ -6,9 +6,9 @@ use borrow.Author.Needs.{needs}
 use Rattle.plan.specs.Measure.{sizeP}
 use Rattle.rewrite.specs.PushDownFilter.{push-down-join}
 use Rattle.plan.proofs.Lists.{anil}
-use Rattle.pushing.proofs.Scoping.{reads-none}
-use Rattle.pushing.proofs.JoinsUnder.{none-under}
-use Rattle.pushing.proofs.Tested.{few-records, sized, stands-inside, end-within, level-small}
+use Rattle.filters.proofs.Scoping.{reads-none}
+use Rattle.joining.proofs.JoinsUnder.{none-under}
+use Rattle.merging.proofs.Tested.{few-records, sized, stands-inside, end-within, level-small}
 use Rattle.rewriting.proofs.Outcoming.{the-join, placed-inside, join-outcomes}
 use Rattle.rewriting.proofs.nodes.rewrite_join.Statement.{statement}
 use Rattle.rewriting.proofs.nodes.rewrite_join.Tie as tie

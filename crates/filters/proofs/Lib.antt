@@ -1,0 +1,12 @@
+pub mod Plain
+pub mod Finding
+pub mod Steps
+pub mod Runs
+pub mod Windows
+pub mod Perhapsing
+pub mod Selecting
+pub mod Masking
+pub mod Answering
+pub mod LastChild
+pub mod FirstChild
+pub mod Scoping

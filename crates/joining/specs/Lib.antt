@@ -1,0 +1,5 @@
+pub mod Partners
+pub mod Sides
+pub mod Scopes
+pub mod Parts
+pub mod JoinPlans

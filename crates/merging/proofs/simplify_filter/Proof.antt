@@ -1,0 +1,17 @@
+use borrow.Author.Needs.{needs}
+use Rattle.merging.proofs.Merges.{simplified-known, simplified-new, simplified-old}
+use Rattle.merging.proofs.simplify_filter.Statement.{statement}
+use Rattle.merging.proofs.simplify_filter.Tie as tie
+
+pub simplify-filter-spec : {M : Type 1} → statement M
+simplify-filter-spec =
+    tie.close
+    (tie.spec
+    (λ c κs. search needs)
+    (λ c κs. let p = c .before .before .before .pre in simplified-known (p .shaped) (c .simplify-predicates .ensures _ (p .shaped .listed)))
+    (λ c e h. let k = c .before .before .before .before .before .reorder-predicates .ensures _
+    (c .before .before .before .before .before .before .simplify-predicates .ensures _ (h .listed)) in simplified-new h (k .0) (k .1)
+    (c .if1 .taken))
+    (λ c e h. let k = c .before .before .before .before .before .reorder-predicates .ensures _
+    (c .before .before .before .before .before .before .simplify-predicates .ensures _ (h .listed)) in simplified-old h (k .0) (k .1)
+    (c .if1 .left)))
