@@ -15,7 +15,7 @@ use Rattle.acceptance.specs.Check.{linked, verdict, at, checkPlan, check}
 use Rattle.form.specs.Formed.{formed, numbered, later}
 use Rattle.form.specs.declared.checked.Formed.{Formed}
 use Rattle.form.proofs.Sound.{Sound, check-is}
-use Rattle.names.specs.Rules.{badNames, badTypes}
+use Rattle.finding.specs.Rules.{badNames, badTypes}
 use Rattle.names.proofs.TreeNames.{tree-names}
 use Rattle.names.proofs.TreeTypes.{tree-types}
 

@@ -36,9 +36,9 @@ use Rattle.acceptance.proofs.Converse.{same-tree, stands-alone}
 use Rattle.acceptance.proofs.WellFormed.{well-formed-rules}
 use Rattle.acceptance.specs.Names.{sound}
 use Rattle.acceptance.proofs.NamesRule.{rule, rule-sound}
-use Rattle.names.specs.Fields.{Schema, inputs, namesIn}
-use Rattle.names.specs.Count.{input}
-use Rattle.names.specs.Rules.{typesIn}
+use Rattle.finding.specs.Fields.{Schema, inputs, namesIn}
+use Rattle.finding.specs.Count.{input}
+use Rattle.finding.specs.Rules.{typesIn}
 use Rattle.names.proofs.TreeFields.{stand, fields, inputs-expr, inputs-plan, fields-names, fields-types}
 use Rattle.utils.specs.Fields.{Fields, most}
 use Rattle.utils.specs.Fields.{Names as NamesOf}

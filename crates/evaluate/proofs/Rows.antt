@@ -21,8 +21,8 @@ use Rattle.plan.specs.Schema.{same, lookD}
 use Rattle.plan.specs.Syntax.{Name, Value, null}
 use Rattle.rewrite.specs.RowTest.{cell, lent, cell-ok, row-ok}
 use Rattle.utils.specs.Fields.{placeIn}
-use Rattle.names.specs.Fields.{Schema}
-use Rattle.names.specs.Rules.{typesIn}
+use Rattle.finding.specs.Fields.{Schema}
+use Rattle.finding.specs.Rules.{typesIn}
 use Rattle.types.specs.ByPlace.{tyAt}
 use Rattle.types.proofs.ByPlacing.{one-more}
 

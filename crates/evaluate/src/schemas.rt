@@ -5,9 +5,9 @@ ghost use Prim.Native.Nat.{_≤_};
 ghost use lib.ListN.{length, take};
 ghost use Rattle.image.specs.Places.{Chained};
 ghost use Rattle.image.specs.Tree.{Forest, Linked};
-ghost use Rattle.names.specs.Count.{input};
-ghost use Rattle.names.specs.Fields.{inputs};
-ghost use Rattle.names.specs.Rules.{typesIn};
+ghost use Rattle.finding.specs.Count.{input};
+ghost use Rattle.finding.specs.Fields.{inputs};
+ghost use Rattle.finding.specs.Rules.{typesIn};
 
 // The types of the n fields of the first plan among the trees from record `at` on, by place.
 pub fn field_types(s: &[u8], base: usize, at: usize, n: usize) -> [usize; 64]

@@ -15,13 +15,13 @@ use Rattle.plan.specs.Kinds.{What, expr, plan, part, unknown, what, whatOf}
 use Rattle.plan.specs.Syntax.{nm}
 use Rattle.plan.proofs.Rebuilt.{kind-e}
 use Rattle.acceptance.specs.Names.{holders, sound}
-use Rattle.names.specs.Count.{counted, hits, input, role, roleP, own}
-use Rattle.names.specs.Fields.{Schema, nameOf, inputs, inputsBy, fieldsP, namesIn, joinFields, first, second}
-use Rattle.names.specs.Rules.{Scope, seen, nameOk, nameBy, nameP}
-use Rattle.names.specs.Scopes.{sortW}
+use Rattle.finding.specs.Count.{counted, hits, input, role, roleP, own}
+use Rattle.finding.specs.Fields.{Schema, nameOf, inputs, inputsBy, fieldsP, namesIn, joinFields, first, second}
+use Rattle.finding.specs.Rules.{Scope, seen, nameOk, nameBy, nameP}
+use Rattle.finding.specs.Scopes.{sortW}
 use Rattle.names.specs.Singles.{knownInputs}
-use Rattle.names.proofs.Counting.{skip-part, of-plan, input-0, input-1, from-side}
-use Rattle.names.proofs.Scoping.{counted-name}
+use Rattle.finding.proofs.Counting.{skip-part, of-plan, input-0, input-1, from-side}
+use Rattle.finding.proofs.Scoping.{counted-name}
 use Rattle.names.proofs.Singling.{input-sound, second-sound}
 
 -- false is never true

@@ -19,12 +19,12 @@ use Rattle.plan.specs.Kinds as K
 use Rattle.plan.specs.Kinds.{What, expr, plan, part, unknown, what}
 use Rattle.plan.specs.Syntax.{Name, nm}
 use Rattle.acceptance.specs.Names.{clash, distinct-names, sound}
-use Rattle.names.specs.Count.{counted, hits, near, input, roleP, own}
-use Rattle.names.specs.Fields.{Fld, Schema, nameOf, made, madeBy, inputs, requalify, joinFields, namesIn, first, second}
-use Rattle.names.specs.Rules.{nameP}
+use Rattle.finding.specs.Count.{counted, hits, near, input, roleP, own}
+use Rattle.finding.specs.Fields.{Fld, Schema, nameOf, made, madeBy, inputs, requalify, joinFields, namesIn, first, second}
+use Rattle.finding.specs.Rules.{nameP}
 use Rattle.names.specs.Singles.{allOf, called, single, ownOf, ownSort, ownMode, apart}
-use Rattle.names.proofs.Counting.{renamed, input-0, input-1, counted-++}
-use Rattle.names.proofs.Scoping.{all-of}
+use Rattle.finding.proofs.Counting.{renamed, input-0, input-1, counted-++}
+use Rattle.finding.proofs.Scoping.{all-of}
 
 -- ---- tests of all names
 

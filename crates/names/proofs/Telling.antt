@@ -2,8 +2,8 @@
 -- Assumes nothing.
 use mathlib.Core.Path.{_≡_, refl, sym, ap, subst, _∙_}
 use mathlib.Core.Bool.{Bool, true, false, cond}
-use mathlib.Core.List.{List, [], _∷_, _++_, map}
-use Prim.Native.Nat.{ℕ, suc, _+_, _≤_, _<_}
+use mathlib.Core.List.{List, [], _++_, map}
+use Prim.Native.Nat.{ℕ, _≤_, _<_}
 use native.Mathlib.Omega.{arith}
 use lib.Dec.{eqb, leb}
 use lib.ListN.{length}
@@ -16,11 +16,11 @@ use Rattle.plan.proofs.Lists.{and-true, and-false}
 use Rattle.plan.specs.Kinds as K
 use Rattle.plan.specs.Kinds.{What, expr, plan, part, unknown, what, whatOf}
 use Rattle.plan.specs.Syntax.{Name, nm}
-use Rattle.names.specs.Count.{counted, hits, input, makes, role, roleP, own}
-use Rattle.names.specs.Fields.{Schema, nameOf, made, madeBy, inputs, fieldsP, requalify}
+use Rattle.finding.specs.Count.{counted, hits, input, makes, role, roleP, own}
+use Rattle.finding.specs.Fields.{Schema, nameOf, made, madeBy, inputs, fieldsP, requalify}
 use Rattle.names.specs.Singles.{allOf, called, single, lone, ownOf, apart}
-use Rattle.names.proofs.Counting.{input-0, base, from-both, from-side, from-input-and-parts, of-plan, here}
-use Rattle.names.proofs.Scoping.{all-of}
+use Rattle.finding.proofs.Counting.{input-0, base, from-both, from-side, from-input-and-parts, of-plan, here, counted-all}
+use Rattle.finding.proofs.Scoping.{all-of}
 use Rattle.names.proofs.Singling.{allOf-++, allOf-renamed, allOf-cong}
 
 -- ---- the parts
@@ -253,16 +253,6 @@ module _ (n : ℕ) (f : Forest) where
   own-none a b c d e = rw (ne-eqb n 1 a, ne-eqb n 2 b, ne-eqb n 3 c, ne-eqb n 4 d, ne-eqb n 5 e) refl
 
 -- ---- the number of fields
-
--- the question 2 counts all fields
-pub counted-all : (q n : ℕ) (s : Schema) → counted (hits 2 q n) s ≡ length s
-unfolding counted
-counted-all q n [] = refl
-counted-all q n (f ∷ s) = step (f .name) (counted-all q n s)
-  where
-    step : (x : Name) → counted (hits 2 q n) s ≡ length s
-        → cond (hits 2 q n x) (counted (hits 2 q n) s + 1) (counted (hits 2 q n) s) ≡ suc (length s)
-    step (nm r m) e = rw e (omega arith)
 
 module _ (mode : ℕ) (s : Schema) {k : ℕ} (e : k ≡ counted (hits 2 0 0) s) where
   -- too many fields

@@ -18,10 +18,10 @@ use Rattle.plan.specs.Trees.{joinNumber, labelE, kidsE, before, each, nothingBe
 use Rattle.plan.specs.Trees.{keyLabel, keyKids, aggLabel, aggKids, winLabel, winKids, filterKids, labelP, kidsP, forestP, planTree}
 use Rattle.plan.specs.Types.{type-of, types, types-first, side-types, field-types, both-types}
 use Rattle.plan.proofs.Written.{name-back, expr-what}
-use Rattle.names.specs.Fields.{Fld, fld, Schema, typeIn, typeOf, typeFirst, made, madeQ, requalify, joinFields, inputs, namesIn}
-use Rattle.names.specs.Fields.{first, second}
+use Rattle.finding.specs.Fields.{Fld, fld, Schema, typeIn, typeOf, typeFirst, made, madeQ, requalify, joinFields, inputs, namesIn}
+use Rattle.finding.specs.Fields.{first, second}
 use Rattle.plan.specs.Schema as S
-use Rattle.names.specs.Rules.{typesIn}
+use Rattle.finding.specs.Rules.{typesIn}
 
 -- the plan in front of other trees
 abbrev pub stand : Plan → Forest → Forest

@@ -19,8 +19,8 @@ use Rattle.plan.specs.Trees.{planTree}
 use Rattle.plan.proofs.Written.{expr-what}
 use Rattle.acceptance.specs.Marks.{marks-in, marks-in-all, marks-in?, Rules, entry-marks, pair-marks, key-marks, agg-marks, win-marks}
 use Rattle.acceptance.specs.Marks.{marks-of, marks-of-all}
-use Rattle.names.specs.Fields.{first, second}
-use Rattle.names.specs.Rules.{Scope, over, hand}
+use Rattle.finding.specs.Fields.{first, second}
+use Rattle.finding.specs.Rules.{Scope, over, hand}
 use Rattle.names.proofs.TreeFields.{stand, fields, inputs-expr, inputs-entries, inputs-keys, inputs-aggs, inputs-wins, inputs-plan}
 use Rattle.names.proofs.TreeFields.{made-fields}
 

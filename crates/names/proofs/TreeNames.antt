@@ -13,8 +13,8 @@ use Rattle.plan.specs.Syntax.{alias, union, distinct, sort, repartition, limit,
 use Rattle.plan.specs.Trees.{labelE, kidsE, each, pairLabel, pairKids, filterKids, labelP, kidsP, planTree}
 use Rattle.plan.proofs.Written.{name-back}
 use Rattle.acceptance.specs.Names.{one-field, sound, sound-plan, name-rules, badName}
-use Rattle.names.specs.Fields.{inputs, namesIn, first, second}
-use Rattle.names.specs.Rules.{Scope, over, seen, nameOk, badNames}
+use Rattle.finding.specs.Fields.{inputs, namesIn, first, second}
+use Rattle.finding.specs.Rules.{Scope, over, seen, nameOk, badNames}
 use Rattle.names.proofs.TreeFields.{stand, fields, inputs-plan, names-append, fields-names}
 use Rattle.names.proofs.TreeMarks.{Agrees, over-one, over-both, tree-lowest}
 

@@ -22,7 +22,7 @@ use Rattle.plan.specs.Trees.{planTree}
 use Rattle.plan.specs.Types.{Scanned, scans, scans-all}
 use Rattle.plan.proofs.Written.{no-part-e}
 use Rattle.acceptance.specs.Types.{first-scanned}
-use Rattle.names.specs.Rules.{scanTypes}
+use Rattle.finding.specs.Rules.{scanTypes}
 use Rattle.names.proofs.TreeFields.{stand, scan-types}
 
 module _ (t : ℕ) where

@@ -25,9 +25,9 @@ use Rattle.plan.proofs.Written.{expr-what}
 use Rattle.acceptance.specs.Types as A
 use Rattle.acceptance.specs.Types.{operands, any-type, of-type, typed-operands, is-boolean, is-boolean?, takes-type, same-types}
 use Rattle.acceptance.specs.Types.{first-scanned, as-first, typed-plan, type-rules, badType}
-use Rattle.names.specs.Fields.{Schema, typeIn, first}
-use Rattle.names.specs.Rules.{Scope, over, seen, hand, typesOf, booleans, alike, typesIn, united, scanTypes, typeOkBy, typeOk}
-use Rattle.names.specs.Rules.{badTypes}
+use Rattle.finding.specs.Fields.{Schema, typeIn, first}
+use Rattle.finding.specs.Rules.{Scope, over, seen, hand, typesOf, booleans, alike, typesIn, united, scanTypes, typeOkBy, typeOk}
+use Rattle.finding.specs.Rules.{badTypes}
 use Rattle.names.proofs.TreeFields.{stand, plan-what, type-label, fields, fields-all, inputs-plans, fields-types, fields-typed}
 use Rattle.names.proofs.TreeFields.{both-typed, scan-types}
 use Rattle.names.proofs.TreeMarks.{Agrees, over-one, over-both, below, hand-plan, tree-lowest}

@@ -1,7 +1,1 @@
-pub mod Count
-pub mod Fields
-pub mod Rules
-pub mod Scopes
-pub mod Seek
 pub mod Singles
-pub mod Typed

@@ -8,10 +8,10 @@ use Rattle.image.specs.Limits.{maxFields}
 use Rattle.image.specs.Tree.{Forest}
 use Rattle.plan.specs.Lists.{_&_}
 use Rattle.plan.specs.Syntax.{Name, nm}
-use Rattle.names.specs.Count.{counted, hits, input}
-use Rattle.names.specs.Fields.{Schema, made, inputs}
-use Rattle.names.specs.Rules.{seen}
-use Rattle.names.specs.Scopes.{scopeOf}
+use Rattle.finding.specs.Count.{counted, hits, input}
+use Rattle.finding.specs.Fields.{Schema, made, inputs}
+use Rattle.finding.specs.Rules.{seen}
+use Rattle.finding.specs.Scopes.{scopeOf}
 
 -- the name of each field passes a test
 unfoldable pub allOf : (Name → Bool) → Schema → Bool

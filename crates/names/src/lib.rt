@@ -1,5 +1,3 @@
-// Names and types, asked of the records of an image.
-pub mod fields;
+// Test 6: names and schemas, asked of the records of an image.
 pub mod naming;
 pub mod schemas;
-pub mod scopes;

@@ -1,11 +1,11 @@
 // Name (6): the lowest record whose reference does not name one field of what it stands over, or whose schema is not sound.
-use crate::fields::role_of;
 use crate::schemas::is_sound;
 use crate::schemas::is_sound_beside;
-use crate::scopes::first_sort;
-use crate::scopes::held_in;
-use crate::scopes::rest_sort;
-use crate::scopes::sort_of;
+use finding::fields::role_of;
+use finding::scopes::first_sort;
+use finding::scopes::held_in;
+use finding::scopes::rest_sort;
+use finding::scopes::sort_of;
 use image::places::Place;
 use image::records::Node;
 use image::records::from_record;
@@ -18,11 +18,11 @@ ghost use Rattle.image.specs.Places.{Chained, placeOf};
 ghost use Rattle.image.specs.Tree.{Label, Forest, none, node, Linked, Tree, At};
 ghost use Rattle.plan.specs.Kinds.{whatOf};
 ghost use Rattle.acceptance.specs.Names.{sound};
-ghost use Rattle.names.specs.Count as Count;
-ghost use Rattle.names.specs.Count.{input};
-ghost use Rattle.names.specs.Fields.{inputs, namesIn};
-ghost use Rattle.names.specs.Rules.{nameOk, hand, badNames};
-ghost use Rattle.names.specs.Scopes.{scopeOf};
+ghost use Rattle.finding.specs.Count as Count;
+ghost use Rattle.finding.specs.Count.{input};
+ghost use Rattle.finding.specs.Fields.{inputs, namesIn};
+ghost use Rattle.finding.specs.Rules.{nameOk, hand, badNames};
+ghost use Rattle.finding.specs.Scopes.{scopeOf};
 ghost use Rattle.names.specs.Singles.{knownInputs};
 
 // Whether the record keeps the rule: `part` begins there, v is what was looked at, the scope of the slice g and the number `here` is what it

@@ -1,11 +1,11 @@
 // Whether a plan's schema is sound: each of its fields clashes with one field, itself, and there are at most 64.
-use crate::fields::holders;
-use crate::fields::made_count;
-use crate::fields::makes_one;
-use crate::fields::own_input;
-use crate::fields::plan_at;
-use crate::fields::role_of;
-use crate::scopes::held_in;
+use finding::fields::holders;
+use finding::fields::made_count;
+use finding::fields::makes_one;
+use finding::fields::own_input;
+use finding::fields::plan_at;
+use finding::fields::role_of;
+use finding::scopes::held_in;
 use image::limits::MAX_FIELDS;
 use image::records::from_record;
 use image::records::look;
@@ -15,10 +15,10 @@ ghost use Rattle.image.specs.Tree.{Label, Forest, Linked};
 ghost use Rattle.plan.specs.Kinds.{PlanKind, Join};
 ghost use Rattle.image.specs.Places.{Chained};
 ghost use Rattle.plan.specs.Syntax.{nm};
-ghost use Rattle.names.specs.Fields.{Schema, made, inputs, namesIn};
-ghost use Rattle.names.specs.Count.{counted, hits, input, roleP, own};
+ghost use Rattle.finding.specs.Fields.{Schema, made, inputs, namesIn};
+ghost use Rattle.finding.specs.Count.{counted, hits, input, roleP, own};
 ghost use Rattle.acceptance.specs.Names.{sound};
-ghost use Rattle.names.specs.Rules.{nameP};
+ghost use Rattle.finding.specs.Rules.{nameP};
 ghost use Rattle.names.specs.Singles.{allOf, single, lone, ownOf, ownSort, ownMode};
 
 // The schema whose fields are told apart: the children of its plan, which of their fields it has, and the question that tells them.

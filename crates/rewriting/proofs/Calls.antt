@@ -13,7 +13,7 @@ use Rattle.image.specs.Word.{Bytes, word}
 use Rattle.image.specs.Tree.{labelAt}
 use Rattle.plan.specs.Kinds.{isPlan}
 use Rattle.plan.specs.Lists.{choose}
-use Rattle.names.proofs.KindRanges.{plan-range}
+use Rattle.finding.proofs.KindRanges.{plan-range}
 use Rattle.utils.specs.Inputs.{isPlan as plan-number}
 use Rattle.plan.specs.Measure.{sizeP}
 use Rattle.plan.specs.Syntax.{Plan}

@@ -20,13 +20,13 @@ use Rattle.plan.proofs.Lists.{and-intro, and-l, and-r}
 use Rattle.plan.specs.Kinds.{whatOf}
 use Rattle.plan.specs.Syntax.{Name, nm}
 use Rattle.acceptance.specs.Types.{same-types}
-use Rattle.names.specs.Fields.{Schema, inputs}
-use Rattle.names.specs.Rules.{typesIn, united}
-use Rattle.names.specs.Count.{hits, counted, input, role}
-use Rattle.names.specs.Seek.{seek, typeFound, Planned}
-use Rattle.names.proofs.Counting.{of-plan, skip-part}
-use Rattle.names.proofs.Seeking.{is-plan}
-use Rattle.names.proofs.Telling.{counted-all}
+use Rattle.finding.specs.Fields.{Schema, inputs}
+use Rattle.finding.specs.Rules.{typesIn, united}
+use Rattle.finding.specs.Count.{hits, counted, input, role}
+use Rattle.finding.specs.Seek.{seek, typeFound, Planned}
+use Rattle.finding.proofs.Counting.{of-plan, skip-part}
+use Rattle.finding.proofs.Seeking.{is-plan}
+use Rattle.finding.proofs.Counting.{counted-all}
 use Rattle.types.specs.ByPlace.{tyAt}
 
 -- ---- places

@@ -19,9 +19,9 @@ use Rattle.plan.specs.Lists.{_&_, put, all}
 use Rattle.plan.specs.Kinds as K
 use Rattle.plan.specs.Kinds.{What, expr, plan, part, unknown, whatOf, exprW}
 use Rattle.plan.proofs.Rebuilt.{kind-e, kind-p, kind-w}
-use Rattle.names.specs.Fields.{Schema, first, typeOf}
-use Rattle.names.specs.Rules.{Scope, seen, typesOf, alike}
-use Rattle.names.proofs.Counting.{of-kind}
+use Rattle.finding.specs.Fields.{Schema, first, typeOf}
+use Rattle.finding.specs.Rules.{Scope, seen, typesOf, alike}
+use Rattle.finding.proofs.Counting.{of-kind}
 use Rattle.types.specs.Demands.{demandOf, booleanKind}
 
 -- ---- the table of the code

@@ -12,8 +12,8 @@ use Rattle.plan.specs.Kinds as K
 use Rattle.plan.specs.Kinds.{What, expr, plan, part, unknown, what, whatOf}
 use Rattle.plan.proofs.Rebuilt.{kind-p}
 use Rattle.acceptance.specs.Types.{same-types}
-use Rattle.names.specs.Fields.{made, inputs, first}
-use Rattle.names.specs.Rules.{booleans, alike, typesIn, united, scanTypes, typeOkBy}
+use Rattle.finding.specs.Fields.{made, inputs, first}
+use Rattle.finding.specs.Rules.{booleans, alike, typesIn, united, scanTypes, typeOkBy}
 use Rattle.types.specs.Demands.{demandOf, met}
 use Rattle.types.proofs.Scanning.{Looked}
 

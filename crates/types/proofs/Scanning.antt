@@ -15,10 +15,10 @@ use Rattle.image.specs.Lowest.{alone}
 use Rattle.image.proofs.Walking.{linked-first, only}
 use Rattle.plan.specs.Lists.{_&_}
 use Rattle.acceptance.specs.Types.{same-types}
-use Rattle.names.specs.Fields.{Schema, made}
-use Rattle.names.specs.Rules.{typesIn, scanTypes}
-use Rattle.names.specs.Count.{hits, counted}
-use Rattle.names.proofs.Telling.{counted-all}
+use Rattle.finding.specs.Fields.{Schema, made}
+use Rattle.finding.specs.Rules.{typesIn, scanTypes}
+use Rattle.finding.specs.Count.{hits, counted}
+use Rattle.finding.proofs.Counting.{counted-all}
 use Rattle.types.specs.Standing.{Filled}
 
 -- ---- a record that is looked at

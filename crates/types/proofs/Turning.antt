@@ -13,10 +13,10 @@ use Rattle.image.proofs.Lowest.{lowest-link, lowest-none}
 use Rattle.image.proofs.Stepping.{Step}
 use Rattle.plan.specs.Kinds as K
 use Rattle.plan.specs.Kinds.{What, expr, plan, part, unknown, what, whatOf}
-use Rattle.names.specs.Fields.{inputs}
-use Rattle.names.specs.Rules.{Scope, over, hand, handBy, handP, typesOf, typeOk, typeOkBy, badTypes}
-use Rattle.names.specs.Scopes.{scopeOf, sortP, sortW}
-use Rattle.names.proofs.Counting.{input-0, input-1}
+use Rattle.finding.specs.Fields.{inputs}
+use Rattle.finding.specs.Rules.{Scope, over, hand, handBy, handP, typesOf, typeOk, typeOkBy, badTypes}
+use Rattle.finding.specs.Scopes.{scopeOf, sortP, sortW}
+use Rattle.finding.proofs.Counting.{input-0, input-1}
 use Rattle.types.proofs.Scanning.{Looked}
 
 -- ---- places

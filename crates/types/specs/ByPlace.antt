@@ -4,8 +4,8 @@ use mathlib.Core.List.{[], _∷_}
 use Prim.Native.Nat.{ℕ, zero, suc}
 use lib.Dec.{eqb}
 use Rattle.image.specs.Tree.{Forest}
-use Rattle.names.specs.Fields.{Schema, made, inputs}
-use Rattle.names.specs.Count.{input}
+use Rattle.finding.specs.Fields.{Schema, made, inputs}
+use Rattle.finding.specs.Count.{input}
 
 -- the type of the field with this place; 0 for none
 unfoldable pub tyAt : ℕ → Schema → ℕ

@@ -6,8 +6,8 @@ use lib.Dec.{eqb, leb}
 use Rattle.plan.specs.Kinds.{What, expr, plan, part, unknown, ExprKind, Column, Integer, Boolean, Null, Binary, Not, Test, Between, InList}
 use Rattle.plan.specs.Kinds.{Function, PlanKind, TableScan, Filter, Projection, Join, SubqueryAlias, Union, Distinct, Sort, Repartition}
 use Rattle.plan.specs.Kinds.{Limit, Aggregate, Window, PartKind, FieldPart, EntryPart, PairPart, KeyPart, AggPart, WinPart}
-use Rattle.names.specs.Fields.{first}
-use Rattle.names.specs.Rules.{booleans, alike}
+use Rattle.finding.specs.Fields.{first}
+use Rattle.finding.specs.Rules.{booleans, alike}
 
 -- Count takes any type, Min and Max an integer
 abbrev pub integerOr : ℕ → ℕ

@@ -1,16 +1,16 @@
 // What a record asks of the types of its own expressions.
+use finding::scopes::type_of;
 use image::records::from_record;
 use image::records::look;
-use names::scopes::type_of;
 ghost use mathlib.Core.Path.{_≡_};
 ghost use lib.Dec.{eqb};
 ghost use Rattle.image.specs.Tree.{Forest, Linked};
 ghost use Rattle.image.specs.Places.{Chained};
 ghost use Rattle.plan.specs.Kinds.{whatOf, exprW};
 ghost use Rattle.plan.specs.Lists.{all};
-ghost use Rattle.names.specs.Fields.{first};
-ghost use Rattle.names.specs.Rules.{typesOf, alike};
-ghost use Rattle.names.specs.Scopes.{scopeOf};
+ghost use Rattle.finding.specs.Fields.{first};
+ghost use Rattle.finding.specs.Rules.{typesOf, alike};
+ghost use Rattle.finding.specs.Scopes.{scopeOf};
 ghost use Rattle.types.specs.Demands.{demandOf, integerOr, booleanKind, met};
 
 // Whether the kind is an expression's.

@@ -1,21 +1,21 @@
 // The types of a schema's fields by place, and whether two schemas have the same.
+use finding::fields::holders;
+use finding::fields::made_count;
+use finding::fields::plan_at;
+use finding::fields::role_of;
+use finding::fields::seek_field;
+use finding::fields::seek_made;
+use finding::fields::type_found;
 use image::records::from_record;
 use image::records::look;
-use names::fields::holders;
-use names::fields::made_count;
-use names::fields::plan_at;
-use names::fields::role_of;
-use names::fields::seek_field;
-use names::fields::seek_made;
-use names::fields::type_found;
 ghost use mathlib.Core.Path.{_≡_};
 ghost use Rattle.image.specs.Tree.{Forest, Linked};
 ghost use Rattle.image.specs.Places.{Chained};
 ghost use Rattle.plan.specs.Lists.{all};
 ghost use Rattle.acceptance.specs.Types.{same-types};
-ghost use Rattle.names.specs.Fields.{inputs};
-ghost use Rattle.names.specs.Rules.{typesIn, united};
-ghost use Rattle.names.specs.Count.{hits, counted, input};
+ghost use Rattle.finding.specs.Fields.{inputs};
+ghost use Rattle.finding.specs.Rules.{typesIn, united};
+ghost use Rattle.finding.specs.Count.{hits, counted, input};
 ghost use Rattle.types.specs.ByPlace.{tyAt, schemaOf};
 
 // How many fields: 0 those that the parts make, as a scan's, else those of the first plan.

@@ -1,17 +1,17 @@
 // Scans of one table have the field types of the first of them.
 use crate::places::same_fields;
+use finding::fields::made_count;
 use image::limits::RECORD_BYTES;
 use image::records::from_record;
 use image::records::look;
-use names::fields::made_count;
 ghost use mathlib.Core.Path.{_≡_};
 ghost use mathlib.Core.List.{[]};
 ghost use Rattle.image.specs.Tree.{Forest, Linked, Tree, At};
 ghost use Rattle.image.specs.Places.{Chained};
 ghost use Rattle.image.specs.Lowest.{alone};
 ghost use Rattle.acceptance.specs.Types.{same-types};
-ghost use Rattle.names.specs.Fields.{made};
-ghost use Rattle.names.specs.Rules.{typesIn, scanTypes};
+ghost use Rattle.finding.specs.Fields.{made};
+ghost use Rattle.finding.specs.Rules.{typesIn, scanTypes};
 ghost use Rattle.types.specs.Standing.{Filled};
 
 // Whether the fields from record `ga` on have the types of the whole image's first scan of the table. Records stand parents first, so that is

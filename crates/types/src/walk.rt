@@ -3,19 +3,19 @@ use crate::operands::demand;
 use crate::operands::meets;
 use crate::places::united;
 use crate::scans::as_scanned;
+use finding::scopes::first_sort;
+use finding::scopes::rest_sort;
+use finding::scopes::sort_of;
 use image::places::Place;
 use image::records::from_record;
 use image::records::look;
-use names::scopes::first_sort;
-use names::scopes::rest_sort;
-use names::scopes::sort_of;
 ghost use mathlib.Core.Path.{_≡_};
 ghost use Rattle.image.specs.Tree.{Forest, Linked, Tree, At};
 ghost use Rattle.image.specs.Places.{Chained, placeOf};
 ghost use Rattle.image.specs.Lowest.{lowest, alone};
 ghost use Rattle.plan.specs.Kinds.{what};
-ghost use Rattle.names.specs.Rules.{typesOf, typeOk, typeOkBy, hand, badTypes};
-ghost use Rattle.names.specs.Scopes.{scopeOf};
+ghost use Rattle.finding.specs.Rules.{typesOf, typeOk, typeOkBy, hand, badTypes};
+ghost use Rattle.finding.specs.Scopes.{scopeOf};
 ghost use Rattle.types.specs.Standing.{Planted, Filled};
 
 // The rule of the record at the start of s, whose children stand over the scope.

@@ -9,12 +9,12 @@ use Rattle.image.proofs.Walking.{ended, left}
 use Rattle.image.proofs.Stepping.{step}
 use Rattle.image.proofs.Along.{within, whole}
 use Rattle.plan.specs.Kinds.{whatOf}
-use Rattle.names.specs.Count.{role}
-use Rattle.names.specs.Rules.{nameOk, hand}
-use Rattle.names.specs.Scopes.{scopeOf}
+use Rattle.finding.specs.Count.{role}
+use Rattle.finding.specs.Rules.{nameOk, hand}
+use Rattle.finding.specs.Scopes.{scopeOf}
 use Rattle.names.proofs.Finding.{place-none, place-here, place-below, place-after}
 use Rattle.names.proofs.NameRule.{sound-first, sound-rest, sound-next, sound-below, sort-of-part, sort-of-plan}
-use Rattle.names.proofs.Scoping.{hand-plan, hand-part}
+use Rattle.finding.proofs.Scoping.{hand-plan, hand-part}
 use borrow.Fn.Kinds.{In}
 use borrow.Fn.PlainCycle.{Measures, is, falls, and}
 use Rattle.names.proofs.naming.bad_name.Reads as bad-name
@@ -22,13 +22,13 @@ use Rattle.names.proofs.naming.bad_name.Kinds as bad-name-kinds
 use Rattle.names.proofs.naming.+bad_name.Lts-bad_name as bad-name-lts
 use Rattle.image.proofs.records.from_record.Reads as from-record-reads
 use Rattle.image.proofs.records.look.Reads as look-reads
-use Rattle.names.proofs.fields.role_of.Reads as role-of-reads
+use Rattle.finding.proofs.fields.role_of.Reads as role-of-reads
 use Rattle.names.proofs.naming.but_one.Reads as but-one-reads
 use Rattle.names.proofs.naming.known_inputs.Reads as known-inputs-reads
 use Rattle.names.proofs.naming.name_ok.Reads as name-ok-reads
-use Rattle.names.proofs.scopes.first_sort.Reads as first-sort-reads
-use Rattle.names.proofs.scopes.rest_sort.Reads as rest-sort-reads
-use Rattle.names.proofs.scopes.sort_of.Reads as sort-of-reads
+use Rattle.finding.proofs.scopes.first_sort.Reads as first-sort-reads
+use Rattle.finding.proofs.scopes.rest_sort.Reads as rest-sort-reads
+use Rattle.finding.proofs.scopes.sort_of.Reads as sort-of-reads
 use Rattle.names.proofs.naming.+bad_name.{statement}
 use Rattle.names.proofs.naming.+bad_name.Tie.{close}
 

@@ -6,12 +6,12 @@ use Prim.Native.Nat.{ℕ}
 use borrow.Author.Tests.{not-true, not-false}
 use Rattle.image.specs.Tree.{none}
 use Rattle.plan.specs.Kinds.{whatOf}
-use Rattle.names.specs.Count.{role}
-use Rattle.names.specs.Rules.{Scope, over, nameOk, hand, badNames}
-use Rattle.names.specs.Scopes.{sortW}
+use Rattle.finding.specs.Count.{role}
+use Rattle.finding.specs.Rules.{Scope, over, nameOk, hand, badNames}
+use Rattle.finding.specs.Scopes.{sortW}
 use Rattle.names.proofs.Finding.{root-here, root-below, rooted}
 use Rattle.names.proofs.NameRule.{never, sound-root}
-use Rattle.names.proofs.Scoping.{hand-root}
+use Rattle.finding.proofs.Scoping.{hand-root}
 use borrow.Author.Needs.{needs}
 use Rattle.names.proofs.naming.bad_names.Statement.{statement}
 use Rattle.names.proofs.naming.bad_names.Tie as tie

@@ -5,9 +5,9 @@ use Prim.Native.Nat.{ℕ}
 use borrow.Author.Needs.{needs}
 use borrow.Author.Tests.{not-false}
 use Rattle.plan.specs.Kinds.{whatOf}
-use Rattle.names.specs.Count.{role, input, own}
-use Rattle.names.specs.Fields.{inputs, namesIn}
-use Rattle.names.specs.Scopes.{scopeOf}
+use Rattle.finding.specs.Count.{role, input, own}
+use Rattle.finding.specs.Fields.{inputs, namesIn}
+use Rattle.finding.specs.Scopes.{scopeOf}
 use Rattle.acceptance.specs.Names.{sound}
 use Rattle.names.proofs.NameRule.{both-sides, one-side, own-sound, rule-beside, rule-held, rule-other, rule-known, rule-plan}
 use Rattle.names.proofs.naming.name_ok.Statement.{statement}

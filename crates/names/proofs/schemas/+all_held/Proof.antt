@@ -7,8 +7,8 @@ use Rattle.image.proofs.Walking.{left}
 use Rattle.image.proofs.Stepping.{step}
 use Rattle.image.proofs.Along.{within, whole}
 use Rattle.names.specs.Singles.{allOf}
-use Rattle.names.proofs.Counting.{has-parts}
-use Rattle.names.proofs.Seeking.{plan-fields, is-plan, missing}
+use Rattle.finding.proofs.Counting.{has-parts}
+use Rattle.finding.proofs.Seeking.{plan-fields, is-plan, missing}
 use Rattle.names.proofs.Telling.{none-held, held-fails, held-both, held-side, held-more, held-first, held-renamed}
 use borrow.Fn.Kinds.{In}
 use borrow.Fn.PlainCycle.{Measures, is, falls, and}
@@ -17,9 +17,9 @@ use Rattle.names.proofs.schemas.all_held.Kinds as all-held-kinds
 use Rattle.names.proofs.schemas.+all_held.Lts-all_held as all-held-lts
 use Rattle.image.proofs.records.from_record.Reads as from-record-reads
 use Rattle.image.proofs.records.look.Reads as look-reads
-use Rattle.names.proofs.fields.own_input.Reads as own-input-reads
-use Rattle.names.proofs.fields.plan_at.Reads as plan-at-reads
-use Rattle.names.proofs.fields.role_of.Reads as role-of-reads
+use Rattle.finding.proofs.fields.own_input.Reads as own-input-reads
+use Rattle.finding.proofs.fields.plan_at.Reads as plan-at-reads
+use Rattle.finding.proofs.fields.role_of.Reads as role-of-reads
 use Rattle.names.proofs.schemas.all_made.Reads as all-made-reads
 use Rattle.names.proofs.schemas.qualifier.Reads as qualifier-reads
 use Rattle.names.proofs.schemas.+all_held.{statement}

@@ -14,7 +14,7 @@ use Rattle.names.proofs.schemas.all_made.Kinds as all-made-kinds
 use Rattle.names.proofs.schemas.+all_made.Lts-all_made as all-made-lts
 use Rattle.image.proofs.records.from_record.Reads as from-record-reads
 use Rattle.image.proofs.records.look.Reads as look-reads
-use Rattle.names.proofs.fields.makes_one.Reads as makes-one-reads
+use Rattle.finding.proofs.fields.makes_one.Reads as makes-one-reads
 use Rattle.names.proofs.schemas.is_single.Reads as is-single-reads
 use Rattle.names.proofs.schemas.qualifier.Reads as qualifier-reads
 use Rattle.names.proofs.schemas.+all_made.{statement}

@@ -1,8 +1,8 @@
 -- `schemas::all_single` meets its contract: a branch for each sort of schema.
 use mathlib.Core.Path.{sym, ap, _∙_}
 use mathlib.Core.List.{[]}
-use Rattle.names.specs.Count.{input}
-use Rattle.names.specs.Fields.{made, inputs}
+use Rattle.finding.specs.Count.{input}
+use Rattle.finding.specs.Fields.{made, inputs}
 use Rattle.names.specs.Singles.{allOf}
 use Rattle.names.proofs.Telling.{as-called, first-fails, first-passes, none-fails}
 use Rattle.names.proofs.Telling.{own-first-input, own-both-inputs, own-parts, own-second-input, own-input-and-parts, own-none}

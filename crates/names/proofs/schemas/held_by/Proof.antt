@@ -4,7 +4,7 @@ use mathlib.Core.List.{[]}
 use native.Mathlib.Omega.{arith}
 use borrow.Author.Needs.{needs}
 use borrow.Author.Tests.{eq-eqb, ne-eqb}
-use Rattle.names.proofs.Counting.{few-held, few-made, counted-++}
+use Rattle.finding.proofs.Counting.{few-held, few-made, counted-++}
 use Rattle.names.proofs.schemas.held_by.Statement.{statement}
 use Rattle.names.proofs.schemas.held_by.Tie as tie
 

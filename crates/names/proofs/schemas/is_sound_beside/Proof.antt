@@ -3,7 +3,7 @@ use mathlib.Core.Path.{refl, _∙_}
 use native.Mathlib.Omega.{arith}
 use borrow.Author.Needs.{needs}
 use Rattle.plan.specs.Kinds.{Join}
-use Rattle.names.specs.Fields.{inputs}
+use Rattle.finding.specs.Fields.{inputs}
 use Rattle.names.proofs.Singling.{rule-by-role, beside-own, own-few}
 use Rattle.names.proofs.Telling.{as-called, too-many, not-many}
 use Rattle.names.proofs.schemas.is_sound_beside.Statement.{statement}

@@ -13,7 +13,7 @@ use Rattle.types.proofs.operands.all_alike.Kinds as all-alike-kinds
 use Rattle.types.proofs.operands.+all_alike.Lts-all_alike as all-alike-lts
 use Rattle.image.proofs.records.from_record.Reads as from-record-reads
 use Rattle.image.proofs.records.look.Reads as look-reads
-use Rattle.names.proofs.scopes.type_of.Reads as type-of-reads
+use Rattle.finding.proofs.scopes.type_of.Reads as type-of-reads
 use Rattle.types.proofs.operands.all_have.Reads as all-have-reads
 use Rattle.types.proofs.operands.is_expr.Reads as is-expr-reads
 use Rattle.types.proofs.operands.+all_alike.{statement}

@@ -13,7 +13,7 @@ use Rattle.types.proofs.operands.all_have.Kinds as all-have-kinds
 use Rattle.types.proofs.operands.+all_have.Lts-all_have as all-have-lts
 use Rattle.image.proofs.records.from_record.Reads as from-record-reads
 use Rattle.image.proofs.records.look.Reads as look-reads
-use Rattle.names.proofs.scopes.type_of.Reads as type-of-reads
+use Rattle.finding.proofs.scopes.type_of.Reads as type-of-reads
 use Rattle.types.proofs.operands.is_expr.Reads as is-expr-reads
 use Rattle.types.proofs.operands.+all_have.{statement}
 use Rattle.types.proofs.operands.+all_have.Tie.{close}

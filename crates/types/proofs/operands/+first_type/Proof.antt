@@ -13,7 +13,7 @@ use Rattle.types.proofs.operands.first_type.Kinds as first-type-kinds
 use Rattle.types.proofs.operands.+first_type.Lts-first_type as first-type-lts
 use Rattle.image.proofs.records.from_record.Reads as from-record-reads
 use Rattle.image.proofs.records.look.Reads as look-reads
-use Rattle.names.proofs.scopes.type_of.Reads as type-of-reads
+use Rattle.finding.proofs.scopes.type_of.Reads as type-of-reads
 use Rattle.types.proofs.operands.is_expr.Reads as is-expr-reads
 use Rattle.types.proofs.operands.+first_type.{statement}
 use Rattle.types.proofs.operands.+first_type.Tie.{close}

@@ -1,5 +1,5 @@
 use mathlib.Core.Path.{sym}
-use Rattle.names.proofs.KindRanges.{expr-kind}
+use Rattle.finding.proofs.KindRanges.{expr-kind}
 use Rattle.types.proofs.operands.is_expr.Statement.{statement}
 use Rattle.types.proofs.operands.is_expr.Tie as tie
 

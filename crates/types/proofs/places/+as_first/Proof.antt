@@ -14,7 +14,7 @@ use Rattle.types.proofs.places.as_first.Kinds as as-first-kinds
 use Rattle.types.proofs.places.+as_first.Lts-as_first as as-first-lts
 use Rattle.image.proofs.records.from_record.Reads as from-record-reads
 use Rattle.image.proofs.records.look.Reads as look-reads
-use Rattle.names.proofs.fields.role_of.Reads as role-of-reads
+use Rattle.finding.proofs.fields.role_of.Reads as role-of-reads
 use Rattle.types.proofs.places.same_fields.Reads as same-fields-reads
 use Rattle.types.proofs.places.+as_first.{statement}
 use Rattle.types.proofs.places.+as_first.Tie.{close}

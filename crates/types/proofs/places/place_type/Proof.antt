@@ -3,8 +3,8 @@ use mathlib.Core.Path.{sym, ap, _∙_}
 use mathlib.Core.List.{[]}
 use borrow.Author.Needs.{needs}
 use borrow.Author.Tests.{eq-eqb, ne-eqb}
-use Rattle.names.specs.Seek.{typeFound}
-use Rattle.names.proofs.Seeking.{type-told}
+use Rattle.finding.specs.Seek.{typeFound}
+use Rattle.finding.proofs.Seeking.{type-told}
 use Rattle.types.proofs.ByPlacing.{seek-place}
 use Rattle.types.proofs.places.place_type.Statement.{statement}
 use Rattle.types.proofs.places.place_type.Tie as tie

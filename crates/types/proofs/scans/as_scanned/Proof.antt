@@ -7,8 +7,8 @@ use native.Mathlib.Omega.{arith}
 use lib.ListN.{length, length-drop}
 use borrow.Author.Needs.{needs}
 use Rattle.acceptance.specs.Types.{same-types}
-use Rattle.names.specs.Fields.{made}
-use Rattle.names.specs.Rules.{typesIn}
+use Rattle.finding.specs.Fields.{made}
+use Rattle.finding.specs.Rules.{typesIn}
 use Rattle.types.proofs.ByPlacing.{one-more}
 use Rattle.types.proofs.Scanning.{scansAt, none-scans, lowest-scan, lowest-linked, scan-test, filled-size, no-fields}
 use Rattle.types.proofs.scans.as_scanned.Statement.{statement}

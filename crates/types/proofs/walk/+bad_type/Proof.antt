@@ -8,9 +8,9 @@ use Rattle.image.proofs.Stepping.{step}
 use borrow.Author.Needs.{needs}
 use borrow.Author.Tests.{not-true, not-false}
 use Rattle.image.specs.Lowest.{alone}
-use Rattle.names.specs.Rules.{typeOk, hand}
-use Rattle.names.specs.Scopes.{scopeOf}
-use Rattle.names.proofs.Scoping.{hand-plan, hand-part}
+use Rattle.finding.specs.Rules.{typeOk, hand}
+use Rattle.finding.specs.Scopes.{scopeOf}
+use Rattle.finding.proofs.Scoping.{hand-plan, hand-part}
 use Rattle.types.proofs.Demanding.{tree-at}
 use Rattle.types.proofs.Turning.{place-none, place-here, place-below, place-after, rule-of}
 use borrow.Fn.Kinds.{In}
@@ -20,9 +20,9 @@ use Rattle.types.proofs.walk.bad_type.Kinds as bad-type-kinds
 use Rattle.types.proofs.walk.+bad_type.Lts-bad_type as bad-type-lts
 use Rattle.image.proofs.records.from_record.Reads as from-record-reads
 use Rattle.image.proofs.records.look.Reads as look-reads
-use Rattle.names.proofs.scopes.first_sort.Reads as first-sort-reads
-use Rattle.names.proofs.scopes.rest_sort.Reads as rest-sort-reads
-use Rattle.names.proofs.scopes.sort_of.Reads as sort-of-reads
+use Rattle.finding.proofs.scopes.first_sort.Reads as first-sort-reads
+use Rattle.finding.proofs.scopes.rest_sort.Reads as rest-sort-reads
+use Rattle.finding.proofs.scopes.sort_of.Reads as sort-of-reads
 use Rattle.types.proofs.walk.type_ok.Reads as type-ok-reads
 use Rattle.types.proofs.walk.+bad_type.{statement}
 use Rattle.types.proofs.walk.+bad_type.Tie.{close}

@@ -1,0 +1,5 @@
+pub mod Counting
+pub mod KindRanges
+pub mod Scoping
+pub mod Seeking
+pub mod Typing
