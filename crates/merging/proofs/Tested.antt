@@ -23,11 +23,11 @@ use Rattle.conjuncts.specs.Standing.{StandingP}
 use Rattle.conjuncts.specs.Items.{Lists}
 use Rattle.conjuncts.proofs.Listed.{known-of, lists-length}
 use Rattle.writing.specs.Pushed as W
-use Rattle.writing.specs.Splicing.{Sized}
+use Rattle.answers.specs.Splicing.{Sized}
 use Rattle.writing.proofs.Pushing.{pushes-of}
-use Rattle.writing.proofs.Spliced.{split-at}
-use Rattle.writing.proofs.Splice.{Begun, within, level-is}
-use Rattle.writing.proofs.Fitting.{list-back, fits-deep, fits-long, fits-all}
+use Rattle.answers.proofs.Spliced.{split-at}
+use Rattle.answers.proofs.Splice.{Begun, within, level-is}
+use Rattle.answers.proofs.Fitting.{list-back, fits-deep, fits-long, fits-all}
 use Rattle.filters.specs.Predicates.{Predicate}
 use Rattle.merging.specs.Merging.{Made, Inside}
 use Rattle.merging.proofs.Root.{lists-fit, image-short, standing-root, names-kept}

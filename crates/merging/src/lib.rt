@@ -1,4 +1,7 @@
 // Filters merged: from a Filter at a record down to where the merging of the Filters below it comes to rest.
+use answers::handing_out::is_shallow;
+use answers::splicing::write_after;
+use answers::splicing::write_before;
 use conjuncts::lists::Conjuncts;
 use conjuncts::lists::empty;
 use conjuncts::reading::record_at;
@@ -14,10 +17,7 @@ use image::words::word_at;
 use simplify_expressions::reorder_predicates::reorder_predicates;
 use simplify_expressions::simplify_predicates::simplify_predicates;
 use writing::filtering::copy_filter;
-use writing::handing_out::is_shallow;
 use writing::kinds::FILTER;
-use writing::splicing::write_after;
-use writing::splicing::write_before;
 ghost use mathlib.Core.Path.{_≡_};
 ghost use mathlib.Core.Option.{some};
 ghost use Prim.Native.Nat.{_≤_, _<_};

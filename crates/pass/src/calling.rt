@@ -2,11 +2,11 @@
 use crate::walking::Walk;
 use crate::walking::copy_image;
 use crate::walking::visit_all;
+use answers::handing_out::clear;
+use answers::handing_out::hand_out;
 use checking::Checked;
 use checking::check;
 use image::limits::RECORD_BYTES;
-use writing::handing_out::clear;
-use writing::handing_out::hand_out;
 ghost use mathlib.Core.Path.{_≡_};
 ghost use mathlib.Core.List.{List};
 ghost use Prim.Native.Nat.{ℕ, _*_, _≤_};

@@ -16,11 +16,11 @@ use Rattle.plan.specs.Measure.{depthT}
 use Rattle.rewrite.specs.Limits.{listP, fits}
 use Rattle.rewrite.specs.PushDownFilter.{Transformed}
 use Rattle.rewrite.specs.RewriteAt.{Focus}
-use Rattle.writing.specs.declared.splicing.Spot.{Spot}
-use Rattle.writing.specs.Splicing.{Ran}
-use Rattle.writing.proofs.Whole.{wrote-small}
-use Rattle.writing.proofs.Splice.{Begun, spliced}
-use Rattle.writing.proofs.Fitting.{list-back, fits-over, fits-long}
+use Rattle.answers.specs.declared.splicing.Spot.{Spot}
+use Rattle.answers.specs.Splicing.{Ran}
+use Rattle.answers.proofs.Whole.{wrote-small}
+use Rattle.answers.proofs.Splice.{Begun, spliced}
+use Rattle.answers.proofs.Fitting.{list-back, fits-over, fits-long}
 use Rattle.filters.specs.Arms.{Written}
 use Rattle.merging.proofs.Tested.{few-records, fits-is}
 use Rattle.rewriting.specs.Outcomes.{Outcome, Replaces, Finishes}

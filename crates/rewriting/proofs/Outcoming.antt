@@ -19,7 +19,7 @@ use Rattle.rewrite.specs.Limits.{listP, fits}
 use Rattle.rewrite.specs.PushDownFilter.{Transformed, Transformed·no, rewrite, merges, push-down-join}
 use Rattle.rewrite.specs.RewriteAt.{Focus, result-fits}
 use Rattle.filters.specs.Arms.{Placed}
-use Rattle.writing.proofs.Depths.{deep-tested}
+use Rattle.answers.proofs.Depths.{deep-tested}
 use Rattle.filters.specs.Paths.{Ways}
 use Rattle.filters.proofs.Finding.{path-to}
 use Rattle.merging.specs.Merging.{Inside, FilterInside, Rest, Settles, settle-first}

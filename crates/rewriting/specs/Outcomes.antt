@@ -11,8 +11,8 @@ use Rattle.rewrite.specs.Limits.{fits}
 use Rattle.rewrite.specs.OnBytes.{imageOf}
 use Rattle.rewrite.specs.PushDownFilter.{Transformed, rewrite}
 use Rattle.rewrite.specs.RewriteAt.{Focus, result-fits}
-use Rattle.writing.specs.declared.splicing.Spot.{Spot}
-use Rattle.writing.specs.Splicing.{Before}
+use Rattle.answers.specs.declared.splicing.Spot.{Spot}
+use Rattle.answers.specs.Splicing.{Before}
 use Rattle.filters.specs.Arms.{Written, Answers}
 use Rattle.merging.specs.Merging.{Inside}
 use Rattle.rewriting.specs.declared.nodes.Outcome as declared

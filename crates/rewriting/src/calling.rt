@@ -2,14 +2,14 @@
 use crate::nodes::Outcome;
 use crate::nodes::rewrite;
 use crate::nodes::stays;
+use answers::handing_out::clear;
+use answers::handing_out::hand_out;
 use checking::Checked;
 use checking::check;
 use conjuncts::reading::record_at;
 use image::limits::RECORD_BYTES;
 use image::words::word_at;
 use utils::fields::is_plan;
-use writing::handing_out::clear;
-use writing::handing_out::hand_out;
 ghost use mathlib.Core.Path.{_≡_};
 ghost use mathlib.Core.List.{List};
 ghost use Prim.Native.Nat.{ℕ, _*_, _≤_};

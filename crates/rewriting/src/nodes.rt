@@ -1,6 +1,10 @@
 // PushDownFilter::rewrite of the plan at one record of an image: a Filter by its input, a Join by its own filter, no other.
 use crate::dispatch::JOIN;
 use crate::dispatch::rewrite_settled;
+use answers::handing_out::is_shallow;
+use answers::splicing::Spot;
+use answers::splicing::write_after;
+use answers::splicing::write_before;
 use conjuncts::lists::empty;
 use conjuncts::reading::record_at;
 use filters::predicates::Written;
@@ -9,11 +13,7 @@ use image::relink::relink;
 use image::words::word_at;
 use joining::push_down::push_down_join;
 use merging::settle_filter;
-use writing::handing_out::is_shallow;
 use writing::kinds::FILTER;
-use writing::splicing::Spot;
-use writing::splicing::write_after;
-use writing::splicing::write_before;
 ghost use mathlib.Core.Path.{_≡_};
 ghost use mathlib.Core.Bool.{not, _&&_};
 ghost use Prim.Native.Nat.{ℕ, _≤_, _<_};

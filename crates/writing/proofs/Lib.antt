@@ -1,12 +1,6 @@
-pub mod Filling
-pub mod Depths
 pub mod Entries
 pub mod Maps
 pub mod Written
 pub mod Pushing
 pub mod Renaming
 pub mod Focused
-pub mod Spliced
-pub mod Whole
-pub mod Splice
-pub mod Fitting

@@ -2,5 +2,4 @@ pub mod Replaced
 pub mod Maps
 pub mod Pushed
 pub mod Plans
-pub mod Splicing
 pub mod Renames

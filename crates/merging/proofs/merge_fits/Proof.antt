@@ -7,9 +7,9 @@ use Rattle.plan.specs.Trees.{planTree}
 use Rattle.plan.specs.Measure.{sizeP}
 use Rattle.writing.proofs.Maps.{mapOf, plan-maps}
 use Rattle.writing.proofs.Pushing.{plan-readable}
-use Rattle.writing.proofs.Whole.{wrote-small}
-use Rattle.writing.proofs.Splice.{spliced}
-use Rattle.writing.proofs.Fitting.{fits-over, begun-count}
+use Rattle.answers.proofs.Whole.{wrote-small}
+use Rattle.answers.proofs.Splice.{spliced}
+use Rattle.answers.proofs.Fitting.{fits-over, begun-count}
 use Rattle.merging.proofs.Tested.{made-predicate, few-records, all-records, sized, stands-inside, end-within, level-small, too-long, few-lists, fits-is}
 use Rattle.merging.proofs.merge_fits.Statement.{statement}
 use Rattle.merging.proofs.merge_fits.Tie as tie

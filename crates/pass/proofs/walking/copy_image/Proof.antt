@@ -3,7 +3,7 @@ use mathlib.Core.Path.{_≡_, refl}
 use Prim.Native.Nat.{_-_, _≤_}
 use native.Mathlib.Omega.{arith}
 use lib.ListN.{length, take, length-set}
-use Rattle.writing.proofs.Filling.{byte-more}
+use Rattle.answers.proofs.Filling.{byte-more}
 use Rattle.pass.proofs.walking.copy_image.Statement.{statement}
 use Rattle.pass.proofs.walking.copy_image.Tie as tie
 

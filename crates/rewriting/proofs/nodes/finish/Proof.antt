@@ -4,7 +4,7 @@ use native.Mathlib.Omega.{arith}
 use borrow.Author.Needs.{needs}
 use Rattle.plan.specs.Trees.{planTree}
 use Rattle.plan.specs.Measure.{sizeP}
-use Rattle.writing.proofs.Fitting.{begun-count, flattened, answered}
+use Rattle.answers.proofs.Fitting.{begun-count, flattened, answered}
 use Rattle.merging.proofs.Tested.{few-records, all-records, end-within}
 use Rattle.rewriting.proofs.Finishes.{told, untold, unfit, next-small, too-many, begun, depth-decides}
 use Rattle.rewriting.proofs.nodes.finish.Statement.{statement}

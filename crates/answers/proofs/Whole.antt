@@ -22,8 +22,8 @@ use Rattle.image.specs.Room.{cap, Put, Wrote}
 use Rattle.image.proofs.Writing.{bytesOf-length, flat-length}
 use Rattle.image.proofs.Room.{cap-is, cap-le, cap-add, sets-next}
 use Rattle.image.proofs.Relinking.{Rec, recsAny, recs, flats, flats-flat, recs-any-length, recs-length}
-use Rattle.writing.proofs.Depths.{first, depth-at}
-use Rattle.writing.specs.Splicing.{Levels, Ran}
+use Rattle.answers.proofs.Depths.{first, depth-at}
+use Rattle.answers.specs.Splicing.{Levels, Ran}
 
 -- no count is more than 2,049
 pub wrote-small : {before after : List ℕ} {at level r : ℕ} {t : Tree} → Wrote before after at level r t → r ≤ 2049

@@ -7,10 +7,10 @@ use Rattle.image.specs.Tree.{Tree}
 use Rattle.image.specs.Flat.{sizeT}
 use Rattle.image.proofs.Walking.{only}
 use Rattle.plan.specs.Trees.{planTree}
-use Rattle.writing.proofs.Whole.{wrote-small}
-use Rattle.writing.proofs.Splice.{before-of}
-use Rattle.writing.proofs.splicing.write_before.Statement.{statement}
-use Rattle.writing.proofs.splicing.write_before.Tie as tie
+use Rattle.answers.proofs.Whole.{wrote-small}
+use Rattle.answers.proofs.Splice.{before-of}
+use Rattle.answers.proofs.splicing.write_before.Statement.{statement}
+use Rattle.answers.proofs.splicing.write_before.Tie as tie
 
 pub write-before-spec : {M : Type 1} → statement M
 write-before-spec =

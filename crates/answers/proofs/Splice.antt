@@ -21,10 +21,10 @@ use Rattle.plan.specs.Syntax.{Plan}
 use Rattle.plan.specs.Trees.{labelP, kidsP, planTree}
 use Rattle.plan.specs.Measure.{sizeP}
 use Rattle.rewrite.specs.RewriteAt.{Focus, focus}
-use Rattle.writing.specs.declared.splicing.Spot.{Spot}
-use Rattle.writing.specs.Splicing.{Levels, Before, Ran}
-use Rattle.writing.proofs.Spliced.{Split, split-at}
-use Rattle.writing.proofs.Whole.{begun-size, begun}
+use Rattle.answers.specs.declared.splicing.Spot.{Spot}
+use Rattle.answers.specs.Splicing.{Levels, Before, Ran}
+use Rattle.answers.proofs.Spliced.{Split, split-at}
+use Rattle.answers.proofs.Whole.{begun-size, begun}
 
 -- three lists, one after another
 length-three : (a b c : List ℕ) → length (a ++ (b ++ c)) ≡ length a + (length b + length c)

@@ -8,9 +8,9 @@ use borrow.Author.Count.{below-more}
 use Rattle.image.specs.Tree.{Tree}
 use Rattle.image.specs.Flat.{sizeT, flat}
 use Rattle.image.proofs.Relinking.{recs}
-use Rattle.writing.proofs.Depths.{first, depth-at, passed, failed}
-use Rattle.writing.proofs.handing_out.is_shallow.Statement.{statement}
-use Rattle.writing.proofs.handing_out.is_shallow.Tie as tie
+use Rattle.answers.proofs.Depths.{first, depth-at, passed, failed}
+use Rattle.answers.proofs.handing_out.is_shallow.Statement.{statement}
+use Rattle.answers.proofs.handing_out.is_shallow.Tie as tie
 
 abbrev Inv-loop : tie.InvT-loop
 Inv-loop work n i₀ i =

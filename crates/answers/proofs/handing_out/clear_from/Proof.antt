@@ -6,9 +6,9 @@ use native.Mathlib.Omega.{arith}
 use lib.ListN.{length, take, length-set}
 use lib.Seq.{take-all}
 use Rattle.rewrite.specs.OnBytes.{zeros}
-use Rattle.writing.proofs.Filling.{zero-none, zero-more}
-use Rattle.writing.proofs.handing_out.clear_from.Statement.{statement}
-use Rattle.writing.proofs.handing_out.clear_from.Tie as tie
+use Rattle.answers.proofs.Filling.{zero-none, zero-more}
+use Rattle.answers.proofs.handing_out.clear_from.Statement.{statement}
+use Rattle.answers.proofs.handing_out.clear_from.Tie as tie
 
 abbrev Inv-loop : tie.InvT-loop
 Inv-loop out₀ m i₀ out i = (m ≤ i) × (i ≤ length out) × (length out ≡ length out₀) × (take i out ≡ take m out₀ ++ zeros (i - m))

@@ -2,7 +2,6 @@
 //     write_before writes the image as it is, and says where the new tree goes;
 //     the caller writes the new tree there;
 //     write_after writes again what stands behind the old tree, behind the new one.
-use crate::filtering::copy_plan;
 use conjuncts::reading::record_at;
 use image::copying::copy_tree;
 use image::copying::put_label;
@@ -10,6 +9,7 @@ use image::limits::MAX_DEPTH;
 use image::limits::RECORD_BYTES;
 use image::records::FIRST_LINK;
 use image::words::word_at;
+use writing::filtering::copy_plan;
 ghost use mathlib.Core.Path.{_≡_};
 ghost use mathlib.Core.Option.{some};
 ghost use Prim.Native.Nat.{_-_, _*_, _≤_, _<_};
@@ -21,8 +21,8 @@ ghost use Rattle.image.specs.Room.{Wrote};
 ghost use Rattle.plan.specs.Syntax.{Plan};
 ghost use Rattle.rewrite.specs.RewriteAt.{Focus, focus};
 ghost use Rattle.conjuncts.specs.Standing.{StandingP};
 ghost use Rattle.writing.specs.Plans.{ThereP};
-ghost use Rattle.writing.specs.Splicing.{Levels, Sized, Before, Ran};
+ghost use Rattle.answers.specs.Splicing.{Levels, Sized, Before, Ran};
 
 // Where a new tree goes: at what depth, and what record stands behind the old one; and how many records there are.
 pub struct Spot {

@@ -12,7 +12,7 @@ use Rattle.image.specs.Room.{cap}
 use Rattle.plan.specs.Syntax.{Plan}
 use Rattle.plan.specs.Trees.{planTree}
 use Rattle.plan.specs.Measure.{sizeP}
-use Rattle.writing.specs.declared.splicing.Spot.{Spot}
+use Rattle.answers.specs.declared.splicing.Spot.{Spot}
 
 -- some tree of at most 2,048 records stands at the start of s, no deeper than 256
 pub record Sized (s : List ℕ) : Type 0 where

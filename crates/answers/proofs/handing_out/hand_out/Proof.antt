@@ -3,9 +3,9 @@ use mathlib.Core.Path.{_≡_, refl, _∙_}
 use Prim.Native.Nat.{_-_, _≤_}
 use native.Mathlib.Omega.{arith}
 use lib.ListN.{length, take, length-set}
-use Rattle.writing.proofs.Filling.{byte-more, filled-is}
-use Rattle.writing.proofs.handing_out.hand_out.Statement.{statement}
-use Rattle.writing.proofs.handing_out.hand_out.Tie as tie
+use Rattle.answers.proofs.Filling.{byte-more, filled-is}
+use Rattle.answers.proofs.handing_out.hand_out.Statement.{statement}
+use Rattle.answers.proofs.handing_out.hand_out.Tie as tie
 
 abbrev Inv-loop : tie.InvT-loop
 Inv-loop work m out₀ i₀ out i = (i ≤ m) × (length out ≡ length out₀) × (take i out ≡ take i work)

@@ -28,11 +28,11 @@ use Rattle.plan.specs.Measure.{depthT, sizeP, depthP}
 use Rattle.rewrite.specs.Limits.{listP, listPs, fits}
 use Rattle.rewrite.specs.Utils.{split-conjunction, split-conjunction?}
 use Rattle.rewrite.specs.RewriteAt.{Focus, focus}
-use Rattle.writing.proofs.Depths.{tested-deep}
+use Rattle.answers.proofs.Depths.{tested-deep}
 use Rattle.writing.proofs.Focused.{Way, through-filter, through-project, through-left, through-right, through-alias, through-distinct}
 use Rattle.writing.proofs.Focused.{through-sort, through-repartition, through-limit, through-aggregate, through-window, Within}
 use Rattle.writing.proofs.Focused.{Place, one, all, itself, below, input, first, later, focus-within}
-use Rattle.writing.proofs.Splice.{Begun, counted}
+use Rattle.answers.proofs.Splice.{Begun, counted}
 
 -- ---- lists
 

@@ -5,8 +5,8 @@ use Prim.Native.Nat.{_-_}
 use native.Mathlib.Omega.{arith}
 use mathlib.Core.Path.{_≡_}
 use lib.ListN.{length}
-use Rattle.writing.proofs.handing_out.clear.Statement.{statement}
-use Rattle.writing.proofs.handing_out.clear.Tie as tie
+use Rattle.answers.proofs.handing_out.clear.Statement.{statement}
+use Rattle.answers.proofs.handing_out.clear.Tie as tie
 
 pub clear-spec : {M : Type 1} → statement M
 clear-spec =

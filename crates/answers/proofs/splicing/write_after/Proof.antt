@@ -8,10 +8,10 @@ use Rattle.image.specs.Limits.{workBytes}
 use Rattle.image.specs.Tree.{Tree, At}
 use Rattle.image.specs.Flat.{sizeT}
 use Rattle.image.proofs.Room.{cap-le}
-use Rattle.writing.specs.Splicing.{Levels}
-use Rattle.writing.proofs.Whole.{Run, run-next, run-end}
-use Rattle.writing.proofs.splicing.write_after.Statement.{statement}
-use Rattle.writing.proofs.splicing.write_after.Tie as tie
+use Rattle.answers.specs.Splicing.{Levels}
+use Rattle.answers.proofs.Whole.{Run, run-next, run-end}
+use Rattle.answers.proofs.splicing.write_after.Statement.{statement}
+use Rattle.answers.proofs.splicing.write_after.Tie as tie
 
 abbrev Inv-loop : tie.InvT-loop
 Inv-loop s levels from n out₀ at to₀ i₀ out to i =

@@ -7,9 +7,9 @@ use lib.ListN.{length, getD, length-set}
 use Rattle.image.specs.Limits.{maxRecords, workBytes}
 use Rattle.image.specs.Word.{word}
 use Rattle.image.proofs.Walking.{only}
-use Rattle.writing.proofs.Whole.{begun-size, begun, levels-more, levels-all}
-use Rattle.writing.proofs.splicing.write_whole.Statement.{statement}
-use Rattle.writing.proofs.splicing.write_whole.Tie as tie
+use Rattle.answers.proofs.Whole.{begun-size, begun, levels-more, levels-all}
+use Rattle.answers.proofs.splicing.write_whole.Statement.{statement}
+use Rattle.answers.proofs.splicing.write_whole.Tie as tie
 
 abbrev Inv-loop : tie.InvT-loop
 Inv-loop s out levels₀ n i₀ levels i =

@@ -1,0 +1,6 @@
+pub mod Filling
+pub mod Depths
+pub mod Spliced
+pub mod Whole
+pub mod Splice
+pub mod Fitting
