@@ -64,7 +64,7 @@ pub fn push_filter(
 }
 
 // Whether the plan at the start of `part`, a Distinct, a Sort, a Repartition or a Limit, takes no Filter: it counts rows.
-fn takes_none(part: &[u8]) -> bool
+pub fn takes_none(part: &[u8]) -> bool
     requires { ⌜ 32 ≤ length (now part) ⌝ }
     ensures { λ r. ⌜ r ≡ takesNone (labelAt (now (part .entry))) ⌝ }
 {

@@ -85,7 +85,7 @@ fn is_over(s: &[u8], x: usize, c: Conjuncts) -> bool
 }
 
 // Parts the conjuncts of the predicate over the plan at record x by whether they may move below it.
-fn divide(s: &[u8], x: usize, p: Predicate) -> Divided
+pub fn divide(s: &[u8], x: usize, p: Predicate) -> Divided
     requires { ⌜ Resting (now s) x p ⌝ }
     ensures { λ d. ⌜ ((e : Expr) (q : Plan) → Rests (now (s .entry)) x p e q →
         Divides (now (s .entry)) d (stay (on-cols (mayMove (planTree q))) e) (move (on-cols (mayMove (planTree q))) e)) ⌝ }
@@ -112,7 +112,7 @@ fn has_groups(part: &[u8], base: usize) -> bool
 }
 
 // Parts them over an Aggregate: without group entries nothing moves, not even a conjunct without columns.
-fn divide_groups(s: &[u8], x: usize, p: Predicate) -> Divided
+pub fn divide_groups(s: &[u8], x: usize, p: Predicate) -> Divided
     requires { ⌜ OverAggregate (now s) x p ⌝ }
     ensures { λ d. ⌜ ((e : Expr) (gs : List Entry) (ags : List AggEntry) (q : Plan) → Rests (now (s .entry)) x p e (aggregate gs ags q) →
         Divides (now (s .entry)) d (stay (in-groups gs) e) (move (in-groups gs) e)) ⌝ }

@@ -58,7 +58,7 @@ ghost use Rattle.pushing.specs.JoinPlans.{Plain, JoinHere, JoinUnder, Jo
 const FIRST_PLAN: usize = 32;
 
 // The record of the right input of the join at record x; the left one is the record after the join's.
-fn right_input(s: &[u8], x: usize) -> usize
+pub fn right_input(s: &[u8], x: usize) -> usize
     requires { ⌜ JoinHere (now s) x ⌝ }
     ensures { λ z. ⌜ ((k : Kind) (l r : Plan) (on : List Pair) (f : Option Expr) → Placed (now (s .entry)) x (join k l r on f) →
         StandingP (now (s .entry)) z r) ⌝ }
@@ -67,7 +67,7 @@ fn right_input(s: &[u8], x: usize) -> usize
 }
 
 // The conjuncts of the filter of the join at record x, if it has one: it is the last child, and the only one that is an expression.
-fn own_filter(s: &[u8], x: usize) -> Conjuncts
+pub fn own_filter(s: &[u8], x: usize) -> Conjuncts
     requires { ⌜ JoinHere (now s) x ⌝ }
     ensures { λ z. ⌜ ((k : Kind) (l r : Plan) (on : List Pair) (f : Option Expr) → Placed (now (s .entry)) x (join k l r on f) →
         Reads (now (s .entry)) (schema l ++ schema r) z (split-conjunction? f)) ⌝ }

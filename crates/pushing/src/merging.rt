@@ -42,7 +42,7 @@ pub struct Settled {
 }
 
 // The predicate at record n as it is written, with its conjuncts.
-fn predicate_at(s: &[u8], n: usize) -> Predicate
+pub fn predicate_at(s: &[u8], n: usize) -> Predicate
     requires { ⌜ There (now s) n ⌝ }
     requires { ⌜ 0 < n ⌝ }
     requires { ⌜ length (now s) ≤ workBytes ⌝ }
@@ -53,9 +53,10 @@ fn predicate_at(s: &[u8], n: usize) -> Predicate
 }
 
 // A Filter's predicate, simplified and reordered; as it is written where neither the count nor the order asks for a new one.
-fn simplify_filter(s: &[u8], p: Predicate) -> Predicate
+pub fn simplify_filter(s: &[u8], p: Predicate) -> Predicate
     requires { ⌜ Formed (now s) p ⌝ }
     ensures { λ r. ⌜ ((e : Expr) → Shaped (now (s .entry)) p e → Remains (now (s .entry)) r (simplify-filter e)) ⌝ }
+    ensures { λ r. ⌜ ((r .written ≡ 0 → ⊥) → r ≡ p) ⌝ }
 {
     let old = p.list;
     let simplified = simplify_predicates(s, old);
@@ -82,7 +83,7 @@ fn merge(s: &[u8], upper: Predicate, lower: Conjuncts) -> Predicate
 }
 
 // The record of the input of the Filter at record x: what follows its predicate, which stands right behind it.
-fn filter_input(s: &[u8], x: usize) -> usize
+pub fn filter_input(s: &[u8], x: usize) -> usize
     requires { ⌜ FilterAt (now s) x ⌝ }
     requires { ⌜ length (now s) ≤ workBytes ⌝ }
     ensures { λ r. ⌜ (x < r) × ((e : Expr) (q : Plan) → StandingP (now (s .entry)) x (filter e q) → StandingP (now (s .entry)) r q) ⌝ }

@@ -135,14 +135,14 @@ fn marked_fields(s: &[u8], x: usize, k: usize) -> u64
 }
 
 // What a scan takes of a predicate's conjuncts, and what stays above it; and how many fields it has.
-struct Share {
-    fields: usize,
-    taken: Conjuncts,
-    left: Conjuncts,
+pub struct Share {
+    pub fields: usize,
+    pub taken: Conjuncts,
+    pub left: Conjuncts,
 }
 
 // The share of the scan at record x in the predicate p: of what is left the volatile conjuncts come last.
-fn share_of(s: &[u8], x: usize, p: Predicate) -> Share
+pub fn share_of(s: &[u8], x: usize, p: Predicate) -> Share
     requires { ⌜ OverScan (now s) x p ⌝ }
     ensures { λ z. ⌜ ((e : Expr) (t : ℕ) (fs : List Field) (es : List Expr) → Rests (now (s .entry)) x p e (scan t fs es) →
         Shares (now (s .entry)) (z .fields) (z .taken) (z .left) fs e) ⌝ }
