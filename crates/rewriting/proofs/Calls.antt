@@ -38,8 +38,9 @@ use Rattle.pushing.proofs.Tested.{inside-of}
 use Rattle.pushing.proofs.Perhapsing.{both}
 use Rattle.rewriting.specs.Answer.{refusal, Whole, Here}
 use Rattle.rewriting.specs.Outcomes.{Image, answer}
+use Rattle.rewriting.specs.Staying.{Stays}
 use Rattle.rewriting.proofs.Finishes.{untold}
-use Rattle.rewriting.proofs.Outcoming.{other-outcomes}
+use Rattle.rewriting.proofs.Outcoming.{stays-outcomes}
 
 -- an image has room for its records
 pub image-room : {bytes : List ℕ} {records : ℕ} {q : Plan} → Image bytes records q → 32 * records ≤ length bytes
@@ -111,17 +112,10 @@ module _ {s : List ℕ} (w : Whole s) where
 
 -- ---- a plan that stays as it is
 
--- its number is neither a Filter's nor a Join's
-pub neither : {k : ℕ} → (not (eqb k 33) && not (eqb k 35)) ≡ true → (k ≡ 33 → ⊥) × (k ≡ 35 → ⊥)
-neither {k} h =
-    let b = both (not (eqb k 33)) (not (eqb k 35)) h in
-    (eqb-false k 33 (untold (b .0)), eqb-false k 35 (untold (b .1)))
-
-pub stayed : {s : List ℕ} {n k : ℕ} (room : ℕ) (h : Here s n) → k ≡ labelP (h .spot .plan) .kind → (k ≡ 33 → ⊥) × (k ≡ 35 → ⊥)
+pub stayed : {s : List ℕ} {n : ℕ} {b : Bool} (room : ℕ) (h : Here s n) → Stays b (h .spot .plan) → b ≡ true
     → rewritten room (with-room room (granted false (planIn s))) ≡ rewritten room (rewrite-call n room (planIn s))
-stayed {s} {n} room h e k =
-    let o = other-outcomes {work = []} {r = record { fits = true; flag = false; written = false; records = 0 }} (h .inside)
-    (λ f. k .0 (e ∙ f)) (λ j. k .1 (e ∙ j)) refl refl refl in
+stayed {s} {n} room h u t =
+    let o = stays-outcomes {work = []} {r = record { fits = true; flag = false; written = false; records = 0 }} (h .inside) u t refl refl refl in
     granted-call room n (planIn s) (h .inside .there) (sym (o .fit)) (o .flag refl) (sym (o .same refl refl))
 
 -- ---- the tests of the image

@@ -4,3 +4,5 @@ pub mod Dispatches
 pub mod Comings
 pub mod Outcoming
 pub mod Calls
+pub mod Stayings
+pub mod Differing
