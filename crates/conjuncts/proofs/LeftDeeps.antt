@@ -1,16 +1,15 @@
 -- Whether an expression is joined left-deep, by its operands.
 use mathlib.Core.Path.{_≡_, refl, sym, ap, subst}
 use mathlib.Core.Bool.{Bool, true, false, not}
-use mathlib.Core.List.{List, [], _∷_}
-use mathlib.Core.Option.{some}
+use mathlib.Core.List.{List}
 use Prim.Native.Nat.{ℕ, _-_, _*_}
 use native.Mathlib.Omega.{arith}
 use lib.ListN.{drop}
 use Rattle.image.specs.Tree.{At, labelAt}
 use Rattle.image.specs.Word.{word}
-use Rattle.plan.specs.Syntax.{Expr, bin, and}
-use Rattle.plan.specs.Trees.{labelE, exprTree}
-use Rattle.rewrite.specs.Utils.{split-conjunction, conjoin, conjunction}
+use Rattle.plan.specs.Syntax.{Expr, and}
+use Rattle.plan.specs.Trees.{exprTree}
+use Rattle.rewrite.specs.Utils.{conjoin, conjunction}
 use Rattle.rewrite.proofs.LeftDeep.{deeper, shallower, right-and}
 use Rattle.conjuncts.specs.Labels.{isAnd}
 use Rattle.conjuncts.specs.Says.{Says, LeftDeep}

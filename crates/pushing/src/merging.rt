@@ -42,7 +42,7 @@ pub struct Settled {
 }
 
 // The predicate at record n as it is written, with its conjuncts.
-pub fn predicate_at(s: &[u8], n: usize) -> Predicate
+fn predicate_at(s: &[u8], n: usize) -> Predicate
     requires { ⌜ There (now s) n ⌝ }
     requires { ⌜ 0 < n ⌝ }
     requires { ⌜ length (now s) ≤ workBytes ⌝ }

@@ -1,5 +1,5 @@
 -- Filters and Joins that a rewrite leaves as they are: nothing moves, and what is joined again is as it was.
-use mathlib.Core.Path.{_≡_, refl, sym, ap, ap₂, _∙_}
+use mathlib.Core.Path.{_≡_, refl, sym, ap, _∙_}
 use mathlib.Core.Bool.{Bool, true, false, not}
 use mathlib.Core.List.{List, [], _∷_, _++_}
 use mathlib.Core.Option.{Option, none, some}
@@ -8,14 +8,15 @@ use native.Mathlib.Omega.{arith}
 use lib.ListN.{length}
 use Rattle.plan.specs.Lists.{_&_, put, keep, flat}
 use Rattle.plan.specs.Schema.{schema}
-use Rattle.plan.specs.Syntax.{Name, Expr, Entry, Pair, AggEntry, WinEntry, Kind, inner, left, right, full, leftSemi, rightSemi, leftAnti, rightAnti}
-use Rattle.plan.specs.Syntax.{Plan, filter, join, aggregate, window}
+use Rattle.plan.specs.Syntax.{Name, Expr, Pair, Kind, inner, left, right, full, leftSemi, rightSemi, leftAnti, rightAnti}
+use Rattle.plan.specs.Syntax.{Plan, filter, join}
 use Rattle.plan.proofs.Lists.{and-l, and-r}
-use Rattle.rewrite.specs.Utils.{replace-cols, split-conjunction, split-conjunction?, conjunction, with-filters, is-empty}
-use Rattle.rewrite.specs.PushDownFilter.{Transformed, Transformed·no, left-preserved, right-preserved, on-left-preserved, on-right-preserved}
+use Rattle.rewrite.specs.Utils.{split-conjunction, split-conjunction?, conjunction, with-filters, is-empty}
+use Rattle.rewrite.specs.PushDownFilter.{Transformed·no, left-preserved, right-preserved, on-left-preserved, on-right-preserved}
 use Rattle.rewrite.specs.PushDownFilter.{is-inner, push-to, push-not, rest, if-list, unpushed, on-filter-join-conditions, keep-predicates}
-use Rattle.rewrite.specs.PushDownFilter.{join-conditions, inferred-join-predicates, left-push, right-push, nothing-moves, push-down-all-join, push-down-join, stay, move}
-use Rattle.rewrite.specs.PushDownFilter.{infer-join-predicates, extract-or-clauses-for-join, in-groups, in-partitions, rewrite-aggregate, rewrite-window, rewrite-filter}
+use Rattle.rewrite.specs.PushDownFilter.{join-conditions, inferred-join-predicates, left-push, right-push, nothing-moves, push-down-all-join}
+use Rattle.rewrite.specs.PushDownFilter.{push-down-join}
+use Rattle.rewrite.specs.PushDownFilter.{infer-join-predicates, extract-or-clauses-for-join, rewrite-filter}
 
 -- ---- lists
 
@@ -138,21 +139,3 @@ bare-unmoved rightAnti s t on = refl
 pub bare-join-stays : (k : Kind) (l r : Plan) (on : List Pair) → push-down-join k l r on none [] ≡ Transformed·no (join k l r on none)
 unfolding conjunction split-conjunction?
 bare-join-stays k l r on = join-stays k l r on none refl (bare-unmoved k (schema l) (schema r) on)
-
--- ---- Aggregate, Window
-
-module _ (e : Expr) (deep : conjunction (split-conjunction e) ≡ some e) where
-  -- none of the conjuncts moves
-  stay-all : (push : Expr → Bool) → move push e ≡ [] → stay push e ≡ split-conjunction e
-  stay-all push h = all-left push (split-conjunction e) h
-
-  pub filter-aggregate-stays : (gs : List Entry) (ags : List AggEntry) (p : Plan) → move (in-groups gs) e ≡ []
-      → rewrite-filter e (aggregate gs ags p) ≡ Transformed·no (filter e (aggregate gs ags p))
-  unfolding rewrite-filter rewrite-aggregate with-filters
-  filter-aggregate-stays gs ags p h =
-      rw (stay-all (in-groups gs) h, h) (ap Transformed·no (filtered (split-conjunction e) (aggregate gs ags p) deep))
-
-  pub filter-window-stays : (ws : List WinEntry) (p : Plan) → move (in-partitions ws) e ≡ []
-      → rewrite-filter e (window ws p) ≡ Transformed·no (filter e (window ws p))
-  unfolding rewrite-filter rewrite-window with-filters
-  filter-window-stays ws p h = rw (stay-all (in-partitions ws) h, h) (ap Transformed·no (filtered (split-conjunction e) (window ws p) deep))

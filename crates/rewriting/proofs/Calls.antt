@@ -2,13 +2,12 @@
 use Prim.Native.Nat.{ℕ, _*_, _/_, _≤_, _<_}
 use native.Mathlib.Omega.{arith}
 use mathlib.Core.Path.{_≡_, refl, sym, ap, subst, _∙_}
-use mathlib.Core.Bool.{Bool, true, false, not, _&&_}
+use mathlib.Core.Bool.{Bool, true, false}
 use mathlib.Core.List.{List, []}
 use mathlib.Core.Option.{none, some}
-use lib.Dec.{eqb}
 use lib.ListN.{length, take, drop, length-take}
 use lib.Seq.{take-all}
-use borrow.Author.Tests.{le-leb, lt-leb, eq-eqb, ne-eqb, eqb-false}
+use borrow.Author.Tests.{le-leb, lt-leb, eq-eqb, ne-eqb}
 use Rattle.image.specs.Word.{Bytes, word}
 use Rattle.image.specs.Tree.{labelAt}
 use Rattle.plan.specs.Kinds.{isPlan}
@@ -17,7 +16,7 @@ use Rattle.names.proofs.KindRanges.{plan-range}
 use Rattle.utils.specs.Inputs.{isPlan as plan-number}
 use Rattle.plan.specs.Measure.{sizeP}
 use Rattle.plan.specs.Syntax.{Plan}
-use Rattle.plan.specs.Trees.{bitOf, labelP, planTree}
+use Rattle.plan.specs.Trees.{bitOf, planTree}
 use Rattle.plan.proofs.Written.{planAt-back}
 use Rattle.acceptance.specs.Accepted.{Accepted}
 use Rattle.acceptance.specs.Check.{verdict, check}
@@ -31,15 +30,12 @@ use Rattle.rewrite.specs.RewriteAt.{Focus, focus, granted, result-fits, rewrite
 use Rattle.rewrite.proofs.OnBytes.{tree-length}
 use Rattle.rewrite.proofs.PlanFrom.{focus-end}
 use Rattle.rewrite.proofs.Marks.{is-some}
-use Rattle.pushing.specs.Merging.{Inside}
 use Rattle.pushing.proofs.Root.{image-length, standing-root}
 use Rattle.pushing.proofs.Marked.{plan-there, found-there, not-found}
 use Rattle.pushing.proofs.Tested.{inside-of}
-use Rattle.pushing.proofs.Perhapsing.{both}
 use Rattle.rewriting.specs.Answer.{refusal, Whole, Here}
 use Rattle.rewriting.specs.Outcomes.{Image, answer}
 use Rattle.rewriting.specs.Staying.{Stays}
-use Rattle.rewriting.proofs.Finishes.{untold}
 use Rattle.rewriting.proofs.Outcoming.{stays-outcomes}
 
 -- an image has room for its records

@@ -1,13 +1,12 @@
 -- What a rewrite changes is not as it was: if what became of a Filter or a Join is that plan, then nothing moved, and what was joined again was
 -- joined so before.
-use Prim.Native.Nat.{ℕ, _+_, _≤_, _<_}
+use Prim.Native.Nat.{ℕ, _+_, _≤_}
 use native.Mathlib.Nat.{le-refl}
 use native.Mathlib.Omega.{arith}
 use mathlib.Core.Path.{_≡_, refl, sym, ap, _∙_}
 use mathlib.Core.Bool.{Bool, true, false, not, _||_}
 use mathlib.Core.List.{List, [], _∷_, _++_, map}
 use mathlib.Core.Option.{Option, none, some}
-use mathlib.Core.Logic.{⊎-elim}
 use lib.Dec.{eqb}
 use lib.ListN.{length, length-append}
 use borrow.Author.Tests.{eqb-true, eqb-false}
@@ -20,13 +19,15 @@ use Rattle.plan.specs.Syntax.{Plan, scan, filter, project, join, alias, union, 
 use Rattle.plan.specs.Trees.{labelP, planTree}
 use Rattle.plan.proofs.Lists.{and-intro, All-append, All-keep}
 use Rattle.plan.proofs.Measure.{size-filter}
-use Rattle.rewrite.specs.Utils.{replace-cols, split-conjunction, split-conjunction?, conjoin, conjunction, with-filters, unique, is-volatile, is-empty}
+use Rattle.rewrite.specs.Utils.{split-conjunction, split-conjunction?, conjoin, conjunction, with-filters, unique, is-volatile, is-empty}
 use Rattle.rewrite.specs.SimplifyPredicates.{simplify-predicates}
 use Rattle.rewrite.specs.ReorderPredicates.{Reordered, reorder-predicates}
-use Rattle.rewrite.specs.PushDownFilter.{Transformed, Transformed·yes, Transformed·no, resume, merged, simplify-filter, simplify-merged, rewrite-filter, rewrite}
-use Rattle.rewrite.specs.PushDownFilter.{is-inner, push-to, push-not, rest, if-list, left-push, right-push, keep-predicates, join-conditions}
+use Rattle.rewrite.specs.PushDownFilter.{Transformed, Transformed·yes, Transformed·no, resume, merged, simplify-filter, simplify-merged}
+use Rattle.rewrite.specs.PushDownFilter.{rewrite-filter, rewrite}
+use Rattle.rewrite.specs.PushDownFilter.{is-inner, push-not, if-list, left-push, right-push, keep-predicates, join-conditions}
 use Rattle.rewrite.specs.PushDownFilter.{on-filter-join-conditions, unpushed, nothing-moves, push-down-all-join, push-down-join}
-use Rattle.rewrite.specs.PushDownFilter.{supports-pushdown, supported-filters, unsupported-filters, volatile-filters, non-volatile-filters, rewrite-scan}
+use Rattle.rewrite.specs.PushDownFilter.{supports-pushdown, supported-filters, unsupported-filters, volatile-filters, non-volatile-filters}
+use Rattle.rewrite.specs.PushDownFilter.{rewrite-scan}
 use Rattle.rewrite.specs.PushDownFilter.{pushable, stay, move, rewrite-projection, in-groups, rewrite-aggregate, rewrite-window}
 use Rattle.rewrite.proofs.Staying.{none-in, all-left, kept-all, own-all}
 use Rattle.conjuncts.specs.Says.{LeftDeep}
@@ -155,7 +156,8 @@ module _ {e x : Expr} (w : Simpler e x) where
   pub aggregate-was : (gs : List Entry) (ags : List AggEntry) (q : Plan)
       → rewrite-filter x (aggregate gs ags q) .plan ≡ filter e (aggregate gs ags q) → (x ≡ e) × ((length (move (in-groups gs) x) ≡ 0) × LeftDeep e)
   aggregate-was gs ags q h =
-      pushed-was (aggregate gs ags) q (in-groups gs) (λ p. refl) (λ p r i. cc) (ap (λ (t : Transformed). t .plan) (sym (aggregate-pushed x gs ags q)) ∙ h)
+      pushed-was (aggregate gs ags) q (in-groups gs) (λ p. refl) (λ p r i. cc)
+      (ap (λ (t : Transformed). t .plan) (sym (aggregate-pushed x gs ags q)) ∙ h)
 
   pub window-was : (ws : List WinEntry) (q : Plan) → rewrite-filter x (window ws q) .plan ≡ filter e (window ws q)
       → (x ≡ e) × ((length (move (on-cols (mayMove (planTree (window ws q)))) x) ≡ 0) × LeftDeep e)
@@ -199,7 +201,8 @@ module _ (k : Kind) (l r : Plan) (on : List Pair) (P G : List Expr) where
   abbrev O : List Expr
   O = on-filter-join-conditions k (schema l) (schema r) on P G
 
-  unmoved-of : {f : Option Expr} → C ≡ [] → join k (with-filters L l) (with-filters R r) on (conjunction (C ++ O)) ≡ join k l r on f → Unmoved k l r on P G f
+  unmoved-of : {f : Option Expr} → C ≡ [] → join k (with-filters L l) (with-filters R r) on (conjunction (C ++ O)) ≡ join k l r on f
+      → Unmoved k l r on P G f
   unfolding _&_
   unmoved-of {f} c h =
       let i : with-filters L l ≡ l = cc in

@@ -181,7 +181,9 @@ stays-outcomes {w = w} {node = node} {c = c} h u t y f n =
     let back : answer c ≡ w = ap (λ t. c .back (t .plan)) k ∙ path-to ways node w c (h .there) in
     record {
       fit =
-          y ∙ sym (ap (λ ms. fits (answer c) & all (λ m. fits (c .back m)) ms) (u .unmerged t) ∙ and-true (fits (answer c)) ∙ ap fits back ∙ read-fits h);
+          y
+          ∙ sym (ap (λ ms. fits (answer c) & all (λ m. fits (c .back m)) ms) (u .unmerged t) ∙ and-true (fits (answer c)) ∙ ap fits back
+          ∙ read-fits h);
       flag = λ z. f ∙ sym (ap (λ (t : Transformed). t .transformed) k);
       image = λ z e. no-yes (sym n ∙ e);
       same = λ z e. back;

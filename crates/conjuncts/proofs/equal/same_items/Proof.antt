@@ -1,5 +1,5 @@
 -- `equal::same_items` meets its contract. The loop's invariant: the lists are equal if what is left of them is.
-use mathlib.Core.Path.{_≡_, refl, sym, ap, _∙_}
+use mathlib.Core.Path.{_≡_, sym, ap, _∙_}
 use mathlib.Core.List.{List}
 use Prim.Native.Nat.{_-_, _≤_}
 use native.Mathlib.Omega.{arith}
@@ -32,17 +32,42 @@ same-items-spec =
     })
     (λ c. (omega arith, λ xs ys h k e. e))
     (λ c κs. let p = c .before .before .before .before .before .pre in omega (arith, lists-room (p .0 .lists) (p .0 .most), c .loop-test .taken))
-    (λ c κs. let p = c .before .before .before .before .before .before .pre in omega (arith, lists-room (p .1 .lists) (p .1 .most), c .before .loop-test .taken, c .before .before .before .if1 .left))
+    (λ c κs. let p = c .before .before .before .before .before .before .pre in omega (
+      arith,
+      lists-room (p .1 .lists)
+          (p .1 .most),
+      c .before .loop-test .taken,
+      c .before .before .before .if1 .left,
+    ))
     (λ c κs. let p = c .before .before .before .before .before .before .before .pre in (
       record { expr = _; item = lists-at (p .0 .lists) (p .0 .most) _ _ (c .before .before .loop-test .taken) (c .before .item-at .ensures) },
-      record { expr = _; item = lists-at (p .1 .lists) (p .1 .most) _ _ (omega (arith, c .before .before .loop-test .taken, c .before .before .before .before .if1 .left)) (c .item-at2 .ensures) },
+      record {
+        expr = _;
+        item = lists-at (p .1 .lists) (p .1 .most) _ _ (omega (
+          arith,
+          c .before .before .loop-test .taken,
+          c .before .before
+              .before .before .if1 .left,
+        )) (c .item-at2 .ensures);
+      },
     ))
     (λ c xs ys h k. let p = c .before .before .before .before .before .before .before .before .before .pre in
     let i = c .before .before .before .before .before .loop .i in
-    let s = c .before .same-item .ensures _ _ (lists-at h (p .0 .most) i _ (c .before .before .before .before .loop-test .taken) (c .before .before .before .item-at .ensures))
-    (lists-at k (p .1 .most) i _ (omega (arith, c .before .before .before .before .loop-test .taken, c .before .before .before .before .before .before .if1 .left)) (c .before .before .item-at2 .ensures)) in
+    let s = c .before .same-item .ensures _ _ (lists-at h (p .0 .most) i _ (c .before .before .before .before .loop-test .taken)
+    (c .before .before .before .item-at .ensures))
+    (lists-at k (p .1 .most) i _ (omega (
+      arith,
+      c .before .before .before .before .loop-test .taken,
+      c .before .before .before .before .before
+          .before .if1 .left,
+    )) (c .before .before .item-at2 .ensures)) in
     record { yes = λ y. no-yes (sym y); no = λ n e. no-yes (sym (s ∙ eq-same (ap (λ l. getD l i FALSE) e)) ∙ untold (c .if2 .taken)) })
-    (λ c. omega (arith, c .before .before .before .before .before .before .before .before .before .pre .0 .most, c .before .before .before .before .loop-test .taken))
+    (λ c. omega (
+      arith,
+      c .before .before .before .before .before .before .before .before .before .pre .0 .most,
+      c .before .before .before .before
+          .loop-test .taken,
+    ))
     (λ c. omega arith)
     (λ c. (
       omega arith,
@@ -50,9 +75,15 @@ same-items-spec =
           let i = c .before .before .before .before .before .loop .i in
           let lt = c .before .before .before .before .loop-test .taken in
           let s = c .before .same-item .ensures _ _ (lists-at h (p .0 .most) i _ lt (c .before .before .before .item-at .ensures))
-          (lists-at k (p .1 .most) i _ (omega (arith, c .before .before .before .before .before .before .if1 .left)) (c .before .before .item-at2 .ensures)) in
+          (lists-at k (p .1 .most) i _ (omega (arith, c .before .before .before .before .before .before .if1 .left))
+          (c .before .before .item-at2 .ensures)) in
           c .before .before .before .before .before .loop .inv .1 xs ys h k
-          (same-next xs ys i (omega (arith, lists-length h (p .0 .most))) (omega (arith, lists-length k (p .1 .most), c .before .before .before .before .before .before .if1 .left))
+          (same-next xs ys i (omega (arith, lists-length h (p .0 .most))) (omega (
+            arith,
+            lists-length k
+                (p .1 .most),
+            c .before .before .before .before .before .before .if1 .left,
+          ))
           (sameE-eq _ _ (sym s ∙ told (c .if2 .left))) e),
     ))
     (λ c xs ys h k. let p = c .before .before .before .before .before .pre in

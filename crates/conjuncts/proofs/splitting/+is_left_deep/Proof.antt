@@ -49,7 +49,8 @@ pub +is-left-deep-spec : {M : Type 1} → statement M
     (sym (c .before .before .before .before .is-and .ensures) ∙ c .before .before .before .if1 .taken) in
     rw (c .word-at2 .ensures .0, c .before .from-record .ensures, c .before .before .word-at .ensures .0)
     (omega (arith, u .past₂), omega (arith, u .fits₂)))
-    (λ c κs. let u = and-parts (c .before .before .before .before .before .before .before .pre .1) (sym (c .before .before .before .before .before .is-and .ensures)
+    (λ c κs. let u = and-parts (c .before .before .before .before .before .before .before .pre .1) (sym
+    (c .before .before .before .before .before .is-and .ensures)
     ∙ c .before .before .before .before .if1 .taken) in
     rw (
       c .from-record2 .ensures,
@@ -57,7 +58,8 @@ pub +is-left-deep-spec : {M : Type 1} → statement M
       c .before .before .from-record .ensures,
       c .before .before .before .word-at .ensures .0,
     ) (omega (arith, u .right .at .head .room)))
-    (λ c e h. and-and h (sym (c .before .before .before .before .before .before .before .is-and .ensures) ∙ c .before .before .before .before .before .before .if1 .taken)
+    (λ c e h. and-and h (sym (c .before .before .before .before .before .before .before .is-and .ensures) ∙ c .before .before .before .before
+    .before .before .if1 .taken)
     (rw (
       c .before .before .from-record2 .ensures,
       c .before .before .before .word-at2 .ensures .0,
@@ -67,8 +69,14 @@ pub +is-left-deep-spec : {M : Type 1} → statement M
     (λ c. omega (arith, c .before .before .before .before .before .before .before .before .before .pre .1 .some))
     (λ c κs. let p = c .before .before .before .before .before .before .before .before .before .pre in
     let u = and-parts (p .1) (sym (c .before .before .before .before .before .before .before .is-and .ensures)
-    ∙ c .before .before .before .before .before .before .if1 .taken) in
-    (omega (arith, p .0, p .1 .some), rw (c .before .before .before .before .from-record .ensures, c .before .before .before .before .before .word-at .ensures .0) (u .left)))
+    ∙ c .before .before .before .before .before .before .if1 .taken) in (
+      omega (arith, p .0, p .1 .some),
+      rw (
+        c .before .before .before .before .from-record .ensures,
+        c .before .before .before .before .before
+            .word-at .ensures .0,
+      ) (u .left),
+    ))
     (λ c e h. and-left h (sym (c .before .before .before .before .before .before .before .before .is-and .ensures)
     ∙ c .before .before .before .before .before .before .before .if1 .taken)
     (rw (

@@ -19,4 +19,9 @@ rewrite-spec =
     (λ c. search needs)
     (λ c. search needs)
     (λ c. search needs)
-    (λ c. (c .before .before .before .before .before .before .rewrite-anew .ensures, λ w f h y. changed h (c .before .before .before .before .before .before .before .before .before .before .before .stays .ensures w f h) (c .before .before .before .before .before .before .before .before .before .before .if1 .left))))
+    (λ c. (
+      c .before .before .before .before .before .before .rewrite-anew .ensures,
+      λ w f h y. changed h
+          (c .before .before .before .before .before .before .before .before .before .before .before .stays .ensures w f h)
+          (c .before .before .before .before .before .before .before .before .before .before .if1 .left),
+    )))

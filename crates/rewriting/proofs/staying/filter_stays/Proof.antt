@@ -36,9 +36,11 @@ filter-stays-spec =
     let at = first-standing (p .inside) (p .is) in
     let x = c .before .before .before .before .before .filter-input .ensures in
     let st = x .1 (p .expr) (p .plan) at in
-    let m = (rw (c .before .before .before .before .record-at .ensures) at (c .before .before .before .may-stay .ensures)) ∙ ap mayStay (st .here .head .label) in
+    let m = (rw (c .before .before .before .before .record-at .ensures) at (c .before .before .before .may-stay .ensures)) ∙ ap mayStay
+    (st .here .head .label) in
     let pred = filter-predicate (p .inside .short) at in
-    let k = shaped-written (omega arith) pred (c .split-at .ensures (p .expr) [] pred (lists-none (c .before .empty .ensures))) (first-few (p .inside) (p .is)) in (
+    let k = shaped-written (omega arith) pred (c .split-at .ensures (p .expr) [] pred (lists-none (c .before .empty .ensures))) (first-few
+    (p .inside) (p .is)) in (
       record {
         expr = p .expr;
         plan = p .plan;
@@ -51,7 +53,8 @@ filter-stays-spec =
     let pred = filter-predicate (p .inside .short) (first-standing (p .inside) (p .is)) in (
       record {
         expr = p .expr;
-        shaped = shaped-written (omega arith) pred (c .before .before .split-at .ensures (p .expr) [] pred (lists-none (c .before .before .before .empty .ensures)))
+        shaped = shaped-written (omega arith) pred (c .before .before .split-at .ensures (p .expr) [] pred (lists-none
+            (c .before .before .before .empty .ensures)))
             (first-few (p .inside) (p .is));
       },
       λ z. omega arith,
@@ -61,9 +64,11 @@ filter-stays-spec =
     let at = first-standing h (a .is) in
     let x = c .before .before .before .before .before .before .before .before .filter-input .ensures in
     let st = x .1 (a .expr) (a .plan) at in
-    let m = (rw (c .before .before .before .before .before .before .before .record-at .ensures) at (c .before .before .before .before .before .before .may-stay .ensures)) ∙ ap mayStay (st .here .head .label) in
+    let m = (rw (c .before .before .before .before .before .before .before .record-at .ensures) at
+    (c .before .before .before .before .before .before .may-stay .ensures)) ∙ ap mayStay (st .here .head .label) in
     let pred = filter-predicate (h .short) at in
-    let k = shaped-written (omega arith) pred (c .before .before .before .split-at .ensures (a .expr) [] pred (lists-none (c .before .before .before .before .empty .ensures))) (first-few h (a .is)) in
+    let k = shaped-written (omega arith) pred (c .before .before .before .split-at .ensures (a .expr) [] pred (lists-none
+    (c .before .before .before .before .empty .ensures))) (first-few h (a .is)) in
     let o = may-stay-other (a .plan) (sym m ∙ told (c .before .before .before .before .before .if1 .left)) in
     let r = rests-written (a .expr) (a .plan) (placed-inside h (a .is)) k (x .0) st in
     rw (a .is) (filter-simple (a .expr) (a .plan) o (kept-as (c .before .if2 .taken) (c .before .before .over-stays .ensures (a .expr) (a .plan) r o))
@@ -72,9 +77,11 @@ filter-stays-spec =
     let at = first-standing h (a .is) in
     let x = c .before .before .before .before .before .before .before .filter-input .ensures in
     let st = x .1 (a .expr) (a .plan) at in
-    let m = (rw (c .before .before .before .before .before .before .record-at .ensures) at (c .before .before .before .before .before .may-stay .ensures)) ∙ ap mayStay (st .here .head .label) in
+    let m = (rw (c .before .before .before .before .before .before .record-at .ensures) at
+    (c .before .before .before .before .before .may-stay .ensures)) ∙ ap mayStay (st .here .head .label) in
     let pred = filter-predicate (h .short) at in
-    let k = shaped-written (omega arith) pred (c .before .before .split-at .ensures (a .expr) [] pred (lists-none (c .before .before .before .empty .ensures))) (first-few h (a .is)) in
+    let k = shaped-written (omega arith) pred (c .before .before .split-at .ensures (a .expr) [] pred (lists-none
+    (c .before .before .before .empty .ensures))) (first-few h (a .is)) in
     let o = may-stay-other (a .plan) (sym m ∙ told (c .before .before .before .before .if1 .left)) in
     let r = rests-written (a .expr) (a .plan) (placed-inside h (a .is)) k (x .0) st in
     rw (a .is) (filter-moves (a .expr) (a .plan) o (kept-as (c .if2 .left) (c .before .over-stays .ensures (a .expr) (a .plan) r o)))))

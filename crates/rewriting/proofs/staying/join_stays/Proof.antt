@@ -1,5 +1,5 @@
 -- `staying::join_stays` meets its contract.
-use mathlib.Core.Path.{refl, _∙_}
+use mathlib.Core.Path.{_∙_}
 use mathlib.Core.List.{[]}
 use borrow.Author.Needs.{needs}
 use Rattle.rewrite.specs.Utils.{split-conjunction?}
@@ -32,5 +32,6 @@ join-stays-spec =
       reads-own = c .before .before .before .before .before .own-filter .ensures (p .kind) (p .lhs) (p .rhs) (p .keys) (p .condition) (p .placed);
     })
     (λ c k l r on f h. join-kept k l r on f (says-as (c .before .before .if2 .taken) (c .before .before .before .own-left-deep .ensures k l r on f h))
-    (c .nothing-moves .ensures k l r on f [] (split-conjunction? f) h (reads-none (c .before .empty .ensures)) (c .before .before .before .before .before .before .own-filter .ensures k l r on f h)))
+    (c .nothing-moves .ensures k l r on f [] (split-conjunction? f) h (reads-none (c .before .empty .ensures))
+    (c .before .before .before .before .before .before .own-filter .ensures k l r on f h)))
     (λ c k l r on f h. join-shallow k l r on f (says-as (c .if2 .left) (c .before .own-left-deep .ensures k l r on f h))))

@@ -15,6 +15,7 @@ over-window-stays-spec =
     let h = p .0 .rests in
     (record { expr = p .0 .expr; standing = h .shaped .stands (p .1) }, h .placed .short))
     (λ c e ws q h. let d = c .before .before .before .before .divide .ensures e (window ws q) h in
-    window-kept e ws q (lists-length (d .moved) (d .moved-most) ∙ c .before .if1 .taken) (c .left-deep-at .ensures e (h .shaped .stands (c .before .before .before .before .before .before .pre .1))))
+    window-kept e ws q (lists-length (d .moved) (d .moved-most) ∙ c .before .if1 .taken) (c .left-deep-at .ensures e (h .shaped .stands
+    (c .before .before .before .before .before .before .pre .1))))
     (λ c e ws q h. let d = c .before .before .before .divide .ensures e (window ws q) h in
     window-moves e ws q (λ z. c .if1 .left (sym (lists-length (d .moved) (d .moved-most)) ∙ z))))

@@ -22,7 +22,8 @@ stays-spec =
     (λ c. search needs)
     (λ c κs. let f = c .before .before .before .before .before .pre in
     let a = a-join (f .spot .plan)
-    (sym (read-kind (c .before .before .before .record-at .ensures) (c .before .before .word-at .ensures .0) (stands-inside (f .inside))) ∙ c .if2 .taken) in
+    (sym (read-kind (c .before .before .before .record-at .ensures) (c .before .before .word-at .ensures .0) (stands-inside
+    (f .inside))) ∙ c .if2 .taken) in
     record {
       kind = a .kind;
       lhs = a .lhs;
@@ -32,7 +33,8 @@ stays-spec =
       placed = placed-inside (f .inside) (a .is);
     })
     (λ c w f h. let a = a-join (f .plan)
-    (sym (read-kind (c .before .before .before .before .record-at .ensures) (c .before .before .before .word-at .ensures .0) (stands-inside h)) ∙ c .before .if2 .taken) in
+    (sym (read-kind (c .before .before .before .before .record-at .ensures) (c .before .before .before .word-at .ensures .0)
+    (stands-inside h)) ∙ c .before .if2 .taken) in
     rw (a .is) (join-stays-so (a .kind) (a .lhs) (a .rhs) (a .keys) (a .condition)
     (c .join-stays .ensures (a .kind) (a .lhs) (a .rhs) (a .keys) (a .condition) (placed-inside h (a .is)))))
     (λ c w f h. let k = read-kind (c .before .before .before .record-at .ensures) (c .before .before .word-at .ensures .0) (stands-inside h) in
