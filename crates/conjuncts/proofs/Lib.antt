@@ -4,3 +4,4 @@ pub mod Operands
 pub mod FunctionsIn
 pub mod Equality
 pub mod Onto
+pub mod LeftDeeps

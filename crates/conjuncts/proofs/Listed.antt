@@ -3,10 +3,10 @@
 --     lists-length, -room, -at           of a whole list: how many, that each can be read, what the number read at i stands for
 --     known-of                           a list of few enough expressions is whole
 --     lists-full                         past the end nothing changes
---     next, next-back, at-end            a walk along a list of expressions, and for a test of each:
+--     next, next-back, same-next, at-end a walk along a list of expressions, and for a test of each:
 --     any-next, keep-next, put-then      what it does to `any` and `keep`
 -- Assumes nothing.
-use mathlib.Core.Path.{_≡_, refl, sym, ap, _∙_}
+use mathlib.Core.Path.{_≡_, refl, sym, ap, ap₂, _∙_}
 use mathlib.Core.Bool.{Bool, true, false, _||_}
 use mathlib.Core.List.{List, [], _∷_, _++_, append-nil}
 use Prim.Native.Nat.{ℕ, zero, suc, _+_, _-_, _≤_, _<_}
@@ -139,6 +139,11 @@ pub next-back : (es : List Expr) (i : ℕ) → (i ≡ 0 → ⊥) → i ≤ lengt
 next-back es i nz h =
     let e : i - 1 + 1 ≡ i = omega arith in
     next es (i - 1) (omega arith) ∙ rw e
+
+-- two lists are equal from i on, if they are at i and behind it
+pub same-next : (xs ys : List Expr) (i : ℕ) → i < length xs → i < length ys → getD xs i FALSE ≡ getD ys i FALSE
+    → drop (i + 1) xs ≡ drop (i + 1) ys → drop i xs ≡ drop i ys
+same-next xs ys i h k e f = next xs i h ∙ ap₂ _∷_ e f ∙ sym (next ys i k)
 
 pub at-end : (es : List Expr) (i : ℕ) → length es ≤ i → drop i es ≡ []
 at-end es i h = drop-of-length-le es h

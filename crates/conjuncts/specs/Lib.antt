@@ -4,3 +4,4 @@ pub mod Labels
 pub mod Functions
 pub mod Equality
 pub mod Onto
+pub mod Says

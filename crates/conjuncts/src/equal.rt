@@ -1,4 +1,6 @@
 // Equal expressions.
+use crate::lists::Conjuncts;
+use crate::lists::item_at;
 use crate::reading::record_at;
 use image::limits::MAX_DEPTH;
 use image::records::FIRST_LINK;
@@ -6,13 +8,15 @@ use image::records::NEXT_LINK;
 use image::records::from_record;
 use image::words::word_at;
 ghost use mathlib.Core.Path.{_≡_};
+ghost use mathlib.Core.List.{List};
 ghost use Prim.Native.Nat.{_≤_};
 ghost use lib.ListN.{length};
 ghost use Rattle.image.specs.Tree.{Tree, At, Readable, labelAt};
 ghost use Rattle.plan.specs.Syntax.{Expr};
 ghost use Rattle.rewrite.specs.Utils.{sameE};
-ghost use Rattle.conjuncts.specs.Items.{FALSE, Item, Present};
+ghost use Rattle.conjuncts.specs.Items.{FALSE, Item, Present, Lists, Known};
 ghost use Rattle.conjuncts.specs.Equality.{sameLabel, same};
+ghost use Rattle.conjuncts.specs.Says.{Says};
 
 // Whether the records at the start of a and of b have the same label.
 fn same_label(a: &[u8], b: &[u8]) -> bool
@@ -81,4 +85,24 @@ pub fn same_item(s: &[u8], n: usize, m: usize) -> bool
         return is_false(s, n);
     }
     same_tree(record_at(s, n), n, MAX_DEPTH, record_at(s, m), m, MAX_DEPTH)
+}
+
+// Whether the lists a and b have equal items, in the same order.
+pub fn same_items(s: &[u8], a: Conjuncts, b: Conjuncts) -> bool
+    requires { ⌜ Known (now s) a ⌝ }
+    requires { ⌜ Known (now s) b ⌝ }
+    ensures { λ r. ⌜ ((xs ys : List Expr) → Lists (now (s .entry)) a xs → Lists (now (s .entry)) b ys → Says r (xs ≡ ys)) ⌝ }
+{
+    let n = a.len;
+    if n != b.len {
+        return false;
+    }
+    let mut i = 0;
+    while i < n {
+        if !same_item(s, item_at(a, i), item_at(b, i)) {
+            return false;
+        }
+        i += 1;
+    }
+    true
 }

@@ -1,4 +1,4 @@
-// split_conjunction: the conjuncts of a predicate, left operand first.
+// split_conjunction: the conjuncts of a predicate, left operand first; and whether joined again they are as it was.
 use crate::lists::Conjuncts;
 use crate::lists::add;
 use crate::reading::record_at;
@@ -11,13 +11,15 @@ ghost use mathlib.Core.Path.{_≡_};
 ghost use mathlib.Core.List.{List, _++_};
 ghost use Prim.Native.Nat.{ℕ, _*_, _≤_, _<_};
 ghost use lib.ListN.{length, drop};
-ghost use Rattle.image.specs.Tree.{labelAt};
+ghost use Rattle.image.specs.Tree.{At, labelAt};
 ghost use Rattle.image.specs.Limits.{workBytes};
 ghost use Rattle.plan.specs.Syntax.{Expr};
+ghost use Rattle.plan.specs.Trees.{exprTree};
 ghost use Rattle.rewrite.specs.Utils.{split-conjunction};
 ghost use Rattle.conjuncts.specs.Standing.{Standing, There, ReadableE};
 ghost use Rattle.conjuncts.specs.Items.{Lists};
 ghost use Rattle.conjuncts.specs.Labels.{isAnd};
+ghost use Rattle.conjuncts.specs.Says.{Says, LeftDeep};
 
 // Whether the record at the start of `part` is an And.
 fn is_and(part: &[u8]) -> bool
@@ -54,4 +56,30 @@ pub fn split_at(s: &[u8], n: usize, c: Conjuncts) -> Conjuncts
         Lists (now (s .entry)) r (es ++ split-conjunction e)) ⌝ }
 {
     split_conjunction(record_at(s, n), n, MAX_DEPTH, c)
+}
+
+// Whether the expression at the start of `part` is joined left-deep: no right operand of an And is one.
+pub fn is_left_deep(part: &[u8], base: usize, depth: usize) -> bool
+    requires { ⌜ ReadableE depth (now part) base ⌝ }
+    ensures { λ r. ⌜ ((e : Expr) → At (exprTree e) (now (part .entry)) base → Says r (LeftDeep e)) ⌝ }
+{
+    if is_and(part) {
+        let x = word_at(part, FIRST_LINK);
+        let left = from_record(part, base, x);
+        let y = word_at(left, NEXT_LINK);
+        if is_and(from_record(part, base, y)) {
+            return false;
+        }
+        return is_left_deep(left, x, depth - 1);
+    }
+    true
+}
+
+// Whether the expression at record n of the image is.
+pub fn left_deep_at(s: &[u8], n: usize) -> bool
+    requires { ⌜ There (now s) n ⌝ }
+    requires { ⌜ length (now s) ≤ workBytes ⌝ }
+    ensures { λ r. ⌜ ((e : Expr) → Standing (now (s .entry)) n e → Says r (LeftDeep e)) ⌝ }
+{
+    is_left_deep(record_at(s, n), n, MAX_DEPTH)
 }

@@ -56,6 +56,7 @@ pub fn predicate_at(s: &[u8], n: usize) -> Predicate
 pub fn simplify_filter(s: &[u8], p: Predicate) -> Predicate
     requires { ⌜ Formed (now s) p ⌝ }
     ensures { λ r. ⌜ ((e : Expr) → Shaped (now (s .entry)) p e → Remains (now (s .entry)) r (simplify-filter e)) ⌝ }
+    ensures { λ r. ⌜ ((r .written ≡ 0 → ⊥) → r ≡ p) ⌝ }
 {
     let old = p.list;
     let simplified = simplify_predicates(s, old);

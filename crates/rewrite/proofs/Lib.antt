@@ -7,6 +7,7 @@ pub mod Holes
 pub mod Inputs
 pub mod Join
 pub mod JoinLists
+pub mod LeftDeep
 pub mod Marks
 pub mod Merge
 pub mod Ok
@@ -24,6 +25,7 @@ pub mod SchemaColumns
 pub mod Simplify
 pub mod SimplifyFilter
 pub mod Sort
+pub mod Staying
 pub mod Table
 pub mod TypeLaws
 pub mod TypesKept

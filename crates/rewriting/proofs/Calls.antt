@@ -2,13 +2,12 @@
 use Prim.Native.Nat.{ℕ, _*_, _/_, _≤_, _<_}
 use native.Mathlib.Omega.{arith}
 use mathlib.Core.Path.{_≡_, refl, sym, ap, subst, _∙_}
-use mathlib.Core.Bool.{Bool, true, false, not, _&&_}
+use mathlib.Core.Bool.{Bool, true, false}
 use mathlib.Core.List.{List, []}
 use mathlib.Core.Option.{none, some}
-use lib.Dec.{eqb}
 use lib.ListN.{length, take, drop, length-take}
 use lib.Seq.{take-all}
-use borrow.Author.Tests.{le-leb, lt-leb, eq-eqb, ne-eqb, eqb-false}
+use borrow.Author.Tests.{le-leb, lt-leb, eq-eqb, ne-eqb}
 use Rattle.image.specs.Word.{Bytes, word}
 use Rattle.image.specs.Tree.{labelAt}
 use Rattle.plan.specs.Kinds.{isPlan}
@@ -17,7 +16,7 @@ use Rattle.finding.proofs.KindRanges.{plan-range}
 use Rattle.utils.specs.Inputs.{isPlan as plan-number}
 use Rattle.plan.specs.Measure.{sizeP}
 use Rattle.plan.specs.Syntax.{Plan}
-use Rattle.plan.specs.Trees.{bitOf, labelP, planTree}
+use Rattle.plan.specs.Trees.{bitOf, planTree}
 use Rattle.plan.proofs.Written.{planAt-back}
 use Rattle.acceptance.specs.Accepted.{Accepted}
 use Rattle.acceptance.specs.Check.{verdict, check}
@@ -31,15 +30,13 @@ use Rattle.rewrite.specs.RewriteAt.{Focus, focus, granted, result-fits, rewrite
 use Rattle.rewrite.proofs.OnBytes.{tree-length}
 use Rattle.rewrite.proofs.PlanFrom.{focus-end}
 use Rattle.rewrite.proofs.Marks.{is-some}
-use Rattle.merging.specs.Merging.{Inside}
 use Rattle.merging.proofs.Root.{image-length, standing-root}
 use Rattle.rewriting.proofs.Marked.{plan-there, found-there, not-found}
 use Rattle.merging.proofs.Tested.{inside-of}
-use Rattle.filters.proofs.Perhapsing.{both}
 use Rattle.rewriting.specs.Answer.{refusal, Whole, Here}
 use Rattle.rewriting.specs.Outcomes.{Image, answer}
-use Rattle.rewriting.proofs.Finishes.{untold}
-use Rattle.rewriting.proofs.Outcoming.{other-outcomes}
+use Rattle.rewriting.specs.Staying.{Stays}
+use Rattle.rewriting.proofs.Outcoming.{stays-outcomes}
 
 -- an image has room for its records
 pub image-room : {bytes : List ℕ} {records : ℕ} {q : Plan} → Image bytes records q → 32 * records ≤ length bytes
@@ -111,17 +108,10 @@ module _ {s : List ℕ} (w : Whole s) where
 
 -- ---- a plan that stays as it is
 
--- its number is neither a Filter's nor a Join's
-pub neither : {k : ℕ} → (not (eqb k 33) && not (eqb k 35)) ≡ true → (k ≡ 33 → ⊥) × (k ≡ 35 → ⊥)
-neither {k} h =
-    let b = both (not (eqb k 33)) (not (eqb k 35)) h in
-    (eqb-false k 33 (untold (b .0)), eqb-false k 35 (untold (b .1)))
-
-pub stayed : {s : List ℕ} {n k : ℕ} (room : ℕ) (h : Here s n) → k ≡ labelP (h .spot .plan) .kind → (k ≡ 33 → ⊥) × (k ≡ 35 → ⊥)
+pub stayed : {s : List ℕ} {n : ℕ} {b : Bool} (room : ℕ) (h : Here s n) → Stays b (h .spot .plan) → b ≡ true
     → rewritten room (with-room room (granted false (planIn s))) ≡ rewritten room (rewrite-call n room (planIn s))
-stayed {s} {n} room h e k =
-    let o = other-outcomes {work = []} {r = record { fits = true; flag = false; written = false; records = 0 }} (h .inside)
-    (λ f. k .0 (e ∙ f)) (λ j. k .1 (e ∙ j)) refl refl refl in
+stayed {s} {n} room h u t =
+    let o = stays-outcomes {work = []} {r = record { fits = true; flag = false; written = false; records = 0 }} (h .inside) u t refl refl refl in
     granted-call room n (planIn s) (h .inside .there) (sym (o .fit)) (o .flag refl) (sym (o .same refl refl))
 
 -- ---- the tests of the image

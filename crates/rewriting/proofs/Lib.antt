@@ -5,3 +5,5 @@ pub mod Dispatches
 pub mod Comings
 pub mod Outcoming
 pub mod Calls
+pub mod Stayings
+pub mod Differing

@@ -29,6 +29,7 @@ use Rattle.merging.proofs.Naming.{rule-there}
 use Rattle.merging.proofs.Within.{lists-there}
 use Rattle.merging.proofs.Tested.{few-records, stands-inside}
 use Rattle.rewriting.specs.Found.{JoinInside}
+use Rattle.rewriting.specs.Staying.{Stays}
 use Rattle.rewriting.specs.Outcomes.{Outcome, Finishes, answer, Outcomes}
 use Rattle.rewriting.proofs.Finishes.{no-yes}
 use Rattle.rewriting.proofs.KindOf.{kind-there, when-filter, when-join}
@@ -171,17 +172,48 @@ unchanged (limit n k p) f j = (refl, refl)
 unchanged (aggregate gs ags p) f j = (refl, refl)
 unchanged (window ws p) f j = (refl, refl)
 
-pub other-outcomes : {work s : List ℕ} {r : Outcome} {w : Plan} {node : ℕ} {c : Focus} → Inside s node w c
-    → (labelP (c .plan) .kind ≡ 33 → ⊥) → (labelP (c .plan) .kind ≡ 35 → ⊥) → r .fits ≡ true → r .flag ≡ false → r .written ≡ false
-    → Outcomes work r w c
+-- one that stays
+pub stays-outcomes : {work s : List ℕ} {b : Bool} {r : Outcome} {w : Plan} {node : ℕ} {c : Focus} → Inside s node w c → Stays b (c .plan) → b ≡ true
+    → r .fits ≡ true → r .flag ≡ false → r .written ≡ false → Outcomes work r w c
 unfolding result-fits all
-other-outcomes {w = w} {node = node} {c = c} h nf nj y f n =
-    let u = unchanged (c .plan) nf nj in
-    let back : answer c ≡ w = ap (λ t. c .back (t .plan)) (u .0) ∙ path-to ways node w c (h .there) in
+stays-outcomes {w = w} {node = node} {c = c} h u t y f n =
+    let k = u .kept .yes t in
+    let back : answer c ≡ w = ap (λ t. c .back (t .plan)) k ∙ path-to ways node w c (h .there) in
     record {
       fit =
-          y ∙ sym (ap (λ ms. fits (answer c) & all (λ m. fits (c .back m)) ms) (u .1) ∙ and-true (fits (answer c)) ∙ ap fits back ∙ read-fits h);
-      flag = λ z. f ∙ sym (ap (λ (t : Transformed). t .transformed) (u .0));
+          y
+          ∙ sym (ap (λ ms. fits (answer c) & all (λ m. fits (c .back m)) ms) (u .unmerged t) ∙ and-true (fits (answer c)) ∙ ap fits back
+          ∙ read-fits h);
+      flag = λ z. f ∙ sym (ap (λ (t : Transformed). t .transformed) k);
       image = λ z e. no-yes (sym n ∙ e);
       same = λ z e. back;
     }
+
+pub other-stays : (p : Plan) → (labelP p .kind ≡ 33 → ⊥) → (labelP p .kind ≡ 35 → ⊥) → Stays true p
+other-stays p f j = let u = unchanged p f j in record { kept = record { yes = λ y. u .0; no = λ n. no-yes (sym n) }; unmerged = λ y. u .1 }
+
+-- ---- what is written for a plan that does not stay
+
+-- the place of what was found tells plans apart
+apart : Ways (λ n p t C. (a b : Plan) → C a ≡ C b → a ≡ b) (λ n ps t C. (a b : Plan) → C a ≡ C b → a ≡ b)
+apart = record {
+  root = λ p a b e. e;
+  in-filter = λ n p t C x h a b e. h a b (let i : C a ≡ C b = cc in i);
+  in-project = λ n p t C es h a b e. h a b (let i : C a ≡ C b = cc in i);
+  in-left = λ n l t C k r on f h a b e. h a b (let i : C a ≡ C b = cc in i);
+  in-right = λ n r t C k l on f h a b e. h a b (let i : C a ≡ C b = cc in i);
+  in-alias = λ n p t C i h a b e. h a b (let i : C a ≡ C b = cc in i);
+  in-union = λ n ps t C h a b e. h a b (let i : C a ≡ C b = cc in i);
+  in-distinct = λ n p t C h a b e. h a b (let i : C a ≡ C b = cc in i);
+  in-sort = λ n p t C f ks h a b e. h a b (let i : C a ≡ C b = cc in i);
+  in-repartition = λ n p t C h a b e. h a b (let i : C a ≡ C b = cc in i);
+  in-limit = λ n p t C i j h a b e. h a b (let i : C a ≡ C b = cc in i);
+  in-aggregate = λ n p t C gs ags h a b e. h a b (let i : C a ≡ C b = cc in i);
+  in-window = λ n p t C ws h a b e. h a b (let i : C a ≡ C b = cc in i);
+  in-first = λ n p t C ps h a b e. h a b (let i : C a ≡ C b = cc in i);
+  in-later = λ n ps t C p h a b e. h a b (let i : C a ≡ C b = cc in i);
+}
+
+pub changed : {s : List ℕ} {b : Bool} {w : Plan} {node : ℕ} {c : Focus} → Inside s node w c → Stays b (c .plan) → b ≡ false → answer c ≡ w → ⊥
+changed {w = w} {node} {c} h u n e =
+    u .kept .no n (path-to apart node w c (h .there) (rewrite (c .plan) .plan) (c .plan) (e ∙ sym (path-to ways node w c (h .there))))

@@ -1,3 +1,4 @@
 pub mod Found
 pub mod Outcomes
 pub mod Answer
+pub mod Staying

@@ -1,7 +1,7 @@
 // The call `rewrite` on any bytes, for any record and any room: the image is checked, rewritten and handed out, or refused.
 use crate::nodes::Outcome;
-use crate::nodes::rewrite;
-use crate::nodes::stays;
+use crate::nodes::rewrite_anew;
+use crate::staying::stays;
 use answers::handing_out::clear;
 use answers::handing_out::hand_out;
 use checking::Checked;
@@ -45,7 +45,7 @@ fn hand_over(image: &[u8], records: usize, flag: bool, out: &mut [u8]) -> Answer
     Answer::Is(flag, records)
 }
 
-// The rewrite of the plan at record `node` of an accepted image, with work space lent.
+// The rewrite of the plan at record `node` of an accepted image, written anew into the work space that is lent.
 fn rewrite_within(
     image: &[u8],
     node: usize,
@@ -59,7 +59,7 @@ fn rewrite_within(
     ensures { λ r. ⌜ rewrittenOf r (now (out .exit))
         ≡ rewritten (length (now (out .entry))) (rewrite-call node (length (now (out .entry))) (planIn (now (image .entry)))) ⌝ }
 {
-    let r = rewrite(image, node, m, work, levels);
+    let r = rewrite_anew(image, node, m, work, levels);
     if !r.fits {
         clear(out);
         return Answer::TooLarge(node);
@@ -92,13 +92,12 @@ fn rewrite_at(image: &[u8], node: usize, out: &mut [u8]) -> Answer
         clear(out);
         return Answer::NoPlan(node);
     }
-    let kind = word_at(record_at(image, node), 0);
-    if !is_plan(kind) {
+    if !is_plan(word_at(record_at(image, node), 0)) {
         clear(out);
         return Answer::NoPlan(node);
     }
     // A plan that stays as it is needs no work space.
-    if stays(kind) {
+    if stays(image, node) {
         return hand_over(image, image.len() / RECORD_BYTES, false, out);
     }
     rewrite_here(image, node, out)

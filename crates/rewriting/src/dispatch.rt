@@ -28,7 +28,7 @@ ghost use Rattle.merging.specs.Settled as S;
 ghost use Rattle.merging.specs.Settled.{rewrite-settled};
 ghost use Rattle.rewriting.specs.Found.{OnInput, SomeComes};
 
-const TABLE_SCAN: usize = 32;
+pub const TABLE_SCAN: usize = 32;
 
 pub const JOIN: usize = 35;
 
@@ -36,9 +36,9 @@ const SUBQUERY_ALIAS: usize = 36;
 
 const UNION: usize = 37;
 
-const AGGREGATE: usize = 42;
+pub const AGGREGATE: usize = 42;
 
-const WINDOW: usize = 43;
+pub const WINDOW: usize = 43;
 
 // A predicate that rests on the plan at record x, which is no Filter.
 fn rewrite_input(

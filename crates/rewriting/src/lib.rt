@@ -2,3 +2,4 @@
 pub mod calling;
 pub mod dispatch;
 pub mod nodes;
+pub mod staying;

@@ -1,6 +1,7 @@
 // PushDownFilter::rewrite of the plan at one record of an image: a Filter by its input, a Join by its own filter, no other.
 use crate::dispatch::JOIN;
 use crate::dispatch::rewrite_settled;
+use crate::staying::stays;
 use answers::handing_out::is_shallow;
 use answers::splicing::Spot;
 use answers::splicing::write_after;
@@ -15,9 +16,8 @@ use joining::push_down::push_down_join;
 use merging::settle_filter;
 use writing::kinds::FILTER;
 ghost use mathlib.Core.Path.{_≡_};
-ghost use mathlib.Core.Bool.{not, _&&_};
+ghost use mathlib.Core.Bool.{true};
 ghost use Prim.Native.Nat.{ℕ, _≤_, _<_};
-ghost use lib.Dec.{eqb};
 ghost use lib.ListN.{length};
 ghost use Rattle.image.specs.Limits.{workBytes, maxRecords};
 ghost use Rattle.plan.specs.Syntax.{Plan};
@@ -25,7 +25,7 @@ ghost use Rattle.rewrite.specs.PushDownFilter.{Transformed};
 ghost use Rattle.rewrite.specs.RewriteAt.{Focus};
 ghost use Rattle.merging.specs.Merging.{Inside, FilterInside};
 ghost use Rattle.rewriting.specs.Found.{Found, JoinInside};
-ghost use Rattle.rewriting.specs.Outcomes.{Replaces, Replaced, Finishes, Outcomes};
+ghost use Rattle.rewriting.specs.Outcomes.{Replaces, Replaced, Finishes, Outcomes, answer};
 
 // What a rewrite comes to: whether it is within the limits, and the flag; whether a new image was written, of so many records, or the one that
 // was read is the answer.
@@ -107,15 +107,14 @@ fn rewrite_join(s: &[u8], node: usize, m: &mut [u8], work: &mut [u8], levels: &m
     finish(s, spot, levels, new, work)
 }
 
-// Whether a plan of this kind stays as it is.
-pub fn stays(kind: usize) -> bool
-    ensures { λ r. ⌜ r ≡ (not (eqb kind 33) && not (eqb kind 35)) ⌝ }
-{
-    (kind != FILTER) & (kind != JOIN)
-}
-
-// The plan at record `node`.
-pub fn rewrite(s: &[u8], node: usize, m: &mut [u8], work: &mut [u8], levels: &mut [u32]) -> Outcome
+// The plan at record `node`, written anew if it is a Filter or a Join.
+pub fn rewrite_anew(
+    s: &[u8],
+    node: usize,
+    m: &mut [u8],
+    work: &mut [u8],
+    levels: &mut [u32],
+) -> Outcome
     requires { ⌜ Found (now s) node ⌝ }
     requires { ⌜ (4128 ≤ length (now m)) × (length (now work) ≡ workBytes) × (length (now levels) ≡ maxRecords) ⌝ }
     ensures { λ r. ⌜ ((w : Plan) (c : Focus) → Inside (now (s .entry)) node w c → Outcomes (now (work .exit)) r w c) ⌝ }
@@ -133,4 +132,22 @@ pub fn rewrite(s: &[u8], node: usize, m: &mut [u8], work: &mut [u8], levels: &mu
         written: false,
         records: 0,
     }
+}
+
+// The plan at record `node`. Nothing is written for one that stays as it is: what is written is another plan.
+pub fn rewrite(s: &[u8], node: usize, m: &mut [u8], work: &mut [u8], levels: &mut [u32]) -> Outcome
+    requires { ⌜ Found (now s) node ⌝ }
+    requires { ⌜ (4128 ≤ length (now m)) × (length (now work) ≡ workBytes) × (length (now levels) ≡ maxRecords) ⌝ }
+    ensures { λ r. ⌜ ((w : Plan) (c : Focus) → Inside (now (s .entry)) node w c → Outcomes (now (work .exit)) r w c) ⌝ }
+    ensures changes { λ r. ⌜ ((w : Plan) (c : Focus) → Inside (now (s .entry)) node w c → r .written ≡ true → answer c ≡ w → ⊥) ⌝ }
+{
+    if stays(s, node) {
+        return Outcome {
+            fits: true,
+            flag: false,
+            written: false,
+            records: 0,
+        };
+    }
+    rewrite_anew(s, node, m, work, levels)
 }

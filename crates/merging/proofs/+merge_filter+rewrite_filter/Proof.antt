@@ -133,7 +133,7 @@ pub +merge-filter+rewrite-filter-spec : {M : Type 1} → statement M
     let fit = c .before .before .before .before .before .before .before .before .merge-fits .ensures w f h (m .expr) q made st
     (placed-input k past st .lists) in
     let yes = sym fit ∙ not-false _ (c .before .before .before .if1 .left) in
-    let left = c .before .before .simplify-filter .ensures (m .expr) (made-shaped made (merge-few q h made yes)) in
+    let left = c .before .before .simplify-filter .ensures .0 (m .expr) (made-shaped made (merge-few q h made yes)) in
     settles-gone k (m .is) yes left (sym (c .before .is-gone .ensures) ∙ c .if2 .taken) past st)
     (λ c κs. let p = c .before .before .before .before .before .before .before .before .before .before .before .before .before .before .before
     .before .before .before .before .before .pre .1 .0 in
@@ -151,7 +151,7 @@ pub +merge-filter+rewrite-filter-spec : {M : Type 1} → statement M
     let fit = c .before .before .before .before .before .before .before .before .before .before .merge-fits .ensures (p .whole) (p .spot) (p .inside)
     (m .expr) (p .plan) made st (placed-input (p .rests) past st .lists) in
     let yes = sym fit ∙ not-false _ (c .before .before .before .before .before .if1 .left) in
-    let left = c .before .before .before .before .simplify-filter .ensures (m .expr) (made-shaped made (merge-few (p .plan) (p .inside) made yes)) in
+    let left = c .before .before .before .before .simplify-filter .ensures .0 (m .expr) (made-shaped made (merge-few (p .plan) (p .inside) made yes)) in
     let e = leaves-some left (sym (c .before .before .before .is-gone .ensures) ∙ c .before .before .if2 .left) in (
       omega (
         arith,
@@ -198,7 +198,7 @@ pub +merge-filter+rewrite-filter-spec : {M : Type 1} → statement M
     let fit = c .before .before .before .before .before .before .before .before .before .before .before .before .before .before
     .before .merge-fits .ensures w f h (m .expr) q made st (placed-input k past st .lists) in
     let yes = sym fit ∙ not-false _ (c .before .before .before .before .before .before .before .before .before .before .if1 .left) in
-    let left = c .before .before .before .before .before .before .before .before .before .simplify-filter .ensures (m .expr)
+    let left = c .before .before .before .before .before .before .before .before .before .simplify-filter .ensures .0 (m .expr)
     (made-shaped made (merge-few q h made yes)) in
     let g = leaves-some left (sym (c .before .before .before .before .before .before .before .before .is-gone .ensures) ∙
     c .before .before .before .before .before .before .before .if2 .left) in

@@ -25,13 +25,13 @@ settle-filter-spec =
     (λ c w f h e q i.
     let st = first-standing h i in
     let input = c .before .before .before .before .filter-input .ensures in
-    let left = c .before .before .simplify-filter .ensures e
+    let left = c .before .before .simplify-filter .ensures .0 e
     (c .before .before .before .predicate-at .ensures e (filter-predicate (h .short) st) (first-few h i)) in
     first-gone h i left (sym (c .before .is-gone .ensures) ∙ c .if1 .taken) (input .0) (input .1 e q st))
     (λ c κs. let p = c .before .before .before .before .before .before .before .before .before .before .pre .0 in
     let st = first-standing (p .inside) (p .is) in
     let input = c .before .before .before .before .before .before .filter-input .ensures in
-    let left = c .before .before .before .before .simplify-filter .ensures (p .expr)
+    let left = c .before .before .before .before .simplify-filter .ensures .0 (p .expr)
     (c .before .before .before .before .before .predicate-at .ensures (p .expr) (filter-predicate ((p .inside) .short) st)
     (first-few (p .inside) (p .is))) in
     let g = leaves-some left (sym (c .before .before .before .is-gone .ensures) ∙ c .before .before .if1 .left) in (
@@ -50,7 +50,7 @@ settle-filter-spec =
     (λ c w f h e q i.
     let st = first-standing h i in
     let input = c .before .before .before .before .before .before .before .before .before .before .before .filter-input .ensures in
-    let left = c .before .before .before .before .before .before .before .before .before .simplify-filter .ensures e
+    let left = c .before .before .before .before .before .before .before .before .before .simplify-filter .ensures .0 e
     (c .before .before .before .before .before .before .before .before .before .before .predicate-at .ensures e (filter-predicate (h .short) st)
     (first-few h i)) in
     let g = leaves-some left (sym (c .before .before .before .before .before .before .before .before .is-gone .ensures) ∙

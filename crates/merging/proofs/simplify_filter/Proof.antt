@@ -1,3 +1,4 @@
+use mathlib.Core.Path.{refl}
 use borrow.Author.Needs.{needs}
 use Rattle.merging.proofs.Merges.{simplified-known, simplified-new, simplified-old}
 use Rattle.merging.proofs.simplify_filter.Statement.{statement}
@@ -9,9 +10,15 @@ simplify-filter-spec =
     (tie.spec
     (λ c κs. search needs)
     (λ c κs. let p = c .before .before .before .pre in simplified-known (p .shaped) (c .simplify-predicates .ensures _ (p .shaped .listed)))
-    (λ c e h. let k = c .before .before .before .before .before .reorder-predicates .ensures _
-    (c .before .before .before .before .before .before .simplify-predicates .ensures _ (h .listed)) in simplified-new h (k .0) (k .1)
-    (c .if1 .taken))
-    (λ c e h. let k = c .before .before .before .before .before .reorder-predicates .ensures _
-    (c .before .before .before .before .before .before .simplify-predicates .ensures _ (h .listed)) in simplified-old h (k .0) (k .1)
-    (c .if1 .left)))
+    (λ c. (
+      λ e h. let k = c .before .before .before .before .before .reorder-predicates .ensures _
+          (c .before .before .before .before .before .before .simplify-predicates .ensures _ (h .listed)) in simplified-new h (k .0) (k .1)
+          (c .if1 .taken),
+      λ n. absurd (n refl),
+    ))
+    (λ c. (
+      λ e h. let k = c .before .before .before .before .before .reorder-predicates .ensures _
+          (c .before .before .before .before .before .before .simplify-predicates .ensures _ (h .listed)) in simplified-old h (k .0) (k .1)
+          (c .if1 .left),
+      λ n. refl,
+    )))

@@ -18,7 +18,7 @@ visit-spec =
     (found-next (p .0) (p .1 .0 .0), (l .m-long, l .work-long, l .levels-long)))
     (λ c κs. let b = c .before .before .before .before .before .before .before .before in
     let p = b .before .before .before .before .before .before .before .before .before .before .pre in
-    let k = came-to (p .0 .stands) (p .1 .0 .0) (p .1 .0 .1) (b .rewrite .ensures) in
+    let k = came-to (p .0 .stands) (p .1 .0 .0) (p .1 .0 .1) (b .rewrite .ensures .0) in
     (record { plan = p .0 .plan; came = k }, (omega (arith, b .rewrite .kept, p .1 .1), p .1 .1 .image-long)))
     (λ c. search needs)
     (λ c. search needs)
@@ -29,5 +29,5 @@ visit-spec =
       λ q h.
           let b = c .before .before .before .before .before .before .before .before .before .before .before in
           let p = b .before .before .before .before .before .before .before .before .before .before .pre in
-          c .before .before .take-over .ensures .1 q (came-to h (p .1 .0 .0) (p .1 .0 .1) (b .rewrite .ensures)),
+          c .before .before .take-over .ensures .1 q (came-to h (p .1 .0 .0) (p .1 .0 .1) (b .rewrite .ensures .0)),
     )))

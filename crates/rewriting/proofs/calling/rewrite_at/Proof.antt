@@ -1,12 +1,10 @@
 -- `calling::rewrite_at` meets its contract.
-use mathlib.Core.Path.{refl, sym, _∙_}
+use mathlib.Core.Path.{refl, _∙_}
 use native.Mathlib.Omega.{arith}
 use lib.ListN.{length-drop}
 use borrow.Author.Needs.{needs}
-use Rattle.merging.proofs.Tested.{stands-inside}
 use Rattle.rewriting.proofs.Finishes.{told, untold}
-use Rattle.rewriting.proofs.Dispatches.{read-kind}
-use Rattle.rewriting.proofs.Calls.{refused-8, absent, no-plan, a-plan, whole-image, neither, stayed}
+use Rattle.rewriting.proofs.Calls.{refused-8, absent, no-plan, a-plan, whole-image, stayed}
 use Rattle.rewriting.proofs.calling.rewrite_at.Statement.{statement}
 use Rattle.rewriting.proofs.calling.rewrite_at.Tie as tie
 
@@ -28,18 +26,20 @@ rewrite-at-spec =
     .before .before .before .before .if1 .left) (c .before .before .before .before .before .before .before .record-at .ensures) (c .before
     .before .before .before .before .before .word-at .ensures .0) (c .before .before .before .before .before .is-plan .ensures)
     (untold (c .before .before .before .before .if2 .taken))) (c .before .before .clear2 .ensures))
-    (λ c κs. search needs)
+    (λ c κs. let h = a-plan (c .before .before .before .before .before .before .before .pre) (c .before .before .before .before .if1 .left)
+    (c .before .before .before .record-at .ensures)
+    (c .before .before .word-at .ensures .0) (c .before .is-plan .ensures) (told (c .if2 .left)) in
+    record { whole = _; spot = h .spot; inside = h .inside })
     (λ c κs. search needs)
     (λ c. search needs)
-    (λ c. let h = a-plan (c .before .before .before .before .before .before .before .before .before .before .before .before .before .pre) (c
-    .before .before .before .before .before .before .before .before .before .before .if1 .left) (c .before .before .before .before .before
-    .before .before .before .before .record-at .ensures) (c .before .before .before .before .before .before .before .before .word-at .ensures .0)
-    (c .before .before .before .before .before .before .before .is-plan .ensures)
-    (told (c .before .before .before .before .before .before .if2 .left)) in
+    (λ c. let h = a-plan (c .before .before .before .before .before .before .before .before .before .before .before .before .before .pre)
+    (c .before .before .before .before .before .before .before .before .before .before .if1 .left)
+    (c .before .before .before .before .before .before .before .before .before .record-at .ensures)
+    (c .before .before .before .before .before .before .before .before .word-at .ensures .0)
+    (c .before .before .before .before .before .before .before .is-plan .ensures) (told (c .before .before .before .before .before .before .if2
+    .left)) in
     c .before .before .hand-over .ensures _ (whole-image (h .whole) refl)
-    ∙ stayed _ h (read-kind (c .before .before .before .before .before .before .before .before .before .record-at .ensures) (c .before .before
-    .before .before .before .before .before .before .word-at .ensures .0) (stands-inside (h .inside)))
-    (neither (sym (c .before .before .before .before .before .stays .ensures) ∙ c .before .before .before .before .if3 .taken)))
+    ∙ stayed _ h (c .before .before .before .before .before .stays .ensures _ (h .spot) (h .inside)) (c .before .before .before .before .if3 .taken))
     (λ c κs. a-plan (c .before .before .before .before .before .before .before .before .before .before .pre) (c .before .before .before .before
     .before .before .before .if1 .left) (c .before .before .before .before .before .before .record-at .ensures) (c .before .before .before
     .before .before .word-at .ensures .0) (c .before .before .before .before .is-plan .ensures)

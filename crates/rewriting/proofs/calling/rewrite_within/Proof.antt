@@ -18,12 +18,12 @@ rewrite-within-spec =
     (λ c. search needs)
     (λ c. let h = c .before .before .before .before .before .before .before .before .before .before .before .before .before .before .before
     .before .before .before .before .before .before .pre .0 in
-    let o = c .before .before .before .before .before .before .before .before .before .before .before .before .rewrite .ensures _ (h .spot) (h
+    let o = c .before .before .before .before .before .before .before .before .before .before .before .before .rewrite-anew .ensures _ (h .spot) (h
     .inside) in
     refused-11 _ _ _ (h .inside .there) (sym (o .fit) ∙ untold (c .before .before .before .before .if1 .taken)) (c .before .before .clear .ensures))
     (λ c κs. let h = c .before .before .before .before .before .before .before .before .before .before .before .before .before .before .before
     .before .before .before .before .before .pre .0 in
-    let o = c .before .before .before .before .before .before .before .before .before .before .before .rewrite .ensures _ (h .spot) (h .inside) in
+    let o = c .before .before .before .before .before .before .before .before .before .before .before .rewrite-anew .ensures _ (h .spot) (h .inside) in
     image-room (o .image (told (c .before .before .before .if1 .left)) (c .before .before .if2 .taken)))
     (λ c. search needs)
     (λ c. search needs)
@@ -31,7 +31,7 @@ rewrite-within-spec =
     (λ c. search needs)
     (λ c. let h = c .before .before .before .before .before .before .before .before .before .before .before .before .before .before .before
     .before .before .before .before .before .before .before .before .pre .0 in
-    let o = c .before .before .before .before .before .before .before .before .before .before .before .before .before .before .rewrite .ensures _
+    let o = c .before .before .before .before .before .before .before .before .before .before .before .before .before .before .rewrite-anew .ensures _
     (h .spot) (h .inside) in
     let y = told (c .before .before .before .before .before .before .if1 .left) in
     c .before .before .hand-over .ensures _ (o .image y (c .before .before .before .before .before .if2 .taken)) ∙ granted-call _ _ _ (h .inside
@@ -43,7 +43,7 @@ rewrite-within-spec =
     (λ c. search needs)
     (λ c. let h = c .before .before .before .before .before .before .before .before .before .before .before .before .before .before .before
     .before .before .before .before .before .before .before .pre .0 in
-    let o = c .before .before .before .before .before .before .before .before .before .before .before .before .before .rewrite .ensures _ (h
+    let o = c .before .before .before .before .before .before .before .before .before .before .before .before .before .rewrite-anew .ensures _ (h
     .spot) (h .inside) in
     let y = told (c .before .before .before .before .before .if1 .left) in
     c .before .before .hand-over2 .ensures _ (whole-image (h .whole) refl)

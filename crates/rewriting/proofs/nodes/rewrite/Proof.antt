@@ -1,10 +1,8 @@
 -- `nodes::rewrite` meets its contract.
-use mathlib.Core.Path.{refl, sym, _∙_}
-use native.Mathlib.Omega.{arith}
+use mathlib.Core.Path.{refl}
 use borrow.Author.Needs.{needs}
-use Rattle.merging.proofs.Tested.{stands-inside}
-use Rattle.rewriting.proofs.Dispatches.{read-kind}
-use Rattle.rewriting.proofs.Outcoming.{a-filter, a-join, other-outcomes}
+use Rattle.rewriting.proofs.Finishes.{no-yes}
+use Rattle.rewriting.proofs.Outcoming.{stays-outcomes, changed}
 use Rattle.rewriting.proofs.nodes.rewrite.Statement.{statement}
 use Rattle.rewriting.proofs.nodes.rewrite.Tie as tie
 
@@ -12,39 +10,18 @@ pub rewrite-spec : {M : Type 1} → statement M
 rewrite-spec =
     tie.close
     (tie.spec
-    (λ c κs. stands-inside (c .before .before .before .before .pre .0 .inside) .within)
-    (λ c κs. rw (c .record-at .ensures) (omega (arith, stands-inside (c .before .before .before .before .before .pre .0 .inside) .here .head .room)))
-    (λ c κs. let p = c .before .before .before .before .before .before .before .before .before .before .pre in
-    let f = p .0 in
-    let a = a-filter (f .spot .plan)
-    (sym (read-kind (c .before .before .before .before .before .record-at .ensures) (c .before .before .before .before .word-at .ensures .0)
-    (stands-inside (f .inside))) ∙ c .before .before .before .if1 .taken) in
-    (record { whole = f .whole; spot = f .spot; inside = f .inside; expr = a .expr; plan = a .plan; is = a .is }, p .1))
-    (λ c. search needs)
-    (λ c. search needs)
-    (λ c. search needs)
-    (λ c. search needs)
-    (λ c κs. let p = c .before .before .before .before .before .before .before .before .before .before .before .pre in
-    let f = p .0 in
-    let a = a-join (f .spot .plan)
-    (sym (read-kind (c .before .before .before .before .before .before .record-at .ensures) (c .before .before .before .before .before .word-at
-    .ensures .0) (stands-inside (f .inside))) ∙ c .before .before .before .if2 .taken) in (
-      record {
-        whole = f .whole;
-        spot = f .spot;
-        inside = f .inside;
-        kind = a .kind;
-        lhs = a .lhs;
-        rhs = a .rhs;
-        keys = a .keys;
-        condition = a .condition;
-        is = a .is;
-      },
-      p .1,
+    (λ c κs. search needs)
+    (λ c. (
+      λ w f h. stays-outcomes h (c .before .stays .ensures w f h) (c .if1 .taken) refl refl refl,
+      λ w f h y. no-yes y,
     ))
+    (λ c κs. search needs)
     (λ c. search needs)
     (λ c. search needs)
     (λ c. search needs)
-    (λ c. search needs)
-    (λ c w f h. let k = read-kind (c .before .before .before .record-at .ensures) (c .before .before .word-at .ensures .0) (stands-inside h) in
-    other-outcomes h (λ e. c .before .if1 .left (k ∙ e)) (λ e. c .if2 .left (k ∙ e)) refl refl refl))
+    (λ c. (
+      c .before .before .before .before .before .before .rewrite-anew .ensures,
+      λ w f h y. changed h
+          (c .before .before .before .before .before .before .before .before .before .before .before .stays .ensures w f h)
+          (c .before .before .before .before .before .before .before .before .before .before .if1 .left),
+    )))
