@@ -1,6 +1,7 @@
 pub mod Walking
 pub mod Stepping
 pub mod Along
+pub mod Ending
 pub mod Lowest
 pub mod Writing
 pub mod Room
