@@ -3,6 +3,7 @@ pub mod Stepping
 pub mod Along
 pub mod Ending
 pub mod Lowest
+pub mod Finding
 pub mod Writing
 pub mod Room
 pub mod Reading
