@@ -13,7 +13,7 @@
  * answer is longer than PUSH_DOWN_FILTER_MAX_BYTES.
  *
  * Threads. The functions keep nothing between calls and do no input or output: any number of threads may call them at once, each
- * with an output of its own.
+ * with an output of its own. They allocate nothing; 1 MiB of stack was enough for every call that was tried (768 KiB was too).
  */
 #ifndef PUSH_DOWN_FILTER_H
 #define PUSH_DOWN_FILTER_H

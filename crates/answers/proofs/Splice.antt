@@ -72,18 +72,18 @@ module _ (p : Plan) (node : ℕ) (c : Focus) (f : focus node p ≡ some c) where
   node-small = omega (arith, within)
 
   -- what `write_before` leaves
-  pub before-of : {out₀ out₁ out₂ levels : List ℕ} {size level records : ℕ} → sizeT (planTree p) ≤ 2048 → length out₁ ≡ workBytes
-      → Wrote out₀ out₁ 0 1 size (planTree (c .plan)) → Wrote out₁ out₂ 0 1 records (planTree p) → Levels levels (planTree p)
-      → level ≡ getD levels node 0
-      → Before out₂ levels p node (c .plan) (record { level = level; end = node + size; records = records })
+  pub before-of : {out₀ out₁ levels : List ℕ} {level end records : ℕ} → sizeT (planTree p) ≤ 2048 → length out₀ ≡ workBytes
+      → Wrote out₀ out₁ 0 1 records (planTree p) → Levels levels (planTree p) → level ≡ getD levels node 0
+      → end ≡ node + sizeT (planTree (c .plan))
+      → Before out₁ levels p node (c .plan) (record { level = level; end = end; records = records })
   unfolding sizeP
-  before-of few long w v l e =
+  before-of few long v l e n =
       record {
         rest = _;
         bytes = begun v long few;
         depths = l;
         level = e ∙ l .each node (omega (arith, within));
-        end = ap (λ (k : ℕ). node + k) (begun-size w (omega (arith, within)));
+        end = n;
         records = begun-size v few;
       }
 

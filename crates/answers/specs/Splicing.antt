@@ -2,9 +2,9 @@
 use mathlib.Core.Path.{_≡_}
 use mathlib.Core.List.{List, _++_}
 use Prim.Native.Nat.{ℕ, _+_, _*_, _≤_, _<_}
-use lib.ListN.{getD}
+use lib.ListN.{length, getD}
 use lib.Seq.{sets}
-use Rattle.image.specs.Limits.{maxRecords}
+use Rattle.image.specs.Limits.{maxRecords, workBytes}
 use Rattle.image.specs.Word.{word}
 use Rattle.image.specs.Tree.{Tree, At, Deep}
 use Rattle.image.specs.Flat.{sizeT, flat}
@@ -14,12 +14,13 @@ use Rattle.plan.specs.Trees.{planTree}
 use Rattle.plan.specs.Measure.{sizeP}
 use Rattle.answers.specs.declared.splicing.Spot.{Spot}
 
--- some tree of at most 2,048 records stands at the start of s, no deeper than 256
+-- some tree of at most 2,048 records stands at the start of s, no deeper than 256, and s is no longer than an image
 pub record Sized (s : List ℕ) : Type 0 where
   pub tree : Tree
   pub at : At tree s 0
   pub deep : Deep (tree .below) 255
   pub few : sizeT tree ≤ maxRecords
+  pub short : length s ≤ workBytes
 
 -- l has the depth of each record of t
 pub record Levels (l : List ℕ) (t : Tree) : Type 0 where

@@ -48,15 +48,23 @@ pub fn clear(out: &mut [u8])
     clear_from(out, 0);
 }
 
+// Copies the first m bytes.
+pub fn copy_bytes(from: &[u8], m: usize, to: &mut [u8])
+    requires { ⌜ (m ≤ length (now from)) × (m ≤ length (now to)) ⌝ }
+    ensures { λ _. ⌜ take m (now (to .exit)) ≡ take m (now (from .entry)) ⌝ }
+{
+    let mut i = 0;
+    while i < m {
+        to[i] = from[i];
+        i += 1;
+    }
+}
+
 // Hands out the first m bytes of `work`, and then zeros.
 pub fn hand_out(work: &[u8], m: usize, out: &mut [u8])
     requires { ⌜ (m ≤ length (now work)) × (m ≤ length (now out)) ⌝ }
     ensures { λ _. ⌜ now (out .exit) ≡ filled (length (now (out .entry))) (take m (now (work .entry))) ⌝ }
 {
-    let mut i = 0;
-    while i < m {
-        out[i] = work[i];
-        i += 1;
-    }
+    copy_bytes(work, m, out);
     clear_from(out, m);
 }

@@ -5,6 +5,7 @@
 use conjuncts::reading::record_at;
 use image::copying::copy_tree;
 use image::copying::put_label;
+use image::ends::tree_end;
 use image::limits::MAX_DEPTH;
 use image::limits::RECORD_BYTES;
 use image::records::FIRST_LINK;
@@ -62,12 +63,10 @@ pub fn write_before(s: &[u8], node: usize, out: &mut [u8], levels: &mut [u32]) -
     ensures { λ r. ⌜ ((p : Plan) (c : Focus) → StandingP (now (s .entry)) 0 p → focus node p ≡ some c → StandingP (now (s .entry)) node (c .plan) →
         Before (now (out .exit)) (now (levels .exit)) p node (c .plan) r) ⌝ }
 {
-    // The old tree is written only to count its records.
-    let size = copy_plan(s, node, out, 0, 1);
     let records = write_whole(s, out, levels);
     Spot {
         level: wide(levels[node]),
-        end: node + size,
+        end: tree_end(record_at(s, node), node),
         records,
     }
 }

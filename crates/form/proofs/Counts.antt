@@ -5,7 +5,7 @@ use mathlib.Core.Bool.{Bool, true, false, not, cond, _&&_}
 use mathlib.Core.List.{List}
 use Prim.Native.Nat.{ℕ, suc, _+_, _-_, _*_, _≤_}
 use native.Mathlib.Omega.{arith}
-use lib.Dec.{leb}
+use lib.Dec.{eqb, leb}
 use lib.ListN.{length, drop, length-drop}
 use borrow.Author.Tests.{eq-eqb, ne-eqb, eqb-true}
 use Rattle.image.specs.Tree.{Label, Forest, none, node, size, Stands, Linked, Node, nodeOf}
@@ -43,6 +43,19 @@ fits-aggregate k p f {x} {y} e a b = rw (a, b, e, input-alone f) (both (meets p 
 pub fits-other : (k p : ℕ) (f : Forest) {x : Bool} → (k ≡ 42 → ⊥) → x ≡ meets p f → x ≡ fitting k p f
 unfolding fitting _&_
 fits-other k p f {x} e a = rw (a, ne-eqb k 42 e) (sym (and-true (meets p f)))
+
+-- the pattern of a leaf
+no-children : (f : Forest) → meets 0 f ≡ end f
+unfolding meets item lastItem sortOf
+no-children f = refl
+
+at-end : (f : Forest) (s : List ℕ) (b at : ℕ) → Linked f s b at → eqb at 0 ≡ end f
+unfolding end
+at-end none s b at h = eq-eqb at 0 h
+at-end (node l cs ns) s b at h = ne-eqb at 0 (λ z. omega (arith, h .0))
+
+pub leaf-meets : (p : ℕ) (f : Forest) (s : List ℕ) (b at : ℕ) → p ≡ 0 → Linked f s b at → eqb at 0 ≡ meets p f
+leaf-meets p f s b at e h = at-end f s b at h ∙ sym (no-children f) ∙ ap (λ n. meets n f) (sym e)
 
 -- ---- records are bytes
 

@@ -7,6 +7,7 @@ use crate::kinds::Sort;
 use crate::kinds::TABLE_SCAN;
 use crate::kinds::of_sort;
 use crate::patterns::INPUT;
+use crate::patterns::LEAF;
 use crate::patterns::OPERANDS;
 use crate::patterns::meets_pattern;
 use crate::patterns::pattern_of;
@@ -32,6 +33,10 @@ pub fn children_ok(s: &[u8], base: usize, first: usize, kind: usize) -> bool
     let pattern = pattern_of(kind);
     if kind == AGGREGATE {
         return meets_pattern(s, base, first, pattern) & !meets_pattern(s, base, first, INPUT);
+    }
+    // Most records of an image are leaves.
+    if pattern == LEAF {
+        return first == 0;
     }
     meets_pattern(s, base, first, pattern)
 }

@@ -63,6 +63,9 @@ const PARTS: [usize; 6] = [
 // No children meet it.
 const NEVER: usize = 99999999;
 
+// No children.
+pub const LEAF: usize = 0;
+
 // Two expressions.
 pub const OPERANDS: usize = 11110000;
 

@@ -1,7 +1,9 @@
 pub mod Walking
 pub mod Stepping
 pub mod Along
+pub mod Ending
 pub mod Lowest
+pub mod Finding
 pub mod Writing
 pub mod Room
 pub mod Reading

@@ -1,7 +1,7 @@
 -- Laws of `lowest`, the lowest record of a forest that breaks a rule.
 --     Passes, passes, finds-nothing   it finds nothing if and only if the rule holds of all records
 --     lowest-is                       it is the first, by number, of which the rule does not hold
---     lowest-turn, found-here, ..     a turn of a walk that looks for it: one law for all rules
+--     lowest-link, lowest-none        by the link to a forest; of no records
 -- Assumes nothing.
 use mathlib.Core.Path.{_≡_, refl, ap, _∙_}
 use mathlib.Core.Bool.{Bool, true, false}
@@ -9,10 +9,8 @@ use mathlib.Core.List.{List, [], _∷_, _++_}
 use Prim.Native.Nat.{ℕ, suc, _+_, _*_, _-_}
 use native.Mathlib.Omega.{arith}
 use lib.ListN.{length, drop, length-append}
-use Rattle.image.specs.Word.{word}
 use Rattle.image.specs.Tree.{Label, Forest, none, node, size, link}
 use Rattle.image.specs.Lowest.{firstFalse, Found, nothing, found, orElse, unless, lowest}
-use Rattle.image.proofs.Walking.{Turn}
 
 -- ---- nothing found
 
@@ -112,48 +110,3 @@ module _ {C : Type 0} (rule : C → Label → Forest → Bool) (hand : C → Lab
   pub lowest-none : (c after : C) (b : ℕ) (f : Forest) → f ≡ none → lowest rule hand c after b f ≡ nothing
   unfolding lowest
   lowest-none c after b f e = rw e
-
-  -- the walk stands at the first record of f, and u is what it has there
-  module _ (c after : C) (f : Forest) (s : List ℕ) (b at : ℕ) (u : Turn f s b at) where
-    -- the label of the record at which the walk stands
-    abbrev pub child : Label
-    child = u .child .label
-
-    -- its children
-    abbrev pub kids : Forest
-    kids = u .child .below
-
-    -- what is found among its children, by the link to them
-    abbrev pub found-in-kids : Found
-    found-in-kids = lowest rule hand (hand c child kids .0) (hand c child kids .1) (word (drop (32 * (at - b)) s) 24) kids
-
-    -- what is found among its siblings, by the link to them
-    abbrev pub found-in-rest : Found
-    found-in-rest = lowest rule hand after after (word (drop (32 * (at - b)) s) 28) (u .after)
-
-    -- the record, then its children, then its siblings
-    pub lowest-turn : lowest rule hand c after at f ≡ orElse (unless (rule c child kids) at) (orElse found-in-kids found-in-rest)
-    unfolding lowest
-    lowest-turn =
-        ap (lowest rule hand c after at) (u .is)
-        ∙ rw (
-          u .here .head .first,
-          u .number,
-          lowest-link (hand c child kids .0) (hand c child kids .1) (at + 1) kids,
-          lowest-link after after (at + 1 + size kids) (u .after),
-        )
-
-    -- the rule does not hold of the record
-    pub found-here : rule c child kids ≡ false → lowest rule hand c after at f ≡ found at
-    unfolding orElse unless
-    found-here e = lowest-turn ∙ rw e
-
-    -- it holds, and does not hold of a record below
-    pub found-below : (r : ℕ) → rule c child kids ≡ true → found-in-kids ≡ found r → lowest rule hand c after at f ≡ found r
-    unfolding orElse unless
-    found-below r e h = lowest-turn ∙ rw (e, h)
-
-    -- it holds, and of all records below: the walk goes on
-    pub found-after : rule c child kids ≡ true → found-in-kids ≡ nothing → lowest rule hand c after at f ≡ found-in-rest
-    unfolding orElse unless
-    found-after e h = lowest-turn ∙ rw (e, h)

@@ -60,7 +60,7 @@ module _ {s : List ℕ} {node : ℕ} {w : Plan} {c : Focus} (h : Inside s node w
 
   pub sized : Sized s
   unfolding sizeP
-  sized = record { tree = planTree w; at = h .root .here; deep = h .root .deep; few = few-records }
+  sized = record { tree = planTree w; at = h .root .here; deep = h .root .deep; few = few-records; short = h .short }
 
   -- what stands at the record
   pub stands-inside : StandingP s node (c .plan)

@@ -1,8 +1,8 @@
 // The call `pass` on any bytes, for any budget and any room: the image is checked, the pass made and its plan handed out, or it is refused.
 use crate::walking::Walk;
-use crate::walking::copy_image;
 use crate::walking::visit_all;
 use answers::handing_out::clear;
+use answers::handing_out::copy_bytes;
 use answers::handing_out::hand_out;
 use checking::Checked;
 use checking::check;
@@ -56,7 +56,7 @@ fn pass_on(
     ensures { λ r. ⌜ Small r × (passedOf r (now (out .exit))
         ≡ reported (length (now (out .entry))) (pass-call budget (length (now (out .entry))) (planIn (now (image .entry))))) ⌝ }
 {
-    copy_image(image, image.len(), a);
+    copy_bytes(image, image.len(), a);
     let w = visit_all(image.len() / RECORD_BYTES, budget, a, m, work, levels);
     if !w.fits {
         clear(out);

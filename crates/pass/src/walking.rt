@@ -1,4 +1,5 @@
 // The walk of a pass: from each record that holds a plan to the next one, with the rewrite there, while the budget lasts.
+use answers::handing_out::copy_bytes;
 use conjuncts::reading::record_at;
 use image::limits::RECORD_BYTES;
 use image::words::word_at;
@@ -7,7 +8,7 @@ use rewriting::nodes::rewrite;
 use utils::fields::is_plan;
 ghost use mathlib.Core.Path.{_≡_};
 ghost use Prim.Native.Nat.{_*_, _≤_, _<_};
-ghost use lib.ListN.{length, take};
+ghost use lib.ListN.{length};
 ghost use Rattle.image.specs.Limits.{workBytes, maxRecords};
 ghost use Rattle.plan.specs.Syntax.{Plan};
 ghost use Rattle.acceptance.specs.Accepted.{WellFormed, Accepted};
@@ -39,18 +40,6 @@ fn next_plan(s: &[u8], from: usize) -> usize
         i += 1;
     }
     records
-}
-
-// Copies the first n bytes.
-pub fn copy_image(from: &[u8], n: usize, to: &mut [u8])
-    requires { ⌜ (n ≤ length (now from)) × (n ≤ length (now to)) ⌝ }
-    ensures { λ _. ⌜ take n (now (to .exit)) ≡ take n (now (from .entry)) ⌝ }
-{
-    let mut i = 0;
-    while i < n {
-        to[i] = from[i];
-        i += 1;
-    }
 }
 
 // A visit left so many records, and raised the flag or not: it is counted, and the walk goes on behind it.
@@ -90,7 +79,7 @@ fn take_over(w: Walk, r: Outcome, work: &[u8], image: &mut [u8]) -> Walk
         };
     }
     if r.written {
-        copy_image(work, RECORD_BYTES * r.records, image);
+        copy_bytes(work, RECORD_BYTES * r.records, image);
         return go_on(w, r.records, r.flag, image);
     }
     go_on(w, w.records, r.flag, image)

@@ -32,7 +32,7 @@ use Rattle.rewrite.specs.PushDownFilter.{pushable, stay, move, rewrite-projecti
 use Rattle.rewrite.proofs.Staying.{none-in, all-left, kept-all, own-all}
 use Rattle.conjuncts.specs.Says.{LeftDeep}
 use Rattle.pushing.specs.Divided.{pushed}
-use Rattle.joining.specs.JoinPlans.{Plain}
+use Rattle.filters.specs.Plain.{Plain}
 use Rattle.merging.specs.Merging.{is-filter}
 use Rattle.pushing.specs.Movable.{mayMove}
 use Rattle.pushing.proofs.Divisions.{aggregate-pushed, window-pushed, project-kept, project-pushed}

@@ -1,7 +1,7 @@
 -- `children::children_ok` meets its contract.
 use mathlib.Core.Path.{_∙_}
 use borrow.Author.Needs.{needs}
-use Rattle.form.proofs.Counts.{fits-aggregate, fits-other}
+use Rattle.form.proofs.Counts.{fits-aggregate, fits-other, leaf-meets}
 use Rattle.form.proofs.children.children_ok.Statement.{statement}
 use Rattle.form.proofs.children.children_ok.Tie as tie
 
@@ -14,5 +14,6 @@ children-ok-spec =
     (λ c κs. search needs)
     (λ c f h. fits-aggregate _ _ f (c .before .before .if1 .taken) (c .before .meets-pattern .ensures f h) (c .meets-pattern2 .ensures f h)
     ∙ c .before .before .before .pattern-of .ensures f)
+    (λ c f h. fits-other _ _ f (c .before .if1 .left) (leaf-meets _ f _ _ _ (c .if2 .taken) h) ∙ c .before .before .pattern-of .ensures f)
     (λ c κs. search needs)
-    (λ c f h. fits-other _ _ f (c .before .if1 .left) (c .meets-pattern3 .ensures f h) ∙ c .before .before .pattern-of .ensures f))
+    (λ c f h. fits-other _ _ f (c .before .before .if1 .left) (c .meets-pattern3 .ensures f h) ∙ c .before .before .before .pattern-of .ensures f))

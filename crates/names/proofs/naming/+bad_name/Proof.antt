@@ -12,7 +12,7 @@ use Rattle.plan.specs.Kinds.{whatOf}
 use Rattle.finding.specs.Count.{role}
 use Rattle.finding.specs.Rules.{nameOk, hand}
 use Rattle.finding.specs.Scopes.{scopeOf}
-use Rattle.names.proofs.Finding.{place-none, place-here, place-below, place-after}
+use Rattle.image.proofs.Finding.{place-none, place-here, place-below, place-after}
 use Rattle.names.proofs.NameRule.{sound-first, sound-rest, sound-next, sound-below, sort-of-part, sort-of-plan}
 use Rattle.finding.proofs.Scoping.{hand-plan, hand-part}
 use borrow.Fn.Kinds.{In}
@@ -78,7 +78,7 @@ pub +bad-name-spec : {M : Type 1} → statement M
     (c .before .before .before .look .ensures) in let here = scopeOf
     (c .before .before .before .before .before .before .before .before .args .here) e in let after = scopeOf
     (c .before .before .before .before .before .before .before .before .args .after) e in
-    place-here nameOk hand here after w
+    place-here nameOk hand w here after _ _ refl refl
     (sym (c .before .name-ok .ensures (w .label) (w .below) e (w .kind) (w .p) (w .q) (w .first) g (sound-first w _ k)) ∙ not-true _ (c .if2 .taken)))
     (λ c κs. tt)
     (λ c κs. tt)
@@ -134,13 +134,13 @@ pub +bad-name-spec : {M : Type 1} → statement M
     sym (c .before .before .before .before .before .before .before .before .name-ok .ensures (w .label) (w .below) e (w .kind) (w .p) (w .q)
     (w .first) g (sound-first w _ k))
     ∙ not-false _ (c .before .before .before .before .before .before .before .if2 .left) in
-    place-below nameOk hand here after w _ _
+    place-below nameOk hand w here after _ _
     (hand-part w (c .before .before .before .before .before .before .before .before .before .before .before .before .before .before .before .args .here) e
     (sort-of-part (whatOf (c .before .before .before .before .before .before .before .before .before .before .look .result .kind))
     (sym (c .before .before .before .before .before .before .before .before .before .role-of .ensures) ∙
     c .before .before .before .before .before .before .if3 .taken)) refl
     (c .before .before .before .before .before .first-sort .ensures) (c .before .before .before .before .rest-sort .ensures))
-    _ ok (sym (c .before .below .given .1) ∙ c .before .before .before .bad-name .ensures (w .below) e (w .first) g (λ i l. absurd (omega arith))))
+    refl _ ok (sym (c .before .below .given .1) ∙ c .before .before .before .bad-name .ensures (w .below) e (w .first) g (λ i l. absurd (omega arith))))
     (λ c f e h g k. let w = step f h (c .before .before .before .before .before .before .before .before .before .before .before .before .if1 .left)
     (c .before .before .before .before .before .before .before .before .before .before .before .from-record .ensures)
     (c .before .before .before .before .before .before .before .before .before .before .look .ensures) in let here = scopeOf
@@ -154,13 +154,13 @@ pub +bad-name-spec : {M : Type 1} → statement M
     c .bad-name2 .ensures (w .after) e (w .next) g
     (sound-rest w _ (c .before .before .before .before .before .before .before .before .before .role-of .ensures) _ k
     (c .before .before .before .before .before .before .if3 .taken))
-    ∙ place-after nameOk hand here after w _ _
+    ∙ place-after nameOk hand w here after _ _
     (hand-part w (c .before .before .before .before .before .before .before .before .before .before .before .before .before .before .before .args .here) e
     (sort-of-part (whatOf (c .before .before .before .before .before .before .before .before .before .before .look .result .kind))
     (sym (c .before .before .before .before .before .before .before .before .before .role-of .ensures) ∙
     c .before .before .before .before .before .before .if3 .taken)) refl
     (c .before .before .before .before .before .first-sort .ensures) (c .before .before .before .before .rest-sort .ensures))
-    ok (sym (c .before .enum-told .given .1) ∙ c .before .before .before .bad-name .ensures (w .below) e (w .first) g (λ i l. absurd (omega arith))))
+    refl ok (sym (c .before .enum-told .given .1) ∙ c .before .before .before .bad-name .ensures (w .below) e (w .first) g (λ i l. absurd (omega arith))))
     (λ c f e h g k. let w = step f h (c .before .before .before .before .before .before .before .before .before .before .before .before .if1 .left)
     (c .before .before .before .before .before .before .before .before .before .before .before .from-record .ensures)
     (c .before .before .before .before .before .before .before .before .before .before .look .ensures) in let here = scopeOf
@@ -171,12 +171,12 @@ pub +bad-name-spec : {M : Type 1} → statement M
     sym (c .before .before .before .before .before .before .before .before .name-ok .ensures (w .label) (w .below) e (w .kind) (w .p) (w .q)
     (w .first) g (sound-first w _ k))
     ∙ not-false _ (c .before .before .before .before .before .before .before .if2 .left) in
-    place-below nameOk hand here after w _ _ (hand-plan w here _ (c .before .before .before .before .before .sort-of .ensures)
+    place-below nameOk hand w here after _ _ (hand-plan w here _ (c .before .before .before .before .before .sort-of .ensures)
     (λ x. c .before .before .before .before .before .before .if3 .left
     (c .before .before .before .before .before .before .before .before .before .role-of .ensures ∙ sort-of-plan
     (whatOf (c .before .before .before .before .before .before .before .before .before .before .look .result .kind))
     (sym (c .before .before .before .before .before .sort-of .ensures) ∙ x))))
-    _ ok (sym (c .before .under .given .1) ∙ c .before .before .before .bad-name3 .ensures (w .below) (w .below) (w .first) (w .first)
+    refl _ ok (sym (c .before .under .given .1) ∙ c .before .before .before .bad-name3 .ensures (w .below) (w .below) (w .first) (w .first)
     (sound-below here (w .label) (w .below) _
     (c .before .before .before .before .before .before .before .before .before .role-of .ensures ∙ ap (λ (n : ℕ). role (whatOf n)) (w .kind))
     (c .before .before .before .before .before .before .if3 .left) (c .before .before .before .before .known-inputs .ensures) ok)))
@@ -194,12 +194,12 @@ pub +bad-name-spec : {M : Type 1} → statement M
     c .bad-name4 .ensures (w .after) e (w .next) g
     (sound-next w _ (c .before .before .before .before .before .before .before .before .before .before .role-of .ensures) _ k
     (c .before .but-one .ensures) (c .before .before .before .before .before .before .before .if3 .left))
-    ∙ place-after nameOk hand here after w _ _ (hand-plan w here _ (c .before .before .before .before .before .before .sort-of .ensures)
+    ∙ place-after nameOk hand w here after _ _ (hand-plan w here _ (c .before .before .before .before .before .before .sort-of .ensures)
     (λ x. c .before .before .before .before .before .before .before .if3 .left
     (c .before .before .before .before .before .before .before .before .before .before .role-of .ensures ∙ sort-of-plan
     (whatOf (c .before .before .before .before .before .before .before .before .before .before .before .look .result .kind))
     (sym (c .before .before .before .before .before .before .sort-of .ensures) ∙ x))))
-    ok (sym (c .before .before .enum-told2 .given .1) ∙ c .before .before .before .before .bad-name3 .ensures (w .below) (w .below) (w .first)
+    refl ok (sym (c .before .before .enum-told2 .given .1) ∙ c .before .before .before .before .bad-name3 .ensures (w .below) (w .below) (w .first)
     (w .first) (sound-below here (w .label) (w .below) _
     (c .before .before .before .before .before .before .before .before .before .before .role-of .ensures ∙ ap (λ (n : ℕ). role (whatOf n))
     (w .kind))

@@ -21,7 +21,7 @@ take-over-spec =
     (λ c κs. let b = c .before .before .before .before .before .before in
     let p = b .before .before .before .before .before .pre in
     let k = room-written (p .0) (told (b .before .if1 .left)) (b .if2 .taken) in
-    let e = c .before .before .before .copy-image .kept in
+    let e = c .before .before .before .copy-bytes .kept in
     (counted (p .0), (omega (arith, k, e, p .1), omega (arith, e, p .1), next-few (p .0) (p .1 .1))))
     (λ c. search needs)
     (λ c. (
@@ -29,7 +29,7 @@ take-over-spec =
       λ q k.
           let b = c .before .before .before .before .before .before .before in
           let f = told (b .before .if1 .left) in
-          let i = next-image k f (b .if2 .taken) (c .before .before .before .before .copy-image .ensures) in
+          let i = next-image k f (b .if2 .taken) (c .before .before .before .before .copy-bytes .ensures) in
           visited-granted k f (c .go-on .ensures .1 _ (next-well k f) i),
     ))
     (λ c κs. let p = c .before .before .before .before .before .before .pre in

@@ -12,7 +12,8 @@ use Rattle.finding.specs.Rules.{typeOk, hand}
 use Rattle.finding.specs.Scopes.{scopeOf}
 use Rattle.finding.proofs.Scoping.{hand-plan, hand-part}
 use Rattle.types.proofs.Demanding.{tree-at}
-use Rattle.types.proofs.Turning.{place-none, place-here, place-below, place-after, rule-of}
+use Rattle.image.proofs.Finding.{place-none, place-here, place-below, place-after}
+use Rattle.types.proofs.Turning.{rule-of}
 use borrow.Fn.Kinds.{In}
 use borrow.Fn.PlainCycle.{Measures, is, falls, and}
 use Rattle.types.proofs.walk.bad_type.Reads as bad-type
