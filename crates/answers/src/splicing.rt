@@ -10,7 +10,6 @@ use image::limits::MAX_DEPTH;
 use image::limits::RECORD_BYTES;
 use image::records::FIRST_LINK;
 use image::words::word_at;
-use writing::filtering::copy_plan;
 ghost use mathlib.Core.Path.{_≡_};
 ghost use mathlib.Core.Option.{some};
 ghost use Prim.Native.Nat.{_-_, _*_, _≤_, _<_};
