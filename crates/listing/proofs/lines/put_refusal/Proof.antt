@@ -1,0 +1,20 @@
+-- `lines::put_refusal` meets its contract.
+use native.Mathlib.Omega.{arith}
+use borrow.Author.Needs.{needs}
+use Rattle.listing.specs.Listing.{refusal}
+use Rattle.listing.proofs.Appending.{appended}
+use Rattle.listing.proofs.lines.put_refusal.Statement.{statement}
+use Rattle.listing.proofs.lines.put_refusal.Tie as tie
+
+pub put-refusal-spec : {M : Type 1} → statement M
+unfolding refusal
+put-refusal-spec =
+    tie.close
+    (tie.spec
+    (λ c. search needs)
+    (λ c κs. search needs)
+    (λ c. search needs)
+    (λ c κs. search needs)
+    (λ c κs. search needs)
+    (λ c. search needs)
+    (λ c. (appended (c .before .before .before .before .before .before .before .before .before .before .before .put-named .ensures .0) (appended (c .before .before .before .before .before .before .put-named2 .ensures .0) (c .before .before .put-byte .ensures)), omega arith)))
