@@ -1,7 +1,7 @@
 -- What a pass came to: refused, with the text of the refusal; or granted, with a well-formed plan at the start of the output.
-use Prim.Native.Nat.{ℕ, suc, _+_, _*_, _/_, _≤_, _<_}
+use Prim.Native.Nat.{ℕ, _/_, _≤_, _<_}
 use native.Mathlib.Omega.{arith}
-use mathlib.Core.Path.{_≡_, refl, sym, ap, subst, _∙_}
+use mathlib.Core.Path.{_≡_, refl, sym}
 use mathlib.Core.Bool.{Bool, true, false}
 use mathlib.Core.List.{List, _++_}
 use lib.ListN.{length}
@@ -24,7 +24,7 @@ use Rattle.acceptance.specs.Check.{bufferOk, badWords, Links, tree, broken, lin
 use Rattle.acceptance.specs.Check.{check}
 use Rattle.acceptance.specs.Names.{badName}
 use Rattle.acceptance.specs.Types.{badType}
-use Rattle.rewrite.specs.OnBytes.{imageOf, planIn, isAccepted, zeros, filled, Passed, no-pass, reported, pass-bytes}
+use Rattle.rewrite.specs.OnBytes.{imageOf, planIn, isAccepted, filled, Passed, no-pass, reported, pass-bytes}
 use Rattle.rewrite.specs.Pass.{PassAnswer, passed, pass-refused, pass-call}
 use Rattle.rewrite.proofs.PassKeeps.{left-by-pass, pass-leaves}
 use Rattle.preservation.proofs.Granted.{granted-well}

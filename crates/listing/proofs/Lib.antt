@@ -2,3 +2,4 @@ pub mod Appending
 pub mod Decimals
 pub mod Records
 pub mod Answers
+pub mod Example

@@ -1,11 +1,11 @@
 -- Laws of lines: how long one is, and the lines of a tree that is written flat.
-use Prim.Native.Nat.{ℕ, zero, suc, _+_, _-_, _*_, _≤_, _<_}
+use Prim.Native.Nat.{ℕ, zero, suc, _+_, _*_, _≤_, _<_}
 use native.Mathlib.Omega.{arith}
 use native.Mathlib.Nat.{zero-add}
 use native.Mathlib.Numerals.{add-one}
-use mathlib.Core.Path.{_≡_, refl, sym, ap, _∙_}
-use mathlib.Core.List.{List, [], _∷_, _++_, append-assoc, append-nil}
-use lib.ListN.{length, take, drop, length-append}
+use mathlib.Core.Path.{_≡_, refl, ap, _∙_}
+use mathlib.Core.List.{List, _++_, append-assoc, append-nil}
+use lib.ListN.{length, drop, length-append}
 use lib.Seq.{drop-at, drop-drop}
 use Rattle.image.specs.Lowest.{alone}
 use Rattle.image.specs.Word.{word, le}

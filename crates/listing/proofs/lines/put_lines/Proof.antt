@@ -1,8 +1,7 @@
 -- `lines::put_lines` meets its contract. The loop's invariant: the lines of the records passed are written.
 use Prim.Native.Nat.{_-_, _≤_}
-use mathlib.Core.Path.{_≡_, refl, _∙_}
+use mathlib.Core.Path.{_≡_, refl}
 use native.Mathlib.Omega.{arith}
-use borrow.Author.Needs.{needs}
 use lib.ListN.{length, length-drop}
 use Rattle.listing.proofs.Records.{Listed, listed-none, listed-next, listed-all}
 use Rattle.listing.proofs.lines.put_lines.Statement.{statement}
@@ -27,10 +26,14 @@ put-lines-spec =
     (λ c κs. (c .label-at .ensures .1, c .before .word-at .ensures .1, omega (arith, c .before .before .before .before .before .loop .inv .2 .short)))
     (λ c. omega arith)
     (λ c. omega arith)
-    (λ c. let k = c .before .before .before .before .before .before .before .before .loop .inv in
+    (λ c. let b = c .before .before .before .before .before .before in
+    let k = b .before .before .loop .inv in
     let w = c .before .before .put-record in
     let l = c .before .before .before .label-at .ensures in
-    let d = c .before .before .before .before .word-at .ensures in
-    (omega arith, omega (arith, w .kept, k .1), listed-next _ _ (c .before .before .before .before .before .before .record-at .ensures) (d .0) (l .0) (d .1) (l .1) (k .2) (w .ensures)))
+    let d = c .before .before .before .before .word-at .ensures in (
+      omega arith,
+      omega (arith, w .kept, k .1),
+      listed-next _ _ (b .record-at .ensures) (d .0) (l .0) (d .1) (l .1) (k .2) (w .ensures),
+    ))
     (λ c. c .before .loop .inv .1)
     (λ c. listed-all _ _ (omega arith) (omega arith) (c .before .loop .inv .2)))

@@ -11,9 +11,15 @@ pub put-record-spec : {M : Type 1} → statement M
 put-record-spec =
     tie.close
     (tie.spec
-    (λ c κs. let p = c .before .before .pre in omega (arith, word-digits (p .1)))
-    (λ c κs. let p = c .before .before .before .before .before .before .pre in (p .0 .kind, p .0 .p, p .0 .q, omega (arith, word-digits (p .1))))
-    (λ c κs. let p = c .before .before .before .before .before .before .before .before .before .before .pre in (p .0 .r, p .0 .lo, p .0 .hi, omega (arith, word-digits (p .1))))
-    (λ c κs. let p = c .before .before .before .before .before .before .before .before .before .before .before .before .before .before .pre in omega (arith, word-digits (p .1)))
+    (λ c κs. omega (arith, word-digits (c .before .before .pre .1)))
+    (λ c κs. let d = word-digits (c .before .before .before .before .before .before .pre .1) in search needs)
+    (λ c κs. let d = word-digits (c .before .before .before .before .before .before .before .before .before .before .pre .1) in search needs)
+    (λ c κs. let b = c .before .before .before .before .before .before .before in
+    omega (arith, word-digits (b .before .before .before .before .before .before .before .pre .1)))
     (λ c. search needs)
-    (λ c. rw (line-words _ (c .before .before .before .before .before .before .before .before .before .before .before .before .before .before .before .before .before .args .label)) (appended (c .before .before .before .before .before .before .before .before .before .before .before .before .before .before .put-decimal .ensures) (appended (c .before .before .before .before .before .before .before .before .before .before .put-words .ensures .0) (appended (c .before .before .before .before .before .before .put-words2 .ensures .0) (c .before .before .put-byte .ensures))))))
+    (λ c. let k = c .before .before .before .before .before .before in
+    let j = k .before .before .before .before in
+    let i = j .before .before .before .before in
+    rw (line-words _ (i .before .before .before .args .label))
+    (appended (i .put-decimal .ensures)
+    (appended (j .put-words .ensures .0) (appended (k .put-words2 .ensures .0) (c .before .before .put-byte .ensures))))))

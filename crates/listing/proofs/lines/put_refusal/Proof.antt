@@ -17,4 +17,6 @@ put-refusal-spec =
     (λ c κs. search needs)
     (λ c κs. search needs)
     (λ c. search needs)
-    (λ c. (appended (c .before .before .before .before .before .before .before .before .before .before .before .put-named .ensures .0) (appended (c .before .before .before .before .before .before .put-named2 .ensures .0) (c .before .before .put-byte .ensures)), omega arith)))
+    (λ c. let j = c .before .before .before .before .before .before in
+    let i = j .before .before .before .before .before in
+    (appended (i .put-named .ensures .0) (appended (j .put-named2 .ensures .0) (c .before .before .put-byte .ensures)), omega arith)))

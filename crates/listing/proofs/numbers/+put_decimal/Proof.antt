@@ -38,9 +38,13 @@ pub +put-decimal-spec : {M : Type 1} → statement M
     (λ c κs. omega arith)
     (λ c κs. omega (arith, length-one _ (c .before .before .if1 .taken)))
     (λ c. search needs)
-    (λ c. wrote-one _ (c .before .before .before .before .before .if1 .taken) (c .before .before .before .digit .ensures) (c .before .before .put-byte .ensures))
+    (λ c. let b = c .before .before .before in
+    wrote-one _ (b .before .before .if1 .taken) (b .digit .ensures) (c .before .before .put-byte .ensures))
     (λ c κs. (omega arith, omega (arith, length-more _ (c .before .if1 .left))))
     (λ c κs. omega arith)
-    (λ c κs. omega (arith, length-more _ (c .before .before .before .before .before .before .if1 .left), c .before .before .before .before .put-decimal .ensures .end))
+    (λ c κs. let b = c .before .before .before .before in
+    omega (arith, length-more _ (b .before .before .if1 .left), b .put-decimal .ensures .end))
     (λ c. search needs)
-    (λ c. wrote-more _ (c .before .before .before .before .before .before .before .before .before .if1 .left) (c .before .before .before .digit2 .ensures) (c .before .before .before .before .before .before .before .put-decimal .ensures) (c .before .before .put-byte2 .ensures))
+    (λ c. let b = c .before .before .before in
+    let d = b .before .before .before .before in
+    wrote-more _ (d .before .before .if1 .left) (b .digit2 .ensures) (d .put-decimal .ensures) (c .before .before .put-byte2 .ensures))

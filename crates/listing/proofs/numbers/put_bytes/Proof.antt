@@ -2,10 +2,7 @@
 use Prim.Native.Nat.{_+_, _-_, _≤_}
 use mathlib.Core.Path.{_≡_, refl}
 use native.Mathlib.Omega.{arith}
-use native.Mathlib.Nat.{add-zero}
-use borrow.Author.Needs.{needs}
 use lib.ListN.{length, take, length-set}
-use lib.Seq.{take-all}
 use Rattle.listing.specs.Written.{Appended}
 use Rattle.listing.proofs.Appending.{appended-none, appended-next, appended-all}
 use Rattle.listing.proofs.numbers.put_bytes.Statement.{statement}
