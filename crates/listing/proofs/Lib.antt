@@ -1,0 +1,5 @@
+pub mod Appending
+pub mod Decimals
+pub mod Records
+pub mod Answers
+pub mod Example

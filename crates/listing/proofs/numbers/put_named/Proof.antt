@@ -1,0 +1,21 @@
+-- `numbers::put_named` meets its contract.
+use borrow.Author.Needs.{needs}
+use native.Mathlib.Omega.{arith}
+use Rattle.listing.specs.Listing.{named}
+use Rattle.listing.proofs.Appending.{appended}
+use Rattle.listing.proofs.Decimals.{spaced-long}
+use Rattle.listing.proofs.numbers.put_named.Statement.{statement}
+use Rattle.listing.proofs.numbers.put_named.Tie as tie
+
+pub put-named-spec : {M : Type 1} → statement M
+unfolding named
+put-named-spec =
+    tie.close
+    (tie.spec
+    (λ c κs. search needs)
+    (λ c κs. omega (arith, spaced-long {n = c .before .before .before .before .before .before .before .args .n} (omega arith)))
+    (λ c. search needs)
+    (λ c. let k = c .before .before .put-spaced .ensures in
+    let j = c .before .before .before .before .before .before .put-bytes .ensures in
+    let n = c .before .before .before .before .before .before .before .before .before .before .args .n in
+    (appended j k, omega (arith, j .end, k .end, spaced-long {n = n} (omega arith)))))
