@@ -2,7 +2,7 @@
 use Prim.Native.Nat.{ℕ, zero, suc, _+_, _-_, _*_, _/_, _≤_, _<_}
 use native.Mathlib.Omega.{arith}
 use native.Mathlib.Numerals.{add-one}
-use mathlib.Core.Path.{_≡_, sym, ap, subst, _∙_}
+use mathlib.Core.Path.{_≡_, refl, sym, ap, subst, _∙_}
 use mathlib.Core.Bool.{Bool, true, false}
 use mathlib.Core.List.{List}
 use mathlib.Core.Option.{none, some}
@@ -143,6 +143,18 @@ module _ {s : List ℕ} {w : Walk} {q : Plan} (h : Stands s w q) (small : w .nex
     there = h .there small .there;
     outcomes = o q (h .there small .spot) inside-next;
   }
+
+-- what is not true is false
+refuted : (b : Bool) → (b ≡ true → ⊥) → b ≡ false
+refuted true n = absurd (n refl)
+refuted false n = refl
+
+-- where the rewrite comes to the plan that stood, nothing was written
+pub unwritten : {s : List ℕ} {w : Walk} {q : Plan} {c : Focus} {b : Bool} → Stands s w q
+    → ((p : Plan) (d : Focus) → Inside (take (32 * w .records) s) (w .next) p d → b ≡ true → answer d ≡ p → ⊥)
+    → focus (w .next) q ≡ some c → answer c ≡ q → b ≡ false
+unwritten {q = q} {c = c} {b = b} h changes there same =
+    refuted b (λ y. changes q c (inside-of _ q (accepted-part (h .well) (h .image)) there) y same)
 
 pub found-next : {s : List ℕ} {w : Walk} → Standing s w → w .next < w .records → Found (take (32 * w .records) s) (w .next)
 found-next h small = record { whole = h .plan; spot = _; inside = inside-next (h .stands) small }

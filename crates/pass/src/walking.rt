@@ -7,13 +7,16 @@ use rewriting::nodes::Outcome;
 use rewriting::nodes::rewrite;
 use utils::fields::is_plan;
 ghost use mathlib.Core.Path.{_≡_};
+ghost use mathlib.Core.Bool.{false};
+ghost use mathlib.Core.Option.{some};
 ghost use Prim.Native.Nat.{_*_, _≤_, _<_};
 ghost use lib.ListN.{length};
 ghost use Rattle.image.specs.Limits.{workBytes, maxRecords};
 ghost use Rattle.plan.specs.Syntax.{Plan};
 ghost use Rattle.acceptance.specs.Accepted.{WellFormed, Accepted};
 ghost use Rattle.rewrite.specs.Pass.{pass};
-ghost use Rattle.rewriting.specs.Outcomes.{Image};
+ghost use Rattle.rewrite.specs.RewriteAt.{Focus, focus};
+ghost use Rattle.rewriting.specs.Outcomes.{Image, answer};
 ghost use Rattle.pass.specs.Walks.{Next, Counted, Stands, Standing, rest, Continues, Came, Comes, Visited, goes-on, Begins, Ends, Lent};
 
 // Where a pass stands: whether each rewrite was within the limits; how many records the image has now, and the one to visit next, if it is one
@@ -62,11 +65,13 @@ fn go_on(w: Walk, records: usize, flag: bool, image: &[u8]) -> Walk
 }
 
 // What the rewrite at the next plan wrote takes the place of the image, and the walk goes on; or it ends there, if the answer is too large.
+// Where nothing was written, nothing is copied.
 fn take_over(w: Walk, r: Outcome, work: &[u8], image: &mut [u8]) -> Walk
     requires { ⌜ Comes (now image) (now work) w r ⌝ }
     requires { ⌜ (length (now work) ≡ workBytes) × (length (now image) ≡ workBytes) ⌝ }
     ensures { λ u. ⌜ (u .left < w .left)
-        × ((q : Plan) → Came (now (image .entry)) (now (work .entry)) w r q → Visited (now (image .exit)) u (rest w q)) ⌝ }
+        × ((q : Plan) → Came (now (image .entry)) (now (work .entry)) w r q → Visited (now (image .exit)) u (rest w q))
+        × (r .written ≡ false → now (image .exit) ≡ now (image .entry)) ⌝ }
 {
     if !r.fits {
         return Walk {
@@ -85,12 +90,14 @@ fn take_over(w: Walk, r: Outcome, work: &[u8], image: &mut [u8]) -> Walk
     go_on(w, w.records, r.flag, image)
 }
 
-// Visits the next plan.
+// Visits the next plan. A visit that changes nothing copies nothing.
 fn visit(w: Walk, image: &mut [u8], m: &mut [u8], work: &mut [u8], levels: &mut [u32]) -> Walk
     requires { ⌜ Standing (now image) w ⌝ }
     requires { ⌜ (w .next < w .records) × (0 < w .left) ⌝ }
     requires { ⌜ Lent (now image) (now m) (now work) (now levels) ⌝ }
-    ensures { λ r. ⌜ (r .left < w .left) × ((q : Plan) → Stands (now (image .entry)) w q → Visited (now (image .exit)) r (rest w q)) ⌝ }
+    ensures { λ r. ⌜ (r .left < w .left) × ((q : Plan) → Stands (now (image .entry)) w q → Visited (now (image .exit)) r (rest w q))
+        × ((q : Plan) (c : Focus) → Stands (now (image .entry)) w q → focus (w .next) q ≡ some c → answer c ≡ q →
+        now (image .exit) ≡ now (image .entry)) ⌝ }
 {
     let end = RECORD_BYTES * w.records;
     let r = rewrite(&image[..end], w.next, m, work, levels);

@@ -2,7 +2,7 @@
 use native.Mathlib.Omega.{arith}
 use lib.ListN.{length-take}
 use borrow.Author.Needs.{needs}
-use Rattle.pass.proofs.Steps.{came-to, found-next, room-there}
+use Rattle.pass.proofs.Steps.{came-to, found-next, room-there, unwritten}
 use Rattle.pass.proofs.walking.visit.Statement.{statement}
 use Rattle.pass.proofs.walking.visit.Tie as tie
 
@@ -24,10 +24,10 @@ visit-spec =
     (λ c. search needs)
     (λ c. search needs)
     (λ c. search needs)
-    (λ c. (
-      c .before .before .take-over .ensures .0,
-      λ q h.
-          let b = c .before .before .before .before .before .before .before .before .before .before .before in
-          let p = b .before .before .before .before .before .before .before .before .before .before .pre in
-          c .before .before .take-over .ensures .1 q (came-to h (p .1 .0 .0) (p .1 .0 .1) (b .rewrite .ensures .0)),
+    (λ c. let b = c .before .before .before .before .before .before .before .before .before .before .before in
+    let p = b .before .before .before .before .before .before .before .before .before .before .pre in
+    let t = c .before .before .take-over .ensures in (
+      t .0,
+      λ q h. t .1 q (came-to h (p .1 .0 .0) (p .1 .0 .1) (b .rewrite .ensures .0)),
+      λ q f h e a. t .2 (unwritten h (b .rewrite .ensures .1) e a),
     )))
