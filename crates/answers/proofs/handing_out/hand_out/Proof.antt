@@ -13,4 +13,6 @@ hand-out-spec =
     (λ c κs. search needs)
     (λ c. search needs)
     (λ c. let b = c .before .before .before .before .before .before in
-    c .before .before .clear-from .ensures ∙ rw (b .copy-bytes .kept .1 .1 .0) (filled-is _ _ _ _ (c .before .before .before .before .before .before .before .before .before .before .pre .0) (b .copy-bytes .ensures))))
+    let e = b .copy-bytes in
+    c .before .before .clear-from .ensures
+    ∙ rw (e .kept .1 .1 .0) (filled-is _ _ _ _ (b .before .before .before .before .pre .0) (e .ensures))))
