@@ -8,7 +8,7 @@ use mathlib.Core.Option.{some}
 use Prim.Native.Nat.{ℕ, _+_, _-_, _*_, _≤_, _<_}
 use native.Mathlib.Omega.{arith}
 use lib.ListN.{length, getD, take, drop, length-append}
-use lib.Seq.{sets, sets-eq, take-at, drop-at}
+use lib.Seq.{sets, sets-eq, slice, take-all, take-at, length-take-le, drop-at}
 use Rattle.image.specs.Limits.{workBytes}
 use Rattle.image.specs.Word.{word}
 use Rattle.image.specs.Tree.{Tree}
@@ -24,7 +24,6 @@ use Rattle.rewrite.specs.RewriteAt.{Focus, focus}
 use Rattle.answers.specs.declared.splicing.Spot.{Spot}
 use Rattle.answers.specs.Splicing.{Levels, Before, Ran}
 use Rattle.answers.proofs.Spliced.{Split, split-at}
-use Rattle.answers.proofs.Whole.{begun-size, begun}
 
 -- three lists, one after another
 length-three : (a b c : List ℕ) → length (a ++ (b ++ c)) ≡ length a + (length b + length c)
@@ -72,19 +71,21 @@ module _ (p : Plan) (node : ℕ) (c : Focus) (f : focus node p ≡ some c) where
   node-small = omega (arith, within)
 
   -- what `write_before` leaves
-  pub before-of : {out₀ out₁ levels : List ℕ} {level end records : ℕ} → sizeT (planTree p) ≤ 2048 → length out₀ ≡ workBytes
-      → Wrote out₀ out₁ 0 1 records (planTree p) → Levels levels (planTree p) → level ≡ getD levels node 0
-      → end ≡ node + sizeT (planTree (c .plan))
+  pub before-of : {out₀ out₁ levels : List ℕ} {to level end records : ℕ} → sizeT (planTree p) ≤ 2048 → length out₀ ≡ workBytes
+      → Ran out₀ out₁ 0 (node - 0) to (slice (32 * 0) (32 * node) (flat 1 (planTree p))) → Levels levels (planTree p) → level ≡ getD levels node 0
+      → end ≡ node + sizeT (planTree (c .plan)) → records ≡ sizeT (planTree p)
       → Before out₁ levels p node (c .plan) (record { level = level; end = end; records = records })
   unfolding sizeP
-  before-of few long v l e n =
+  before-of {out₀} few long v l e n m =
+      let front : List ℕ = take (32 * node) (flat 1 (planTree p)) in
+      let all : length front ≡ 32 * node = length-take-le (32 * node) (flat 1 (planTree p)) (omega (arith, within, flat-length 1 (planTree p))) in
       record {
-        rest = _;
-        bytes = begun v long few;
+        bytes = ap (take (32 * node)) (v .bytes ∙ sets-eq front out₀ 0 (omega (arith, within)))
+            ∙ take-at front (drop (0 + length front) out₀) (32 * node) all;
         depths = l;
         level = e ∙ l .each node (omega (arith, within));
         end = n;
-        records = begun-size v few;
+        records = m;
       }
 
   -- the depth that was read is that of the plan
@@ -104,16 +105,18 @@ module _ (p : Plan) (node : ℕ) (c : Focus) (f : focus node p ≡ some c) where
       ap (drop (32 * (node + sizeT (planTree (c .plan))))) (at .is ∙ sym (append-assoc (at .before) old (at .after)))
       ∙ drop-at (at .before ++ old) (at .after) _ n
 
+  -- all of it
+  behind-all : (n : ℕ) → n ≡ sizeT (planTree p) → take (32 * n) (flat 1 (planTree p)) ≡ flat 1 (planTree p)
+  behind-all n e = take-all (32 * n) (flat 1 (planTree p)) (omega (arith, flat-length 1 (planTree p)))
+
   -- what was written in front of it
-  front-is : {out : List ℕ} (rest : List ℕ) → out ≡ flat 1 (planTree p) ++ rest → take (32 * node) out ≡ at .before
-  front-is rest e =
-      ap (take (32 * node)) (e ∙ (ap (_++ rest) (at .is) ∙ append-assoc (at .before) (old ++ at .after) rest))
-      ∙ take-at (at .before) ((old ++ at .after) ++ rest) (32 * node) (at .count)
+  front-is : (out : List ℕ) → take (32 * node) out ≡ take (32 * node) (flat 1 (planTree p)) → take (32 * node) out ≡ at .before
+  front-is out e = e ∙ (ap (take (32 * node)) (at .is) ∙ take-at (at .before) (old ++ at .after) (32 * node) (at .count))
 
   -- What is written before the new tree, the tree, and what is written after it, are the plan with the new one in the old one's place.
   pub spliced : {out levels : List ℕ} {r : Spot} {out₁ out₂ : List ℕ} {to n : ℕ} (q : Plan) → length out ≡ workBytes → sizeP p ≤ 2048
       → Before out levels p node (c .plan) r → Wrote out out₁ node (r .level) to (planTree q)
-      → Ran out₁ out₂ to (r .records - r .end) n (drop (32 * r .end) (flat 1 (planTree p)))
+      → Ran out₁ out₂ to (r .records - r .end) n (slice (32 * r .end) (32 * r .records) (flat 1 (planTree p)))
       → Begun out₂ n (planTree (c .back q))
   unfolding sizeP
   spliced {out} {r = r} {out₁} {out₂} {to} {n} q long few b w v =
@@ -121,7 +124,8 @@ module _ (p : Plan) (node : ℕ) (c : Focus) (f : focus node p ≡ some c) where
       let m = sizeT (planTree q) in
       let level : r .level ≡ at .level = level-is (r .level) (omega (arith, within)) (b .level) in
       let e₁ : out₁ ≡ sets out (32 * node) (new q) = rw level at (w .bytes) in
-      let e₂ : drop (32 * r .end) (flat 1 (planTree p)) ≡ at .after = rw (b .end) behind-is in
+      let e₂ : slice (32 * r .end) (32 * r .records) (flat 1 (planTree p)) ≡ at .after =
+      ap (drop (32 * r .end)) (behind-all (r .records) (b .records)) ∙ rw (b .end) behind-is in
       let e₃ : out₂ ≡ sets out (32 * node) (new q ++ at .after) =
       v .bytes ∙ rw (e₂, e₁) (sets-next out (new q) (at .after) node m to long (flat-length (at .level) (planTree q)) (w .next)) in
       let size : node + m + k ≡ sizeT (planTree (c .back q)) = omega (arith, within, within-new q, b .end, b .records) in
@@ -134,5 +138,5 @@ module _ (p : Plan) (node : ℕ) (c : Focus) (f : focus node p ≡ some c) where
             let l : length (new q ++ at .after) ≡ 32 * m + length (at .after) =
             length-append (new q) (at .after) ∙ rw (flat-length (at .level) (planTree q)) in
             e₃ ∙ (sets-eq (new q ++ at .after) out (32 * node) (omega (arith, within-new q))
-            ∙ rw (front-is (b .rest) (b .bytes), at .again q) (simp append-assoc));
+            ∙ rw (front-is out (b .bytes), at .again q) (simp append-assoc));
       }

@@ -1,7 +1,7 @@
--- A whole image written flat, record by record.
+-- An image written flat, record by record.
 --     begun           what was written from the start on
---     word-left       a word of the first of two lists
 --     record-step     the record i of the flat tree: the label at record i of the image, and its depth
+--     run-next        one more record is written
 -- Assumes nothing.
 use mathlib.Core.Path.{_≡_, refl, sym, ap, subst, _∙_}
 use mathlib.Core.Bool.{Bool, true, false}
@@ -10,9 +10,8 @@ use Prim.Native.Nat.{ℕ, zero, suc, _+_, _-_, _*_, _≤_, _<_}
 use native.Mathlib.Nat.{zero-add}
 use native.Mathlib.Omega.{arith}
 use lib.Dec.{leb}
-use lib.ListN.{length, getD, drop, set, List·getD-append, drop-of-length-le}
-use lib.Seq.{sets, sets-eq, drop-at, drop-drop, drop-append-add, getD-append-add, getD-set-same, getD-set-other}
-use borrow.Author.Count.{below-more}
+use lib.ListN.{length, getD, take, drop, List·getD-append, drop-of-length-le}
+use lib.Seq.{sets, sets-eq, slice, take-add, take-append-add, length-take-le, drop-at, drop-drop, drop-append-add, getD-append-add}
 use borrow.Author.Tests.{leb-true, leb-false}
 use Rattle.image.specs.Limits.{workBytes}
 use Rattle.image.specs.Word.{word}
@@ -40,35 +39,11 @@ module _ {out out′ : List ℕ} {n : ℕ} {t : Tree} (w : Wrote out out′ 0 1 
   pub begun : length out ≡ workBytes → sizeT t ≤ 2048 → out′ ≡ flat 1 t ++ drop (32 * sizeT t) out
   begun long few = w .bytes ∙ (sets-eq (flat 1 t) out 0 (omega (arith, flat-length 1 t)) ∙ rw (zero-add, flat-length))
 
--- a word of the first of two lists
-pub word-left : (xs ys : List ℕ) (i : ℕ) → i + 4 ≤ length xs → word (xs ++ ys) i ≡ word xs i
-unfolding word
-word-left xs ys i h =
-    rw (
-      List·getD-append xs ys 0 i (omega arith),
-      List·getD-append xs ys 0 (i + 1) (omega arith),
-      List·getD-append xs ys 0 (i + 2) (omega arith),
-      List·getD-append xs ys 0 (i + 3) (omega arith),
-    )
-
--- ---- depths
-
--- one more is stored
-pub levels-more : (f : ℕ → ℕ) (l : List ℕ) (i v : ℕ) → i < length l → ((j : ℕ) → j < i → getD l j 0 ≡ f j) → v ≡ f i
-    → (j : ℕ) → j < i + 1 → getD (set l i v) j 0 ≡ f j
-levels-more f l i v lt h e =
-    below-more (λ (j : ℕ). getD (set l i v) j 0 ≡ f j) i
-    (λ j k. getD-set-other l i j v 0 (λ q. omega arith) ∙ h j k)
-    (getD-set-same l i v 0 lt ∙ e)
-
--- all are stored
-pub levels-all : {t : Tree} {n : ℕ} {l : List ℕ} (out rest : List ℕ) → out ≡ flat 1 t ++ rest → n ≡ sizeT t
-    → ((j : ℕ) → j < n → getD l j 0 ≡ word out (32 * j + 24)) → Levels l t
-levels-all {t} out rest e all h = record {
-  each = λ j lt. h j (omega arith) ∙ rw e (word-left (flat 1 t) rest (32 * j + 24) (omega (arith, flat-length 1 t)));
-}
-
 -- ---- the records of a flat tree
+
+-- a part in the middle, from its start on
+slice-take : (a m : ℕ) (l : List ℕ) → a ≤ length l → slice a (a + m) l ≡ take m (drop a l)
+slice-take a m l le = rw (take-add a m l) (drop-at (take a l) (take m (drop a l)) a (length-take-le a l le))
 
 -- what holds of the element in either of two lists
 either-side : (P : Rec → Type 0) (xs ys : List Rec) (j : ℕ) (z : Rec) → (j < length xs → P (getD xs j z))
@@ -125,33 +100,50 @@ record-step t s h few i lt =
     let l : labelAt (drop (32 * i) s) ≡ getD (recs 1 t) i z .0 = labels t s h i z lt in
     rw (depth, l, ← flats-flat 1 t) (flats-drop (recs 1 t) i z (rw recs-length lt))
 
+-- the record i of the first n
+part-step : (t : Tree) (s : List ℕ) → At t s 0 → sizeT t ≤ 2048 → (n i : ℕ) → i < n → n ≤ sizeT t
+    → slice (32 * i) (32 * n) (flat 1 t)
+    ≡ bytesOf (labelAt (drop (32 * i) s)) (word (flat 1 t) (32 * i + 24)) 0 ++ slice (32 * (i + 1)) (32 * n) (flat 1 t)
+part-step t s h few n i lt le =
+    let b : List ℕ = bytesOf (labelAt (drop (32 * i) s)) (word (flat 1 t) (32 * i + 24)) 0 in
+    let k : 32 * n ≡ 32 * i + (length b + (32 * n - 32 * (i + 1))) =
+    omega (arith, bytesOf-length (labelAt (drop (32 * i) s)) (word (flat 1 t) (32 * i + 24)) 0) in
+    let k′ : 32 * n ≡ 32 * (i + 1) + (32 * n - 32 * (i + 1)) = omega arith in
+    ap (λ (m : ℕ). slice (32 * i) m (flat 1 t)) k
+    ∙ slice-take (32 * i) _ (flat 1 t) (omega (arith, flat-length 1 t))
+    ∙ ap (take (length b + (32 * n - 32 * (i + 1)))) (record-step t s h few i (omega arith))
+    ∙ take-append-add b (drop (32 * (i + 1)) (flat 1 t)) _
+    ∙ ap (b ++_) (sym (ap (λ (m : ℕ). slice (32 * (i + 1)) m (flat 1 t)) k′
+    ∙ slice-take (32 * (i + 1)) _ (flat 1 t) (omega (arith, flat-length 1 t))))
+
 -- ---- records that are written one by one
 
--- the records from `from` on, of n, were to be written from record `at` on, and those from i on are left, to be written from record `to` on
+-- the records from `from` up to n were to be written from record `at` on, and those from i on are left, to be written from record `to` on
 pub record Run (t : Tree) (n from : ℕ) (out₀ : List ℕ) (at i : ℕ) (out : List ℕ) (to : ℕ) : Type 0 where
   pub count : cap (to + (n - i)) ≡ cap (at + (n - from))
-  pub same : sets out (32 * to) (drop (32 * i) (flat 1 t)) ≡ sets out₀ (32 * at) (drop (32 * from) (flat 1 t))
+  pub same : sets out (32 * to) (slice (32 * i) (32 * n) (flat 1 t)) ≡ sets out₀ (32 * at) (slice (32 * from) (32 * n) (flat 1 t))
 
 -- one more is written
 pub run-next : {t : Tree} {s l : List ℕ} {n from : ℕ} {out₀ : List ℕ} {at i : ℕ} {out : List ℕ} {to : ℕ} {out′ : List ℕ} {to′ level : ℕ}
-    → At t s 0 → n ≡ sizeT t → n ≤ 2048 → i < n → length out ≡ workBytes → Levels l t → level ≡ getD l i 0
+    → At t s 0 → sizeT t ≤ 2048 → n ≤ sizeT t → i < n → length out ≡ workBytes → Levels l t → level ≡ getD l i 0
     → Put out out′ to level to′ (labelAt (drop (32 * i) s)) → Run t n from out₀ at i out to → Run t n from out₀ at (i + 1) out′ to′
-run-next {t} {s} {l} {n} {i = i} {out} {to} {out′} {to′} {level} h all few lt long lv d p r =
-    let e = record-step t s h (omega arith) i (omega arith) in
+run-next {t} {s} {l} {n} {i = i} {out} {to} {out′} {to′} {level} h few le lt long lv d p r =
+    let e = part-step t s h few n i lt le in
     let depth : level ≡ word (flat 1 t) (32 * i + 24) = d ∙ lv .each i (omega arith) in
     let b : List ℕ = bytesOf (labelAt (drop (32 * i) s)) (word (flat 1 t) (32 * i + 24)) 0 in
     let bytes : out′ ≡ sets out (32 * to) b = rw depth at (p .bytes) in
     record {
       count = rw (p .next, cap-add) (ap cap (omega arith) ∙ r .count);
       same = rw bytes
-          (sets-next out b (drop (32 * (i + 1)) (flat 1 t)) to 1 to′ long (bytesOf-length _ _ 0) (p .next)
+          (sets-next out b (slice (32 * (i + 1)) (32 * n) (flat 1 t)) to 1 to′ long (bytesOf-length _ _ 0) (p .next)
           ∙ ap (sets out (32 * to)) (sym e) ∙ r .same);
     }
 
 -- all are written
-pub run-end : {t : Tree} {n from : ℕ} {out₀ : List ℕ} {at i : ℕ} {out : List ℕ} {to : ℕ} → n ≡ sizeT t → n ≤ i → to ≤ 2049
-    → Run t n from out₀ at i out to → Ran out₀ out at (n - from) to (drop (32 * from) (flat 1 t))
-run-end {t} {n} {i = i} {out} {to} e le small r =
+pub run-end : {t : Tree} {n from : ℕ} {out₀ : List ℕ} {at i : ℕ} {out : List ℕ} {to : ℕ} → n ≤ sizeT t → n ≤ i → to ≤ 2049
+    → Run t n from out₀ at i out to → Ran out₀ out at (n - from) to (slice (32 * from) (32 * n) (flat 1 t))
+run-end {t} {n} {i = i} {out} {to} le past small r =
     let z : to + (n - i) ≡ to = omega arith in
-    let none : drop (32 * i) (flat 1 t) ≡ [] = drop-of-length-le (flat 1 t) {i = 32 * i} (omega (arith, flat-length 1 t)) in
+    let none : slice (32 * i) (32 * n) (flat 1 t) ≡ [] =
+    drop-of-length-le (take (32 * n) (flat 1 t)) {i = 32 * i} (omega (arith, length-take-le (32 * n) (flat 1 t) (omega (arith, flat-length 1 t)))) in
     record { next = sym (ap cap z ∙ cap-is to small) ∙ r .count; bytes = ap (sets out (32 * to)) (sym none) ∙ r .same }

@@ -1,8 +1,8 @@
 -- The whole image, with another tree in the place of one plan's.
 use mathlib.Core.Path.{_≡_}
-use mathlib.Core.List.{List, _++_}
+use mathlib.Core.List.{List}
 use Prim.Native.Nat.{ℕ, _+_, _*_, _≤_, _<_}
-use lib.ListN.{length, getD}
+use lib.ListN.{length, getD, take}
 use lib.Seq.{sets}
 use Rattle.image.specs.Limits.{maxRecords, workBytes}
 use Rattle.image.specs.Word.{word}
@@ -31,11 +31,10 @@ pub record Ran (before after : List ℕ) (at k r : ℕ) (bs : List ℕ) : Type 0
   pub next : r ≡ cap (at + k)
   pub bytes : after ≡ sets before (32 * at) bs
 
--- p is written flat, the depths of its records are known, and r says where a new tree goes that is to stand in the place of `old`, at record
--- `node`
+-- the records of p before `node` are written flat, the depths of all its records are known, and r says where a new tree goes that is to stand in
+-- the place of `old`, at record `node`
 pub record Before (out levels : List ℕ) (p : Plan) (node : ℕ) (old : Plan) (r : Spot) : Type 0 where
-  pub rest : List ℕ
-  pub bytes : out ≡ flat 1 (planTree p) ++ rest
+  pub bytes : take (32 * node) out ≡ take (32 * node) (flat 1 (planTree p))
   pub depths : Levels levels (planTree p)
   pub level : r .level ≡ word (flat 1 (planTree p)) (32 * node + 24)
   pub end : r .end ≡ node + sizeP old

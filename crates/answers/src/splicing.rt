@@ -1,23 +1,19 @@
 // Splicing: the whole image written flat, with another tree in the place of one plan's.
-//     write_before writes the image as it is, and says where the new tree goes;
+//     write_before writes what stands before the old tree, and says where the new tree goes;
 //     the caller writes the new tree there;
-//     write_after writes again what stands behind the old tree, behind the new one.
+//     write_records writes what stands behind the old tree, behind the new one.
+use crate::levels::note_levels;
 use conjuncts::reading::record_at;
-use image::copying::copy_tree;
 use image::copying::put_label;
 use image::ends::tree_end;
-use image::limits::MAX_DEPTH;
-use image::limits::RECORD_BYTES;
-use image::records::FIRST_LINK;
-use image::words::word_at;
 ghost use mathlib.Core.Path.{_≡_};
 ghost use mathlib.Core.Option.{some};
 ghost use Prim.Native.Nat.{_-_, _*_, _≤_, _<_};
-ghost use lib.ListN.{length, drop};
+ghost use lib.ListN.{length};
+ghost use lib.Seq.{slice};
 ghost use Rattle.image.specs.Limits.{maxRecords, workBytes};
 ghost use Rattle.image.specs.Tree.{Tree, At};
 ghost use Rattle.image.specs.Flat.{sizeT, flat};
-ghost use Rattle.image.specs.Room.{Wrote};
 ghost use Rattle.plan.specs.Syntax.{Plan};
 ghost use Rattle.rewrite.specs.RewriteAt.{Focus, focus};
 ghost use Rattle.conjuncts.specs.Standing.{StandingP};
@@ -38,40 +34,8 @@ fn wide(x: u32) -> usize
     x as usize
 }
 
-// Writes the whole image flat, and says of each record how deep it is. Returns how many there are.
-fn write_whole(s: &[u8], out: &mut [u8], levels: &mut [u32]) -> usize
-    requires { ⌜ Sized (now s) ⌝ }
-    requires { ⌜ (length (now out) ≡ workBytes) × (length (now levels) ≡ maxRecords) ⌝ }
-    ensures { λ n. ⌜ ((t : Tree) → At t (now (s .entry)) 0 →
-        Wrote (now (out .entry)) (now (out .exit)) 0 1 n t × (n ≡ sizeT t) × Levels (now (levels .exit)) t) ⌝ }
-{
-    let n = copy_tree(s, 0, MAX_DEPTH, out, 0, 1);
-    let mut i = 0;
-    while i < n {
-        levels[i] = word_at(out, RECORD_BYTES * i + FIRST_LINK) as u32;
-        i += 1;
-    }
-    n
-}
-
-// Writes the whole image flat; the new tree goes to the record `node`, at the depth that is returned.
-pub fn write_before(s: &[u8], node: usize, out: &mut [u8], levels: &mut [u32]) -> Spot
-    requires { ⌜ Sized (now s) ⌝ }
-    requires { ⌜ ThereP (now s) node ⌝ }
-    requires { ⌜ (length (now out) ≡ workBytes) × (length (now levels) ≡ maxRecords) ⌝ }
-    ensures { λ r. ⌜ ((p : Plan) (c : Focus) → StandingP (now (s .entry)) 0 p → focus node p ≡ some c → StandingP (now (s .entry)) node (c .plan) →
-        Before (now (out .exit)) (now (levels .exit)) p node (c .plan) r) ⌝ }
-{
-    let records = write_whole(s, out, levels);
-    Spot {
-        level: wide(levels[node]),
-        end: tree_end(record_at(s, node), node),
-        records,
-    }
-}
-
-// Writes the records from `from` on, of n, with their depths.
-pub fn write_after(
+// Writes the records from `from` up to n, with their depths.
+pub fn write_records(
     s: &[u8],
     levels: &[u32],
     from: usize,
@@ -81,8 +45,8 @@ pub fn write_after(
 ) -> usize
     requires { ⌜ (n ≤ maxRecords) × (32 * n ≤ length (now s)) × (length (now levels) ≡ maxRecords) ⌝ }
     requires { ⌜ (from ≤ n) × (at ≤ 2049) × (length (now out) ≡ workBytes) ⌝ }
-    ensures { λ r. ⌜ ((t : Tree) → At t (now (s .entry)) 0 → n ≡ sizeT t → Levels (now (levels .entry)) t →
-        Ran (now (out .entry)) (now (out .exit)) at (n - from) r (drop (32 * from) (flat 1 t))) ⌝ }
+    ensures { λ r. ⌜ ((t : Tree) → At t (now (s .entry)) 0 → sizeT t ≤ maxRecords → n ≤ sizeT t → Levels (now (levels .entry)) t →
+        Ran (now (out .entry)) (now (out .exit)) at (n - from) r (slice (32 * from) (32 * n) (flat 1 t))) ⌝ }
 {
     let mut to = at;
     let mut i = from;
@@ -92,4 +56,21 @@ pub fn write_after(
         i += 1;
     }
     to
+}
+
+// Writes what stands before the record `node`; the new tree goes there, at the depth that is returned.
+pub fn write_before(s: &[u8], node: usize, out: &mut [u8], levels: &mut [u32]) -> Spot
+    requires { ⌜ Sized (now s) ⌝ }
+    requires { ⌜ ThereP (now s) node ⌝ }
+    requires { ⌜ (length (now out) ≡ workBytes) × (length (now levels) ≡ maxRecords) ⌝ }
+    ensures { λ r. ⌜ ((p : Plan) (c : Focus) → StandingP (now (s .entry)) 0 p → focus node p ≡ some c → StandingP (now (s .entry)) node (c .plan) →
+        Before (now (out .exit)) (now (levels .exit)) p node (c .plan) r) ⌝ }
+{
+    let records = note_levels(s, levels);
+    write_records(s, levels, 0, node, out, 0);
+    Spot {
+        level: wide(levels[node]),
+        end: tree_end(record_at(s, node), node),
+        records,
+    }
 }

@@ -1,7 +1,7 @@
 // Filters merged: from a Filter at a record down to where the merging of the Filters below it comes to rest.
 use answers::handing_out::is_shallow;
-use answers::splicing::write_after;
 use answers::splicing::write_before;
+use answers::splicing::write_records;
 use conjuncts::lists::Conjuncts;
 use conjuncts::lists::empty;
 use conjuncts::reading::record_at;
@@ -124,7 +124,7 @@ fn merge_fits(
         node,
         spot.level,
     );
-    let records = write_after(s, levels, spot.end, spot.records, work, end);
+    let records = write_records(s, levels, spot.end, spot.records, work, end);
     if MAX_RECORDS < records {
         return false;
     }

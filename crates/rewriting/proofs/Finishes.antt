@@ -5,7 +5,7 @@ use mathlib.Core.Path.{_≡_, refl, sym, _∙_}
 use mathlib.Core.Bool.{Bool, true, false, not}
 use mathlib.Core.List.{List}
 use lib.Dec.{leb}
-use lib.ListN.{drop}
+use lib.Seq.{slice}
 use borrow.Author.Tests.{leb-true, leb-false, le-leb}
 use Rattle.image.specs.Limits.{maxDepth, maxList}
 use Rattle.image.specs.Flat.{flat}
@@ -52,7 +52,8 @@ module _ {s levels work : List ℕ} {spot : Spot} {new : Written} {node : ℕ} {
       go false e = omega (arith, h .answers .over (leb-false (listP (t .plan)) maxList e) .0)
 
   -- what stands behind it is written again
-  module _ {out : List ℕ} {n : ℕ} (v : Ran work out (new .next) (spot .records - spot .end) n (drop (32 * spot .end) (flat 1 (planTree w)))) where
+  module _ {out : List ℕ} {n : ℕ}
+      (v : Ran work out (new .next) (spot .records - spot .end) n (slice (32 * spot .end) (32 * spot .records) (flat 1 (planTree w)))) where
     begun-of : listP (t .plan) ≤ maxList → Begun out n (planTree (c .back (t .plan)))
     begun-of k = spliced w node c (h .inside .there) (t .plan) (h .long) (few-records (h .inside)) (h .begun) (h .answers .fits k) v
 

@@ -4,8 +4,8 @@ use crate::dispatch::rewrite_settled;
 use crate::staying::stays;
 use answers::handing_out::is_shallow;
 use answers::splicing::Spot;
-use answers::splicing::write_after;
 use answers::splicing::write_before;
+use answers::splicing::write_records;
 use conjuncts::lists::empty;
 use conjuncts::reading::record_at;
 use filters::predicates::Written;
@@ -44,7 +44,7 @@ fn finish(s: &[u8], spot: Spot, levels: &[u32], new: Written, work: &mut [u8]) -
         Replaces (now (s .entry)) (now (levels .entry)) (now (work .entry)) spot new node w c t →
         Finishes (now (work .exit)) r (t .transformed) (c .back (t .plan))) ⌝ }
 {
-    let records = write_after(s, levels, spot.end, spot.records, work, new.next);
+    let records = write_records(s, levels, spot.end, spot.records, work, new.next);
     if MAX_RECORDS < records {
         return Outcome {
             fits: false,

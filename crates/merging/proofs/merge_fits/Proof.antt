@@ -70,11 +70,12 @@ merge-fits-spec =
     let v = c .before .before .before .before .before .before .before .before .copy-filter .ensures (mapOf (f .plan))
     (rw (c .before .before .before .before .before .before .before .before .before .before .record-at .ensures) (plan-maps (stands-inside h))) e
     (made-predicate _ m) q k in
-    let a = c .before .before .before .write-after .ensures (planTree w) (h .root .here) (b .records) (b .depths) in
+    let a = c .before .before .before .write-records .ensures (planTree w) (h .root .here) (few-records h)
+    (omega (arith, b .records)) (b .depths) in
     sym (fits-over (f .back (filter e q)) (spliced w _ f (h .there) (filter e q)
     (c .before .before .before .before .before .before .before .before .before .before .before .before .before .before
     .before .write-before .kept .1 .1 .0 ∙ p .1 .0) (few-records h) b v a) (c .if2 .taken)))
-    (λ c κs. let l = c .before .before .before .before .write-after .kept .1 .1 .1 .1 .0 ∙
+    (λ c κs. let l = c .before .before .before .before .write-records .kept .1 .1 .1 .1 .0 ∙
     (c .before .before .before .before .before .before .before .before .before .copy-filter .kept .1 .1 .1 .1 .1 .1 .1 .0 ∙
     (c .before .before .before .before .before .before .before .before .before .before .before .before .before .before .before
     .before .write-before .kept .1 .1 .0 ∙ c .before .before .before .before .before .before .before .before .before .before .before .before
@@ -89,7 +90,8 @@ merge-fits-spec =
     let v = c .before .before .before .before .before .before .before .before .before .before .copy-filter .ensures (mapOf (f .plan))
     (rw (c .before .before .before .before .before .before .before .before .before .before .before .before .record-at .ensures)
     (plan-maps (stands-inside h))) e (made-predicate _ m) q k in
-    let a = c .before .before .before .before .before .write-after .ensures (planTree w) (h .root .here) (b .records) (b .depths) in
+    let a = c .before .before .before .before .before .write-records .ensures (planTree w) (h .root .here) (few-records h)
+    (omega (arith, b .records)) (b .depths) in
     let g = spliced w _ f (h .there) (filter e q)
     (c .before .before .before .before .before .before .before .before .before .before .before .before .before .before .before .before
     .before .write-before .kept .1 .1 .0 ∙ p .1 .0) (few-records h) b v a in

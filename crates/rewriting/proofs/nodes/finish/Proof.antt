@@ -27,13 +27,13 @@ finish-spec =
     ))
     (λ c. search needs)
     (λ c node w f t h. unfit refl (h .answers .flag)
-    (too-many h (c .before .before .before .write-after .ensures (planTree w) (h .inside .root .here) (h .begun .records) (h .begun .depths)) (c
-    .if1 .taken)))
+    (too-many h (c .before .before .before .write-records .ensures (planTree w) (h .inside .root .here) (few-records (h .inside))
+    (omega (arith, h .begun .records)) (h .begun .depths)) (c .if1 .taken)))
     (λ c κs. search needs)
     (λ c. search needs)
     (λ c node w f t h.
-    let v = c .before .before .before .before .before .before .write-after .ensures (planTree w) (h .inside .root .here) (h .begun .records) (h
-    .begun .depths) in
+    let v = c .before .before .before .before .before .before .write-records .ensures (planTree w) (h .inside .root .here) (few-records (h .inside))
+    (omega (arith, h .begun .records)) (h .begun .depths) in
     let few = c .before .before .before .if1 .left in
     let b = begun h v few in
     unfit refl (h .answers .flag)
@@ -41,15 +41,15 @@ finish-spec =
     ∙ depth-decides h v few))
     (λ c κs.
     let h = c .before .before .before .before .before .before .before .before .before .before .before .before .pre .0 .replaces in
-    let v = c .before .before .before .before .before .before .before .write-after .ensures _ (h .inside .root .here) (h .begun .records) (h
-    .begun .depths) in
+    let v = c .before .before .before .before .before .before .before .write-records .ensures _ (h .inside .root .here) (few-records (h .inside))
+    (omega (arith, h .begun .records)) (h .begun .depths) in
     let few = c .before .before .before .before .if1 .left in
     let b = begun h v few in
     flattened b few (sym (c .before .before .is-shallow .ensures _ (b .rest) (begun-count b few) (b .bytes few)) ∙ told (c .before .if2 .left)))
     (λ c. search needs)
     (λ c node w f t h.
-    let v = c .before .before .before .before .before .before .before .before .before .before .write-after .ensures (planTree w) (h .inside .root
-    .here) (h .begun .records) (h .begun .depths) in
+    let v = c .before .before .before .before .before .before .before .before .before .before .write-records .ensures (planTree w) (h .inside .root .here)
+    (few-records (h .inside)) (omega (arith, h .begun .records)) (h .begun .depths) in
     let few = c .before .before .before .before .before .before .before .if1 .left in
     let b = begun h v few in
     let deep = sym (c .before .before .before .before .before .is-shallow .ensures (planTree (f .back (t .plan))) (b .rest) (begun-count b few)

@@ -1,4 +1,4 @@
--- `splicing::write_after` meets its contract. The loop's invariant: the records that are left complete the output.
+-- `splicing::write_records` meets its contract. The loop's invariant: the records that are left complete the output.
 use mathlib.Core.Path.{_≡_, refl, sym, _∙_}
 use Prim.Native.Nat.{_-_, _≤_}
 use native.Mathlib.Omega.{arith}
@@ -10,23 +10,23 @@ use Rattle.image.specs.Flat.{sizeT}
 use Rattle.image.proofs.Room.{cap-le}
 use Rattle.answers.specs.Splicing.{Levels}
 use Rattle.answers.proofs.Whole.{Run, run-next, run-end}
-use Rattle.answers.proofs.splicing.write_after.Statement.{statement}
-use Rattle.answers.proofs.splicing.write_after.Tie as tie
+use Rattle.answers.proofs.splicing.write_records.Statement.{statement}
+use Rattle.answers.proofs.splicing.write_records.Tie as tie
 
 abbrev Inv-loop : tie.InvT-loop
 Inv-loop s levels from n out₀ at to₀ i₀ out to i =
-    (length out ≡ workBytes) × (to ≤ 2049) × ((t : Tree) → At t s 0 → n ≡ sizeT t → Levels levels t → Run t n from out₀ at i out to)
+    (length out ≡ workBytes) × (to ≤ 2049) × ((t : Tree) → At t s 0 → sizeT t ≤ 2048 → n ≤ sizeT t → Levels levels t → Run t n from out₀ at i out to)
 
 abbrev μ-loop : tie.MeasureT-loop
 μ-loop s levels from n out₀ at to₀ i₀ out to i = n - i
 
-pub write-after-spec : {M : Type 1} → statement M
-write-after-spec =
+pub write-records-spec : {M : Type 1} → statement M
+write-records-spec =
     tie.close
     (tie.spec
     Inv-loop
     μ-loop
-    (λ c. let p = c .before .before .before .pre in (p .1 .2, p .1 .1, λ t h e l. record { count = refl; same = refl }))
+    (λ c. let p = c .before .before .before .pre in (p .1 .2, p .1 .1, λ t h k e l. record { count = refl; same = refl }))
     (λ c κs. omega arith)
     (λ c. search needs)
     (λ c. omega arith)
@@ -38,10 +38,10 @@ write-after-spec =
     let put = c .before .before .put-label .ensures in (
       c .before .before .put-label .kept .1 .0 ∙ k .0,
       rw (put .next) (cap-le _),
-      λ t h e l.
-          run-next h e (omega arith) (c .before .before .before .before .before .before .before .loop-test .taken) (k .0) l
+      λ t h f e l.
+          run-next h f e (c .before .before .before .before .before .before .before .loop-test .taken) (k .0) l
           (c .before .before .before .wide .ensures .0) (rw (c .before .before .before .before .before .before .record-at .ensures) at put)
-          (k .2 t h e l),
+          (k .2 t h f e l),
     ))
     (λ c. c .before .loop .inv .0 ∙ sym (c .before .before .before .before .before .pre .1 .2))
-    (λ c t h e l. let k = c .before .loop .inv in run-end e (omega arith) (k .1) (k .2 t h e l)))
+    (λ c t h f e l. let k = c .before .loop .inv in run-end e (omega arith) (k .1) (k .2 t h f e l)))
