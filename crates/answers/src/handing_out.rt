@@ -30,7 +30,7 @@ pub fn is_shallow(work: &[u8], n: usize) -> bool
 }
 
 // Zeros from byte m on.
-fn clear_from(out: &mut [u8], m: usize)
+pub fn clear_from(out: &mut [u8], m: usize)
     requires { ⌜ m ≤ length (now out) ⌝ }
     ensures { λ _. ⌜ now (out .exit) ≡ take m (now (out .entry)) ++ zeros (length (now (out .entry)) - m) ⌝ }
 {

@@ -2,7 +2,7 @@
 use Prim.Native.Nat.{ℕ, _*_, _/_, _≤_, _<_}
 use native.Mathlib.Omega.{arith}
 use mathlib.Core.Path.{_≡_, refl, sym, subst, _∙_}
-use mathlib.Core.List.{List}
+use mathlib.Core.List.{List, _++_}
 use lib.Dec.{leb}
 use lib.ListN.{length, take}
 use borrow.Author.Tests.{le-leb, lt-leb, eq-eqb, ne-eqb}
@@ -20,7 +20,8 @@ use Rattle.rewrite.specs.Pass.{PassAnswer, pass-refused, pass, pass-with-room, 
 use Rattle.merging.proofs.Root.{image-short}
 use Rattle.rewriting.specs.Answer.{Whole}
 use Rattle.rewriting.specs.Outcomes.{Image}
-use Rattle.rewriting.proofs.Calls.{records-are, whole-image}
+use Rattle.rewriting.proofs.Calls.{image-room, records-are, whole-image}
+use Rattle.rewriting.proofs.Fronts.{image-front}
 use Rattle.pass.specs.Answer.{refusal}
 use Rattle.pass.specs.Walks.{Walk, Left}
 use Rattle.pass.proofs.Steps.{image-copied}
@@ -44,6 +45,21 @@ module _ (room : ℕ) {s out : List ℕ} {w : Walk} {x : PassAnswer} (h : Left s
       } ≡ reported room (pass-with-room room x)
   unfolding reported pass-with-room choose
   some-room few o = rw (h .is, le-leb (32 * sizeP (h .plan)) room (omega (arith, h .image .count)), o, h .image .bytes, h .image .count)
+
+-- ---- the image at which a walk ended, in another buffer
+
+module _ {s : List ℕ} {w : Walk} {x : PassAnswer} (h : Left s w x) where
+  pub left-room : 32 * w .records ≤ length s
+  left-room = image-room (h .image)
+
+  pub left-few : length s ≡ workBytes → w .records ≤ maxRecords
+  left-few long = omega (arith, left-room)
+
+  pub left-copied : {t : List ℕ} → take (32 * w .records) t ≡ take (32 * w .records) s → Left t w x
+  left-copied e = record { plan = h .plan; image = image-copied e (h .image); is = h .is }
+
+  pub left-front : (t : List ℕ) → Left (s ++ t) w x
+  left-front t = record { plan = h .plan; image = image-front t (h .image); is = h .is }
 
 -- ---- test 11
 

@@ -44,6 +44,12 @@ pub record Lent (image m work levels : List ℕ) : Type 0 where
   pub work-long : length work ≡ workBytes
   pub levels-long : length levels ≡ maxRecords
 
+-- the same without the first, where the output serves for it
+pub record Spared (m work levels : List ℕ) : Type 0 where
+  pub m-long : 4128 ≤ length m
+  pub work-long : length work ≡ workBytes
+  pub levels-long : length levels ≡ maxRecords
+
 -- one visit more can be counted
 pub record Counted (w : Walk) : Type 0 where
   pub some-left : 0 < w .left

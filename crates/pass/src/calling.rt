@@ -2,8 +2,8 @@
 use crate::walking::Walk;
 use crate::walking::visit_all;
 use answers::handing_out::clear;
+use answers::handing_out::clear_from;
 use answers::handing_out::copy_bytes;
-use answers::handing_out::hand_out;
 use checking::Checked;
 use checking::check;
 use image::limits::RECORD_BYTES;
@@ -11,12 +11,12 @@ ghost use mathlib.Core.Path.{_≡_};
 ghost use mathlib.Core.List.{List};
 ghost use Prim.Native.Nat.{ℕ, _*_, _≤_};
 ghost use lib.ListN.{length};
-ghost use Rattle.image.specs.Limits.{workBytes};
+ghost use Rattle.image.specs.Limits.{workBytes, maxRecords};
 ghost use Rattle.rewrite.specs.OnBytes.{planIn, reported, pass-bytes};
-ghost use Rattle.rewrite.specs.Pass.{PassAnswer, pass-with-room, pass-call};
+ghost use Rattle.rewrite.specs.Pass.{PassAnswer, pass, pass-with-room, pass-call};
 ghost use Rattle.rewriting.specs.Answer.{Whole};
 ghost use Rattle.pass.specs.Answer.{passedOf, Small};
-ghost use Rattle.pass.specs.Walks.{Left, Lent};
+ghost use Rattle.pass.specs.Walks.{Left, Ends, Lent, Spared};
 
 // Visits, flags raised, whether no plan is left to visit, and the number of records; or what stands against it: a test of the image, a rewrite
 // whose answer is too large, at this record of the plan as it then stood, an output that is too short.
@@ -25,6 +25,33 @@ pub enum Answer {
     Refused(usize),
     NoRoom,
     Is(u64, u64, bool, usize),
+}
+
+// The walk over an accepted image; `a` holds the image as it stands.
+fn walk_in(
+    image: &[u8],
+    budget: u64,
+    a: &mut [u8],
+    m: &mut [u8],
+    work: &mut [u8],
+    levels: &mut [u32],
+) -> Walk
+    requires { ⌜ Whole (now image) ⌝ }
+    requires { ⌜ Lent (now a) (now m) (now work) (now levels) ⌝ }
+    ensures { λ r. ⌜ Ends (now (a .exit)) r (pass budget (planIn (now (image .entry)))) ⌝ }
+{
+    copy_bytes(image, image.len(), a);
+    visit_all(image.len() / RECORD_BYTES, budget, a, m, work, levels)
+}
+
+// The image at which the walk ended stands in the output: what is behind it is cleared.
+fn clear_behind(w: Walk, out: &mut [u8]) -> Answer
+    requires { ⌜ (32 * w .records ≤ length (now out)) × (w .records ≤ maxRecords) ⌝ }
+    ensures { λ r. ⌜ Small r × ((x : PassAnswer) → Left (now (out .entry)) w x →
+        passedOf r (now (out .exit)) ≡ reported (length (now (out .entry))) (pass-with-room (length (now (out .entry))) x)) ⌝ }
+{
+    clear_from(out, RECORD_BYTES * w.records);
+    Answer::Is(w.visits, w.changed, w.records <= w.next, w.records)
 }
 
 // Hands out the image at which the walk ended, if it finds room.
@@ -37,12 +64,12 @@ fn hand_over(image: &[u8], w: Walk, out: &mut [u8]) -> Answer
         clear(out);
         return Answer::NoRoom;
     }
-    hand_out(image, RECORD_BYTES * w.records, out);
-    Answer::Is(w.visits, w.changed, w.records <= w.next, w.records)
+    copy_bytes(image, RECORD_BYTES * w.records, out);
+    clear_behind(w, out)
 }
 
-// The pass over an accepted image; `a` holds the image as it stands.
-fn pass_on(
+// The pass over an accepted image, in a buffer of its own.
+fn pass_apart(
     image: &[u8],
     budget: u64,
     a: &mut [u8],
@@ -56,8 +83,7 @@ fn pass_on(
     ensures { λ r. ⌜ Small r × (passedOf r (now (out .exit))
         ≡ reported (length (now (out .entry))) (pass-call budget (length (now (out .entry))) (planIn (now (image .entry))))) ⌝ }
 {
-    copy_bytes(image, image.len(), a);
-    let w = visit_all(image.len() / RECORD_BYTES, budget, a, m, work, levels);
+    let w = walk_in(image, budget, a, m, work, levels);
     if !w.fits {
         clear(out);
         return Answer::Refused(w.next);
@@ -65,17 +91,80 @@ fn pass_on(
     hand_over(a, w, out)
 }
 
-// The same of any bytes, with work space lent.
-fn pass_within(
+// Lends that buffer.
+fn pass_short(
     image: &[u8],
     budget: u64,
-    a: &mut [u8],
     m: &mut [u8],
     work: &mut [u8],
     levels: &mut [u32],
     out: &mut [u8],
 ) -> Answer
-    requires { ⌜ Lent (now a) (now m) (now work) (now levels) ⌝ }
+    requires { ⌜ Whole (now image) ⌝ }
+    requires { ⌜ Spared (now m) (now work) (now levels) ⌝ }
+    ensures { λ r. ⌜ Small r × (passedOf r (now (out .exit))
+        ≡ reported (length (now (out .entry))) (pass-call budget (length (now (out .entry))) (planIn (now (image .entry))))) ⌝ }
+{
+    let mut a = [0u8; 65536];
+    pass_apart(image, budget, &mut a, m, work, levels, out)
+}
+
+// The same pass in the output itself, which has room for any image.
+fn pass_in_output(
+    image: &[u8],
+    budget: u64,
+    m: &mut [u8],
+    work: &mut [u8],
+    levels: &mut [u32],
+    out: &mut [u8],
+) -> Answer
+    requires { ⌜ Whole (now image) ⌝ }
+    requires { ⌜ Spared (now m) (now work) (now levels) × (workBytes ≤ length (now out)) ⌝ }
+    ensures { λ r. ⌜ Small r × (passedOf r (now (out .exit))
+        ≡ reported (length (now (out .entry))) (pass-call budget (length (now (out .entry))) (planIn (now (image .entry))))) ⌝ }
+{
+    let w = walk_in(image, budget, &mut out[..65536], m, work, levels);
+    if !w.fits {
+        clear(out);
+        return Answer::Refused(w.next);
+    }
+    clear_behind(w, out)
+}
+
+// The pass over an accepted image, in the output if it has room for any image.
+fn pass_within(
+    image: &[u8],
+    budget: u64,
+    m: &mut [u8],
+    work: &mut [u8],
+    levels: &mut [u32],
+    out: &mut [u8],
+) -> Answer
+    requires { ⌜ Whole (now image) ⌝ }
+    requires { ⌜ Spared (now m) (now work) (now levels) ⌝ }
+    ensures { λ r. ⌜ Small r × (passedOf r (now (out .exit))
+        ≡ reported (length (now (out .entry))) (pass-call budget (length (now (out .entry))) (planIn (now (image .entry))))) ⌝ }
+{
+    if out.len() < 65536 {
+        return pass_short(image, budget, m, work, levels, out);
+    }
+    pass_in_output(image, budget, m, work, levels, out)
+}
+
+// Lends the work space.
+fn pass_on(image: &[u8], budget: u64, out: &mut [u8]) -> Answer
+    requires { ⌜ Whole (now image) ⌝ }
+    ensures { λ r. ⌜ Small r × (passedOf r (now (out .exit))
+        ≡ reported (length (now (out .entry))) (pass-call budget (length (now (out .entry))) (planIn (now (image .entry))))) ⌝ }
+{
+    let mut m = [0u8; 4128];
+    let mut work = [0u8; 65536];
+    let mut levels = [0u32; 2048];
+    pass_within(image, budget, &mut m, &mut work, &mut levels, out)
+}
+
+// Every slice, budget and output get their answer.
+pub fn pass_bytes(image: &[u8], budget: u64, out: &mut [u8]) -> Answer
     ensures { λ r. ⌜ Small r × (passedOf r (now (out .exit)) ≡ pass-bytes (now (image .entry)) budget (length (now (out .entry)))) ⌝ }
 {
     let answer = check(image);
@@ -83,18 +172,7 @@ fn pass_within(
         clear(out);
         return Answer::Image(answer);
     }
-    pass_on(image, budget, a, m, work, levels, out)
-}
-
-// Every slice, budget and output get their answer.
-pub fn pass_bytes(image: &[u8], budget: u64, out: &mut [u8]) -> Answer
-    ensures { λ r. ⌜ Small r × (passedOf r (now (out .exit)) ≡ pass-bytes (now (image .entry)) budget (length (now (out .entry)))) ⌝ }
-{
-    let mut a = [0u8; 65536];
-    let mut m = [0u8; 4128];
-    let mut work = [0u8; 65536];
-    let mut levels = [0u32; 2048];
-    pass_within(image, budget, &mut a, &mut m, &mut work, &mut levels, out)
+    pass_on(image, budget, out)
 }
 
 // Document 01's number of an answer.

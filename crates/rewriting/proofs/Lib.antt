@@ -5,5 +5,6 @@ pub mod Dispatches
 pub mod Comings
 pub mod Outcoming
 pub mod Calls
+pub mod Fronts
 pub mod Stayings
 pub mod Differing

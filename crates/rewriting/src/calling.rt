@@ -3,6 +3,7 @@ use crate::nodes::Outcome;
 use crate::nodes::rewrite_anew;
 use crate::staying::stays;
 use answers::handing_out::clear;
+use answers::handing_out::clear_from;
 use answers::handing_out::hand_out;
 use checking::Checked;
 use checking::check;
@@ -31,6 +32,16 @@ pub enum Answer {
     Is(bool, usize),
 }
 
+// The answer, of so many records, stands in the output: what is behind it is cleared.
+fn clear_behind(records: usize, flag: bool, out: &mut [u8]) -> Answer
+    requires { ⌜ 32 * records ≤ length (now out) ⌝ }
+    ensures { λ r. ⌜ ((q : Plan) → Image (now (out .entry)) records q →
+        rewrittenOf r (now (out .exit)) ≡ rewritten (length (now (out .entry))) (with-room (length (now (out .entry))) (granted flag q))) ⌝ }
+{
+    clear_from(out, RECORD_BYTES * records);
+    Answer::Is(flag, records)
+}
+
 // Hands out an image of so many records, if it finds room.
 fn hand_over(image: &[u8], records: usize, flag: bool, out: &mut [u8]) -> Answer
     requires { ⌜ 32 * records ≤ length (now image) ⌝ }
@@ -45,8 +56,8 @@ fn hand_over(image: &[u8], records: usize, flag: bool, out: &mut [u8]) -> Answer
     Answer::Is(flag, records)
 }
 
-// The rewrite of the plan at record `node` of an accepted image, written anew into the work space that is lent.
-fn rewrite_within(
+// The rewrite of the plan at record `node` of an accepted image, written anew into a buffer of its own.
+fn rewrite_apart(
     image: &[u8],
     node: usize,
     m: &mut [u8],
@@ -70,6 +81,66 @@ fn rewrite_within(
     hand_over(image, image.len() / RECORD_BYTES, r.flag, out)
 }
 
+// Lends that buffer.
+fn rewrite_short(
+    image: &[u8],
+    node: usize,
+    m: &mut [u8],
+    levels: &mut [u32],
+    out: &mut [u8],
+) -> Answer
+    requires { ⌜ Here (now image) node ⌝ }
+    requires { ⌜ (4128 ≤ length (now m)) × (length (now levels) ≡ maxRecords) ⌝ }
+    ensures { λ r. ⌜ rewrittenOf r (now (out .exit))
+        ≡ rewritten (length (now (out .entry))) (rewrite-call node (length (now (out .entry))) (planIn (now (image .entry)))) ⌝ }
+{
+    let mut work = [0u8; 65536];
+    rewrite_apart(image, node, m, &mut work, levels, out)
+}
+
+// The same rewrite, written anew into the output itself, which has room for any image.
+fn rewrite_in_output(
+    image: &[u8],
+    node: usize,
+    m: &mut [u8],
+    levels: &mut [u32],
+    out: &mut [u8],
+) -> Answer
+    requires { ⌜ Here (now image) node ⌝ }
+    requires { ⌜ (4128 ≤ length (now m)) × (length (now levels) ≡ maxRecords) × (workBytes ≤ length (now out)) ⌝ }
+    ensures { λ r. ⌜ rewrittenOf r (now (out .exit))
+        ≡ rewritten (length (now (out .entry))) (rewrite-call node (length (now (out .entry))) (planIn (now (image .entry)))) ⌝ }
+{
+    let r = rewrite_anew(image, node, m, &mut out[..65536], levels);
+    if !r.fits {
+        clear(out);
+        return Answer::TooLarge(node);
+    }
+    if r.written {
+        return clear_behind(r.records, r.flag, out);
+    }
+    hand_over(image, image.len() / RECORD_BYTES, r.flag, out)
+}
+
+// The rewrite of the plan at record `node`, in the output if it has room for any image.
+fn rewrite_within(
+    image: &[u8],
+    node: usize,
+    m: &mut [u8],
+    levels: &mut [u32],
+    out: &mut [u8],
+) -> Answer
+    requires { ⌜ Here (now image) node ⌝ }
+    requires { ⌜ (4128 ≤ length (now m)) × (length (now levels) ≡ maxRecords) ⌝ }
+    ensures { λ r. ⌜ rewrittenOf r (now (out .exit))
+        ≡ rewritten (length (now (out .entry))) (rewrite-call node (length (now (out .entry))) (planIn (now (image .entry)))) ⌝ }
+{
+    if out.len() < 65536 {
+        return rewrite_short(image, node, m, levels, out);
+    }
+    rewrite_in_output(image, node, m, levels, out)
+}
+
 // Lends the work space.
 fn rewrite_here(image: &[u8], node: usize, out: &mut [u8]) -> Answer
     requires { ⌜ Here (now image) node ⌝ }
@@ -77,9 +148,8 @@ fn rewrite_here(image: &[u8], node: usize, out: &mut [u8]) -> Answer
         ≡ rewritten (length (now (out .entry))) (rewrite-call node (length (now (out .entry))) (planIn (now (image .entry)))) ⌝ }
 {
     let mut m = [0u8; 4128];
-    let mut work = [0u8; 65536];
     let mut levels = [0u32; 2048];
-    rewrite_within(image, node, &mut m, &mut work, &mut levels, out)
+    rewrite_within(image, node, &mut m, &mut levels, out)
 }
 
 // The rewrite at record `node` of an accepted image.

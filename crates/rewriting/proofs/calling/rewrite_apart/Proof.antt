@@ -1,13 +1,13 @@
--- `calling::rewrite_within` meets its contract.
+-- `calling::rewrite_apart` meets its contract.
 use mathlib.Core.Path.{refl, sym, _∙_}
 use borrow.Author.Needs.{needs}
 use Rattle.rewriting.proofs.Finishes.{told, untold}
 use Rattle.rewriting.proofs.Calls.{image-room, refused-11, granted-call, whole-image}
-use Rattle.rewriting.proofs.calling.rewrite_within.Statement.{statement}
-use Rattle.rewriting.proofs.calling.rewrite_within.Tie as tie
+use Rattle.rewriting.proofs.calling.rewrite_apart.Statement.{statement}
+use Rattle.rewriting.proofs.calling.rewrite_apart.Tie as tie
 
-pub rewrite-within-spec : {M : Type 1} → statement M
-rewrite-within-spec =
+pub rewrite-apart-spec : {M : Type 1} → statement M
+rewrite-apart-spec =
     tie.close
     (tie.spec
     (λ c κs. search needs)
@@ -23,7 +23,8 @@ rewrite-within-spec =
     refused-11 _ _ _ (h .inside .there) (sym (o .fit) ∙ untold (c .before .before .before .before .if1 .taken)) (c .before .before .clear .ensures))
     (λ c κs. let h = c .before .before .before .before .before .before .before .before .before .before .before .before .before .before .before
     .before .before .before .before .before .pre .0 in
-    let o = c .before .before .before .before .before .before .before .before .before .before .before .rewrite-anew .ensures _ (h .spot) (h .inside) in
+    let o = c .before .before .before .before .before .before .before .before .before .before .before .rewrite-anew .ensures _ (h .spot) (h
+    .inside) in
     image-room (o .image (told (c .before .before .before .if1 .left)) (c .before .before .if2 .taken)))
     (λ c. search needs)
     (λ c. search needs)
@@ -31,7 +32,8 @@ rewrite-within-spec =
     (λ c. search needs)
     (λ c. let h = c .before .before .before .before .before .before .before .before .before .before .before .before .before .before .before
     .before .before .before .before .before .before .before .before .pre .0 in
-    let o = c .before .before .before .before .before .before .before .before .before .before .before .before .before .before .rewrite-anew .ensures _
+    let o = c .before .before .before .before .before .before .before .before .before .before .before .before .before .before .rewrite-anew
+    .ensures _
     (h .spot) (h .inside) in
     let y = told (c .before .before .before .before .before .before .if1 .left) in
     c .before .before .hand-over .ensures _ (o .image y (c .before .before .before .before .before .if2 .taken)) ∙ granted-call _ _ _ (h .inside
