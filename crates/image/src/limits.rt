@@ -17,3 +17,6 @@ pub const MAX_LIST: usize = 128;
 
 // Bytes of a record: eight words.
 pub const RECORD_BYTES: usize = 32;
+
+// Bytes of the longest image.
+pub const MAX_BYTES: usize = RECORD_BYTES * MAX_RECORDS;

@@ -6,6 +6,7 @@ use crate::lines::put_counts;
 use crate::lines::put_lines;
 use crate::lines::put_refusal;
 use image::copying::copy_tree;
+use image::limits::MAX_BYTES;
 use image::limits::MAX_DEPTH;
 use push_down_filter::push_down_filter_pass;
 ghost use mathlib.Core.Path.{_≡_};
@@ -40,7 +41,7 @@ fn list_within(image: &[u8], out: &mut [u8], flat: &mut [u8], text: &mut [u8]) -
 pub fn list(image: &[u8], text: &mut [u8; TEXT_BYTES]) -> usize
     ensures { λ r. ⌜ (r ≤ length (now (text .exit))) × (take r (now (text .exit)) ≡ listing (now (image .entry))) ⌝ }
 {
-    let mut out = [0u8; 65536];
-    let mut flat = [0u8; 65536];
+    let mut out = [0u8; MAX_BYTES];
+    let mut flat = [0u8; MAX_BYTES];
     list_within(image, &mut out, &mut flat, text)
 }

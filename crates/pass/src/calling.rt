@@ -6,6 +6,8 @@ use answers::handing_out::clear_from;
 use answers::handing_out::copy_bytes;
 use checking::Checked;
 use checking::check;
+use image::limits::MAX_BYTES;
+use image::limits::MAX_RECORDS;
 use image::limits::RECORD_BYTES;
 ghost use mathlib.Core.Path.{_≡_};
 ghost use mathlib.Core.List.{List};
@@ -105,7 +107,7 @@ fn pass_short(
     ensures { λ r. ⌜ Small r × (passedOf r (now (out .exit))
         ≡ reported (length (now (out .entry))) (pass-call budget (length (now (out .entry))) (planIn (now (image .entry))))) ⌝ }
 {
-    let mut a = [0u8; 65536];
+    let mut a = [0u8; MAX_BYTES];
     pass_apart(image, budget, &mut a, m, work, levels, out)
 }
 
@@ -123,7 +125,7 @@ fn pass_in_output(
     ensures { λ r. ⌜ Small r × (passedOf r (now (out .exit))
         ≡ reported (length (now (out .entry))) (pass-call budget (length (now (out .entry))) (planIn (now (image .entry))))) ⌝ }
 {
-    let w = walk_in(image, budget, &mut out[..65536], m, work, levels);
+    let w = walk_in(image, budget, &mut out[..MAX_BYTES], m, work, levels);
     if !w.fits {
         clear(out);
         return Answer::Refused(w.next);
@@ -145,7 +147,7 @@ fn pass_within(
     ensures { λ r. ⌜ Small r × (passedOf r (now (out .exit))
         ≡ reported (length (now (out .entry))) (pass-call budget (length (now (out .entry))) (planIn (now (image .entry))))) ⌝ }
 {
-    if out.len() < 65536 {
+    if out.len() < MAX_BYTES {
         return pass_short(image, budget, m, work, levels, out);
     }
     pass_in_output(image, budget, m, work, levels, out)
@@ -158,8 +160,8 @@ fn pass_on(image: &[u8], budget: u64, out: &mut [u8]) -> Answer
         ≡ reported (length (now (out .entry))) (pass-call budget (length (now (out .entry))) (planIn (now (image .entry))))) ⌝ }
 {
     let mut m = [0u8; 4128];
-    let mut work = [0u8; 65536];
-    let mut levels = [0u32; 2048];
+    let mut work = [0u8; MAX_BYTES];
+    let mut levels = [0u32; MAX_RECORDS];
     pass_within(image, budget, &mut m, &mut work, &mut levels, out)
 }
 

@@ -8,6 +8,8 @@ use answers::handing_out::hand_out;
 use checking::Checked;
 use checking::check;
 use conjuncts::reading::record_at;
+use image::limits::MAX_BYTES;
+use image::limits::MAX_RECORDS;
 use image::limits::RECORD_BYTES;
 use image::words::word_at;
 use utils::fields::is_plan;
@@ -94,7 +96,7 @@ fn rewrite_short(
     ensures { λ r. ⌜ rewrittenOf r (now (out .exit))
         ≡ rewritten (length (now (out .entry))) (rewrite-call node (length (now (out .entry))) (planIn (now (image .entry)))) ⌝ }
 {
-    let mut work = [0u8; 65536];
+    let mut work = [0u8; MAX_BYTES];
     rewrite_apart(image, node, m, &mut work, levels, out)
 }
 
@@ -111,7 +113,7 @@ fn rewrite_in_output(
     ensures { λ r. ⌜ rewrittenOf r (now (out .exit))
         ≡ rewritten (length (now (out .entry))) (rewrite-call node (length (now (out .entry))) (planIn (now (image .entry)))) ⌝ }
 {
-    let r = rewrite_anew(image, node, m, &mut out[..65536], levels);
+    let r = rewrite_anew(image, node, m, &mut out[..MAX_BYTES], levels);
     if !r.fits {
         clear(out);
         return Answer::TooLarge(node);
@@ -135,7 +137,7 @@ fn rewrite_within(
     ensures { λ r. ⌜ rewrittenOf r (now (out .exit))
         ≡ rewritten (length (now (out .entry))) (rewrite-call node (length (now (out .entry))) (planIn (now (image .entry)))) ⌝ }
 {
-    if out.len() < 65536 {
+    if out.len() < MAX_BYTES {
         return rewrite_short(image, node, m, levels, out);
     }
     rewrite_in_output(image, node, m, levels, out)
@@ -148,7 +150,7 @@ fn rewrite_here(image: &[u8], node: usize, out: &mut [u8]) -> Answer
         ≡ rewritten (length (now (out .entry))) (rewrite-call node (length (now (out .entry))) (planIn (now (image .entry)))) ⌝ }
 {
     let mut m = [0u8; 4128];
-    let mut levels = [0u32; 2048];
+    let mut levels = [0u32; MAX_RECORDS];
     rewrite_within(image, node, &mut m, &mut levels, out)
 }
 
