@@ -226,7 +226,8 @@ module _ {x : List ℕ} {n to v : ℕ} (g : Leads x n to v) where
       go (there lt e) = lt
 
 -- before the loop
-pub noted-start : {t : Tree} {s : List ℕ} {n : ℕ} (l : List ℕ) → At t s 0 → n ≡ sizeT t → n ≤ 2048 → 1 < length l → Noted s (flat 1 t) n (set l 1 2) 1
+pub noted-start : {t : Tree} {s : List ℕ} {n : ℕ} (l : List ℕ) → At t s 0 → n ≡ sizeT t → n ≤ 2048 → 1 < length l
+    → Noted s (flat 1 t) n (set l 1 2) 1
 noted-start {t} {s} {n} l h e few long =
     record {
       start = λ lt. getD-set-same l 1 2 0 long ∙ go (t .below) (both-of h e) lt e;
@@ -274,7 +275,8 @@ noted-next {s} {x} {l} {n} {i} {v} {w} k h some lt long e q =
     still j pos r = right-still b mid lb j pos (right-still a l la j pos r)
 
 -- all records have their depths, once the first has its own
-pub noted-all : {t : Tree} {s l : List ℕ} {n i : ℕ} → At t s 0 → n ≡ sizeT t → 0 < length l → n ≤ i → Noted s (flat 1 t) n l i → Levels (set l 0 1) t
+pub noted-all : {t : Tree} {s l : List ℕ} {n i : ℕ} → At t s 0 → n ≡ sizeT t → 0 < length l → n ≤ i → Noted s (flat 1 t) n l i
+    → Levels (set l 0 1) t
 noted-all {t} {s} {l} {n} {i} h e long past k = record { each = go }
   where
     go : (j : ℕ) → j < sizeT t → getD (set l 0 1) j 0 ≡ word (flat 1 t) (32 * j + 24)

@@ -48,7 +48,8 @@ finish-spec =
     flattened b few (sym (c .before .before .is-shallow .ensures _ (b .rest) (begun-count b few) (b .bytes few)) ∙ told (c .before .if2 .left)))
     (λ c. search needs)
     (λ c node w f t h.
-    let v = c .before .before .before .before .before .before .before .before .before .before .write-records .ensures (planTree w) (h .inside .root .here)
+    let v = c .before .before .before .before .before .before .before .before .before .before .write-records .ensures (planTree w) (h .inside .root
+    .here)
     (few-records (h .inside)) (omega (arith, h .begun .records)) (h .begun .depths) in
     let few = c .before .before .before .before .before .before .before .if1 .left in
     let b = begun h v few in
