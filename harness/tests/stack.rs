@@ -39,11 +39,14 @@ fn call_all(images: &[Vec<u8>]) {
     let mut out = vec![0; ROOM];
     for image in images {
         ffi::check(image);
-        ffi::pass_into(image, u64::MAX, &mut out);
+        // A shorter output than that of the longest image makes a call keep a buffer of its own.
+        for room in [ROOM, ROOM - 1] {
+            ffi::pass_into(image, u64::MAX, &mut out[..room]);
+        }
         let records = read(image);
         let plans = records.iter().enumerate().filter(|(_, record)| is_plan(record.label.kind));
         for (at, _) in plans.take(40) {
-            ffi::rewrite_into(image, at as u32, &mut out);
+            ffi::rewrite_into(image, at as u32, &mut out[..ROOM - 1]);
         }
     }
     for case in 0..2000 {
