@@ -1,5 +1,6 @@
 // Lists of at most 128 conjuncts, by their record numbers; 0 stands for FALSE. A list goes in by value and comes back.
 use image::limits::MAX_LIST;
+use image::limits::TOO_MANY;
 ghost use mathlib.Core.Path.{_≡_};
 ghost use mathlib.Core.List.{List, [], _∷_, _++_};
 ghost use Prim.Native.Nat.{ℕ, _<_};
@@ -8,11 +9,8 @@ ghost use Rattle.plan.specs.Syntax.{Expr};
 ghost use Rattle.plan.specs.Lists.{put};
 ghost use Rattle.conjuncts.specs.Items.{listed, Holds, Item, Lists};
 
-// One more than a list has room for: too many.
-const TOO_MANY: usize = MAX_LIST + 1;
-
 pub struct Conjuncts {
-    pub at: [u16; 128],
+    pub at: [u16; MAX_LIST],
     pub len: usize,
 }
 
@@ -20,7 +18,7 @@ pub fn empty() -> Conjuncts
     ensures { λ r. ⌜ (listed r ≡ []) × (r .len ≡ 0) ⌝ }
 {
     Conjuncts {
-        at: [0u16; 128],
+        at: [0u16; MAX_LIST],
         len: 0,
     }
 }

@@ -1,8 +1,8 @@
 // The cells of a row: values lent as 64-bit numbers beside their marks, 1 for NULL.
-use plan::values::BOOLEAN;
 use plan::values::Case;
-use plan::values::INTEGER;
 use plan::values::Value;
+use plan::words::BOOLEAN;
+use plan::words::INTEGER;
 use utils::fields::Fields;
 use utils::fields::place_of;
 ghost use mathlib.Core.Path.{_≡_};

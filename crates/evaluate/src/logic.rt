@@ -1,7 +1,7 @@
 // Truth in three values, as ISO/IEC 9075 has it.
-use plan::values::BOOLEAN;
 use plan::values::Case;
 use plan::values::Value;
+use plan::words::BOOLEAN;
 ghost use mathlib.Core.Path.{_≡_};
 ghost use mathlib.Core.Bool.{cond};
 ghost use Rattle.plan.specs.Syntax.{truth};

@@ -9,10 +9,21 @@ ghost use lib.Seq.{sets};
 ghost use Rattle.image.specs.Flat.{bytesOf};
 ghost use Rattle.image.specs.Tree.{Fits32, labelAt, nodeOf};
 
-// The byte of a record at which the link to its first child stands.
+// The bytes of a record at which its words stand: the six of its label, then the links to its first child and to its next sibling.
+pub const KIND: usize = 0;
+
+pub const P: usize = 4;
+
+pub const Q: usize = 8;
+
+pub const R: usize = 12;
+
+pub const LO: usize = 16;
+
+pub const HI: usize = 20;
+
 pub const FIRST_LINK: usize = 24;
 
-// The byte of a record at which the link to its next sibling stands.
 pub const NEXT_LINK: usize = 28;
 
 // What a record says of itself, without its links.
@@ -31,12 +42,12 @@ pub fn label_at(s: &[u8]) -> Label
     ensures { λ r. ⌜ (r ≡ labelAt (now (s .entry))) × Fits32 r ⌝ }
 {
     Label {
-        kind: word_at(s, 0),
-        p: word_at(s, 4),
-        q: word_at(s, 8),
-        r: word_at(s, 12),
-        lo: word_at(s, 16),
-        hi: word_at(s, 20),
+        kind: word_at(s, KIND),
+        p: word_at(s, P),
+        q: word_at(s, Q),
+        r: word_at(s, R),
+        lo: word_at(s, LO),
+        hi: word_at(s, HI),
     }
 }
 
@@ -56,10 +67,10 @@ pub fn look(s: &[u8]) -> Node
     ensures { λ r. ⌜ r ≡ nodeOf (now (s .entry)) ⌝ }
 {
     Node {
-        kind: word_at(s, 0),
-        p: word_at(s, 4),
-        q: word_at(s, 8),
-        r: word_at(s, 12),
+        kind: word_at(s, KIND),
+        p: word_at(s, P),
+        q: word_at(s, Q),
+        r: word_at(s, R),
         first: word_at(s, FIRST_LINK),
         next: word_at(s, NEXT_LINK),
     }
@@ -81,5 +92,5 @@ pub fn put_record(out: &mut [u8], at: usize, label: Label, first: usize, next: u
 {
     let i = RECORD_BYTES * at;
     put_four(out, i, label.kind, label.p, label.q, label.r);
-    put_four(out, i + 16, label.lo, label.hi, first, next);
+    put_four(out, i + LO, label.lo, label.hi, first, next);
 }

@@ -1,3 +1,5 @@
+pub mod Bools
+pub mod KindRanges
 pub mod Integers
 pub mod Lists
 pub mod Names

@@ -93,6 +93,12 @@ planW (plan k) = true
 planW (part k) = false
 planW unknown = false
 
+abbrev pub partW : What → Bool
+partW (expr k) = false
+partW (plan k) = false
+partW (part k) = true
+partW unknown = false
+
 abbrev pub isExpr : Label → Bool
 isExpr l = exprW (what l)
 

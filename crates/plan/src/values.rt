@@ -1,15 +1,16 @@
 // Values: a record of a type, with its case inside. Literals, row cells and bounds are such records.
+use crate::kinds::BOOLEAN_LITERAL;
+use crate::kinds::INTEGER_LITERAL;
+use crate::kinds::NULL_LITERAL;
+use crate::words::BOOLEAN;
+use crate::words::INTEGER;
+use crate::words::TRUE;
 use image::records::Label;
 ghost use mathlib.Core.Path.{_≡_};
 ghost use Prim.Native.Nat.{_<_};
 ghost use Rattle.image.specs.Tree.{Fits32};
 ghost use Rattle.plan.specs.Read.{signed};
 ghost use Rattle.plan.specs.Values.{literalOf};
-
-// The types of fields and values.
-pub const INTEGER: usize = 1;
-
-pub const BOOLEAN: usize = 2;
 
 pub enum Case {
     Null,
@@ -46,19 +47,19 @@ pub fn literal_of(l: Label) -> Literal
     ensures { λ r. ⌜ r ≡ literalOf l ⌝ }
 {
     let kind = l.kind;
-    if kind == 2 {
+    if kind == INTEGER_LITERAL {
         return Literal::Of(Value {
             ty: INTEGER,
             case: Case::Integer(signed(l.lo as u64, l.hi as u64)),
         });
     }
-    if kind == 3 {
+    if kind == BOOLEAN_LITERAL {
         return Literal::Of(Value {
             ty: BOOLEAN,
-            case: Case::Truth(l.p == 1),
+            case: Case::Truth(l.p == TRUE),
         });
     }
-    if kind == 4 {
+    if kind == NULL_LITERAL {
         return Literal::Of(Value {
             ty: l.p,
             case: Case::Null,
