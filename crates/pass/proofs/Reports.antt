@@ -18,9 +18,9 @@ use Rattle.checking.specs.declared.Checked.{Checked}
 use Rattle.rewrite.specs.OnBytes.{planIn, isAccepted, zeros, filled, no-pass, reported, pass-bytes}
 use Rattle.rewrite.specs.Pass.{PassAnswer, pass-refused, pass, pass-with-room, pass-call}
 use Rattle.merging.proofs.Root.{image-short}
-use Rattle.rewriting.specs.Answer.{Whole}
+use Rattle.rewriting.specs.Found.{Whole}
 use Rattle.rewriting.specs.Outcomes.{Image}
-use Rattle.rewriting.proofs.Calls.{image-room, records-are, whole-image}
+use Rattle.rewriting.proofs.Images.{image-room, records-are, whole-image}
 use Rattle.rewriting.proofs.Fronts.{image-front}
 use Rattle.pass.specs.Answer.{refusal}
 use Rattle.pass.specs.Walks.{Walk, Left}

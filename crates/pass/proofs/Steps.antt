@@ -30,7 +30,7 @@ use Rattle.merging.proofs.Tested.{inside-of}
 use Rattle.merging.specs.Merging.{Inside}
 use Rattle.preservation.proofs.Granted.{granted-well}
 use Rattle.rewriting.proofs.Finishes.{no-yes}
-use Rattle.rewriting.proofs.Calls.{image-room}
+use Rattle.rewriting.proofs.Images.{image-room}
 use Rattle.rewriting.specs.Found.{Found}
 use Rattle.rewriting.specs.Outcomes.{Image, Outcome, Outcomes, answer}
 use Rattle.pass.specs.Walks.{Walk, within, Next, Counted, rest, Stands, Standing, Continues, Came, Comes, Visited, Lent}

@@ -16,7 +16,7 @@ ghost use lib.ListN.{length};
 ghost use Rattle.image.specs.Limits.{workBytes, maxRecords};
 ghost use Rattle.rewrite.specs.OnBytes.{planIn, reported, pass-bytes};
 ghost use Rattle.rewrite.specs.Pass.{PassAnswer, pass, pass-with-room, pass-call};
-ghost use Rattle.rewriting.specs.Answer.{Whole};
+ghost use Rattle.rewriting.specs.Found.{Whole};
 ghost use Rattle.pass.specs.Answer.{passedOf, Small};
 ghost use Rattle.pass.specs.Walks.{Left, Ends, Lent, Spared};
 

@@ -1,14 +1,13 @@
 -- The call on bytes: the tests 8, 11 and 12 in their order, and what is handed out.
 use Prim.Native.Nat.{ℕ, _*_, _/_, _≤_, _<_}
 use native.Mathlib.Omega.{arith}
-use mathlib.Core.Path.{_≡_, refl, sym, ap, subst, _∙_}
+use mathlib.Core.Path.{_≡_, refl, sym, ap, _∙_}
 use mathlib.Core.Bool.{Bool, true, false}
 use mathlib.Core.List.{List, []}
 use mathlib.Core.Option.{none, some}
-use lib.ListN.{length, take, drop, length-take}
-use lib.Seq.{take-all}
+use lib.ListN.{length, take, drop}
 use borrow.Author.Tests.{le-leb, lt-leb, eq-eqb, ne-eqb}
-use Rattle.image.specs.Word.{Bytes, word}
+use Rattle.image.specs.Word.{word}
 use Rattle.image.specs.Tree.{labelAt}
 use Rattle.plan.specs.Kinds.{isPlan}
 use Rattle.plan.specs.Lists.{choose}
@@ -16,33 +15,24 @@ use Rattle.finding.proofs.KindRanges.{plan-range}
 use Rattle.utils.specs.Inputs.{isPlan as plan-number}
 use Rattle.plan.specs.Measure.{sizeP}
 use Rattle.plan.specs.Syntax.{Plan}
-use Rattle.plan.specs.Trees.{bitOf, planTree}
-use Rattle.plan.proofs.Written.{planAt-back}
-use Rattle.acceptance.specs.Accepted.{Accepted}
+use Rattle.plan.specs.Trees.{bitOf}
 use Rattle.acceptance.specs.Check.{verdict, check}
-use Rattle.acceptance.proofs.Accept.{accepted}
-use Rattle.acceptance.proofs.Converse.{same-tree}
 use Rattle.checking.specs.Answer.{verdictOf}
 use Rattle.checking.specs.declared.Checked.{Checked}
-use Rattle.rewrite.specs.OnBytes.{planIn, planFromLinks, isAccepted, zeros, filled, no-rewrite, rewritten, asked-of, rewrite-bytes}
+use Rattle.rewrite.specs.OnBytes.{planIn, isAccepted, zeros, filled, no-rewrite, rewritten, asked-of, rewrite-bytes}
 use Rattle.rewrite.specs.PushDownFilter.{rewrite}
 use Rattle.rewrite.specs.RewriteAt.{Focus, focus, granted, result-fits, rewrite-in, rewriteAt, with-room, rewrite-call}
-use Rattle.rewrite.proofs.OnBytes.{tree-length}
 use Rattle.rewrite.proofs.PlanFrom.{focus-end}
 use Rattle.rewrite.proofs.Marks.{is-some}
-use Rattle.merging.proofs.Root.{image-length, standing-root}
+use Rattle.merging.proofs.Root.{standing-root}
 use Rattle.rewriting.proofs.Marked.{plan-there, found-there, not-found}
 use Rattle.merging.proofs.Tested.{inside-of}
-use Rattle.rewriting.specs.Answer.{refusal, Whole, Here}
+use Rattle.rewriting.specs.Answer.{refusal}
+use Rattle.rewriting.specs.Found.{Whole, Here}
+use Rattle.rewriting.proofs.Images.{records-are}
 use Rattle.rewriting.specs.Outcomes.{Image, answer}
 use Rattle.rewriting.specs.Staying.{Stays}
 use Rattle.rewriting.proofs.Outcoming.{stays-outcomes}
-
--- an image has room for its records
-pub image-room : {bytes : List ℕ} {records : ℕ} {q : Plan} → Image bytes records q → 32 * records ≤ length bytes
-unfolding sizeP
-image-room {bytes} {records} {q} h =
-    omega (arith, h .count, sym (length-take (32 * records) bytes) ∙ ap length (h .bytes) ∙ tree-length 0 (planTree q))
 
 -- ---- test 12
 
@@ -76,9 +66,6 @@ module _ (room n : ℕ) (p : Plan) where
 -- ---- what stands at a record of an accepted image
 
 module _ {s : List ℕ} (w : Whole s) where
-  pub records-are : length s ≡ 32 * sizeP (planIn s)
-  records-are = image-length s (planIn s) (w .accepted)
-
   pub absent : {n : ℕ} → length s / 32 ≤ n → focus n (planIn s) ≡ none
   absent {n} h = focus-end n (planIn s) (omega (arith, records-are))
 
@@ -98,14 +85,6 @@ module _ {s : List ℕ} (w : Whole s) where
         let f = found-there (focus n (planIn s)) (plan-told ∙ e) in
         record { whole = w; spot = f .0; inside = inside-of s (planIn s) (w .accepted) (f .1) }
 
-  -- the image that was read is its plan's
-  pub whole-image : {records : ℕ} → records ≡ length s / 32 → Image s records (planIn s)
-  whole-image {records} e =
-      record {
-        count = omega (arith, records-are);
-        bytes = take-all (32 * records) s (omega (arith, records-are)) ∙ w .accepted .image;
-      }
-
 -- ---- a plan that stays as it is
 
 pub stayed : {s : List ℕ} {n : ℕ} {b : Bool} (room : ℕ) (h : Here s n) → Stays b (h .spot .plan) → b ≡ true
@@ -115,14 +94,6 @@ stayed {s} {n} room h u t =
     granted-call room n (planIn s) (h .inside .there) (sym (o .fit)) (o .flag refl) (sym (o .same refl refl))
 
 -- ---- the tests of the image
-
-pub whole : (s : List ℕ) → Bytes s → check s ≡ verdict 0 0 → Whole s
-unfolding planIn planFromLinks
-whole s bytes h =
-    let a = accepted s bytes h in
-    let p = a .0 in
-    let back : planIn s ≡ p = ap planIn (a .1 .image) ∙ ap planFromLinks (same-tree p (a .1 .well)) ∙ planAt-back p (a .1 .well .integers) in
-    record { accepted = subst (Accepted s) (sym back) (a .1) }
 
 module _ (s : List ℕ) (node room : ℕ) (a : Checked) (e : verdictOf a ≡ check s) {k : ℕ} (is : k ≡ verdictOf a .number) where
   pub refused-image : {out : List ℕ} → (k ≡ 0 → ⊥) → out ≡ zeros room → refusal (verdictOf a) out ≡ rewrite-bytes s node room

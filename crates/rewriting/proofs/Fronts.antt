@@ -7,7 +7,7 @@ use lib.Seq.{take-append-le, length-take-le, length-front}
 use Rattle.plan.specs.Syntax.{Plan}
 use Rattle.rewrite.specs.OnBytes.{zeros}
 use Rattle.rewriting.specs.Outcomes.{Image}
-use Rattle.rewriting.proofs.Calls.{image-room}
+use Rattle.rewriting.proofs.Images.{image-room}
 
 module _ (k : ℕ) (out a : List ℕ) (e : length a ≡ length (take k out)) where
   pub front-long : k ≤ length out → length a ≡ k

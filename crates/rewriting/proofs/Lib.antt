@@ -4,6 +4,7 @@ pub mod KindOf
 pub mod Dispatches
 pub mod Comings
 pub mod Outcoming
+pub mod Images
 pub mod Calls
 pub mod Fronts
 pub mod Stayings

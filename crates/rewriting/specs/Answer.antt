@@ -2,12 +2,9 @@
 use mathlib.Core.List.{List}
 use Prim.Native.Nat.{ℕ}
 use Rattle.plan.specs.Trees.{bitOf}
-use Rattle.acceptance.specs.Accepted.{Accepted}
 use Rattle.acceptance.specs.Check.{Verdict, verdict}
 use Rattle.checking.specs.Answer.{verdictOf}
-use Rattle.rewrite.specs.OnBytes.{Rewritten, planIn}
-use Rattle.rewrite.specs.RewriteAt.{Focus}
-use Rattle.merging.specs.Merging.{Inside}
+use Rattle.rewrite.specs.OnBytes.{Rewritten}
 use Rattle.rewriting.specs.declared.calling.Answer.{Answer}
 use Rattle.rewriting.specs.declared.calling.Answer.the-variants.{Image, NoPlan, TooLarge, NoRoom, Is}
 
@@ -21,13 +18,3 @@ rewrittenOf (NoPlan n) out = refusal (verdict 8 n) out
 rewrittenOf (TooLarge n) out = refusal (verdict 11 n) out
 rewrittenOf NoRoom out = refusal (verdict 12 0) out
 rewrittenOf (Is f n) out = record { number = 0; place = 0; flag = bitOf f; records = n; output = out }
-
--- the plan in the bytes s is accepted
-pub record Whole (s : List ℕ) : Type 0 where
-  pub accepted : Accepted s (planIn s)
-
--- a plan stands at record n of it
-pub record Here (s : List ℕ) (n : ℕ) : Type 0 where
-  pub whole : Whole s
-  pub spot : Focus
-  pub inside : Inside s n (planIn s) spot

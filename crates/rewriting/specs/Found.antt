@@ -5,6 +5,8 @@ use mathlib.Core.List.{List}
 use Prim.Native.Nat.{ℕ}
 use Rattle.plan.specs.Syntax.{Expr, Plan, join, Kind, Pair}
 use mathlib.Core.Option.{Option}
+use Rattle.acceptance.specs.Accepted.{Accepted}
+use Rattle.rewrite.specs.OnBytes.{planIn}
 use Rattle.rewrite.specs.RewriteAt.{Focus}
 use Rattle.filters.specs.Predicates.{Predicate}
 use Rattle.filters.specs.Arms.{Rests}
@@ -40,3 +42,13 @@ pub record JoinInside (s : List ℕ) (node : ℕ) : Type 0 where
   pub keys : List Pair
   pub condition : Option Expr
   pub is : spot .plan ≡ join kind lhs rhs keys condition
+
+-- the plan in the bytes s is accepted
+pub record Whole (s : List ℕ) : Type 0 where
+  pub accepted : Accepted s (planIn s)
+
+-- a plan stands at record n of it
+pub record Here (s : List ℕ) (n : ℕ) : Type 0 where
+  pub whole : Whole s
+  pub spot : Focus
+  pub inside : Inside s n (planIn s) spot

@@ -21,7 +21,8 @@ ghost use Rattle.image.specs.Limits.{workBytes, maxRecords};
 ghost use Rattle.plan.specs.Syntax.{Plan};
 ghost use Rattle.rewrite.specs.OnBytes.{rewritten, rewrite-bytes, planIn};
 ghost use Rattle.rewrite.specs.RewriteAt.{granted, with-room, rewrite-call};
-ghost use Rattle.rewriting.specs.Answer.{rewrittenOf, Whole, Here};
+ghost use Rattle.rewriting.specs.Answer.{rewrittenOf};
+ghost use Rattle.rewriting.specs.Found.{Whole, Here};
 ghost use Rattle.rewriting.specs.Outcomes.{Image};
 
 // The flag and the number of records, or what stands against it: a test of the image, no plan at this record, an answer that is too large for

@@ -3,7 +3,7 @@ use mathlib.Core.Path.{_∙_}
 use native.Mathlib.Omega.{arith}
 use borrow.Author.Needs.{needs}
 use Rattle.rewriting.proofs.Finishes.{told, untold}
-use Rattle.rewriting.proofs.Calls.{image-room}
+use Rattle.rewriting.proofs.Images.{image-room}
 use Rattle.pass.proofs.Reports.{refused-11, called}
 use Rattle.pass.proofs.calling.pass_apart.Statement.{statement}
 use Rattle.pass.proofs.calling.pass_apart.Tie as tie

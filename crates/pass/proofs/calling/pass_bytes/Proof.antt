@@ -3,7 +3,7 @@ use mathlib.Core.Path.{_∙_}
 use native.Mathlib.Omega.{arith}
 use borrow.Author.Needs.{needs}
 use Rattle.checking.proofs.Accepting.{is-accepted}
-use Rattle.rewriting.proofs.Calls.{whole}
+use Rattle.rewriting.proofs.Images.{whole}
 use Rattle.pass.proofs.Reports.{place-small, refused-image, accepted-image}
 use Rattle.pass.proofs.calling.pass_bytes.Statement.{statement}
 use Rattle.pass.proofs.calling.pass_bytes.Tie as tie

@@ -2,7 +2,8 @@
 use mathlib.Core.Path.{refl, sym, _∙_}
 use borrow.Author.Needs.{needs}
 use Rattle.rewriting.proofs.Finishes.{told, untold}
-use Rattle.rewriting.proofs.Calls.{image-room, refused-11, granted-call, whole-image}
+use Rattle.rewriting.proofs.Images.{image-room, whole-image}
+use Rattle.rewriting.proofs.Calls.{refused-11, granted-call}
 use Rattle.rewriting.proofs.calling.rewrite_apart.Statement.{statement}
 use Rattle.rewriting.proofs.calling.rewrite_apart.Tie as tie
 

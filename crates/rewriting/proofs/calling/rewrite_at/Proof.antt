@@ -4,7 +4,8 @@ use native.Mathlib.Omega.{arith}
 use lib.ListN.{length-drop}
 use borrow.Author.Needs.{needs}
 use Rattle.rewriting.proofs.Finishes.{told, untold}
-use Rattle.rewriting.proofs.Calls.{refused-8, absent, no-plan, a-plan, whole-image, stayed}
+use Rattle.rewriting.proofs.Images.{whole-image}
+use Rattle.rewriting.proofs.Calls.{refused-8, absent, no-plan, a-plan, stayed}
 use Rattle.rewriting.proofs.calling.rewrite_at.Statement.{statement}
 use Rattle.rewriting.proofs.calling.rewrite_at.Tie as tie
 

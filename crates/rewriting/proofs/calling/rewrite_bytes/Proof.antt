@@ -3,7 +3,8 @@ use mathlib.Core.Path.{_∙_}
 use native.Mathlib.Omega.{arith}
 use borrow.Author.Needs.{needs}
 use Rattle.checking.proofs.Accepting.{is-accepted}
-use Rattle.rewriting.proofs.Calls.{whole, refused-image, accepted-image}
+use Rattle.rewriting.proofs.Images.{whole}
+use Rattle.rewriting.proofs.Calls.{refused-image, accepted-image}
 use Rattle.rewriting.proofs.calling.rewrite_bytes.Statement.{statement}
 use Rattle.rewriting.proofs.calling.rewrite_bytes.Tie as tie
 

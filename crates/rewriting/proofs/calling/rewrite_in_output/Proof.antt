@@ -4,7 +4,8 @@ use borrow.Author.Needs.{needs}
 use lib.ListN.{drop}
 use lib.Seq.{length-take-le, length-front}
 use Rattle.rewriting.proofs.Finishes.{told, untold}
-use Rattle.rewriting.proofs.Calls.{image-room, refused-11, granted-call, whole-image}
+use Rattle.rewriting.proofs.Images.{image-room, whole-image}
+use Rattle.rewriting.proofs.Calls.{refused-11, granted-call}
 use Rattle.rewriting.proofs.Fronts.{front-cleared, image-front}
 use Rattle.rewriting.proofs.calling.rewrite_in_output.Statement.{statement}
 use Rattle.rewriting.proofs.calling.rewrite_in_output.Tie as tie
