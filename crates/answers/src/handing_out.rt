@@ -4,15 +4,15 @@ use image::limits::RECORD_BYTES;
 use image::records::FIRST_LINK;
 use image::words::word_at;
 ghost use mathlib.Core.Path.{_≡_};
-ghost use mathlib.Core.List.{List, _++_};
-ghost use Prim.Native.Nat.{ℕ, _-_, _*_, _≤_};
+ghost use mathlib.Core.List.{_++_, List};
+ghost use Prim.Native.Nat.{_*_, _-_, _≤_, ℕ};
 ghost use lib.Dec.{leb};
 ghost use lib.ListN.{length, take};
-ghost use Rattle.image.specs.Limits.{maxRecords, maxDepth};
+ghost use Rattle.image.specs.Flat.{flat, sizeT};
+ghost use Rattle.image.specs.Limits.{maxDepth, maxRecords};
 ghost use Rattle.image.specs.Tree.{Tree};
-ghost use Rattle.image.specs.Flat.{sizeT, flat};
 ghost use Rattle.plan.specs.Measure.{depthT};
-ghost use Rattle.rewrite.specs.OnBytes.{zeros, filled};
+ghost use Rattle.rewrite.specs.OnBytes.{filled, zeros};
 
 // Whether no record of the flat tree of n records at the start of `work` is deeper than 256.
 pub fn is_shallow(work: &[u8], n: usize) -> bool

@@ -6,9 +6,9 @@ use image::records::NEXT_LINK;
 use image::words::word_at;
 ghost use mathlib.Core.Path.{_≡_};
 ghost use lib.ListN.{length};
-ghost use Rattle.image.specs.Limits.{maxRecords};
-ghost use Rattle.image.specs.Tree.{Tree, At};
 ghost use Rattle.image.specs.Flat.{sizeT};
+ghost use Rattle.image.specs.Limits.{maxRecords};
+ghost use Rattle.image.specs.Tree.{At, Tree};
 ghost use Rattle.answers.specs.Splicing.{Levels, Sized};
 
 // The depth of each record: a first child is one deeper than its parent, a sibling is as deep. Returns how many records there are.

@@ -3,22 +3,22 @@
 //     the caller writes the new tree there;
 //     write_records writes what stands behind the old tree, behind the new one.
 use crate::levels::note_levels;
-use conjuncts::reading::record_at;
 use image::copying::put_label;
 use image::ends::tree_end;
+use image::records::record_at;
 ghost use mathlib.Core.Path.{_≡_};
 ghost use mathlib.Core.Option.{some};
-ghost use Prim.Native.Nat.{_-_, _*_, _≤_, _<_};
+ghost use Prim.Native.Nat.{_*_, _-_, _<_, _≤_};
 ghost use lib.ListN.{length};
 ghost use lib.Seq.{slice};
+ghost use Rattle.image.specs.Flat.{flat, sizeT};
 ghost use Rattle.image.specs.Limits.{maxRecords, workBytes};
-ghost use Rattle.image.specs.Tree.{Tree, At};
-ghost use Rattle.image.specs.Flat.{sizeT, flat};
+ghost use Rattle.image.specs.Tree.{At, Tree};
 ghost use Rattle.plan.specs.Syntax.{Plan};
 ghost use Rattle.rewrite.specs.RewriteAt.{Focus, focus};
 ghost use Rattle.conjuncts.specs.Standing.{StandingP};
 ghost use Rattle.writing.specs.Plans.{ThereP};
-ghost use Rattle.answers.specs.Splicing.{Levels, Sized, Before, Ran};
+ghost use Rattle.answers.specs.Splicing.{Before, Levels, Ran, Sized};
 
 // Where a new tree goes: at what depth, and what record stands behind the old one; and how many records there are.
 pub struct Spot {

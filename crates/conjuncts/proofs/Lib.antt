@@ -2,6 +2,6 @@ pub mod Listed
 pub mod Kept
 pub mod Operands
 pub mod FunctionsIn
-pub mod Equality
+pub mod Equals
 pub mod Onto
 pub mod LeftDeeps

@@ -1,7 +1,6 @@
-// Lists of conjuncts: the records of an image at which they stand.
-pub mod equal;
-pub mod functions;
+// Lists of conjuncts: the records of an image at which they stand. What the source asks of datafusion-expr's utils for such lists.
+pub mod equality;
 pub mod lists;
-pub mod reading;
-pub mod splitting;
+pub mod split_conjunction;
 pub mod unique;
+pub mod volatility;

@@ -2,12 +2,12 @@
 use image::limits::MAX_LIST;
 use image::limits::TOO_MANY;
 ghost use mathlib.Core.Path.{_≡_};
-ghost use mathlib.Core.List.{List, [], _∷_, _++_};
-ghost use Prim.Native.Nat.{ℕ, _<_};
-ghost use lib.ListN.{length, getD};
-ghost use Rattle.plan.specs.Syntax.{Expr};
+ghost use mathlib.Core.List.{_++_, _∷_, List, []};
+ghost use Prim.Native.Nat.{_<_, ℕ};
+ghost use lib.ListN.{getD, length};
 ghost use Rattle.plan.specs.Lists.{put};
-ghost use Rattle.conjuncts.specs.Items.{listed, Holds, Item, Lists};
+ghost use Rattle.plan.specs.Syntax.{Expr};
+ghost use Rattle.conjuncts.specs.Items.{Holds, Item, Lists, listed};
 
 pub struct Conjuncts {
     pub at: [u16; MAX_LIST],

@@ -1,5 +1,5 @@
-// Lists without repeats: of equal conjuncts the first stays.
-use crate::equal::same_item;
+// Lists without repeats, as the source's IndexSet has them: of equal conjuncts the first stays.
+use crate::equality::same_item;
 use crate::lists::Conjuncts;
 use crate::lists::add_if;
 use crate::lists::empty;
@@ -7,12 +7,11 @@ use crate::lists::item_at;
 use image::limits::MAX_LIST;
 ghost use mathlib.Core.Path.{_≡_};
 ghost use mathlib.Core.Bool.{not};
-ghost use mathlib.Core.List.{List, [], _++_};
-ghost use Prim.Native.Nat.{ℕ, _<_};
+ghost use mathlib.Core.List.{_++_, List, []};
+ghost use Rattle.plan.specs.Lists.{put};
 ghost use Rattle.plan.specs.Syntax.{Expr};
-ghost use Rattle.plan.specs.Lists.{put, any};
-ghost use Rattle.rewrite.specs.Utils.{sameE, unique};
-ghost use Rattle.conjuncts.specs.Items.{Item, Lists, Present, Some, Known};
+ghost use Rattle.rewrite.specs.Utils.{unique};
+ghost use Rattle.conjuncts.specs.Items.{Item, Known, Lists, Present, Some};
 ghost use Rattle.conjuncts.specs.Onto.{isIn, onto};
 
 // Whether an item of c equals the item x.

@@ -36,15 +36,15 @@ use Rattle.acceptance.proofs.Converse.{same-tree, stands-alone}
 use Rattle.acceptance.proofs.WellFormed.{well-formed-rules}
 use Rattle.acceptance.specs.Names.{sound}
 use Rattle.acceptance.proofs.NamesRule.{rule, rule-sound}
-use Rattle.finding.specs.Fields.{Schema, inputs, namesIn}
-use Rattle.finding.specs.Count.{input}
-use Rattle.finding.specs.Rules.{typesIn}
-use Rattle.names.proofs.TreeFields.{stand, fields, inputs-expr, inputs-plan, fields-names, fields-types}
+use Rattle.check_fields.specs.Fields.{Schema, inputs, namesIn}
+use Rattle.check_fields.specs.Count.{input}
+use Rattle.check_fields.specs.Rules.{typesIn}
+use Rattle.check_names.proofs.TreeFields.{stand, fields, inputs-expr, inputs-plan, fields-names, fields-types}
 use Rattle.utils.specs.Fields.{Fields, most}
 use Rattle.utils.specs.Fields.{Names as NamesOf}
 use Rattle.rewrite.proofs.OnBytes.{tree-length}
-use Rattle.checking.specs.Answer.{verdictOf}
-use Rattle.checking.specs.declared.Checked.{Checked}
+use Rattle.check_image.specs.Answer.{verdictOf}
+use Rattle.check_image.specs.declared.Checked.{Checked}
 use Rattle.rewrite.specs.OnBytes.{planIn, planFromLinks, isAccepted}
 use Rattle.rewrite.specs.RewriteAt.{Focus, focus}
 use Rattle.rewrite.specs.RowTest.{row-ok, lent, no-functions, no-test, truth-number, test-predicate, test-plan, test-focus, row-test-bytes}

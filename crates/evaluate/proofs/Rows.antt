@@ -21,10 +21,10 @@ use Rattle.plan.specs.Schema.{same, lookD}
 use Rattle.plan.specs.Syntax.{Name, Value, null}
 use Rattle.rewrite.specs.RowTest.{cell, lent, cell-ok, row-ok}
 use Rattle.utils.specs.Fields.{placeIn}
-use Rattle.finding.specs.Fields.{Schema}
-use Rattle.finding.specs.Rules.{typesIn}
-use Rattle.types.specs.ByPlace.{tyAt}
-use Rattle.types.proofs.ByPlacing.{one-more}
+use Rattle.check_fields.specs.Fields.{Schema}
+use Rattle.check_fields.specs.Rules.{typesIn}
+use Rattle.check_types.specs.ByPlace.{tyAt}
+use Rattle.check_types.proofs.ByPlacing.{one-more}
 
 -- a number is above 0 exactly if it is not 0 or below
 pub above-zero : (z : ℤ) → ltZ (pos 0) z ≡ not (leZ z (pos 0))

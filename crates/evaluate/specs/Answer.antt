@@ -1,6 +1,6 @@
 -- The number, the record and the truth of each case of the row test's answer.
 use Rattle.acceptance.specs.Check.{verdict}
-use Rattle.checking.specs.Answer.{verdictOf}
+use Rattle.check_image.specs.Answer.{verdictOf}
 use Rattle.rewrite.specs.RowTest.{Tested, no-test, truth-number}
 use Rattle.evaluate.specs.Truths.{valueOf}
 use Rattle.evaluate.specs.declared.testing.Answer.{Answer}

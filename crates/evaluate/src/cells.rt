@@ -3,19 +3,19 @@ use plan::values::Case;
 use plan::values::Value;
 use plan::words::BOOLEAN;
 use plan::words::INTEGER;
-use utils::fields::Fields;
-use utils::fields::place_of;
+use utils::schema_columns::Fields;
+use utils::schema_columns::place_in;
 ghost use mathlib.Core.Path.{_≡_};
 ghost use mathlib.Core.List.{List};
-ghost use Prim.Native.Nat.{_≤_, _<_};
+ghost use Prim.Native.Nat.{_<_, _≤_};
 ghost use lib.IntN.{pos};
-ghost use lib.ListN.{length, getD};
+ghost use lib.ListN.{getD, length};
 ghost use Rattle.plan.specs.Syntax.{Name, nm, null};
 ghost use Rattle.plan.specs.Values.{caseOf};
-ghost use Rattle.meaning.specs.Meaning as M;
-ghost use Rattle.rewrite.specs.RowTest as R;
 ghost use Rattle.rewrite.specs.RowTest.{lent};
 ghost use Rattle.utils.specs.Fields.{Names};
+ghost use Rattle.meaning.specs.Meaning as M;
+ghost use Rattle.rewrite.specs.RowTest as R;
 
 // A value that is not NULL, of a field of this type.
 fn cell_of(ty: usize, z: i64) -> Value
@@ -109,5 +109,5 @@ pub fn column(
     ensures { λ r. ⌜ ((ns : List Name) → Names fields ns → length (now (types .entry)) ≤ length ns
         → caseOf (r .case) ≡ M.look ns (lent (now (types .entry)) (now (values .entry)) (now (marks .entry))) (nm q n)) ⌝ }
 {
-    cell_at(types, values, marks, place_of(fields, q, n))
+    cell_at(types, values, marks, place_in(fields, q, n))
 }

@@ -11,10 +11,10 @@ ghost use Rattle.plan.specs.Read.{nth, tests};
 ghost use Rattle.plan.specs.Syntax.{eq, isNull};
 ghost use Rattle.plan.specs.Trees.{bitOf};
 ghost use Rattle.plan.specs.Values.{caseOf};
-ghost use Rattle.meaning.specs.Meaning as M;
-ghost use Rattle.meaning.specs.Meaning.{isN, isT, isF};
-ghost use Rattle.evaluate.specs.Truths.{valueOf};
+ghost use Rattle.meaning.specs.Meaning.{isF, isN, isT};
 ghost use Rattle.evaluate.specs.Operators.{cmpOf};
+ghost use Rattle.evaluate.specs.Truths.{valueOf};
+ghost use Rattle.meaning.specs.Meaning as M;
 
 // The numbers of two comparisons.
 const EQ: usize = 3;

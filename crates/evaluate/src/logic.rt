@@ -3,10 +3,9 @@ use plan::values::Case;
 use plan::values::Value;
 use plan::words::BOOLEAN;
 ghost use mathlib.Core.Path.{_≡_};
-ghost use mathlib.Core.Bool.{cond};
 ghost use Rattle.plan.specs.Syntax.{truth};
-ghost use Rattle.plan.specs.Values.{ValueRecord, caseOf};
-ghost use Rattle.meaning.specs.Meaning.{tri, isT, isF, and3, or3, not3, negate};
+ghost use Rattle.plan.specs.Values.{caseOf};
+ghost use Rattle.meaning.specs.Meaning.{and3, isF, isT, negate, not3, or3, tri};
 ghost use Rattle.evaluate.specs.Truths.{valueOf};
 
 pub enum Truth {

@@ -16,15 +16,15 @@ use plan::values::Case;
 use plan::values::Value;
 ghost use mathlib.Core.Path.{_≡_};
 ghost use mathlib.Core.Bool.{cond};
-ghost use mathlib.Core.List.{List, [], _∷_, _++_};
+ghost use mathlib.Core.List.{_++_, _∷_, List, []};
 ghost use Prim.Native.Nat.{_-_};
 ghost use Rattle.plan.specs.Read.{nth, ops};
 ghost use Rattle.plan.specs.Syntax.{and as And, null, truth};
-ghost use Rattle.plan.specs.Syntax as S;
 ghost use Rattle.plan.specs.Values.{caseOf};
-ghost use Rattle.meaning.specs.Meaning as M;
-ghost use Rattle.evaluate.specs.Truths.{valueOf};
 ghost use Rattle.evaluate.specs.Operators.{Sees, operated};
+ghost use Rattle.evaluate.specs.Truths.{valueOf};
+ghost use Rattle.meaning.specs.Meaning as M;
+ghost use Rattle.plan.specs.Syntax as S;
 
 // The first three operands, and whether one after the first equals it: no operator asks for more.
 pub struct Seen {

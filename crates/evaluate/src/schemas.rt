@@ -1,13 +1,13 @@
 // The types of the fields that a Filter's predicate stands over.
-use types::places::place_type;
+use check_types::places::place_type;
 ghost use mathlib.Core.Path.{_≡_};
 ghost use Prim.Native.Nat.{_≤_};
 ghost use lib.ListN.{length, take};
 ghost use Rattle.image.specs.Places.{Chained};
 ghost use Rattle.image.specs.Tree.{Forest, Linked};
-ghost use Rattle.finding.specs.Count.{input};
-ghost use Rattle.finding.specs.Fields.{inputs};
-ghost use Rattle.finding.specs.Rules.{typesIn};
+ghost use Rattle.check_fields.specs.Count.{input};
+ghost use Rattle.check_fields.specs.Fields.{inputs};
+ghost use Rattle.check_fields.specs.Rules.{typesIn};
 
 // The types of the n fields of the first plan among the trees from record `at` on, by place.
 pub fn field_types(s: &[u8], base: usize, at: usize, n: usize) -> [usize; 64]

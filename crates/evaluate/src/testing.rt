@@ -4,19 +4,19 @@ use crate::expressions::evaluate;
 use crate::logic::Truth;
 use crate::logic::truth_of;
 use crate::schemas::field_types;
-use checking::Checked;
-use checking::check;
-use conjuncts::functions::has_function;
-use conjuncts::reading::record_at;
+use check_image::Checked;
+use check_image::check;
+use conjuncts::volatility::has_function;
 use image::limits::MAX_DEPTH;
 use image::limits::RECORD_BYTES;
 use image::records::FIRST_LINK;
 use image::records::NEXT_LINK;
 use image::records::from_record;
+use image::records::record_at;
 use image::words::word_at;
-use utils::fields::Fields;
-use utils::fields::no_fields;
-use utils::fields::schema_columns;
+use utils::schema_columns::Fields;
+use utils::schema_columns::no_fields;
+use utils::schema_columns::schema_columns;
 ghost use mathlib.Core.Path.{_≡_};
 ghost use Prim.Native.Nat.{_≤_};
 ghost use Rattle.image.specs.Tree.{At, Readable};
@@ -24,13 +24,13 @@ ghost use Rattle.plan.specs.Integers.{FitsE};
 ghost use Rattle.plan.specs.Schema.{schema};
 ghost use Rattle.plan.specs.Syntax.{Expr, Plan, filter};
 ghost use Rattle.plan.specs.Trees.{exprTree, planTree};
-ghost use Rattle.plan.specs.Types as Types;
 ghost use Rattle.rewrite.specs.OnBytes.{planIn};
 ghost use Rattle.rewrite.specs.RewriteAt.{focus};
-ghost use Rattle.rewrite.specs.RowTest.{test-predicate, test-focus, row-test-bytes};
+ghost use Rattle.rewrite.specs.RowTest.{row-test-bytes, test-focus, test-predicate};
 ghost use Rattle.utils.specs.Fields.{Names};
 ghost use Rattle.evaluate.specs.Answer.{testedOf};
-ghost use Rattle.evaluate.specs.Standing.{Sound, Whole, FilterHere};
+ghost use Rattle.evaluate.specs.Standing.{FilterHere, Sound, Whole};
+ghost use Rattle.plan.specs.Types as Types;
 
 // The kind of a Filter.
 const FILTER: usize = 33;
@@ -108,7 +108,7 @@ pub fn row_test(image: &[u8], node: u32, values: &[i64], marks: &[u8]) -> Answer
     ensures { λ r. ⌜ testedOf r ≡ row-test-bytes (now (image .entry)) node (now (values .entry)) (now (marks .entry)) ⌝ }
 {
     let answer = check(image);
-    if checking::number_of(answer) != 0 {
+    if check_image::number_of(answer) != 0 {
         return Answer::Image(answer);
     }
     test_at(image, node as usize, values, marks)
@@ -119,7 +119,7 @@ pub fn number_of(answer: Answer) -> u32
     ensures { λ r. ⌜ r ≡ testedOf answer .number ⌝ }
 {
     match answer {
-        Answer::Image(a) => checking::number_of(a),
+        Answer::Image(a) => check_image::number_of(a),
         Answer::NoFilter(_) => 8,
         Answer::BadRow => 9,
         Answer::HasFunction(_) => 10,
@@ -132,7 +132,7 @@ pub fn place_of(answer: Answer) -> usize
     ensures { λ r. ⌜ r ≡ testedOf answer .place ⌝ }
 {
     match answer {
-        Answer::Image(a) => checking::place_of(a),
+        Answer::Image(a) => check_image::place_of(a),
         Answer::NoFilter(n) => n,
         Answer::BadRow => 0,
         Answer::HasFunction(n) => n,

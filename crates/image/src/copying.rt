@@ -1,4 +1,4 @@
-// Copying: records written flat, each with its depth in the place of its first link, into a work buffer of 2,048 records.
+// The kinds of records that are looked for or written.
 use crate::limits::MAX_RECORDS;
 use crate::limits::NO_ROOM;
 use crate::records::FIRST_LINK;
@@ -9,11 +9,11 @@ use crate::records::label_at;
 use crate::records::put_record;
 use crate::words::word_at;
 ghost use mathlib.Core.Path.{_≡_};
-ghost use Prim.Native.Nat.{_+_, _≤_, _<_};
+ghost use Prim.Native.Nat.{_+_, _<_, _≤_};
 ghost use lib.ListN.{length};
 ghost use Rattle.image.specs.Limits.{workBytes};
-ghost use Rattle.image.specs.Tree.{Tree, At, Readable, labelAt};
 ghost use Rattle.image.specs.Room.{Put, Wrote};
+ghost use Rattle.image.specs.Tree.{At, Readable, Tree, labelAt};
 
 // Writes a record with its depth, where there is room, and returns the record after it: 2,049 at most.
 pub fn put(out: &mut [u8], at: usize, label: Label, level: usize) -> usize
@@ -61,4 +61,20 @@ pub fn copy_tree(
         from = word_at(part, NEXT_LINK);
     }
     to
+}
+
+// Writes a record of this kind, with the word p and no other.
+pub fn put_kind(out: &mut [u8], at: usize, kind: usize, p: usize, level: usize) -> usize
+    requires { ⌜ length (now out) ≡ workBytes ⌝ }
+    ensures { λ r. ⌜ Put (now (out .entry)) (now (out .exit)) at level r (record { kind = kind; p = p; q = 0; r = 0; lo = 0; hi = 0 }) ⌝ }
+{
+    let label = Label {
+        kind,
+        p,
+        q: 0,
+        r: 0,
+        lo: 0,
+        hi: 0,
+    };
+    put(out, at, label, level)
 }

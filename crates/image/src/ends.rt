@@ -4,12 +4,12 @@ use crate::records::from_record;
 use crate::records::look;
 use crate::words::word_at;
 ghost use mathlib.Core.Path.{_≡_};
-ghost use Prim.Native.Nat.{_+_, _*_, _≤_};
+ghost use Prim.Native.Nat.{_*_, _+_, _≤_};
 ghost use lib.ListN.{length};
-ghost use Rattle.image.specs.Limits.{workBytes};
-ghost use Rattle.image.specs.Tree.{Forest, Tree, size, Linked, At};
 ghost use Rattle.image.specs.Flat.{sizeT};
+ghost use Rattle.image.specs.Limits.{workBytes};
 ghost use Rattle.image.specs.Places.{Chained};
+ghost use Rattle.image.specs.Tree.{At, Forest, Linked, Tree, size};
 
 // The record behind the trees from record `at` on: of the last tree of all, and in it of the last of its children, it is the one behind.
 pub fn trees_end(s: &[u8], base: usize, at: usize) -> usize

@@ -1,5 +1,4 @@
 // The limits of an image and what follows from them, all of them: those of specs/Limits.antt.
-
 // Records of an image.
 pub const MAX_RECORDS: usize = 2048;
 

@@ -4,10 +4,10 @@ use crate::records::FIRST_LINK;
 use crate::records::NEXT_LINK;
 use crate::words::word_at;
 ghost use mathlib.Core.Path.{_≡_};
-ghost use Prim.Native.Nat.{_-_, _*_, _≤_, _<_, ℕ};
+ghost use Prim.Native.Nat.{_*_, _-_, _<_, _≤_, ℕ};
 ghost use lib.ListN.{length};
 ghost use Rattle.image.specs.Limits.{maxRecords};
-ghost use Rattle.image.specs.Links.{parse, outcome};
+ghost use Rattle.image.specs.Links.{outcome, parse};
 
 // What reading links comes to.
 pub enum Walk {

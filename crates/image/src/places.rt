@@ -1,5 +1,4 @@
 // Where a search ends: at a record, or nowhere.
-
 pub enum Place {
     At(usize),
     Nowhere,

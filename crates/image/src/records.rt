@@ -3,11 +3,19 @@ use crate::limits::RECORD_BYTES;
 use crate::words::put_four;
 use crate::words::word_at;
 ghost use mathlib.Core.Path.{_≡_};
-ghost use Prim.Native.Nat.{_+_, _-_, _*_, _≤_};
-ghost use lib.ListN.{length, drop};
+ghost use Prim.Native.Nat.{_*_, _+_, _-_, _≤_};
+ghost use lib.ListN.{drop, length};
 ghost use lib.Seq.{sets};
 ghost use Rattle.image.specs.Flat.{bytesOf};
 ghost use Rattle.image.specs.Tree.{Fits32, labelAt, nodeOf};
+
+// The part of the image that begins at record n.
+pub fn record_at(s: &[u8], n: usize) -> &[u8]
+    requires { ⌜ 32 * n ≤ length (now s) ⌝ }
+    ensures { λ r. ⌜ now r ≡ drop (32 * n) (now (s .entry)) ⌝ }
+{
+    from_record(s, 0, n)
+}
 
 // The bytes of a record at which its words stand: the six of its label, then the links to its first child and to its next sibling.
 pub const KIND: usize = 0;

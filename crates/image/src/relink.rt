@@ -5,14 +5,14 @@ use crate::records::FIRST_LINK;
 use crate::words::put_word;
 use crate::words::word_at;
 ghost use mathlib.Core.Path.{_≡_};
-ghost use Prim.Native.Nat.{_+_, _*_, _≤_, _<_, ℕ};
 ghost use mathlib.Core.List.{_++_, List};
-ghost use lib.ListN.{length, getD, set};
+ghost use Prim.Native.Nat.{_*_, _+_, _<_, _≤_, ℕ};
+ghost use lib.ListN.{getD, length, set};
 ghost use lib.Seq.{sets};
-ghost use Rattle.image.specs.Word.{word, le};
-ghost use Rattle.image.specs.Flat.{sizeT, flat, enc};
-ghost use Rattle.image.specs.Tree.{Tree, Deep};
+ghost use Rattle.image.specs.Flat.{enc, flat, sizeT};
 ghost use Rattle.image.specs.Flattened.{Flattened};
+ghost use Rattle.image.specs.Tree.{Deep, Tree};
+ghost use Rattle.image.specs.Word.{le, word};
 
 // Record i's depth gives way to its links.
 // The table has for each depth the last record met there, from the end, below the same parent.

@@ -1,10 +1,10 @@
 // Words: four bytes, the lowest first.
 ghost use mathlib.Core.Path.{_≡_};
-ghost use Prim.Native.Nat.{_+_, _≤_, _<_};
 ghost use mathlib.Core.List.{_++_};
+ghost use Prim.Native.Nat.{_+_, _<_, _≤_};
 ghost use lib.ListN.{length};
 ghost use lib.Seq.{sets};
-ghost use Rattle.image.specs.Word.{word, le};
+ghost use Rattle.image.specs.Word.{le, word};
 
 // A byte as a number: the index is then all that a read of it asks for.
 fn wide(x: u8) -> usize

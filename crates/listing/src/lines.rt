@@ -3,15 +3,15 @@ use crate::numbers::put_byte;
 use crate::numbers::put_decimal;
 use crate::numbers::put_named;
 use crate::numbers::put_words;
-use conjuncts::reading::record_at;
 use image::records::FIRST_LINK;
 use image::records::Label;
 use image::records::label_at;
+use image::records::record_at;
 use image::words::word_at;
-ghost use Prim.Native.Nat.{_+_, _*_, _≤_, _<_};
+ghost use Prim.Native.Nat.{_*_, _+_, _<_, _≤_};
 ghost use lib.ListN.{length};
 ghost use Rattle.image.specs.Tree.{Fits32};
-ghost use Rattle.listing.specs.Listing.{line, counts, refusal};
+ghost use Rattle.listing.specs.Listing.{counts, line, refusal};
 ghost use Rattle.listing.specs.Written.{Appended, flat-lines};
 
 // Writes the line of a record, and returns the place behind it.

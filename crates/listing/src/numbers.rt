@@ -1,9 +1,9 @@
 // Bytes and numbers, written behind what stands in a text already.
 ghost use mathlib.Core.Path.{_≡_};
-ghost use mathlib.Core.List.{_∷_, [], _++_};
-ghost use Prim.Native.Nat.{_+_, _≤_, _<_};
+ghost use mathlib.Core.List.{_++_, _∷_, []};
+ghost use Prim.Native.Nat.{_+_, _<_, _≤_};
 ghost use lib.ListN.{length};
-ghost use Rattle.listing.specs.Listing.{decimal, spaced, named};
+ghost use Rattle.listing.specs.Listing.{decimal, named, spaced};
 ghost use Rattle.listing.specs.Written.{Appended};
 
 // Writes a byte, and returns the place behind it.

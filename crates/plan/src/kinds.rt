@@ -1,7 +1,7 @@
 // The kinds of records and the numbers that their words hold, all of them: those of specs/Kinds.antt and specs/Trees.antt.
 // A new kind is one number here, one row in each table of children.rt and words.rt, and a failed proof wherever it is not treated.
 ghost use mathlib.Core.Path.{_≡_};
-ghost use Rattle.plan.specs.Kinds.{whatOf, exprW, planW, partW};
+ghost use Rattle.plan.specs.Kinds.{exprW, partW, planW, whatOf};
 
 // ---- expressions
 

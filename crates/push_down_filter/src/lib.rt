@@ -1,16 +1,16 @@
 // What C and Rust call: functions on byte slices and numbers.
-use checking::check;
-use checking::number_of;
-use checking::place_of;
+use call_pass::call_pass::pass_bytes;
+use call_rewrite::call_rewrite::rewrite_bytes;
+use check_image::check;
+use check_image::number_of;
+use check_image::place_of;
 use evaluate::testing::row_test;
-use pass::calling::pass_bytes;
-use rewriting::calling::rewrite_bytes;
 ghost use mathlib.Core.Path.{_≡_};
-ghost use Rattle.acceptance.specs.Check as Check;
 ghost use lib.ListN.{length};
-ghost use Rattle.rewrite.specs.OnBytes.{rewrite-bytes, pass-bytes};
+ghost use Rattle.rewrite.specs.OnBytes.{pass-bytes, rewrite-bytes};
 ghost use Rattle.rewrite.specs.RowTest.{row-test-bytes};
-ghost use Rattle.push_down_filter.specs.Boundary.{verdictIs, testedIs, rewrittenIs, passedIs};
+ghost use Rattle.push_down_filter.specs.Boundary.{passedIs, rewrittenIs, testedIs, verdictIs};
+ghost use Rattle.acceptance.specs.Check as Check;
 
 // Number and record of a refusal; 0 and 0 for an accepted image.
 #[repr(C)]
@@ -47,12 +47,12 @@ pub extern "C" fn push_down_filter_rewrite(image: &[u8], node: u32, out: &mut [u
     ensures { λ r. ⌜ rewrittenIs r (now (out .exit)) ≡ rewrite-bytes (now (image .entry)) node (length (now (out .entry))) ⌝ }
 {
     let answer = rewrite_bytes(image, node, out);
-    let place = rewriting::calling::place_of(answer);
-    let records = rewriting::calling::records_of(answer);
+    let place = call_rewrite::call_rewrite::place_of(answer);
+    let records = call_rewrite::call_rewrite::records_of(answer);
     Rewritten {
-        number: rewriting::calling::number_of(answer),
+        number: call_rewrite::call_rewrite::number_of(answer),
         record: place as u32,
-        flag: rewriting::calling::flag_of(answer),
+        flag: call_rewrite::call_rewrite::flag_of(answer),
         records: records as u32,
     }
 }
@@ -74,14 +74,14 @@ pub extern "C" fn push_down_filter_pass(image: &[u8], budget: u64, out: &mut [u8
     ensures { λ r. ⌜ passedIs r (now (out .exit)) ≡ pass-bytes (now (image .entry)) budget (length (now (out .entry))) ⌝ }
 {
     let answer = pass_bytes(image, budget, out);
-    let place = pass::calling::place_of(answer);
-    let records = pass::calling::records_of(answer);
+    let place = call_pass::call_pass::place_of(answer);
+    let records = call_pass::call_pass::records_of(answer);
     Passed {
-        number: pass::calling::number_of(answer),
+        number: call_pass::call_pass::number_of(answer),
         record: place as u32,
-        visits: pass::calling::visits_of(answer),
-        changed: pass::calling::changed_of(answer),
-        finished: pass::calling::finished_of(answer),
+        visits: call_pass::call_pass::visits_of(answer),
+        changed: call_pass::call_pass::changed_of(answer),
+        finished: call_pass::call_pass::finished_of(answer),
         records: records as u32,
     }
 }

@@ -20,10 +20,10 @@ use Rattle.rewrite.specs.SimplifyPredicates.{add, sort-out}
 use Rattle.rewrite.proofs.Simplify.{view-back}
 use Rattle.conjuncts.specs.Items.{FALSE}
 use Rattle.conjuncts.proofs.Listed.{next-back}
-use Rattle.conjuncts.proofs.Equality.{and-both}
-use Rattle.simplify_expressions.specs.declared.comparisons.Compared.{Compared}
-use Rattle.simplify_expressions.specs.declared.comparisons.Compared.the-variants.{Of, Not}
-use Rattle.simplify_expressions.specs.declared.comparisons.Bound.{Bound}
+use Rattle.conjuncts.proofs.Equals.{and-both}
+use Rattle.simplify_expressions.specs.declared.simplify_predicates.Compared.{Compared}
+use Rattle.simplify_expressions.specs.declared.simplify_predicates.Compared.the-variants.{Of, Not}
+use Rattle.simplify_expressions.specs.declared.simplify_predicates.Bound.{Bound}
 use Rattle.simplify_expressions.specs.Seen.{named, relOf, seen, strictR, sideOf?, sideIn, Spelled}
 use Rattle.simplify_expressions.specs.Classes.{classOf, isName, inClass, ofClass, after, before, lesser, least}
 

@@ -22,9 +22,9 @@ use Rattle.plan.specs.declared.values.Literal.the-variants as LV
 use Rattle.plan.proofs.Literals.{literal-read}
 use Rattle.rewrite.specs.SimplifyPredicates.{Rel, same-as, above, below, Item, rel-of, as-column, as-literal, make, or-item, view}
 use Rattle.conjuncts.proofs.Operands as K
-use Rattle.simplify_expressions.specs.declared.comparisons.Name as DeclName
-use Rattle.simplify_expressions.specs.declared.comparisons.Operand.{Operand}
-use Rattle.simplify_expressions.specs.declared.comparisons.Operand.the-variants.{Column, Literal, Neither}
+use Rattle.simplify_expressions.specs.declared.simplify_predicates.Name as DeclName
+use Rattle.simplify_expressions.specs.declared.simplify_predicates.Operand.{Operand}
+use Rattle.simplify_expressions.specs.declared.simplify_predicates.Operand.the-variants.{Column, Literal, Neither}
 use Rattle.simplify_expressions.specs.Seen.{named, columnIn, valueIn, asOperand, operandOf, relOf, relNo, strictR, matchedIn}
 
 strict-of : (a b s : Bool) → strictR (cond a same-as (cond b (above s) (below s))) ≡ (s && not a)

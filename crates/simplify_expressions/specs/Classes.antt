@@ -8,7 +8,7 @@ use Rattle.plan.specs.Syntax.{Expr, Name, nm}
 use Rattle.plan.specs.Lists.{choose, keep}
 use Rattle.rewrite.specs.SimplifyPredicates.{Rel, same-as, above, below, Item, Group, view, name-under}
 use Rattle.simplify_expressions.specs.Seen.{sideIn}
-use Rattle.simplify_expressions.specs.declared.columns.Key.{Key}
+use Rattle.simplify_expressions.specs.declared.simplify_predicates.Key.{Key}
 
 -- ---- classes
 

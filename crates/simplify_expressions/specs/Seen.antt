@@ -18,12 +18,12 @@ use Rattle.plan.specs.declared.values.Literal as L
 use Rattle.plan.specs.declared.values.Literal.the-variants as LV
 use Rattle.conjuncts.specs.Items.{FALSE}
 use Rattle.rewrite.specs.SimplifyPredicates.{Rel, same-as, above, below, Side, Item, make, or-item, view, gtZ}
-use Rattle.simplify_expressions.specs.declared.comparisons.Name.{Name}
-use Rattle.simplify_expressions.specs.declared.comparisons.Operand.{Operand}
-use Rattle.simplify_expressions.specs.declared.comparisons.Operand.the-variants.{Column, Literal, Neither}
-use Rattle.simplify_expressions.specs.declared.comparisons.Bound.{Bound}
-use Rattle.simplify_expressions.specs.declared.comparisons.Compared.{Compared}
-use Rattle.simplify_expressions.specs.declared.comparisons.Compared.the-variants.{Of, Not}
+use Rattle.simplify_expressions.specs.declared.simplify_predicates.Name.{Name}
+use Rattle.simplify_expressions.specs.declared.simplify_predicates.Operand.{Operand}
+use Rattle.simplify_expressions.specs.declared.simplify_predicates.Operand.the-variants.{Column, Literal, Neither}
+use Rattle.simplify_expressions.specs.declared.simplify_predicates.Bound.{Bound}
+use Rattle.simplify_expressions.specs.declared.simplify_predicates.Compared.{Compared}
+use Rattle.simplify_expressions.specs.declared.simplify_predicates.Compared.the-variants.{Of, Not}
 
 abbrev pub named : Name → S.Name
 named x = nm (x .q) (x .n)

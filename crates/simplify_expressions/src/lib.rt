@@ -1,6 +1,3 @@
-// Lists of predicates put in order and simplified: src/simplify_expressions of the source.
-pub mod columns;
-pub mod comparisons;
+// src/simplify_expressions of the source, file by file: predicates on one column simplified together, cheap ones put first.
 pub mod reorder_predicates;
-pub mod restrictive;
 pub mod simplify_predicates;

@@ -1,16 +1,16 @@
-// Cheap predicates first: src/simplify_expressions/reorder_predicates.rs.
-use conjuncts::functions::function_at;
+// reorder_predicates.rs: reorder_predicates (42 to 74); is_cheap_predicate (76 to 87) is a predicate without functions.
 use conjuncts::lists::Conjuncts;
 use conjuncts::lists::add_if;
 use conjuncts::lists::empty;
 use conjuncts::lists::item_at;
+use conjuncts::volatility::function_at;
 ghost use mathlib.Core.Path.{_≡_};
-ghost use mathlib.Core.List.{List, _++_};
+ghost use mathlib.Core.List.{_++_, List};
+ghost use Rattle.plan.specs.Lists.{any, keep};
 ghost use Rattle.plan.specs.Syntax.{Expr};
-ghost use Rattle.plan.specs.Lists.{keep, any};
-ghost use Rattle.rewrite.specs.Utils.{is-volatile};
 ghost use Rattle.rewrite.specs.ReorderPredicates.{needs-reorder, reorder-predicates};
-ghost use Rattle.conjuncts.specs.Items.{Lists, Known};
+ghost use Rattle.rewrite.specs.Utils.{is-volatile};
+ghost use Rattle.conjuncts.specs.Items.{Known, Lists};
 ghost use Rattle.simplify_expressions.specs.Cost.{ofCost};
 
 pub struct Reordered {

@@ -1,101 +1,85 @@
-// Predicates on one column, simplified together: src/simplify_expressions/simplify_predicates.rs, with D1, D2 and D3.
-use crate::columns::Key;
-use crate::columns::OTHER;
-use crate::columns::next_column;
-use crate::columns::select;
-use crate::comparisons::EQUALITY;
-use crate::comparisons::LOWER;
-use crate::comparisons::UPPER;
-use crate::comparisons::side_at;
-use crate::restrictive::code_of;
-use crate::restrictive::kind_of;
-use crate::restrictive::most_restrictive;
+// simplify_predicates.rs, in its order: simplify_predicates (44 to 102), simplify_column_predicates (105 to 171),
+// find_most_restrictive_predicate (187 to 242), extract_column_from_expr (245 to 252); with the differences D1, D2 and D3.
+// The source's map from columns to predicates is a search for the next column.
 use conjuncts::lists::Conjuncts;
 use conjuncts::lists::add_if;
 use conjuncts::lists::empty;
 use conjuncts::lists::item_at;
+use image::records::FIRST_LINK;
+use image::records::Label;
+use image::records::NEXT_LINK;
+use image::records::from_record;
+use image::records::label_at;
+use image::records::record_at;
+use image::words::word_at;
+use plan::values::Case;
+use plan::values::Literal;
 use plan::values::Value;
+use plan::values::literal_of;
+use plan::words::BOOLEAN;
+use plan::words::INTEGER;
 ghost use mathlib.Core.Path.{_≡_};
-ghost use mathlib.Core.List.{List, _++_, map};
-ghost use Prim.Native.Nat.{ℕ, _<_};
-ghost use lib.ListN.{getD, drop};
+ghost use mathlib.Core.Bool.{Bool};
+ghost use mathlib.Core.List.{_++_, List, map};
+ghost use mathlib.Core.Option.{some};
+ghost use Prim.Native.Nat.{_<_};
+ghost use lib.ListN.{drop, getD};
+ghost use Rattle.image.specs.Tree.{At, Fits32};
+ghost use Rattle.plan.specs.Integers.{FitsE};
+ghost use Rattle.plan.specs.Lists.{all, choose, keep};
+ghost use Rattle.plan.specs.Syntax.{Expr, nm};
+ghost use Rattle.plan.specs.Trees.{exprTree};
+ghost use Rattle.meaning.specs.Meaning.{code, isN, kindOf, sameV};
+ghost use Rattle.rewrite.specs.SimplifyPredicates.{Side, eq-expr, eq-part, find-most-restrictive-predicate, first-kind, is-better};
+ghost use Rattle.rewrite.specs.SimplifyPredicates.{lit-val, make, most-restrictive, name-under, of-kind, simplify-column-predicates};
+ghost use Rattle.rewrite.specs.SimplifyPredicates.{simplify-predicates, sort-out, val, view};
+ghost use Rattle.conjuncts.specs.Items.{FALSE, Known, Lists};
+ghost use Rattle.simplify_expressions.specs.Classes.{after, classOf, groupOf, inClass, keyOf, least, lesser, ofClass};
+ghost use Rattle.simplify_expressions.specs.Seen.{Reading, Spelled, matchedIn, named, operandOf, pastOf, relNo, relOf, seen};
+ghost use Rattle.simplify_expressions.specs.Seen.{sideIn, sideOf};
 ghost use Rattle.plan.specs.Syntax as S;
-ghost use Rattle.plan.specs.Syntax.{Expr};
-ghost use Rattle.plan.specs.Lists.{all};
-ghost use Rattle.meaning.specs.Meaning.{sameV};
-ghost use Rattle.rewrite.specs.SimplifyPredicates.{lit-val, val, eq-expr, eq-part, simplify-column-predicates, sort-out, simplify-predicates};
-ghost use Rattle.conjuncts.specs.Items.{FALSE, Lists, Known};
-ghost use Rattle.simplify_expressions.specs.Seen.{sideIn, Spelled};
-ghost use Rattle.simplify_expressions.specs.Classes.{groupOf};
 
-// The predicates that are no comparisons of a column with a literal.
-fn other_predicates(s: &[u8], c: Conjuncts) -> Conjuncts
-    requires { ⌜ Known (now s) c ⌝ }
-    ensures { λ r. ⌜ ((es : List Expr) → Lists (now (s .entry)) c es → Lists (now (s .entry)) r (sort-out es .others)) ⌝ }
-{
-    select(s, c, empty(), OTHER, 0, 0)
+// What a comparison is to its column.
+pub const EQUALITY: usize = 0;
+
+pub const LOWER: usize = 1;
+
+pub const UPPER: usize = 2;
+
+// The class of what is no comparison of a column with a literal.
+pub const OTHER: usize = 3;
+
+// The name of a column.
+pub struct Name {
+    pub q: usize,
+    pub n: usize,
 }
 
-fn same_value(a: Value, b: Value) -> bool
-    ensures { λ r. ⌜ r ≡ sameV (lit-val a) (lit-val b) ⌝ }
-{
-    let x = code_of(a);
-    let y = code_of(b);
-    (kind_of(a) == kind_of(b)) & ((x <= y) & (y <= x))
+pub enum Operand {
+    Column(Name),
+    Literal(Value),
+    Neither,
 }
 
-// Whether the literals of the equalities c agree with the first.
-fn all_agree(s: &[u8], c: Conjuncts) -> bool
-    requires { ⌜ Known (now s) c ⌝ }
-    requires { ⌜ 0 < c .len ⌝ }
-    ensures { λ r. ⌜ ((es : List Expr) → Lists (now (s .entry)) c es →
-        r ≡ all (λ d. sameV (val (sideIn (getD es 0 FALSE))) (val d)) (map sideIn (drop 1 es))) ⌝ }
-{
-    let first = side_at(s, c, 0);
-    let mut yes = true;
-    let mut i = c.len;
-    while 1 < i {
-        i -= 1;
-        let d = side_at(s, c, i);
-        yes = same_value(first.value, d.value) & yes;
-    }
-    yes
+// A comparison: its column, what it is to it, and its literal, which stands on the right or, flipped, on the left.
+pub struct Bound {
+    pub column: Name,
+    pub class: usize,
+    pub strict: bool,
+    pub flipped: bool,
+    pub value: Value,
 }
 
-// Appends the last of the equalities c, if they agree, and else FALSE.
-fn equal_part(s: &[u8], c: Conjuncts, into: Conjuncts) -> Conjuncts
-    requires { ⌜ Known (now s) c ⌝ }
-    ensures { λ r. ⌜ ((es fs : List Expr) (x : S.Name) → Lists (now (s .entry)) c es → Lists (now (s .entry)) into fs → Spelled (eq-expr x) es →
-        Lists (now (s .entry)) r (fs ++ eq-part x (map sideIn es))) ⌝ }
-{
-    let n = c.len;
-    if n == 0 {
-        return into;
-    }
-    if all_agree(s, c) {
-        return add_if(into, item_at(c, n - 1), true);
-    }
-    add_if(into, 0, true)
+pub enum Compared {
+    Of(Bound),
+    Not,
 }
 
-// Appends what the predicates of the column q, n come to: its equality, its lower bound, its upper bound.
-fn simplify_column_predicates(
-    s: &[u8],
-    c: Conjuncts,
-    into: Conjuncts,
-    q: usize,
-    n: usize,
-) -> Conjuncts
-    requires { ⌜ Known (now s) c ⌝ }
-    ensures { λ r. ⌜ ((es fs : List Expr) → Lists (now (s .entry)) c es → Lists (now (s .entry)) into fs →
-        Lists (now (s .entry)) r (fs ++ simplify-column-predicates (groupOf q n es))) ⌝ }
-{
-    let eq_predicates = select(s, c, empty(), EQUALITY, q, n);
-    let greater_predicates = select(s, c, empty(), LOWER, q, n);
-    let less_predicates = select(s, c, empty(), UPPER, q, n);
-    let equal = equal_part(s, eq_predicates, into);
-    let greater = most_restrictive(s, greater_predicates, equal, true);
-    most_restrictive(s, less_predicates, greater, false)
+// A column, or none.
+pub struct Key {
+    pub some: bool,
+    pub q: usize,
+    pub n: usize,
 }
 
 // All other predicates first, in order; then the columns' in the order of the columns.
@@ -128,4 +112,462 @@ pub fn simplify_predicates(s: &[u8], c: Conjuncts) -> Conjuncts
         left -= 1;
     }
     r
+}
+
+// The predicates that are no comparisons of a column with a literal.
+fn other_predicates(s: &[u8], c: Conjuncts) -> Conjuncts
+    requires { ⌜ Known (now s) c ⌝ }
+    ensures { λ r. ⌜ ((es : List Expr) → Lists (now (s .entry)) c es → Lists (now (s .entry)) r (sort-out es .others)) ⌝ }
+{
+    select_class(s, c, empty(), OTHER, 0, 0)
+}
+
+fn class_of(k: usize) -> usize
+    ensures { λ r. ⌜ ((s : Bool) → r ≡ classOf (relOf k s)) ⌝ }
+{
+    if k == EQUALITY {
+        return EQUALITY;
+    }
+    if k == LOWER {
+        return LOWER;
+    }
+    UPPER
+}
+
+// Whether x is of class k, and for k below 3 of the column q, n.
+fn belongs(x: Compared, k: usize, q: usize, n: usize) -> bool
+    ensures { λ r. ⌜ r ≡ inClass k q n (seen x) ⌝ }
+{
+    let Compared::Of(b) = x else {
+        return k == OTHER;
+    };
+    let class = class_of(b.class);
+    let name = b.column;
+    (class == k) & ((name.q == q) & (name.n == n))
+}
+
+// Appends to `into` the predicates of c that are of class k, for k below 3 of the column q, n.
+pub fn select_class(
+    s: &[u8],
+    c: Conjuncts,
+    into: Conjuncts,
+    k: usize,
+    q: usize,
+    n: usize,
+) -> Conjuncts
+    requires { ⌜ Known (now s) c ⌝ }
+    ensures { λ r. ⌜ ((es fs : List Expr) → Lists (now (s .entry)) c es → Lists (now (s .entry)) into fs →
+        Lists (now (s .entry)) r (fs ++ keep (ofClass k q n) es)) ⌝ }
+{
+    let count = c.len;
+    let mut r = into;
+    let mut i = 0;
+    while i < count {
+        let x = item_at(c, i);
+        let yes = belongs(compared_at(s, c, i), k, q, n);
+        r = add_if(r, x, yes);
+        i += 1;
+    }
+    r
+}
+
+// Whether the column q, n comes before r, m: by qualifier, then by name.
+fn name_under(q: usize, n: usize, r: usize, m: usize) -> bool
+    ensures { λ u. ⌜ u ≡ name-under (nm q n) (nm r m) ⌝ }
+{
+    (q < r) | ((q == r) & (n < m))
+}
+
+// Whether the column q, n comes after `last`, as every one does where `last` is none.
+fn comes_after(last: Key, q: usize, n: usize) -> bool
+    ensures { λ r. ⌜ r ≡ after (keyOf last) (nm q n) ⌝ }
+{
+    if last.some {
+        return name_under(last.q, last.n, q, n);
+    }
+    true
+}
+
+// The first of `best` and the column of x, if that comes after `last`.
+fn first_of(x: Compared, last: Key, best: Key) -> Key
+    ensures { λ r. ⌜ keyOf r ≡ lesser (keyOf last) (seen x) (keyOf best) ⌝ }
+{
+    let Compared::Of(b) = x else {
+        return best;
+    };
+    let name = b.column;
+    let q = name.q;
+    let n = name.n;
+    if !comes_after(last, q, n) {
+        return best;
+    }
+    if best.some {
+        if name_under(best.q, best.n, q, n) {
+            return best;
+        }
+    }
+    Key { some: true, q, n }
+}
+
+// The first column of the predicates of c that comes after `last`.
+pub fn next_column(s: &[u8], c: Conjuncts, last: Key) -> Key
+    requires { ⌜ Known (now s) c ⌝ }
+    ensures { λ r. ⌜ ((es : List Expr) → Lists (now (s .entry)) c es → keyOf r ≡ least (keyOf last) es) ⌝ }
+{
+    let mut best = Key {
+        some: false,
+        q: 0,
+        n: 0,
+    };
+    let mut i = c.len;
+    while i != 0 {
+        i -= 1;
+        best = first_of(compared_at(s, c, i), last, best);
+    }
+    best
+}
+
+// Appends what the predicates of the column q, n come to: its equality, its lower bound, its upper bound.
+fn simplify_column_predicates(
+    s: &[u8],
+    c: Conjuncts,
+    into: Conjuncts,
+    q: usize,
+    n: usize,
+) -> Conjuncts
+    requires { ⌜ Known (now s) c ⌝ }
+    ensures { λ r. ⌜ ((es fs : List Expr) → Lists (now (s .entry)) c es → Lists (now (s .entry)) into fs →
+        Lists (now (s .entry)) r (fs ++ simplify-column-predicates (groupOf q n es))) ⌝ }
+{
+    let eq_predicates = select_class(s, c, empty(), EQUALITY, q, n);
+    let greater_predicates = select_class(s, c, empty(), LOWER, q, n);
+    let less_predicates = select_class(s, c, empty(), UPPER, q, n);
+    let equal = equal_part(s, eq_predicates, into);
+    let greater = most_restrictive(s, greater_predicates, equal, true);
+    most_restrictive(s, less_predicates, greater, false)
+}
+
+// Appends the last of the equalities c, if they agree, and else FALSE.
+fn equal_part(s: &[u8], c: Conjuncts, into: Conjuncts) -> Conjuncts
+    requires { ⌜ Known (now s) c ⌝ }
+    ensures { λ r. ⌜ ((es fs : List Expr) (x : S.Name) → Lists (now (s .entry)) c es → Lists (now (s .entry)) into fs → Spelled (eq-expr x) es →
+        Lists (now (s .entry)) r (fs ++ eq-part x (map sideIn es))) ⌝ }
+{
+    let n = c.len;
+    if n == 0 {
+        return into;
+    }
+    if all_agree(s, c) {
+        return add_if(into, item_at(c, n - 1), true);
+    }
+    add_if(into, 0, true)
+}
+
+// Whether the literals of the equalities c agree with the first.
+fn all_agree(s: &[u8], c: Conjuncts) -> bool
+    requires { ⌜ Known (now s) c ⌝ }
+    requires { ⌜ 0 < c .len ⌝ }
+    ensures { λ r. ⌜ ((es : List Expr) → Lists (now (s .entry)) c es →
+        r ≡ all (λ d. sameV (val (sideIn (getD es 0 FALSE))) (val d)) (map sideIn (drop 1 es))) ⌝ }
+{
+    let first = side_at(s, c, 0);
+    let mut yes = true;
+    let mut i = c.len;
+    while 1 < i {
+        i -= 1;
+        let d = side_at(s, c, i);
+        yes = same_value(first.value, d.value) & yes;
+    }
+    yes
+}
+
+fn same_value(a: Value, b: Value) -> bool
+    ensures { λ r. ⌜ r ≡ sameV (lit-val a) (lit-val b) ⌝ }
+{
+    let x = code_of(a);
+    let y = code_of(b);
+    (kind_of(a) == kind_of(b)) & ((x <= y) & (y <= x))
+}
+
+// The index of the most restrictive of the bounds c.
+fn find_most_restrictive_predicate(s: &[u8], c: Conjuncts, lower: bool) -> usize
+    requires { ⌜ Known (now s) c ⌝ }
+    requires { ⌜ 0 < c .len ⌝ }
+    ensures { λ r. ⌜ (r < c .len) × ((es : List Expr) → Lists (now (s .entry)) c es →
+        sideIn (getD es r FALSE) ≡ find-most-restrictive-predicate (pastOf lower) (sideIn (getD es 0 FALSE)) (map sideIn (drop 1 es))) ⌝ }
+{
+    let n = c.len;
+    let mut best = 0;
+    let mut i = 1;
+    while i < n {
+        let held = side_at(s, c, best);
+        let d = side_at(s, c, i);
+        best = either(is_better(held, d, lower), i, best);
+        i += 1;
+    }
+    best
+}
+
+// Appends the most restrictive of the bounds c; all of them, where their literals are not of one kind.
+pub fn most_restrictive(s: &[u8], c: Conjuncts, into: Conjuncts, lower: bool) -> Conjuncts
+    requires { ⌜ Known (now s) c ⌝ }
+    ensures { λ r. ⌜ ((es fs : List Expr) (spell : Side → Expr) → Lists (now (s .entry)) c es → Lists (now (s .entry)) into fs → Spelled spell es →
+        Lists (now (s .entry)) r (fs ++ map spell (most-restrictive (pastOf lower) (map sideIn es)))) ⌝ }
+{
+    if c.len == 0 {
+        return into;
+    }
+    if all_of_kind(s, c, first_kind(s, c)) {
+        let best = find_most_restrictive_predicate(s, c, lower);
+        return add_if(into, item_at(c, best), true);
+    }
+    extend(s, into, c)
+}
+
+pub fn is_null(v: Value) -> bool
+    ensures { λ r. ⌜ r ≡ isN (lit-val v) ⌝ }
+{
+    let case = v.case;
+    match case {
+        Case::Null => true,
+        Case::Integer(_) => false,
+        Case::Truth(_) => false,
+    }
+}
+
+// The kind of a value: 0 of NULL.
+pub fn kind_of(v: Value) -> usize
+    ensures { λ r. ⌜ r ≡ kindOf (lit-val v) ⌝ }
+{
+    let case = v.case;
+    match case {
+        Case::Null => 0,
+        Case::Integer(_) => INTEGER,
+        Case::Truth(_) => BOOLEAN,
+    }
+}
+
+// Where a value stands in the order of its type.
+pub fn code_of(v: Value) -> i64
+    ensures { λ r. ⌜ r ≡ code (lit-val v) ⌝ }
+{
+    let case = v.case;
+    match case {
+        Case::Null => 0,
+        Case::Integer(z) => z,
+        Case::Truth(b) => {
+            if b {
+                return 1;
+            }
+            0
+        }
+    }
+}
+
+// Whether the literal b lies further than a.
+fn lies_past(a: i64, b: i64, lower: bool) -> bool
+    ensures { λ r. ⌜ r ≡ pastOf lower a b ⌝ }
+{
+    if lower {
+        return a < b;
+    }
+    b < a
+}
+
+// Whether d replaces the bound held.
+fn is_better(held: Bound, d: Bound, lower: bool) -> bool
+    ensures { λ r. ⌜ r ≡ is-better (pastOf lower) (sideOf held) (sideOf d) ⌝ }
+{
+    let strict = d.strict & (d.class != EQUALITY);
+    let held_strict = held.strict & (held.class != EQUALITY);
+    let at_equal = strict & (!d.flipped | !held_strict);
+    let none = is_null(d.value);
+    if is_null(held.value) {
+        return none & at_equal;
+    }
+    if none {
+        return true;
+    }
+    let a = code_of(held.value);
+    let b = code_of(d.value);
+    lies_past(a, b, lower) | (!lies_past(b, a, lower) & at_equal)
+}
+
+fn either(b: bool, x: usize, y: usize) -> usize
+    ensures { λ r. ⌜ r ≡ choose b x y ⌝ }
+{
+    if b {
+        return x;
+    }
+    y
+}
+
+// The kind of the first literal that is not NULL.
+fn first_kind(s: &[u8], c: Conjuncts) -> usize
+    requires { ⌜ Known (now s) c ⌝ }
+    ensures { λ r. ⌜ ((es : List Expr) → Lists (now (s .entry)) c es → r ≡ first-kind (map sideIn es)) ⌝ }
+{
+    let mut kind = 0;
+    let mut i = c.len;
+    while i != 0 {
+        i -= 1;
+        let d = side_at(s, c, i);
+        kind = either(is_null(d.value), kind, kind_of(d.value));
+    }
+    kind
+}
+
+// Whether every literal is NULL or of the kind.
+fn all_of_kind(s: &[u8], c: Conjuncts, kind: usize) -> bool
+    requires { ⌜ Known (now s) c ⌝ }
+    ensures { λ r. ⌜ ((es : List Expr) → Lists (now (s .entry)) c es → r ≡ all (of-kind kind) (map sideIn es)) ⌝ }
+{
+    let mut yes = true;
+    let mut i = c.len;
+    while i != 0 {
+        i -= 1;
+        let d = side_at(s, c, i);
+        yes = (is_null(d.value) | (kind_of(d.value) == kind)) & yes;
+    }
+    yes
+}
+
+// Appends all predicates of c.
+fn extend(s: &[u8], into: Conjuncts, c: Conjuncts) -> Conjuncts
+    requires { ⌜ Known (now s) c ⌝ }
+    ensures { λ r. ⌜ ((es fs : List Expr) → Lists (now (s .entry)) c es → Lists (now (s .entry)) into fs → Lists (now (s .entry)) r (fs ++ es)) ⌝ }
+{
+    let n = c.len;
+    let mut r = into;
+    let mut i = 0;
+    while i < n {
+        let x = item_at(c, i);
+        r = add_if(r, x, true);
+        i += 1;
+    }
+    r
+}
+
+// What a record is to a comparison.
+fn extract_column_from_expr(l: Label) -> Operand
+    requires { ⌜ Fits32 l ⌝ }
+    ensures { λ r. ⌜ r ≡ operandOf l ⌝ }
+{
+    if l.kind == 1 {
+        return Operand::Column(Name { q: l.p, n: l.q });
+    }
+    let literal = literal_of(l);
+    match literal {
+        Literal::Of(v) => Operand::Literal(v),
+        Literal::Not => Operand::Neither,
+    }
+}
+
+// A comparison, by the number of its operator.
+fn bound_by(op: usize, column: Name, value: Value, flipped: bool) -> Compared
+    ensures { λ r. ⌜ seen r ≡ make flipped (relNo flipped op) (some (named column)) (some value) ⌝ }
+{
+    if op == 3 {
+        return Compared::Of(Bound {
+            column,
+            class: EQUALITY,
+            strict: false,
+            flipped,
+            value,
+        });
+    }
+    if op == 4 {
+        return Compared::Not;
+    }
+    let strict = (op == 5) | (op == 7);
+    if (op >= 7) != flipped {
+        return Compared::Of(Bound {
+            column,
+            class: LOWER,
+            strict,
+            flipped,
+            value,
+        });
+    }
+    Compared::Of(Bound {
+        column,
+        class: UPPER,
+        strict,
+        flipped,
+        value,
+    })
+}
+
+// A comparison of two operands, of which one is a column and the other a literal.
+fn matched(op: usize, a: Operand, b: Operand) -> Compared
+    ensures { λ r. ⌜ seen r ≡ matchedIn op a b ⌝ }
+{
+    match a {
+        Operand::Column(x) => match b {
+            Operand::Column(_) => Compared::Not,
+            Operand::Literal(v) => bound_by(op, x, v, false),
+            Operand::Neither => Compared::Not,
+        },
+        Operand::Literal(v) => match b {
+            Operand::Column(x) => bound_by(op, x, v, true),
+            Operand::Literal(_) => Compared::Not,
+            Operand::Neither => Compared::Not,
+        },
+        Operand::Neither => Compared::Not,
+    }
+}
+
+// The expression at the start of `part` as a comparison of a column with a literal.
+fn compared_in(part: &[u8], base: usize) -> Compared
+    requires { ⌜ Reading (now part) base ⌝ }
+    ensures { λ r. ⌜ ((e : Expr) → At (exprTree e) (now (part .entry)) base → FitsE e → seen r ≡ view e) ⌝ }
+{
+    let op = word_at(part, 4);
+    if word_at(part, 0) != 5 {
+        return Compared::Not;
+    }
+    if op < 3 {
+        return Compared::Not;
+    }
+    let x = word_at(part, FIRST_LINK);
+    let left = from_record(part, base, x);
+    let y = word_at(left, NEXT_LINK);
+    let right = from_record(part, base, y);
+    let a = extract_column_from_expr(label_at(left));
+    let b = extract_column_from_expr(label_at(right));
+    matched(op, a, b)
+}
+
+// The predicate i of c as a comparison.
+pub fn compared_at(s: &[u8], c: Conjuncts, i: usize) -> Compared
+    requires { ⌜ Known (now s) c ⌝ }
+    requires { ⌜ i < c .len ⌝ }
+    ensures { λ r. ⌜ ((es : List Expr) → Lists (now (s .entry)) c es → seen r ≡ view (getD es i FALSE)) ⌝ }
+{
+    let n = item_at(c, i);
+    if n == 0 {
+        return Compared::Not;
+    }
+    compared_in(record_at(s, n), n)
+}
+
+// The same; a bound by NULL where it is none.
+pub fn side_at(s: &[u8], c: Conjuncts, i: usize) -> Bound
+    requires { ⌜ Known (now s) c ⌝ }
+    requires { ⌜ i < c .len ⌝ }
+    ensures { λ r. ⌜ ((es : List Expr) → Lists (now (s .entry)) c es → sideOf r ≡ sideIn (getD es i FALSE)) ⌝ }
+{
+    let Compared::Of(b) = compared_at(s, c, i) else {
+        return Bound {
+            column: Name { q: 0, n: 0 },
+            class: EQUALITY,
+            strict: false,
+            flipped: false,
+            value: Value {
+                ty: 0,
+                case: Case::Null,
+            },
+        };
+    };
+    b
 }

@@ -7,4 +7,3 @@ pub mod Making
 pub mod Shapes
 pub mod Appending
 pub mod Answering
-pub mod Extracting

@@ -7,7 +7,7 @@ use lib.ListN.{length, getD}
 use Rattle.plan.specs.Schema.{same}
 use Rattle.plan.specs.Syntax.{Name, nm}
 use Rattle.utils.specs.Masks.{nameAt}
-use Rattle.utils.specs.declared.fields.Fields as declared
+use Rattle.utils.specs.declared.schema_columns.Fields as declared
 
 -- the struct of the code
 abbrev pub Fields : Type 0

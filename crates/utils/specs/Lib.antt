@@ -3,4 +3,3 @@ pub mod Masks
 pub mod Fields
 pub mod Inputs
 pub mod Referring
-pub mod Clauses

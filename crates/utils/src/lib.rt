@@ -1,5 +1,4 @@
-// src/utils.rs: the columns of expressions and of schemas; and the clauses out of an OR of src/push_down_filter.rs.
-pub mod clauses;
-pub mod columns;
-pub mod fields;
+// utils.rs: the columns of an expression and of a schema, as 64-bit sets of fields.
+pub mod has_all_column_refs;
+pub mod schema_columns;
 pub mod sets;

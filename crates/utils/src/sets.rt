@@ -1,13 +1,13 @@
-// A set of fields: a 64-bit number that has the digit i for the field with the place i.
+// The source's HashSet of columns: a set of places below 64, the bits of a number.
 ghost use mathlib.Core.Path.{_≡_};
-ghost use mathlib.Core.Bool.{Bool, not, _||_};
-ghost use mathlib.Core.List.{List, [], _∷_, _++_};
-ghost use Prim.Native.Nat.{_≤_, _<_, ℕ};
+ghost use mathlib.Core.Bool.{_||_, Bool, not};
+ghost use mathlib.Core.List.{_++_, _∷_, List, []};
+ghost use Prim.Native.Nat.{_<_, _≤_, ℕ};
 ghost use lib.Dec.{eqb, ltb};
 ghost use lib.ListN.{length};
 ghost use Rattle.plan.specs.Syntax.{Name};
-ghost use Rattle.utils.specs.Sets.{member, within};
 ghost use Rattle.utils.specs.Masks.{Masks};
+ghost use Rattle.utils.specs.Sets.{member, within};
 
 // The set with the place i besides.
 pub fn with(set: u64, i: usize) -> u64

@@ -1,6 +1,5 @@
 // Writing the answer of a rewrite: expressions and plans written flat into a work buffer.
-pub mod filtering;
-pub mod joining;
-pub mod kinds;
+pub mod conjunction;
+pub mod make_filter;
 pub mod renames;
-pub mod replacing;
+pub mod replace_cols_by_name;

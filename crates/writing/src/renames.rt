@@ -1,24 +1,24 @@
 // Renames: names by place for other names, written as an image whose first record has an entry for each, with a column below it.
 // `replacing::copy_replaced` takes it as it takes a Projection.
-use crate::kinds::COLUMN;
-use crate::kinds::ENTRY;
-use crate::kinds::PROJECTION;
 use image::records::Label;
 use image::records::put_record;
-use utils::fields::Fields;
-use utils::fields::n_at;
-use utils::fields::q_at;
+use plan::kinds::COLUMN;
+use plan::kinds::ENTRY;
+use plan::kinds::PROJECTION;
+use utils::schema_columns::Fields;
+use utils::schema_columns::n_at;
+use utils::schema_columns::q_at;
 ghost use mathlib.Core.Path.{_≡_};
 ghost use mathlib.Core.List.{List};
-ghost use Prim.Native.Nat.{_+_, _*_, _≤_, _<_};
+ghost use Prim.Native.Nat.{_*_, _+_, _<_, _≤_};
 ghost use lib.ListN.{length};
 ghost use lib.Seq.{sets};
 ghost use Rattle.image.specs.Flat.{bytesOf};
 ghost use Rattle.plan.specs.Syntax.{Name, col};
 ghost use Rattle.rewrite.specs.PushDownFilter.{ren};
-ghost use Rattle.utils.specs.Fields.{fieldAt, Names};
+ghost use Rattle.utils.specs.Fields.{Names, fieldAt};
 ghost use Rattle.writing.specs.Maps.{Maps};
-ghost use Rattle.writing.specs.Renames.{linkTo, namedLabel, renameBytes, SmallName};
+ghost use Rattle.writing.specs.Renames.{SmallName, linkTo, namedLabel, renameBytes};
 
 // The link to a record that has this many before the end: 0 where there is none.
 fn link_to(at: usize, left: usize) -> usize

@@ -5,9 +5,9 @@ use mathlib.Core.List.{List, []}
 use Prim.Native.Nat.{ℕ, _≤_, _<_}
 use borrow.Author.Needs.{needs}
 use Rattle.rewrite.specs.OnBytes.{Passed}
-use Rattle.pass.specs.Answer.{passedOf, Small}
-use Rattle.pass.specs.declared.calling.Answer.{Answer}
-use Rattle.pass.specs.declared.calling.Answer.the-variants.{Image, Refused, NoRoom, Is}
+use Rattle.call_pass.specs.Answer.{passedOf, Small}
+use Rattle.call_pass.specs.declared.call_pass.Answer.{Answer}
+use Rattle.call_pass.specs.declared.call_pass.Answer.the-variants.{Image, Refused, NoRoom, Is}
 use Rattle.push_down_filter.proofs.push_down_filter_pass.Statement.{statement}
 use Rattle.push_down_filter.proofs.push_down_filter_pass.Tie as tie
 

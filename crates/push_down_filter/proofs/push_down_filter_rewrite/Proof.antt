@@ -17,9 +17,9 @@ use Rattle.acceptance.proofs.Places.{place-within}
 use Rattle.rewrite.specs.Limits.{fits}
 use Rattle.rewrite.specs.OnBytes.{Rewritten, isAccepted, planIn, no-rewrite, rewritten, asked-of, rewrite-bytes}
 use Rattle.rewrite.specs.RewriteAt.{Focus, focus, Answer, granted, refused, result-fits, rewrite-in, rewriteAt, with-room, rewrite-call}
-use Rattle.rewriting.specs.Answer.{rewrittenOf}
-use Rattle.rewriting.specs.declared.calling.Answer.{Answer as Code}
-use Rattle.rewriting.specs.declared.calling.Answer.the-variants.{Image, NoPlan, TooLarge, NoRoom, Is}
+use Rattle.call_rewrite.specs.Answer.{rewrittenOf}
+use Rattle.call_rewrite.specs.declared.call_rewrite.Answer.{Answer as Code}
+use Rattle.call_rewrite.specs.declared.call_rewrite.Answer.the-variants.{Image, NoPlan, TooLarge, NoRoom, Is}
 use Rattle.push_down_filter.proofs.push_down_filter_rewrite.Statement.{statement}
 use Rattle.push_down_filter.proofs.push_down_filter_rewrite.Tie as tie
 

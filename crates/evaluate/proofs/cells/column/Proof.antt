@@ -8,7 +8,7 @@ use Rattle.evaluate.proofs.cells.column.Tie as tie
 
 pub column-spec : {M : Type 1} → statement M
 column-spec = tie.close (tie.spec (λ c κs. search needs) (λ c κs. search needs)
-    (λ c. λ ns h l. c .cell-at .ensures ∙ rw (c .before .place-of .ensures ns h)
+    (λ c. λ ns h l. c .cell-at .ensures ∙ rw (c .before .place-in .ensures ns h)
     (look-place ns _ _ (omega (
       arith,
       lent-length (c .before .before .before .before .args .types .now)

@@ -3,9 +3,9 @@ use mathlib.Core.Path.{_≡_}
 use Prim.Native.Nat.{ℕ, _≤_, _<_, _-_}
 use lib.ListN.{length, getD}
 use Rattle.image.specs.Tree.{Forest, Linked}
-use Rattle.finding.specs.Count.{input}
-use Rattle.finding.specs.Fields.{inputs}
-use Rattle.types.specs.ByPlace.{tyAt}
+use Rattle.check_fields.specs.Count.{input}
+use Rattle.check_fields.specs.Fields.{inputs}
+use Rattle.check_types.specs.ByPlace.{tyAt}
 use Rattle.evaluate.proofs.Rows.{placed, by-place}
 use native.Mathlib.Omega.{arith}
 use borrow.Author.Needs.{needs}

@@ -1,7 +1,7 @@
 -- `testing::row_test` meets its contract.
 use native.Mathlib.Omega.{arith}
 use mathlib.Core.Path.{_∙_}
-use Rattle.checking.proofs.Accepting.{is-accepted}
+use Rattle.check_image.proofs.Accepting.{is-accepted}
 use Rattle.evaluate.proofs.RowTesting.{whole, refused, granted}
 use borrow.Author.Needs.{needs}
 use Rattle.evaluate.proofs.testing.row_test.Statement.{statement}

@@ -11,4 +11,4 @@ other-predicates-spec =
     (tie.spec
     (λ c κs. search needs)
     (λ c κs. search needs)
-    (λ c es h. rw (← others-are es) (c .select .ensures es _ h (lists-none (c .before .empty .ensures)))))
+    (λ c es h. rw (← others-are es) (c .select-class .ensures es _ h (lists-none (c .before .empty .ensures)))))

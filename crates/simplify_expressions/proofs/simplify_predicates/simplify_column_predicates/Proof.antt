@@ -23,29 +23,29 @@ simplify-column-predicates-spec =
     (λ c κs. let p = c .before .before .before .before .before .before .before .pre in
     let a = c .before .before .before .before .before .before .before .args in
     known-kept (ofClass 0 (a .q) (a .n)) (p .exprs)
-    (c .before .before .before .before .select .ensures _ _ (p .lists)
+    (c .before .before .before .before .select-class .ensures _ _ (p .lists)
     (lists-none (c .before .before .before .before .before .empty .ensures))) (omega (arith, lists-length (p .lists) (p .most))))
     (λ c κs. let p = c .before .before .before .before .before .before .before .before .pre in
     let a = c .before .before .before .before .before .before .before .before .args in
     known-kept (ofClass 1 (a .q) (a .n)) (p .exprs)
-    (c .before .before .before .select2 .ensures _ _ (p .lists) (lists-none (c .before .before .before .before .empty2 .ensures)))
+    (c .before .before .before .select-class2 .ensures _ _ (p .lists) (lists-none (c .before .before .before .before .empty2 .ensures)))
     (omega (arith, lists-length (p .lists) (p .most))))
     (λ c κs. let p = c .before .before .before .before .before .before .before .before .before .pre in
     let a = c .before .before .before .before .before .before .before .before .before .args in
     known-kept (ofClass 2 (a .q) (a .n)) (p .exprs)
-    (c .before .before .select3 .ensures _ _ (p .lists) (lists-none (c .before .before .before .empty3 .ensures)))
+    (c .before .before .select-class3 .ensures _ _ (p .lists) (lists-none (c .before .before .before .empty3 .ensures)))
     (omega (arith, lists-length (p .lists) (p .most))))
     (λ c es fs h k. let a = c .before .before .before .before .before .before .before .before .before .before .args in
     let q = a .q in
     let n = a .n in
     rw regroup
     (c .most-restrictive2 .ensures _ _ (down-expr (nm q n))
-    (c .before .before .before .select3 .ensures es _ h (lists-none (c .before .before .before .before .empty3 .ensures)))
+    (c .before .before .before .select-class3 .ensures es _ h (lists-none (c .before .before .before .before .empty3 .ensures)))
     (c .before .most-restrictive .ensures _ _ (up-expr (nm q n))
-    (c .before .before .before .before .before .select2 .ensures es _ h
+    (c .before .before .before .before .before .select-class2 .ensures es _ h
     (lists-none (c .before .before .before .before .before .before .empty2 .ensures)))
     (c .before .before .equal-part .ensures _ fs (nm q n)
-    (c .before .before .before .before .before .before .before .select .ensures es _ h
+    (c .before .before .before .before .before .before .before .select-class .ensures es _ h
     (lists-none (c .before .before .before .before .before .before .before .before .empty .ensures))) k (eqs-spelled q n es))
     (ups-spelled q n es))
     (downs-spelled q n es))))

@@ -1,0 +1,261 @@
+-- Laws of scopes: what is counted and typed in them, and what is handed down.
+-- Assumes nothing.
+use mathlib.Core.Path.{_≡_, refl, sym, ap, _∙_}
+use mathlib.Core.Bool.{Bool, true, false, cond, _&&_}
+use mathlib.Core.List.{List, [], _∷_, _++_}
+use Prim.Native.Nat.{ℕ, suc, _+_, _*_, _≤_}
+use native.Mathlib.Omega.{arith}
+use lib.Dec.{eqb, leb}
+use borrow.Author.Tests.{ne-eqb, eqb-true}
+use lib.ListN.{length, length-append}
+use Rattle.image.specs.Tree.{Label, Forest, Linked, Node}
+use Rattle.plan.specs.Lists.{_&_}
+use Rattle.plan.specs.Schema.{same}
+use Rattle.plan.specs.Kinds as K
+use Rattle.plan.specs.Kinds.{What, expr, plan, part, unknown, what, whatOf, planW}
+use Rattle.plan.specs.Syntax.{Name, nm}
+use Rattle.check_fields.specs.Fields.{Schema, made, inputs, typeIn, namesIn}
+use Rattle.acceptance.specs.Names.{holders}
+use Rattle.check_fields.specs.Rules.{Scope, over, seen, hand, handBy, handP}
+use Rattle.plan.proofs.Rebuilt.{kind-p, kind-w, kind-e}
+use Rattle.check_fields.proofs.KindRanges.{plan-kind}
+use Rattle.image.proofs.Stepping.{Step}
+use Rattle.check_fields.specs.Count.{hits, counted, input}
+use Rattle.check_fields.specs.Seek.{seek, told, typeFound, passedOf, allPlaces}
+use Rattle.check_fields.specs.declared.fields.Sought.{Sought}
+use Rattle.check_fields.specs.declared.fields.Sought.the-variants.{Known, Named, Left}
+use Rattle.check_fields.proofs.Seeking.{onward, seek-++, seek-name, seek-passed, told-same, type-told, passed-told}
+use Rattle.check_fields.proofs.Counting.{input-0, input-1, of-kind, counted-le, enough, linked-size, total, total-input, total-two}
+use Rattle.check_fields.specs.Scopes.{scopeOf, sortP, sortW, firstSort, restSort}
+
+-- ---- counting
+
+-- a name's holders are the fields that have its qualifier and its name
+pub counted-name : (q n : ℕ) (s : Schema) → counted (hits 0 q n) s ≡ holders (namesIn s) (nm q n)
+unfolding counted holders namesIn _&_
+counted-name q n [] = refl
+counted-name q n (f ∷ s) = step (f .name) (counted-name q n s)
+  where
+    and : (a b : Bool) (x : ℕ) → cond (a && b) (x + 1) x ≡ cond (a & b) (suc x) x
+    and true true x = omega arith
+    and true false x = refl
+    and false b x = refl
+
+    step : (x : Name) → counted (hits 0 q n) s ≡ holders (namesIn s) (nm q n)
+        → cond (hits 0 q n x) (counted (hits 0 q n) s + 1) (counted (hits 0 q n) s)
+        ≡ cond (same x (nm q n)) (suc (holders (namesIn s) (nm q n))) (holders (namesIn s) (nm q n))
+    step (nm r m) e = rw e (and (eqb r q) (eqb m n) (holders (namesIn s) (nm q n)))
+
+-- a schema with nothing beside it
+pub all-of : (s : Schema) → s ++ [] ≡ s
+all-of [] = refl
+all-of (f ∷ s) = ap (λ (t : Schema). f ∷ t) (all-of s)
+
+-- ---- the tables of the code
+
+module _ (n : ℕ) (a : n ≡ 32 → ⊥) (b : n ≡ 35 → ⊥) (d : n ≡ 37 → ⊥) where
+  sort-rest : (w : What) → whatOf n ≡ w → cond (planW w) 1 9 ≡ sortW w
+  sort-rest (expr k) e = refl
+  sort-rest (part k) e = refl
+  sort-rest unknown e = refl
+  sort-rest (plan K.TableScan) e = absurd (a (kind-p (of-kind n) K.TableScan e))
+  sort-rest (plan K.Filter) e = refl
+  sort-rest (plan K.Projection) e = refl
+  sort-rest (plan K.Join) e = absurd (b (kind-p (of-kind n) K.Join e))
+  sort-rest (plan K.SubqueryAlias) e = refl
+  sort-rest (plan K.Union) e = absurd (d (kind-p (of-kind n) K.Union e))
+  sort-rest (plan K.Distinct) e = refl
+  sort-rest (plan K.Sort) e = refl
+  sort-rest (plan K.Repartition) e = refl
+  sort-rest (plan K.Limit) e = refl
+  sort-rest (plan K.Aggregate) e = refl
+  sort-rest (plan K.Window) e = refl
+
+  -- what is left of the kinds of plans hands down the first input
+  pub sort-last : (x : Bool) → (leb 32 n && leb n 43) ≡ x → cond x 1 9 ≡ sortW (whatOf n)
+  sort-last x e = rw (← (plan-kind n ∙ e)) (sort-rest (whatOf n) refl)
+
+-- ---- what is handed down
+
+-- a plan's scope by its number
+hand-p : (k : K.PlanKind) (cs : Forest) → handP k cs (inputs cs) ≡ scopeOf (sortP k) cs
+hand-p K.TableScan cs = refl
+hand-p K.Filter cs = rw (input-0 (inputs cs)) refl
+hand-p K.Projection cs = rw (input-0 (inputs cs)) refl
+hand-p K.Join cs = rw (input-0 (inputs cs), input-1 (inputs cs)) refl
+hand-p K.SubqueryAlias cs = rw (input-0 (inputs cs)) refl
+hand-p K.Union cs = refl
+hand-p K.Distinct cs = rw (input-0 (inputs cs)) refl
+hand-p K.Sort cs = rw (input-0 (inputs cs)) refl
+hand-p K.Repartition cs = rw (input-0 (inputs cs)) refl
+hand-p K.Limit cs = rw (input-0 (inputs cs)) refl
+hand-p K.Aggregate cs = rw (input-0 (inputs cs)) refl
+hand-p K.Window cs = rw (input-0 (inputs cs)) refl
+
+-- a key pair's first child: the left input
+pair-first : (n : ℕ) (g : Forest) → over (scopeOf n g .left) [] ≡ scopeOf (cond (eqb n 2) 1 n) g
+pair-first n g = go (eqb n 1) refl (eqb n 2) refl (eqb n 3) refl (eqb n 4) refl
+  where
+    go : (a : Bool) → eqb n 1 ≡ a → (b : Bool) → eqb n 2 ≡ b → (c : Bool) → eqb n 3 ≡ c → (d : Bool) → eqb n 4 ≡ d
+        → over (scopeOf n g .left) [] ≡ scopeOf (cond b 1 n) g
+    go true ea b eb c ec d ed = rw (← eb, eqb-true n 1 ea) refl
+    go false ea true eb c ec d ed = rw (eqb-true n 2 eb) refl
+    go false ea false eb true ec d ed = rw (eqb-true n 3 ec) refl
+    go false ea false eb false ec true ed = rw (eqb-true n 4 ed) refl
+    go false ea false eb false ec false ed = rw (ea, eb, ec, ed) refl
+
+-- its other children: the right input
+pair-rest : (n : ℕ) (g : Forest) → over (scopeOf n g .right) [] ≡ scopeOf (cond (eqb n 2) 4 0) g
+pair-rest n g = go (eqb n 1) refl (eqb n 2) refl (eqb n 3) refl (eqb n 4) refl
+  where
+    go : (a : Bool) → eqb n 1 ≡ a → (b : Bool) → eqb n 2 ≡ b → (c : Bool) → eqb n 3 ≡ c → (d : Bool) → eqb n 4 ≡ d
+        → over (scopeOf n g .right) [] ≡ scopeOf (cond b 4 0) g
+    go true ea b eb c ec d ed = rw (← eb, eqb-true n 1 ea) refl
+    go false ea true eb c ec d ed = rw (eqb-true n 2 eb) refl
+    go false ea false eb true ec d ed = rw (eqb-true n 3 ec) refl
+    go false ea false eb false ec true ed = rw (eqb-true n 4 ed) refl
+    go false ea false eb false ec false ed = rw (ea, eb, ec, ed) refl
+
+-- 50 is a key pair
+no-pair : whatOf 50 ≡ unknown → ⊥
+unfolding whatOf K.among
+no-pair k = let z : _≡_ {A = ℕ} 0 1 = cc in omega arith
+
+-- a record that is no plan hands on the scope that it has, but for key pairs
+hand-q : (n : ℕ) (g : Forest) (l : Label) (cs : Forest) (w : What) → what l ≡ w → sortW w ≡ 9
+    → handBy w (scopeOf n g) cs ≡ (scopeOf (firstSort (l .kind) n) g, scopeOf (restSort (l .kind) n) g)
+hand-q n g l cs (part K.PairPart) e z = rw (kind-w l K.PairPart e, ← pair-first n g, ← pair-rest n g) refl
+hand-q n g l cs (part K.FieldPart) e z = rw (kind-w l K.FieldPart e) refl
+hand-q n g l cs (part K.EntryPart) e z = rw (kind-w l K.EntryPart e) refl
+hand-q n g l cs (part K.KeyPart) e z = rw (kind-w l K.KeyPart e) refl
+hand-q n g l cs (part K.AggPart) e z = rw (kind-w l K.AggPart e) refl
+hand-q n g l cs (part K.WinPart) e z = rw (kind-w l K.WinPart e) refl
+hand-q n g l cs (expr K.Column) e z = rw (kind-e l K.Column e) refl
+hand-q n g l cs (expr K.Integer) e z = rw (kind-e l K.Integer e) refl
+hand-q n g l cs (expr K.Boolean) e z = rw (kind-e l K.Boolean e) refl
+hand-q n g l cs (expr K.Null) e z = rw (kind-e l K.Null e) refl
+hand-q n g l cs (expr K.Binary) e z = rw (kind-e l K.Binary e) refl
+hand-q n g l cs (expr K.Not) e z = rw (kind-e l K.Not e) refl
+hand-q n g l cs (expr K.Test) e z = rw (kind-e l K.Test e) refl
+hand-q n g l cs (expr K.Between) e z = rw (kind-e l K.Between e) refl
+hand-q n g l cs (expr K.InList) e z = rw (kind-e l K.InList e) refl
+hand-q n g l cs (expr K.Function) e z = rw (kind-e l K.Function e) refl
+hand-q n g l cs (plan K.TableScan) e z = absurd (omega arith)
+hand-q n g l cs (plan K.Filter) e z = absurd (omega arith)
+hand-q n g l cs (plan K.Projection) e z = absurd (omega arith)
+hand-q n g l cs (plan K.Join) e z = absurd (omega arith)
+hand-q n g l cs (plan K.SubqueryAlias) e z = absurd (omega arith)
+hand-q n g l cs (plan K.Union) e z = absurd (omega arith)
+hand-q n g l cs (plan K.Distinct) e z = absurd (omega arith)
+hand-q n g l cs (plan K.Sort) e z = absurd (omega arith)
+hand-q n g l cs (plan K.Repartition) e z = absurd (omega arith)
+hand-q n g l cs (plan K.Limit) e z = absurd (omega arith)
+hand-q n g l cs (plan K.Aggregate) e z = absurd (omega arith)
+hand-q n g l cs (plan K.Window) e z = absurd (omega arith)
+hand-q n g l cs unknown e z = rw (ne-eqb (l .kind) 50 (λ q. let k : whatOf 50 ≡ unknown = ap whatOf (sym q) ∙ e in no-pair k)) refl
+
+module _ {f : Forest} {s : List ℕ} {b at : ℕ} {part : List ℕ} {v : Node} (w : Step f s b at part v) where
+  -- a plan hands its own scope to all its children
+  pub hand-plan : (c : Scope) (r : ℕ) → r ≡ sortW (whatOf (v .kind)) → (r ≡ 9 → ⊥)
+      → hand c (w .label) (w .below) ≡ (scopeOf r (w .below), scopeOf r (w .below))
+  unfolding hand
+  hand-plan c r e z = go (what (w .label)) (e ∙ ap (λ (k : ℕ). sortW (whatOf k)) (w .kind))
+    where
+      go : (u : What) → r ≡ sortW u → handBy u c (w .below) ≡ (scopeOf r (w .below), scopeOf r (w .below))
+      go (expr k) q = absurd (z q)
+      go (K.part k) q = absurd (z q)
+      go unknown q = absurd (z q)
+      go (plan k) q = rw (q, hand-p k (w .below)) refl
+
+  -- another record hands on the scope that it has, and a key pair a part of it
+  pub hand-part : (n : ℕ) (g : Forest) {r i j : ℕ} → r ≡ sortW (whatOf (v .kind)) → r ≡ 9
+      → i ≡ firstSort (v .kind) n → j ≡ restSort (v .kind) n → hand (scopeOf n g) (w .label) (w .below) ≡ (scopeOf i g, scopeOf j g)
+  unfolding hand
+  hand-part n g {r} {i} {j} e z h k =
+      hand-q n g (w .label) (w .below) (what (w .label)) refl (sym (ap (λ (x : ℕ). sortW (whatOf x)) (w .kind)) ∙ sym e ∙ z)
+      ∙ ap (λ (x : ℕ). (scopeOf (firstSort x n) g, scopeOf (restSort x n) g)) (sym (w .kind))
+      ∙ ap (λ (x : ℕ). (scopeOf x g, scopeOf (restSort (v .kind) n) g)) (sym h) ∙ ap (λ (x : ℕ). (scopeOf i g, scopeOf x g)) (sym k)
+
+-- the root stands over nothing
+pub hand-root : (l : Label) (cs : Forest) {r : ℕ} → r ≡ sortW (what l) → hand (over [] []) l cs ≡ (scopeOf r cs, scopeOf r cs)
+unfolding hand
+hand-root l cs e = rw e (go (what l))
+  where
+    go : (w : What) → handBy w (over [] []) cs ≡ (scopeOf (sortW w) cs, scopeOf (sortW w) cs)
+    go (expr k) = refl
+    go unknown = refl
+    go (part K.FieldPart) = refl
+    go (part K.EntryPart) = refl
+    go (part K.PairPart) = refl
+    go (part K.KeyPart) = refl
+    go (part K.AggPart) = refl
+    go (part K.WinPart) = refl
+    go (plan k) = rw (hand-p k cs) refl
+
+-- ---- what is found in a scope
+
+-- of one schema
+pub seek-one : (h : Name → Bool) (k : ℕ) (s : Schema) → seek h k s ≡ seek h k (s ++ [])
+seek-one h k s = ap (seek h k) (sym (all-of s))
+
+-- of two: the first has it
+pub seek-left : (h : Name → Bool) (k : ℕ) (s t : Schema) (x : Sought) → x ≡ seek h k s → ((g : ℕ → Sought) → onward x g ≡ x)
+    → told [] x ≡ seek h k (s ++ t)
+seek-left h k s t x e stop =
+    told-same h [] k (s ++ t)
+    (sym (stop (λ j. seek h j t)) ∙ ap (λ (u : Sought). onward u (λ j. seek h j t)) e ∙ sym (seek-++ h k s t))
+
+-- it has it not
+pub seek-right : (h : Name → Bool) (k j : ℕ) (s t : Schema) {x : Sought} → Left j ≡ seek h k s → x ≡ seek h j t → told [] x ≡ seek h k (s ++ t)
+seek-right h k j s t e g =
+    told-same h [] k (s ++ t) (g ∙ ap (λ (u : Sought). onward u (λ i. seek h i t)) e ∙ sym (seek-++ h k s t))
+
+-- a name's type
+pub type-name : (q n : ℕ) (s : Schema) (x : Sought) → told [] x ≡ seek (hits 0 q n) 0 s → typeFound x ≡ typeIn s (nm q n)
+type-name q n s x e = sym (type-told x) ∙ ap typeFound e ∙ seek-name q n s
+
+-- an expression's type, by what was found of it
+module _ (d : Schema) {t : ℕ} {x : Sought} where
+  -- outright
+  pub type-known : {u : ℕ} → x ≡ Known u → told d x ≡ Known t → u ≡ t
+  type-known {u} e g = let z : Known u ≡ Known t = rw e at g in cc
+
+  -- as a name's
+  pub type-named : {q n : ℕ} → x ≡ Named q n → told d x ≡ Known t → typeIn d (nm q n) ≡ t
+  type-named {q} {n} e g = let z : Known (typeIn d (nm q n)) ≡ Known t = rw e at g in cc
+
+  -- it has one
+  pub type-left : {j u : ℕ} → x ≡ Left j → told d x ≡ Known t → u ≡ t
+  type-left e g = let z : _≡_ {A = ℕ} 0 1 = cc (rw e at g) in absurd (omega arith)
+
+-- a scope has no more fields than there are records
+few-seen : (h : Name → Bool) (n : ℕ) (f : Forest) (s : List ℕ) (b at : ℕ) → Linked f s b at → 32 * counted h (seen (scopeOf n f)) ≤ length s
+few-seen h n f s b at k =
+    omega (arith, counted-le h (seen (scopeOf n f)), enough f [], linked-size f s b at k, go (eqb n 1) (eqb n 2) (eqb n 3) (eqb n 4))
+  where
+    z : ℕ
+    z = total (inputs f) + length (made [] f)
+
+    scope : Bool → Bool → Bool → Bool → Scope
+    scope a b c d =
+        cond a (over (input 0 (inputs f)) [])
+        (cond b (over (input 0 (inputs f)) (input 1 (inputs f))) (cond c (over (made [] f) []) (cond d (over (input 1 (inputs f)) []) (over [] []))))
+
+    alone : (t : Schema) → length (t ++ []) ≡ length t
+    alone t = ap length (all-of t)
+
+    go : (a b c d : Bool) → length (seen (scope a b c d)) ≤ z
+    go true b c d = omega (arith, alone (input 0 (inputs f)), total-input 0 (inputs f))
+    go false true c d = omega (arith, length-append (input 0 (inputs f)) (input 1 (inputs f)), both)
+      where
+        both : length (input 0 (inputs f)) + length (input 1 (inputs f)) ≤ total (inputs f)
+        both = rw (← input-0 (inputs f), ← input-1 (inputs f)) (total-two (inputs f))
+    go false false true d = omega (arith, alone (made [] f))
+    go false false false true = omega (arith, alone (input 1 (inputs f)), total-input 1 (inputs f))
+    go false false false false = omega arith
+
+-- how many it has
+pub passed-seen : (h : Name → Bool) (n : ℕ) (f : Forest) (s : List ℕ) (b at : ℕ) (x : Sought) → Linked f s b at → length s ≤ allPlaces
+    → told [] x ≡ seek h allPlaces (seen (scopeOf n f)) → passedOf x ≡ counted h (seen (scopeOf n f))
+passed-seen h n f s b at x k l e =
+    sym (passed-told [] x) ∙ seek-passed h (seen (scopeOf n f)) (omega (arith, few-seen h n f s b at k)) e

@@ -1,0 +1,458 @@
+-- Laws of the search for a field.
+--     seek-++, seek-name, seek-passed                 of two schemas; what the first place and the last one tell
+--     made-done, made-pass, made-skip, made-found     a record more among the parts
+--     plan-none, plan-fields, missing                 the plan with a place
+--     by-parts, by-stop, on-right, on-parts           the fields of a plan by its role
+-- Assumes nothing.
+use mathlib.Core.Path.{_≡_, refl, sym, ap, subst, _∙_}
+use mathlib.Core.Bool.{Bool, true, false, cond, _&&_, _||_}
+use mathlib.Core.List.{List, [], _∷_, _++_, map}
+use Prim.Native.Nat.{ℕ, zero, suc, _+_, _-_, _≤_, _<_}
+use native.Mathlib.Omega.{arith}
+use lib.Dec.{eqb, leb}
+use lib.ListN.{length, drop}
+use borrow.Author.Tests.{eq-eqb, ne-eqb, le-leb, eqb-true, eqb-false, leb-true, leb-false}
+use Rattle.image.specs.Tree.{Label, Forest, none, Linked, Node}
+use Rattle.image.proofs.Walking.{left, ended}
+use Rattle.image.proofs.Stepping.{Step}
+use Rattle.plan.specs.Kinds as K
+use Rattle.plan.specs.Kinds.{What, expr, plan, part, unknown, what, whatOf}
+use Rattle.plan.specs.Lists.{_&_}
+use Rattle.plan.specs.Schema.{same}
+use Rattle.plan.specs.Syntax.{Name, nm}
+use Rattle.check_fields.specs.Fields.{Schema, nameOf, made, madeBy, inputs, fieldsP, requalify, typeIn}
+use Rattle.check_fields.specs.Count.{hits, hit, counted, input, makes, role, roleP, own, below}
+use Rattle.check_fields.specs.Typed.{partType}
+use Rattle.check_fields.specs.Seek.{seek, told, typeFound, allPlaces, passedOf, partsOver, Begins, Planned, Makes}
+use Rattle.check_fields.specs.declared.fields.Sought.{Sought}
+use Rattle.check_fields.specs.declared.fields.Sought.the-variants.{Known, Named, Left}
+use Rattle.check_fields.proofs.Counting.{renamed-one, input-0, base, of-plan, here, few-made, few-held}
+use Rattle.check_fields.proofs.Counting.{from-parts, from-both, from-side, from-input-and-parts}
+
+-- where the first search has it not, the second goes on
+abbrev pub onward : Sought → (ℕ → Sought) → Sought
+onward (Known t) g = Known t
+onward (Named q n) g = Named q n
+onward (Left j) g = g j
+
+module _ (h : Name → Bool) where
+  -- of two schemas, one after the other
+  pub seek-++ : (k : ℕ) (s t : Schema) → seek h k (s ++ t) ≡ onward (seek h k s) (λ j. seek h j t)
+  unfolding seek
+  seek-++ k [] t = refl
+  seek-++ k (f ∷ s) t = go (h (f .name)) (eqb k 0) (seek-++ (k - 1) s t) (seek-++ k s t)
+    where
+      go : (a b : Bool) → seek h (k - 1) (s ++ t) ≡ onward (seek h (k - 1) s) (λ j. seek h j t)
+          → seek h k (s ++ t) ≡ onward (seek h k s) (λ j. seek h j t)
+          → cond a (cond b (Known (f .ty)) (seek h (k - 1) (s ++ t))) (seek h k (s ++ t))
+          ≡ onward (cond a (cond b (Known (f .ty)) (seek h (k - 1) s)) (seek h k s)) (λ j. seek h j t)
+      go true true e g = refl
+      go true false e g = e
+      go false b e g = g
+
+  -- a place past the last: all were passed
+  seek-all : (k : ℕ) (s : Schema) → counted h s ≤ k → seek h k s ≡ Left (k - counted h s)
+  unfolding seek counted
+  seek-all k [] l = let e : k - 0 ≡ k = omega arith in rw e
+  seek-all k (f ∷ s) l = go (h (f .name)) l (seek-all (k - 1) s) (seek-all k s)
+    where
+      go : (a : Bool) → cond a (counted h s + 1) (counted h s) ≤ k
+          → (counted h s ≤ k - 1 → seek h (k - 1) s ≡ Left (k - 1 - counted h s)) → (counted h s ≤ k → seek h k s ≡ Left (k - counted h s))
+          → cond a (cond (eqb k 0) (Known (f .ty)) (seek h (k - 1) s)) (seek h k s) ≡ Left (k - cond a (counted h s + 1) (counted h s))
+      go true l e g =
+          let z : k - 1 - counted h s ≡ k - (counted h s + 1) = omega arith in
+          rw (ne-eqb k 0 (λ q. omega arith), e (omega arith), z)
+      go false l e g = g l
+
+  -- how many were passed
+  pub seek-passed : (s : Schema) {x : Sought} → counted h s ≤ allPlaces → x ≡ seek h allPlaces s → passedOf x ≡ counted h s
+  seek-passed s l e =
+      let z : allPlaces - (allPlaces - counted h s) ≡ counted h s = omega arith in
+      ap passedOf (e ∙ seek-all allPlaces s l) ∙ z
+
+  -- a search over no parts has passed the same
+  pub seek-none : (k : ℕ) (s : Schema) → s ≡ [] → seek h k s ≡ Left k
+  unfolding seek
+  seek-none k s e = rw e
+
+  -- the answer stands outright
+  told-seek : (d : Schema) (k : ℕ) (s : Schema) → told d (seek h k s) ≡ seek h k s
+  unfolding seek
+  told-seek d k [] = refl
+  told-seek d k (f ∷ s) = go (h (f .name)) (eqb k 0) (told-seek d (k - 1) s) (told-seek d k s)
+    where
+      go : (a b : Bool) → told d (seek h (k - 1) s) ≡ seek h (k - 1) s → told d (seek h k s) ≡ seek h k s
+          → told d (cond a (cond b (Known (f .ty)) (seek h (k - 1) s)) (seek h k s)) ≡ cond a (cond b (Known (f .ty)) (seek h (k - 1) s)) (seek h k s)
+      go true true e g = refl
+      go true false e g = e
+      go false b e g = g
+
+  -- over any schema
+  pub told-same : (d : Schema) (k : ℕ) (s : Schema) {x : Sought} → x ≡ seek h k s → told d x ≡ seek h k s
+  told-same d k s e = ap (told d) e ∙ told-seek d k s
+
+-- the first field with a qualifier and a name has the type of the definition
+pub seek-name : (q n : ℕ) (s : Schema) → typeFound (seek (hits 0 q n) 0 s) ≡ typeIn s (nm q n)
+unfolding seek typeIn _&_
+seek-name q n [] = refl
+seek-name q n (f ∷ s) = step (f .name) (seek-name q n s)
+  where
+    go : (a b : Bool) (t : ℕ) → typeFound (seek (hits 0 q n) 0 s) ≡ t
+        → typeFound (cond (a && b) (Known (f .ty)) (seek (hits 0 q n) 0 s)) ≡ cond (a & b) (f .ty) t
+    go true true t e = refl
+    go true false t e = e
+    go false b t e = e
+
+    step : (x : Name) → typeFound (seek (hits 0 q n) 0 s) ≡ typeIn s (nm q n)
+        → typeFound (seek (hits 0 q n) 0 (record { name = x; ty = f .ty } ∷ s)) ≡ cond (same x (nm q n)) (f .ty) (typeIn s (nm q n))
+    step (nm r m) e = go (eqb r q) (eqb m n) (typeIn s (nm q n)) e
+
+-- over no schema a name has no type
+pub type-told : (x : Sought) → typeFound (told [] x) ≡ typeFound x
+unfolding typeIn
+type-told (Known t) = refl
+type-told (Named q n) = refl
+type-told (Left k) = refl
+
+-- over any schema as many were passed
+pub passed-told : (d : Schema) (x : Sought) → passedOf (told d x) ≡ passedOf x
+passed-told d (Known t) = refl
+passed-told d (Named q n) = refl
+passed-told d (Left k) = refl
+
+-- an alias changes the question
+seek-renamed : (mode p q n k : ℕ) (s : Schema) → seek (hits mode q n) k (map (requalify p) s) ≡ seek (hits (below 3 p mode q) q n) k s
+unfolding seek requalify
+seek-renamed mode p q n k [] = refl
+seek-renamed mode p q n k (f ∷ s) = step (f .name) (seek-renamed mode p q n (k - 1) s) (seek-renamed mode p q n k s)
+  where
+    step : (x : Name) → seek (hits mode q n) (k - 1) (map (requalify p) s) ≡ seek (hits (below 3 p mode q) q n) (k - 1) s
+        → seek (hits mode q n) k (map (requalify p) s) ≡ seek (hits (below 3 p mode q) q n) k s
+        → seek (hits mode q n) k (map (requalify p) (record { name = x; ty = f .ty } ∷ s))
+        ≡ seek (hits (below 3 p mode q) q n) k (record { name = x; ty = f .ty } ∷ s)
+    step (nm r m) e g = rw (renamed-one mode p q n r m, e, g)
+
+-- ---- the parts
+
+-- the field that one part makes
+seek-made-by : (h : Name → Bool) (k : ℕ) (d : Schema) (l : Label) (cs : Forest) (rest : Schema) (w : What)
+    → seek h k (madeBy w d l cs rest)
+    ≡ cond (makes w && h (nameOf l)) (cond (eqb k 0) (Known (partType w d l cs)) (seek h (k - 1) rest)) (seek h k rest)
+unfolding seek
+seek-made-by h k d l cs rest (expr i) = refl
+seek-made-by h k d l cs rest (plan i) = refl
+seek-made-by h k d l cs rest unknown = refl
+seek-made-by h k d l cs rest (part K.FieldPart) = refl
+seek-made-by h k d l cs rest (part K.EntryPart) = refl
+seek-made-by h k d l cs rest (part K.PairPart) = refl
+seek-made-by h k d l cs rest (part K.KeyPart) = refl
+seek-made-by h k d l cs rest (part K.AggPart) = refl
+seek-made-by h k d l cs rest (part K.WinPart) = refl
+
+-- of the parts f those of g are still to come, and j of the k to be passed
+abbrev pub Made : ℕ → ℕ → ℕ → ℕ → ℕ → Forest → Forest → Type 0
+Made mode q n k j f g = (d : Schema) → seek (hits mode q n) k (made d f) ≡ seek (hits mode q n) j (made d g)
+
+-- none is still to come
+pub made-done : (mode q n k j : ℕ) (f : Forest) → Made mode q n k j f none → (d : Schema) → Left j ≡ seek (hits mode q n) k (made d f)
+unfolding seek made
+made-done mode q n k j f e d = sym (e d)
+
+module _ (mode q n j : ℕ) {f : Forest} {s : List ℕ} {b at : ℕ} {part : List ℕ} {v : Node} (w : Step f s b at part v)
+    {x y : Bool} (X : x ≡ makes (whatOf (v .kind))) (Y : y ≡ hit mode q n (v .p) (v .q)) where
+  made-turn : (z : Bool) → (x && y) ≡ z → (d : Schema)
+      → seek (hits mode q n) j (made d f)
+      ≡ cond z (cond (eqb j 0) (Known (partType (what (w .label)) d (w .label) (w .below))) (seek (hits mode q n) (j - 1) (made d (w .after))))
+      (seek (hits mode q n) j (made d (w .after)))
+  unfolding made
+  made-turn z m d =
+      let e2 : x ≡ makes (what (w .label)) = X ∙ ap (λ (k : ℕ). makes (whatOf k)) (w .kind) in
+      let g2 : y ≡ hit mode q n (w .label .p) (w .label .q) = Y ∙ ap (λ (k : ℕ). hit mode q n k (v .q)) (w .p)
+      ∙ ap (λ (k : ℕ). hit mode q n (w .label .p) k) (w .q) in
+      let m2 : (makes (what (w .label)) && hits mode q n (nameOf (w .label))) ≡ z = rw (← e2, ← g2) m in
+      ap (λ (g : Forest). seek (hits mode q n) j (made d g)) (w .is)
+      ∙ seek-made-by (hits mode q n) j d (w .label) (w .below) (made d (w .after)) (what (w .label)) ∙ rw m2
+
+  -- a part that is not asked for
+  pub made-skip : (x && y) ≡ false → Made mode q n j j f (w .after)
+  made-skip m d = made-turn false m d
+
+  -- one that is passed
+  pub made-pass : (x && y) ≡ true → (j ≡ 0 → ⊥) → Made mode q n j (j - 1) f (w .after)
+  made-pass m z d = made-turn true m d ∙ rw (ne-eqb j 0 z)
+
+  -- the one sought
+  pub made-found : (x && y) ≡ true → j ≡ 0 → (d : Schema)
+      → Known (partType (what (w .label)) d (w .label) (w .below)) ≡ seek (hits mode q n) j (made d f)
+  made-found m z d = sym (made-turn true m d ∙ rw (eq-eqb j 0 z))
+
+-- a part that is asked for makes a field
+pub it-makes : {f : Forest} {s : List ℕ} {b at : ℕ} {part : List ℕ} {v : Node} (w : Step f s b at part v) {x : Bool} (y : Bool)
+    → x ≡ makes (whatOf (v .kind)) → (x && y) ≡ true → makes (what (w .label)) ≡ true
+it-makes w {x} y X m = sym (ap (λ (k : ℕ). makes (whatOf k)) (w .kind)) ∙ sym X ∙ go x y m
+  where
+    go : (a b : Bool) → (a && b) ≡ true → a ≡ true
+    go true b e = refl
+    go false b e = e
+
+-- ---- the plan with a place
+
+-- of the trees f those of g are still to come, and the j-th plan of these is sought
+abbrev pub Plans : ℕ → ℕ → Forest → Forest → Type 0
+Plans k j f g = drop k (inputs f) ≡ drop j (inputs g)
+
+-- no tree is left
+pub plan-none : {f : Forest} {s : List ℕ} {b at : ℕ} (k j : ℕ) → Plans k j f none → Planned f s b at k 0
+unfolding inputs
+plan-none k j e = record { forest = none; linked = refl; begins = tt; plans = e ∙ drop-nil j; less = omega arith }
+  where
+    drop-nil : (i : ℕ) → drop {A = Schema} i [] ≡ []
+    drop-nil zero = refl
+    drop-nil (suc i) = refl
+
+-- the schema with a place is the first past those before it
+input-drop : (k : ℕ) (ss : List Schema) → input k ss ≡ input 0 (drop k ss)
+unfolding input
+input-drop zero ss = refl
+input-drop (suc k) [] = refl
+input-drop (suc k) (s ∷ ss) = input-drop k ss
+
+-- the schema of the plan that was found
+pub plan-fields : {f : Forest} {s : List ℕ} {b at i r : ℕ} (y : Planned f s b at i r) → input 0 (inputs (y .forest)) ≡ input i (inputs f)
+plan-fields {f} {i = i} y = sym (input-drop i (inputs f) ∙ ap (input 0) (y .plans))
+
+module _ {f : Forest} {s : List ℕ} {b at : ℕ} {part : List ℕ} {v : Node} (w : Step f s b at part v) {r : ℕ}
+    (R : r ≡ role (whatOf (v .kind))) where
+  -- the walk stands at a plan
+  pub begins : (r ≡ 0 → ⊥) → Begins f
+  begins z = subst Begins (sym (w .is)) (λ q. z (R ∙ ap (λ (k : ℕ). role (whatOf k)) (w .kind) ∙ q))
+
+  pub is-plan : Begins f → r ≡ 0 → ⊥
+  is-plan h e = subst Begins (w .is) h (sym (ap (λ (k : ℕ). role (whatOf k)) (w .kind)) ∙ sym R ∙ e)
+
+-- there is no such plan
+pub missing : {f : Forest} {s : List ℕ} {b at : ℕ} (i : ℕ) {r : ℕ} → Planned f s b at i r → r ≡ 0 → input i (inputs f) ≡ []
+unfolding input inputs
+missing i {r} y z = sym (plan-fields y) ∙ ap (λ (g : Forest). input 0 (inputs g)) (ended (y .forest) _ _ r (y .linked) z)
+
+pub plan-missing : {f : Forest} {s : List ℕ} {b at : ℕ} (h : Name → Bool) (k i : ℕ) {r : ℕ} → Planned f s b at i r → r ≡ 0
+    → Left k ≡ seek h k (input i (inputs f))
+plan-missing h k i y z = sym (seek-none h k _ (missing i y z))
+
+-- ---- all were passed
+
+module _ (h : Name → Bool) (f : Forest) (s : List ℕ) (b at : ℕ) (k : Linked f s b at) (l : length s ≤ allPlaces) where
+  -- what the parts make
+  pub passed-made : (d : Schema) (x : Sought) → told d x ≡ seek h allPlaces (made d f) → passedOf x ≡ counted h (made d f)
+  passed-made d x e = sym (passed-told d x) ∙ seek-passed h (made d f) (omega (arith, few-made h f d s b at k refl)) e
+
+  -- what a plan has
+  pub passed-held : (i : ℕ) {x : Sought} → x ≡ seek h allPlaces (input i (inputs f)) → passedOf x ≡ counted h (input i (inputs f))
+  passed-held i e = seek-passed h (input i (inputs f)) (omega (arith, few-held h i f s b at k refl)) e
+
+-- ---- a name that was found stands for a type
+
+module _ (kind : ℕ) (f : Forest) {a b : ℕ} {x y : Sought} (e : x ≡ Named a b) (g : told (partsOver kind f) x ≡ y) where
+  -- over no schema
+  pub named-none : kind ≡ 32 → Known 0 ≡ y
+  unfolding typeIn
+  named-none z = (let n : partsOver kind f ≡ [] = rw z in rw (e, n) at g)
+
+  -- over the input's
+  pub named-some : (kind ≡ 32 → ⊥) → {t : ℕ} {u : Sought} → t ≡ typeFound u → u ≡ seek (hits 0 a b) 0 (input 0 (inputs f)) → Known t ≡ y
+  named-some z {t} p q =
+      let n : partsOver kind f ≡ input 0 (inputs f) = rw (ne-eqb kind 32 z) in
+      let i : t ≡ typeIn (input 0 (inputs f)) (nm a b) =
+      p ∙ ap typeFound q ∙ seek-name a b (input 0 (inputs f)) in
+      rw i (rw (e, n) at g)
+
+-- ---- the fields of a plan
+
+-- the schema that the parts of a plan stand over
+base-of : (l : Label) (cs : Forest) (kind : K.PlanKind) → base l cs (inputs cs) kind ≡ partsOver (K.numberP kind) cs
+base-of l cs K.TableScan = refl
+base-of l cs K.Filter = input-0 (inputs cs)
+base-of l cs K.Projection = input-0 (inputs cs)
+base-of l cs K.Join = input-0 (inputs cs)
+base-of l cs K.SubqueryAlias = input-0 (inputs cs)
+base-of l cs K.Union = input-0 (inputs cs)
+base-of l cs K.Distinct = input-0 (inputs cs)
+base-of l cs K.Sort = input-0 (inputs cs)
+base-of l cs K.Repartition = input-0 (inputs cs)
+base-of l cs K.Limit = input-0 (inputs cs)
+base-of l cs K.Aggregate = input-0 (inputs cs)
+base-of l cs K.Window = input-0 (inputs cs)
+
+-- roles 3 and 5: the input's, by the question for it
+from-input : (l : Label) (cs : Forest) (ins : List Schema) (kind : K.PlanKind) (mode q n k : ℕ)
+    → (roleP kind ≡ 1 → ⊥) → (roleP kind ≡ 2 → ⊥) → (roleP kind ≡ 4 → ⊥)
+    → seek (hits mode q n) k (fieldsP kind l cs ins) ≡ seek (hits (below (roleP kind) (l .p) mode q) q n) k (input 0 ins)
+from-input l cs ins K.TableScan mode q n k a b d = absurd (a refl)
+from-input l cs ins K.Filter mode q n k a b d = rw (input-0 ins)
+from-input l cs ins K.Projection mode q n k a b d = absurd (a refl)
+from-input l cs ins K.Join mode q n k a b d = absurd (b refl)
+from-input l cs ins K.SubqueryAlias mode q n k a b d = rw (input-0 ins) (seek-renamed mode (l .p) q n k (input 0 ins))
+from-input l cs ins K.Union mode q n k a b d = rw (input-0 ins)
+from-input l cs ins K.Distinct mode q n k a b d = rw (input-0 ins)
+from-input l cs ins K.Sort mode q n k a b d = rw (input-0 ins)
+from-input l cs ins K.Repartition mode q n k a b d = rw (input-0 ins)
+from-input l cs ins K.Limit mode q n k a b d = rw (input-0 ins)
+from-input l cs ins K.Aggregate mode q n k a b d = absurd (a refl)
+from-input l cs ins K.Window mode q n k a b d = absurd (d refl)
+
+module _ {f : Forest} {s : List ℕ} {b at : ℕ} {part : List ℕ} {v : Node} (w : Step f s b at part v) (r : ℕ)
+    (R : r ≡ role (whatOf (v .kind))) (mode q n k : ℕ) where
+  -- the schemas of the plan's inputs
+  abbrev ins : List Schema
+  ins = inputs (w .below)
+
+  -- what the input is asked
+  abbrev pub asked : Sought
+  asked = seek (hits (below r (v .p) mode q) q n) k (input (own r (v .p)) ins)
+
+  -- the fields of its parts
+  abbrev pub partsOf : Schema
+  partsOf = made (partsOver (v .kind) (w .below)) (w .below)
+
+  -- the schema that they stand over
+  based : (z : r ≡ 0 → ⊥) → base (w .label) (w .below) ins (of-plan w r R z .0) ≡ partsOver (v .kind) (w .below)
+  based z = base-of (w .label) (w .below) (of-plan w r R z .0) ∙ ap (λ (y : ℕ). partsOver y (w .below)) (sym (of-plan w r R z .3))
+
+  -- its parts make its fields
+  pub by-parts : r ≡ 1 → seek (hits mode q n) k partsOf ≡ seek (hits mode q n) k (input 0 (inputs f))
+  by-parts e =
+      let z : r ≡ 0 → ⊥ = λ q. omega arith in
+      let o = of-plan w r R z in
+      ap (seek (hits mode q n) k)
+      (sym (here w r R 0 refl z ∙ from-parts (w .label) (w .below) ins (o .0) (sym (o .1) ∙ e)
+      ∙ ap (λ (d : Schema). made d (w .below)) (based z)))
+
+  -- both inputs
+  pub by-both : (eqb r 2 && leb (v .p) 4) ≡ true
+      → onward asked (λ j. seek (hits mode q n) j (input 1 ins)) ≡ seek (hits mode q n) k (input 0 (inputs f))
+  by-both g =
+      let e : r ≡ 2 = eqb-true r 2 (both (eqb r 2) (leb (v .p) 4) g .0) in
+      let p : v .p ≤ 4 = leb-true (v .p) 4 (both (eqb r 2) (leb (v .p) 4) g .1) in
+      let z : r ≡ 0 → ⊥ = λ q. omega arith in
+      let o = of-plan w r R z in
+      let l : own r (v .p) ≡ 0 = rw (e, le-leb (v .p) 4 p) in
+      let m : below r (v .p) mode q ≡ mode = rw e in
+      rw (
+        here w r R 0 refl z,
+        from-both (w .label) (w .below) ins (o .0) (sym (o .1) ∙ e) (subst (λ (x : ℕ). x ≤ 4) (w .p) p),
+        l,
+        m,
+      )
+      (sym (seek-++ (hits mode q n) k (input 0 ins) (input 1 ins)))
+    where
+      both : (a b : Bool) → (a && b) ≡ true → (a ≡ true) × (b ≡ true)
+      both true b e = (refl, e)
+      both false b e = (e, let z : _≡_ {A = ℕ} 0 1 = cc in absurd (omega arith))
+
+  -- its input and its parts
+  pub by-more : r ≡ 4 → onward asked (λ j. seek (hits mode q n) j partsOf) ≡ seek (hits mode q n) k (input 0 (inputs f))
+  by-more e =
+      let z : r ≡ 0 → ⊥ = λ q. omega arith in
+      let o = of-plan w r R z in
+      let l : own r (v .p) ≡ 0 = rw e in
+      let m : below r (v .p) mode q ≡ mode = rw e in
+      rw (l, m)
+      (sym (ap (seek (hits mode q n) k)
+      (here w r R 0 refl z ∙ from-input-and-parts (w .label) (w .below) ins (o .0) (sym (o .1) ∙ e)
+      ∙ ap (λ (d : Schema). input 0 ins ++ made d (w .below)) (based z))
+      ∙ seek-++ (hits mode q n) k (input 0 ins) partsOf))
+
+  -- one input
+  pub by-asked : (r ≡ 0 → ⊥) → (r ≡ 1 → ⊥) → (eqb r 2 && leb (v .p) 4) ≡ false → (r ≡ 4 → ⊥)
+      → asked ≡ seek (hits mode q n) k (input 0 (inputs f))
+  by-asked z a g d = go (eqb r 2) refl g
+    where
+      go : (x : Bool) → eqb r 2 ≡ x → (x && leb (v .p) 4) ≡ false → asked ≡ seek (hits mode q n) k (input 0 (inputs f))
+      go true e h =
+          let e2 : r ≡ 2 = eqb-true r 2 e in
+          let o = of-plan w r R z in
+          let m : below r (v .p) mode q ≡ mode = rw e2 in
+          let i : own r (v .p) ≡ own 2 (w .label .p) = ap (λ (x : ℕ). own x (v .p)) e2 ∙ ap (own 2) (w .p) in
+          rw (m, i)
+          (ap (seek (hits mode q n) k)
+          (sym (here w r R 0 refl z
+          ∙ from-side (w .label) (w .below) ins (o .0) (sym (o .1) ∙ e2) (subst (λ (x : ℕ). 4 < x) (w .p) (leb-false (v .p) 4 h)))))
+      go false e h =
+          let o = of-plan w r R z in
+          let n2 : r ≡ 2 → ⊥ = eqb-false r 2 e in
+          let i : own r (v .p) ≡ 0 = rw e in
+          let m : below r (v .p) mode q ≡ below (roleP (o .0)) (w .label .p) mode q =
+          ap (λ (x : ℕ). below x (v .p) mode q) (o .1) ∙ ap (λ (x : ℕ). below (roleP (o .0)) x mode q) (w .p) in
+          rw (i, m)
+          (sym (ap (seek (hits mode q n) k) (here w r R 0 refl z)
+          ∙ from-input (w .label) (w .below) ins (o .0) mode q n k (λ x. a (o .1 ∙ x)) (λ x. n2 (o .1 ∙ x)) (λ x. d (o .1 ∙ x))))
+
+  -- the input has it
+  pub by-stop : (r ≡ 0 → ⊥) → (r ≡ 1 → ⊥) → (x : Sought) → x ≡ asked → ((g : ℕ → Sought) → onward x g ≡ x)
+      → x ≡ seek (hits mode q n) k (input 0 (inputs f))
+  by-stop z a x e stop = go (eqb r 2 && leb (v .p) 4) refl (eqb r 4) refl
+    where
+      go : (m : Bool) → (eqb r 2 && leb (v .p) 4) ≡ m → (o : Bool) → eqb r 4 ≡ o → x ≡ seek (hits mode q n) k (input 0 (inputs f))
+      go true g o h =
+          let G : ℕ → Sought = λ j. seek (hits mode q n) j (input 1 ins) in sym (stop G) ∙ ap (λ (t : Sought). onward t G) e ∙ by-both g
+      go false g true h =
+          let G : ℕ → Sought = λ j. seek (hits mode q n) j partsOf in sym (stop G) ∙ ap (λ (t : Sought). onward t G) e ∙ by-more (eqb-true r 4 h)
+      go false g false h = e ∙ by-asked z a g (eqb-false r 4 h)
+
+  -- it has it not: the other input, or the parts
+  module _ {j : ℕ} (e : Left j ≡ asked) where
+    pub on-right : (eqb r 2 && leb (v .p) 4) ≡ true → seek (hits mode q n) j (input 1 ins) ≡ seek (hits mode q n) k (input 0 (inputs f))
+    on-right g = ap (λ (t : Sought). onward t (λ i. seek (hits mode q n) i (input 1 ins))) e ∙ by-both g
+
+    pub on-parts : r ≡ 4 → seek (hits mode q n) j partsOf ≡ seek (hits mode q n) k (input 0 (inputs f))
+    on-parts g = ap (λ (t : Sought). onward t (λ i. seek (hits mode q n) i partsOf)) e ∙ by-more g
+
+-- ---- the plan that is asked
+
+-- the plan with the place itself
+pub makes-start : {f : Forest} {s : List ℕ} {b at i r : ℕ} (mode q : ℕ) → Planned f s b at i r → Makes f s b at i mode q r mode
+makes-start mode q y =
+    record {
+      forest = y .forest;
+      linked = y .linked;
+      begins = y .begins;
+      same = λ n k. ap (seek (hits mode q n) k) (plan-fields y);
+      less = y .less;
+    }
+
+-- there is none
+pub makes-none : {f : Forest} {s : List ℕ} {b at i mode q r m : ℕ} (n k : ℕ) → Makes f s b at i mode q r m → r ≡ 0
+    → Left k ≡ seek (hits mode q n) k (input i (inputs f))
+unfolding input inputs
+makes-none {q = q} {r} {m} n k y z =
+    sym (seek-none (hits m q n) k _ (ap (λ (g : Forest). input 0 (inputs g)) (ended (y .forest) _ _ r (y .linked) z))) ∙ y .same n k
+
+pub makes-end : {f : Forest} {s : List ℕ} {b at i mode q r m : ℕ} → Makes f s b at i mode q r m → r ≡ 0 → Makes f s b at i mode q 0 m
+makes-end {f} {s} {b} {at} {i} {mode} {q} {r} {m} y z = subst (λ (n : ℕ). Makes f s b at i mode q n m) z y
+
+-- past a plan that has one input's fields and no others
+pub makes-step : {f : Forest} {s : List ℕ} {b at i mode q r m : ℕ} {part : List ℕ} {v : Node} (y : Makes f s b at i mode q r m)
+    (w : Step (y .forest) s b r part v) (x : ℕ) → x ≡ role (whatOf (v .kind))
+    → (x ≡ 1 → ⊥) → (x ≡ 4 → ⊥) → (eqb x 2 && leb (v .p) 4) ≡ false → {o u j : ℕ} → o ≡ below x (v .p) m q → u ≡ own x (v .p)
+    → Planned (w .below) s b (v .first) u j → left s b (v .first) < left s b r → Makes f s b at i mode q j o
+makes-step {q = q} {m = m} y w x X a d g O U z l =
+    record {
+      forest = z .forest;
+      linked = z .linked;
+      begins = z .begins;
+      same = λ n k.
+          rw O (ap (seek (hits (below x _ m q) q n) k) (plan-fields z ∙ ap (λ (e : ℕ). input e (inputs (w .below))) U)
+          ∙ by-asked w x X m q n k (is-plan w X (y .begins)) a g d ∙ y .same n k);
+      less = omega (arith, z .less, l, y .less);
+    }
+
+-- the code's test of such a plan
+pub passes-on : (r p : ℕ) → ((eqb r 1 || eqb r 4) || (eqb r 2 && leb p 4)) ≡ false
+    → (r ≡ 1 → ⊥) × (r ≡ 4 → ⊥) × ((eqb r 2 && leb p 4) ≡ false)
+passes-on r p h = go (eqb r 1) refl (eqb r 4) refl h
+  where
+    go : (a : Bool) → eqb r 1 ≡ a → (b : Bool) → eqb r 4 ≡ b → ((a || b) || (eqb r 2 && leb p 4)) ≡ false
+        → (r ≡ 1 → ⊥) × (r ≡ 4 → ⊥) × ((eqb r 2 && leb p 4) ≡ false)
+    go false e false g k = (eqb-false r 1 e, eqb-false r 4 g, k)
+    go false e true g k = let z : _≡_ {A = ℕ} 0 1 = cc in absurd (omega arith)
+    go true e b g k = let z : _≡_ {A = ℕ} 0 1 = cc in absurd (omega arith)

@@ -1,0 +1,393 @@
+// The fields of a plan's schema, asked for by recursion on the plan's records: no schema is stored.
+use image::records::Node;
+use image::records::from_record;
+use image::records::look;
+ghost use mathlib.Core.Path.{_≡_};
+ghost use mathlib.Core.Bool.{true};
+ghost use Prim.Native.Nat.{_≤_};
+ghost use lib.ListN.{length};
+ghost use Rattle.image.specs.Places.{Chained};
+ghost use Rattle.image.specs.Tree.{Forest, Label, Linked, labelAt};
+ghost use Rattle.plan.specs.Kinds.{what, whatOf};
+ghost use Rattle.check_fields.specs.Count.{below, counted, hit, hits, input, makes, own, role};
+ghost use Rattle.check_fields.specs.Fields.{Schema, inputs, made, typeOf};
+ghost use Rattle.check_fields.specs.Seek.{Makes, Planned, partsOver, passedOf, seek, told, typeFound};
+ghost use Rattle.check_fields.specs.Typed.{partType, plainType};
+ghost use Rattle.check_fields.specs.Count as Count;
+
+// Whether the qualifiers do not tell two fields of one name apart: they are the same, or one is none.
+fn near(q: usize, r: usize) -> bool
+    ensures { λ b. ⌜ b ≡ Count.near q r ⌝ }
+{
+    (r == q) | (r == 0) | (q == 0)
+}
+
+// Whether the question asks for the field with the qualifier r and the name m.
+fn is_hit(mode: usize, q: usize, n: usize, r: usize, m: usize) -> bool
+    ensures { λ b. ⌜ b ≡ hit mode q n r m ⌝ }
+{
+    if mode == 0 {
+        return (r == q) & (m == n);
+    }
+    if mode == 1 {
+        return m == n;
+    }
+    if mode == 3 {
+        return near(q, r) & (m == n);
+    }
+    mode == 2
+}
+
+// Whether a part makes a field.
+pub fn makes_one(kind: usize) -> bool
+    ensures { λ b. ⌜ b ≡ makes (whatOf kind) ⌝ }
+{
+    if kind == 48 {
+        return true;
+    }
+    if kind == 49 {
+        return true;
+    }
+    if kind == 52 {
+        return true;
+    }
+    kind == 53
+}
+
+// Where a plan has its fields from: 1 its parts, 2 its inputs as a join, 3 its input renamed, 4 its input and its parts, 5 its first input;
+// 0 for a record that is no plan.
+pub fn role_of(kind: usize) -> usize
+    ensures { λ r. ⌜ r ≡ role (whatOf kind) ⌝ }
+{
+    if kind == 32 {
+        return 1;
+    }
+    if kind == 34 {
+        return 1;
+    }
+    if kind == 42 {
+        return 1;
+    }
+    if kind == 35 {
+        return 2;
+    }
+    if kind == 36 {
+        return 3;
+    }
+    if kind == 43 {
+        return 4;
+    }
+    if (32 <= kind) & (kind <= 43) {
+        return 5;
+    }
+    0
+}
+
+// The input that is asked: for semi and anti joins their own, else the first.
+pub fn own_input(role: usize, p: usize) -> usize
+    ensures { λ r. ⌜ r ≡ own role p ⌝ }
+{
+    if role == 2 {
+        if p <= 4 {
+            return 0;
+        }
+        if p == 5 {
+            return 0;
+        }
+        if p == 7 {
+            return 0;
+        }
+        return 1;
+    }
+    0
+}
+
+// The question that is put to the input: an alias has one qualifier for all its fields.
+fn question(role: usize, p: usize, mode: usize, q: usize) -> usize
+    ensures { λ r. ⌜ r ≡ below role p mode q ⌝ }
+{
+    if role == 3 {
+        if mode == 0 {
+            if p == q {
+                return 1;
+            }
+            return 4;
+        }
+        if mode == 3 {
+            if near(q, p) {
+                return 1;
+            }
+            return 4;
+        }
+        return mode;
+    }
+    mode
+}
+
+// What a search for a field finds.
+pub enum Sought {
+    // The field, and its type.
+    Known(usize),
+    // The field; its type is that of the input's field with this qualifier and name.
+    Named(usize, usize),
+    // Not the field: so many that the question asks for are still to be passed before it.
+    Left(usize),
+}
+
+// More than any plan has fields: a search for this place passes them all.
+pub const ALL: usize = 18446744073709551615;
+
+// The type of an expression that is no column.
+fn plain_type(kind: usize, p: usize, r: usize) -> usize
+    ensures { λ t. ⌜ t ≡ plainType (whatOf kind) p r ⌝ }
+{
+    if kind == 2 {
+        return 1;
+    }
+    if kind == 4 {
+        return p;
+    }
+    if kind == 10 {
+        return r;
+    }
+    if kind == 1 {
+        return 0;
+    }
+    if (1 <= kind) & (kind <= 10) {
+        return 2;
+    }
+    0
+}
+
+// The type of the expression at the start of s.
+pub fn source_of(s: &[u8]) -> Sought
+    requires { ⌜ 32 ≤ length (now s) ⌝ }
+    ensures { λ x. ⌜ ((d : Schema) → told d x ≡ Sought.Known (typeOf d (labelAt (now (s .entry))))) ⌝ }
+{
+    let v = look(s);
+    if v.kind == 1 {
+        return Sought::Named(v.p, v.q);
+    }
+    Sought::Known(plain_type(v.kind, v.p, v.r))
+}
+
+// The type of the field that a part makes: `part` begins at its record, `at`, and v is what was looked at.
+fn made_by(part: &[u8], at: usize, v: Node) -> Sought
+    requires { ⌜ Chained (now part) at (v .first) ⌝ }
+    ensures { λ x. ⌜ ((l : Label) (cs : Forest) (d : Schema) → v .kind ≡ l .kind → v .r ≡ l .r → Linked cs (now (part .entry)) at (v .first)
+        → makes (what l) ≡ true → told d x ≡ Sought.Known (partType (what l) d l cs)) ⌝ }
+{
+    if v.kind == 48 {
+        return Sought::Known(v.r);
+    }
+    if v.kind == 49 {
+        if v.first == 0 {
+            return Sought::Known(0);
+        }
+        return source_of(from_record(part, at, v.first));
+    }
+    Sought::Known(1)
+}
+
+// Of the fields asked for that the parts from record `at` on make, the one with the place k.
+pub fn seek_made(
+    s: &[u8],
+    base: usize,
+    at: usize,
+    mode: usize,
+    q: usize,
+    n: usize,
+    k: usize,
+) -> Sought
+    requires { ⌜ Chained (now s) base at ⌝ }
+    ensures { λ x. ⌜ ((f : Forest) (d : Schema) → Linked f (now (s .entry)) base at → told d x ≡ seek (hits mode q n) k (made d f)) ⌝ }
+{
+    let mut left = k;
+    let mut here = at;
+    while here != 0 {
+        let part = from_record(s, base, here);
+        let v = look(part);
+        if makes_one(v.kind) & is_hit(mode, q, n, v.p, v.q) {
+            if left == 0 {
+                return made_by(part, here, v);
+            }
+            left -= 1;
+        }
+        here = v.next;
+    }
+    Sought::Left(left)
+}
+
+// The record of the plan with the place `skip` among the trees from record `at` on; 0 for none.
+pub fn plan_at(s: &[u8], base: usize, at: usize, skip: usize) -> usize
+    requires { ⌜ Chained (now s) base at ⌝ }
+    ensures { λ r. ⌜ ((f : Forest) → Linked f (now (s .entry)) base at → Planned f (now (s .entry)) base at skip r) ⌝ }
+{
+    let mut left = skip;
+    let mut here = at;
+    while here != 0 {
+        let v = look(from_record(s, base, here));
+        if role_of(v.kind) != 0 {
+            if left == 0 {
+                return here;
+            }
+            left -= 1;
+        }
+        here = v.next;
+    }
+    0
+}
+
+// The plan that is asked for fields, or 0, and the question that is put to it.
+pub struct Maker {
+    pub at: usize,
+    pub mode: usize,
+}
+
+// Past the plans that have the fields of one input and no others: the plan to ask for those of the one with the place `skip` among the trees
+// from record `at` on.
+fn find_maker(s: &[u8], base: usize, at: usize, skip: usize, mode: usize, q: usize) -> Maker
+    requires { ⌜ Chained (now s) base at ⌝ }
+    ensures { λ x. ⌜ ((f : Forest) → Linked f (now (s .entry)) base at → Makes f (now (s .entry)) base at skip mode q (x .at) (x .mode)) ⌝ }
+{
+    let mut asked = mode;
+    let mut here = plan_at(s, base, at, skip);
+    while here != 0 {
+        let v = look(from_record(s, base, here));
+        let role = role_of(v.kind);
+        if (role == 1) | (role == 4) | ((role == 2) & (v.p <= 4)) {
+            return Maker {
+                at: here,
+                mode: asked,
+            };
+        }
+        asked = question(role, v.p, asked, q);
+        here = plan_at(s, base, v.first, own_input(role, v.p));
+    }
+    Maker { at: 0, mode: asked }
+}
+
+// The type that a search found; 0 for none.
+pub fn type_found(x: Sought) -> usize
+    ensures { λ t. ⌜ t ≡ typeFound x ⌝ }
+{
+    match x {
+        Sought::Known(t) => t,
+        Sought::Named(_, _) => 0,
+        Sought::Left(_) => 0,
+    }
+}
+
+// Of the fields asked for of the plan with the place `skip` among the trees from record `at` on, the one with the place k. No plan is
+// gone into twice: where an input has it not, the search goes on with what is left to pass.
+pub fn seek_field(
+    s: &[u8],
+    base: usize,
+    at: usize,
+    skip: usize,
+    mode: usize,
+    q: usize,
+    n: usize,
+    k: usize,
+) -> Sought
+    requires { ⌜ Chained (now s) base at ⌝ }
+    ensures { λ x. ⌜ ((f : Forest) → Linked f (now (s .entry)) base at → x ≡ seek (hits mode q n) k (input skip (inputs f))) ⌝ }
+{
+    let x = find_maker(s, base, at, skip, mode, q);
+    let here = x.at;
+    let asked = x.mode;
+    if here == 0 {
+        return Sought::Left(k);
+    }
+    let part = from_record(s, base, here);
+    let v = look(part);
+    let role = role_of(v.kind);
+    if role == 1 {
+        return seek_parts(part, here, v.first, v.kind, asked, q, n, k);
+    }
+    let under = seek_field(
+        part,
+        here,
+        v.first,
+        own_input(role, v.p),
+        question(role, v.p, asked, q),
+        q,
+        n,
+        k,
+    );
+    match under {
+        Sought::Known(t) => Sought::Known(t),
+        Sought::Named(a, b) => Sought::Named(a, b),
+        Sought::Left(j) => {
+            if (role == 2) & (v.p <= 4) {
+                return seek_field(part, here, v.first, 1, asked, q, n, j);
+            }
+            if role == 4 {
+                return seek_parts(part, here, v.first, v.kind, asked, q, n, j);
+            }
+            Sought::Left(j)
+        }
+    }
+}
+
+// The same of the fields that the parts of a plan of this kind make, whose children are from record `at` on: they stand over its input.
+fn seek_parts(
+    s: &[u8],
+    base: usize,
+    at: usize,
+    kind: usize,
+    mode: usize,
+    q: usize,
+    n: usize,
+    k: usize,
+) -> Sought
+    requires { ⌜ Chained (now s) base at ⌝ }
+    ensures { λ x. ⌜ ((f : Forest) → Linked f (now (s .entry)) base at → x ≡ seek (hits mode q n) k (made (partsOver kind f) f)) ⌝ }
+{
+    let made = seek_made(s, base, at, mode, q, n, k);
+    match made {
+        Sought::Known(t) => Sought::Known(t),
+        Sought::Named(a, b) => {
+            if kind == 32 {
+                return Sought::Known(0);
+            }
+            Sought::Known(type_found(seek_field(s, base, at, 0, 0, a, b, 0)))
+        }
+        Sought::Left(j) => Sought::Left(j),
+    }
+}
+
+// How many of ALL places a search has passed.
+pub fn passed(x: Sought) -> usize
+    ensures { λ r. ⌜ r ≡ passedOf x ⌝ }
+{
+    match x {
+        Sought::Known(_) => 0,
+        Sought::Named(_, _) => 0,
+        Sought::Left(j) => ALL - j,
+    }
+}
+
+// How many fields that the question asks for are made by the parts from record `at` on.
+pub fn made_count(s: &[u8], base: usize, at: usize, mode: usize, q: usize, n: usize) -> usize
+    requires { ⌜ Chained (now s) base at ⌝ }
+    ensures { λ r. ⌜ ((f : Forest) (c : Schema) → Linked f (now (s .entry)) base at → r ≡ counted (hits mode q n) (made c f)) ⌝ }
+{
+    passed(seek_made(s, base, at, mode, q, n, ALL))
+}
+
+// How many fields that the question asks for has the plan with the place `skip` among the trees from record `at` on.
+pub fn holders(
+    s: &[u8],
+    base: usize,
+    at: usize,
+    skip: usize,
+    mode: usize,
+    q: usize,
+    n: usize,
+) -> usize
+    requires { ⌜ Chained (now s) base at ⌝ }
+    ensures { λ r. ⌜ ((f : Forest) → Linked f (now (s .entry)) base at → r ≡ counted (hits mode q n) (input skip (inputs f))) ⌝ }
+{
+    passed(seek_field(s, base, at, skip, mode, q, n, ALL))
+}

@@ -1,0 +1,23 @@
+-- `schemas::is_sound` meets its contract: the fields are counted, and then told apart.
+use mathlib.Core.Path.{_∙_}
+use native.Mathlib.Omega.{arith}
+use Rattle.check_names.proofs.Singling.{rule-by-role}
+use Rattle.check_names.proofs.Telling.{too-many, not-many}
+use borrow.Author.Needs.{needs}
+use Rattle.check_names.proofs.schemas.is_sound.Statement.{statement}
+use Rattle.check_names.proofs.schemas.is_sound.Tie as tie
+
+pub is-sound-spec : {M : Type 1} → statement M
+is-sound-spec =
+    tie.close
+    (tie.spec
+    (λ c κs. search needs)
+    (λ c κs. search needs)
+    (λ c k l f e h.
+    rw (← rule-by-role k l f e, ← c .before .before .own-sort .ensures)
+    (too-many _ _ (c .before .held-by .ensures f h) (c .if1 .taken)))
+    (λ c κs. search needs)
+    (λ c κs. search needs)
+    (λ c k l f e h.
+    rw (← rule-by-role k l f e, ← c .before .before .before .before .own-sort .ensures, ← c .before .own-mode .ensures)
+    (c .all-single .ensures f h ∙ not-many _ _ (c .before .before .before .held-by .ensures f h) (omega arith))))

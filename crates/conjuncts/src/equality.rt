@@ -1,0 +1,108 @@
+// Equal expressions: `==` of the source's Expr, record by record.
+use crate::lists::Conjuncts;
+use crate::lists::item_at;
+use image::limits::MAX_DEPTH;
+use image::records::FIRST_LINK;
+use image::records::NEXT_LINK;
+use image::records::from_record;
+use image::records::record_at;
+use image::words::word_at;
+ghost use mathlib.Core.Path.{_≡_};
+ghost use mathlib.Core.List.{List};
+ghost use Prim.Native.Nat.{_≤_};
+ghost use lib.ListN.{length};
+ghost use Rattle.image.specs.Tree.{At, Readable, Tree, labelAt};
+ghost use Rattle.plan.specs.Syntax.{Expr};
+ghost use Rattle.rewrite.specs.Utils.{sameE};
+ghost use Rattle.conjuncts.specs.Equality.{same, sameLabel};
+ghost use Rattle.conjuncts.specs.Items.{FALSE, Item, Known, Lists, Present};
+ghost use Rattle.conjuncts.specs.Says.{Says};
+
+// Whether the records at the start of a and of b have the same label.
+fn same_label(a: &[u8], b: &[u8]) -> bool
+    requires { ⌜ (32 ≤ length (now a)) × (32 ≤ length (now b)) ⌝ }
+    ensures { λ r. ⌜ r ≡ sameLabel (labelAt (now (a .entry))) (labelAt (now (b .entry))) ⌝ }
+{
+    (word_at(a, 0) == word_at(b, 0))
+        & (word_at(a, 4) == word_at(b, 4))
+        & (word_at(a, 8) == word_at(b, 8))
+        & (word_at(a, 12) == word_at(b, 12))
+        & (word_at(a, 16) == word_at(b, 16))
+        & (word_at(a, 20) == word_at(b, 20))
+}
+
+// Whether the trees at the start of a and of b are the same, wherever they stand.
+pub fn same_tree(a: &[u8], base: usize, depth: usize, b: &[u8], of: usize, room: usize) -> bool
+    requires { ⌜ Readable depth (now a) base ⌝ }
+    requires { ⌜ Readable room (now b) of ⌝ }
+    ensures { λ r. ⌜ ((t u : Tree) → At t (now (a .entry)) base → At u (now (b .entry)) of → r ≡ same t u) ⌝ }
+{
+    if !same_label(a, b) {
+        return false;
+    }
+    let mut i = word_at(a, FIRST_LINK);
+    let mut j = word_at(b, FIRST_LINK);
+    while i != 0 {
+        if j == 0 {
+            return false;
+        }
+        let left = from_record(a, base, i);
+        let right = from_record(b, of, j);
+        if !same_tree(left, i, depth - 1, right, j, room - 1) {
+            return false;
+        }
+        i = word_at(left, NEXT_LINK);
+        j = word_at(right, NEXT_LINK);
+    }
+    if j == 0 {
+        return true;
+    }
+    false
+}
+
+// Whether the item n is FALSE: the number 0, or the record of that literal.
+fn is_false_item(s: &[u8], n: usize) -> bool
+    requires { ⌜ Present (now s) n ⌝ }
+    ensures { λ r. ⌜ ((e : Expr) → Item (now (s .entry)) n e → r ≡ sameE FALSE e) ⌝ }
+{
+    if n == 0 {
+        return true;
+    }
+    let part = record_at(s, n);
+    (word_at(part, 0) == 3) & (word_at(part, 4) == 0)
+}
+
+// Whether the items n and m are equal expressions.
+pub fn same_item(s: &[u8], n: usize, m: usize) -> bool
+    requires { ⌜ Present (now s) n ⌝ }
+    requires { ⌜ Present (now s) m ⌝ }
+    ensures { λ r. ⌜ ((a b : Expr) → Item (now (s .entry)) n a → Item (now (s .entry)) m b → r ≡ sameE a b) ⌝ }
+{
+    if n == 0 {
+        return is_false_item(s, m);
+    }
+    if m == 0 {
+        return is_false_item(s, n);
+    }
+    same_tree(record_at(s, n), n, MAX_DEPTH, record_at(s, m), m, MAX_DEPTH)
+}
+
+// Whether the lists a and b have equal items, in the same order.
+pub fn same_items(s: &[u8], a: Conjuncts, b: Conjuncts) -> bool
+    requires { ⌜ Known (now s) a ⌝ }
+    requires { ⌜ Known (now s) b ⌝ }
+    ensures { λ r. ⌜ ((xs ys : List Expr) → Lists (now (s .entry)) a xs → Lists (now (s .entry)) b ys → Says r (xs ≡ ys)) ⌝ }
+{
+    let n = a.len;
+    if n != b.len {
+        return false;
+    }
+    let mut i = 0;
+    while i < n {
+        if !same_item(s, item_at(a, i), item_at(b, i)) {
+            return false;
+        }
+        i += 1;
+    }
+    true
+}

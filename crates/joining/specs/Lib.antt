@@ -1,5 +1,0 @@
-pub mod Partners
-pub mod Sides
-pub mod Scopes
-pub mod Parts
-pub mod JoinPlans

@@ -1,3 +1,0 @@
-// The call `pass`: the rewrite at each plan of an image in turn, as far as a budget of visits goes.
-pub mod calling;
-pub mod walking;

@@ -1,0 +1,23 @@
+use mathlib.Core.Path.{refl, sym, _∙_}
+use borrow.Author.Needs.{needs}
+use Rattle.plan.specs.Syntax.{aggregate}
+use Rattle.plan.specs.Trees.{planTree}
+use Rattle.writing.proofs.Pushing.{plan-readable}
+use Rattle.push_down_arms.proofs.Divisions.{some-groups, divides-none}
+use Rattle.push_down_arms.proofs.aggregate.divide_groups.Statement.{statement}
+use Rattle.push_down_arms.proofs.aggregate.divide_groups.Tie as tie
+
+pub divide-groups-spec : {M : Type 1} → statement M
+divide-groups-spec =
+    tie.close
+    (tie.spec
+    (λ c κs. c .before .pre .rests .placed .standing .within)
+    (λ c κs. (256, rw (c .record-at .ensures) (plan-readable (c .before .before .pre .rests .placed .standing))))
+    (λ c κs. let p = c .before .before .before .before .pre in record { expr = p .expr; plan = _; rests = p .rests })
+    (λ c e gs ags q h. let i = c .before .before .has-groups .ensures (planTree (aggregate gs ags q))
+    (rw (c .before .before .before .record-at .ensures) (h .placed .standing .here)) in
+    rw (← some-groups gs ags q (sym i ∙ c .before .if1 .taken)) (c .divide .ensures e (aggregate gs ags q) h))
+    (λ c κs. search needs)
+    (λ c e gs ags q h. let i = c .before .before .before .has-groups .ensures (planTree (aggregate gs ags q))
+    (rw (c .before .before .before .before .record-at .ensures) (h .placed .standing .here)) in
+    divides-none gs ags q (h .shaped) (sym i ∙ c .before .before .if1 .left) refl (c .empty .ensures)))

@@ -1,0 +1,77 @@
+-- `push_some::push_some` meets its contract: what is too long is counted first, and nothing is written for it.
+use mathlib.Core.Path.{refl, sym, _∙_}
+use native.Mathlib.Omega.{arith}
+use mathlib.Core.List.{map}
+use borrow.Author.Needs.{needs}
+use borrow.Author.Tests.{ltb-true, ltb-false}
+use Rattle.plan.specs.Trees.{planTree}
+use Rattle.rewrite.specs.Utils.{replace-cols, conjunction}
+use Rattle.writing.proofs.Maps.{plan-maps, mapOf}
+use Rattle.writing.proofs.Pushing.{plan-readable}
+use Rattle.push_down_arms.specs.Divided.{parts}
+use Rattle.push_down_base.proofs.Answering.{answers}
+use Rattle.push_down_arms.proofs.Divides.{pushed-few, pushed-many, some-moved, kept-perhaps, moved-small, moved-perhaps, pushed-is}
+use Rattle.push_down_arms.proofs.push_some.push_some.Statement.{statement}
+use Rattle.push_down_arms.proofs.push_some.push_some.Tie as tie
+
+pub push-some-spec : {M : Type 1} → statement M
+push-some-spec =
+    tie.close
+    (tie.spec
+    (λ c κs. let p = c .before .before .before .before .before .pre .0 in
+    let k = p .divides in (
+      (
+        record { exprs = p .move; lists = k .moved; most = k .moved-most },
+        record { plan = p .above (p .plan); standing = p .placed .standing },
+      ),
+      p .placed .short,
+    ))
+    (λ c f q us ds h t k. let o = ltb-true 128 (parts (mapOf (f q)) ds)
+    (sym (c .before .is-over .ensures ds (f q) (k .moved) (k .moved-single) (h .standing)) ∙ c .if1 .taken) in
+    let m = pushed-many h t k o in
+    record { flag = some-moved ds (k .moved) (k .moved-most); fits = λ small. absurd (omega arith); over = λ many. (refl, refl) })
+    (λ c κs. c .before .before .before .before .before .before .before .pre .0 .placed .standing .within)
+    (λ c κs. rw (c .record-at .ensures) (plan-readable (c .before .before .before .before .before .before .before .before .pre .0 .placed .standing)))
+    (λ c κs. let k = c .before .before .before .before .before .before .before .before .before .pre .0 .divides in
+    record { image = _; known = record { exprs = _; lists = k .moved; most = k .moved-most } })
+    (λ c κs. let p = c .before .before .before .before .before .before .before .before .before .before .before .pre in
+    let k = p .0 .divides in
+    let q = p .0 .above (p .0 .plan) in
+    let h = p .0 .placed .standing in
+    let i = c .before .before .before .record-at .ensures in
+    let y = c .before .before .last-child .ensures (planTree q) (rw i (h .here)) ∙ p .0 .takes .last in
+    let w = c .before .changed .ensures _ (mapOf q) (p .0 .move) (k .moved) in (
+      (
+        record {
+          map = mapOf q;
+          maps = rw i (plan-maps h);
+          expr = conjunction (p .0 .stay);
+          perhaps = kept-perhaps k (mapOf q);
+          most = k .kept-most;
+        },
+        record {
+          map = mapOf q;
+          maps = rw i (plan-maps h);
+          expr = conjunction (map (replace-cols (mapOf q)) (p .0 .move));
+          perhaps = moved-perhaps k (mapOf q) w;
+          most = moved-small k (mapOf q) w;
+        },
+      ),
+      (
+        (record { plan = q; standing = h }, record { plan = p .0 .plan; standing = rw y (p .0 .takes .input) }),
+        (omega (arith, p .1 .0), p .1 .1, p .1 .2),
+      ),
+    ))
+    (λ c. search needs)
+    (λ c f q us ds h t k. let o = ltb-false 128 (parts (mapOf (f q)) ds)
+    (sym (c .before .before .before .before .before .before .before .before .is-over .ensures ds (f q) (k .moved) (k .moved-single) (h .standing))
+    ∙ c .before .before .before .before .before .before .before .if1 .left) in
+    let i = c .before .before .before .before .before .before .record-at .ensures in
+    let y = c .before .before .before .before .before .last-child .ensures (planTree (f q)) (rw i (h .standing .here)) ∙ t .last in
+    let w = c .before .before .before .before .changed .ensures _ (mapOf (f q)) ds (k .moved) in
+    answers (some-moved ds (k .moved) (k .moved-most)) (pushed-few h t k o)
+    (rw (← pushed-is f q us ds)
+    (c .before .before .write-over .ensures (mapOf (f q)) (rw i (plan-maps (h .standing))) (conjunction us)
+    (conjunction (map (replace-cols (mapOf (f q))) ds)) (kept-perhaps k (mapOf (f q))) (moved-perhaps k (mapOf (f q)) w) f q (t .own) (t .frame) y
+    (h .standing)
+    (rw y (t .input))))))

@@ -1,0 +1,37 @@
+// rewrite_projection (1295 to 1345), and the arm that calls it (894).
+use crate::push_some::divide;
+use crate::push_some::push_some;
+use crate::through::keep_filter;
+use push_down_base::predicates::Predicate;
+use push_down_base::predicates::Written;
+ghost use mathlib.Core.Path.{_≡_};
+ghost use mathlib.Core.List.{List};
+ghost use Prim.Native.Nat.{_<_, _≤_};
+ghost use lib.ListN.{length};
+ghost use Rattle.image.specs.Limits.{workBytes};
+ghost use Rattle.plan.specs.Syntax.{Entry, Expr, Plan, project};
+ghost use Rattle.rewrite.specs.PushDownFilter.{rewrite-filter};
+ghost use Rattle.push_down_base.specs.Arms.{Answers, Rests};
+ghost use Rattle.push_down_arms.specs.Divided.{OverProjection};
+
+// Filter over Projection: what reads no volatile or leafward entry moves; if nothing does, the Filter stays as it is.
+pub fn rewrite_projection(
+    s: &[u8],
+    x: usize,
+    p: Predicate,
+    out: &mut [u8],
+    at: usize,
+    level: usize,
+) -> Written
+    requires { ⌜ OverProjection (now s) x p ⌝ }
+    requires { ⌜ (level < 3000) × (length (now out) ≡ workBytes) × (at ≤ 2049) ⌝ }
+    ensures { λ r. ⌜ ((e : Expr) (es : List Entry) (q : Plan) → Rests (now (s .entry)) x p e (project es q) →
+        Answers (now (out .entry)) (now (out .exit)) at level r (rewrite-filter e (project es q))) ⌝ }
+{
+    let d = divide(s, x, p);
+    let moved = d.moved;
+    if moved.len == 0 {
+        return keep_filter(s, x, p, out, at, level);
+    }
+    push_some(s, x, d, out, at, level)
+}

@@ -1,0 +1,47 @@
+// The arm Union (974 to 997).
+use crate::replaced::changed_predicate;
+use crate::subquery_alias::copy_renamed;
+use image::copying::put_label;
+use image::records::FIRST_LINK;
+use image::records::NEXT_LINK;
+use image::records::from_record;
+use image::records::record_at;
+use image::words::word_at;
+use push_down_base::predicates::Predicate;
+use push_down_base::predicates::Written;
+use utils::schema_columns::no_fields;
+use utils::schema_columns::schema_at;
+ghost use mathlib.Core.Path.{_≡_};
+ghost use Prim.Native.Nat.{_<_, _≤_};
+ghost use lib.ListN.{length};
+ghost use Rattle.image.specs.Limits.{workBytes};
+ghost use Rattle.plan.specs.Syntax.{Expr, Plans, union};
+ghost use Rattle.rewrite.specs.PushDownFilter.{rewrite-filter};
+ghost use Rattle.push_down_base.specs.Arms.{Answers, OverUnion, Rests};
+
+// Filter over Union: each input gets the predicate, with the names of its own fields.
+pub fn rewrite_union(
+    s: &[u8],
+    x: usize,
+    p: Predicate,
+    m: &mut [u8],
+    out: &mut [u8],
+    at: usize,
+    level: usize,
+) -> Written
+    requires { ⌜ OverUnion (now s) x p ⌝ }
+    requires { ⌜ (4128 ≤ length (now m)) × (level < 3000) × (length (now out) ≡ workBytes) ⌝ }
+    ensures { λ r. ⌜ ((e : Expr) (ps : Plans) → Rests (now (s .entry)) x p e (union ps) →
+        Answers (now (out .entry)) (now (out .exit)) at level r (rewrite-filter e (union ps))) ⌝ }
+{
+    let from = schema_at(s, x, no_fields());
+    let below = changed_predicate(p);
+    let part = record_at(s, x);
+    let mut next = put_label(part, out, at, level);
+    let mut y = word_at(part, FIRST_LINK);
+    while y != 0 {
+        next = copy_renamed(s, from, below, y, m, out, next, level + 1);
+        y = word_at(from_record(part, x, y), NEXT_LINK);
+    }
+    Written { next, flag: true }
+}

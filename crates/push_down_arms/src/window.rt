@@ -1,0 +1,31 @@
+// The arm Window (1045 to 1115): what reads partition columns of every entry moves.
+use crate::push_some::divide;
+use crate::push_some::push_some;
+use push_down_base::predicates::Predicate;
+use push_down_base::predicates::Written;
+ghost use mathlib.Core.Path.{_≡_};
+ghost use mathlib.Core.List.{List};
+ghost use Prim.Native.Nat.{_<_, _≤_};
+ghost use lib.ListN.{length};
+ghost use Rattle.image.specs.Limits.{workBytes};
+ghost use Rattle.plan.specs.Syntax.{Expr, Plan, WinEntry, window};
+ghost use Rattle.rewrite.specs.PushDownFilter.{rewrite-filter};
+ghost use Rattle.push_down_base.specs.Arms.{Answers, Rests};
+ghost use Rattle.push_down_arms.specs.Divided.{OverWindow};
+
+// Filter over Window: what reads partition columns of every entry moves.
+pub fn rewrite_window(
+    s: &[u8],
+    x: usize,
+    p: Predicate,
+    out: &mut [u8],
+    at: usize,
+    level: usize,
+) -> Written
+    requires { ⌜ OverWindow (now s) x p ⌝ }
+    requires { ⌜ (level < 3000) × (length (now out) ≡ workBytes) × (at ≤ 2049) ⌝ }
+    ensures { λ r. ⌜ ((e : Expr) (ws : List WinEntry) (q : Plan) → Rests (now (s .entry)) x p e (window ws q) →
+        Answers (now (out .entry)) (now (out .exit)) at level r (rewrite-filter e (window ws q))) ⌝ }
+{
+    push_some(s, x, divide(s, x, p), out, at, level)
+}

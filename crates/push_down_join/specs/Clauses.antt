@@ -1,0 +1,43 @@
+-- What the code says of a clause: of how many records it is, or that there is none.
+use mathlib.Core.Bool.{Bool, true, false, _||_, cond}
+use mathlib.Core.Option.{Option, none, some}
+use Prim.Native.Nat.{ℕ, _+_}
+use lib.Dec.{eqb, leb}
+use Rattle.image.specs.Tree.{Label}
+use Rattle.plan.specs.Measure.{sizeE}
+use Rattle.plan.specs.Syntax.{Name, Expr}
+use Rattle.rewrite.specs.PushDownFilter.{extract-or-clause, is-or}
+use Rattle.push_down_join.specs.declared.extract_or_clause.Clause.{Clause}
+use Rattle.push_down_join.specs.declared.extract_or_clause.Clause.the-variants.{Made, Nothing}
+
+-- 1 for And, 2 for Or, 0 for any other record
+unfoldable pub operatorOf : Label → ℕ
+operatorOf l = cond (eqb (l .kind) 5) (cond (leb (l .p) 2) (l .p) 0) 0
+
+abbrev pub clauseOf : Option Expr → Clause
+clauseOf none = Nothing
+clauseOf (some e) = Made (sizeE e)
+
+-- the records of a clause
+abbrev pub recordsOf : Clause → ℕ
+recordsOf Nothing = 0
+recordsOf (Made n) = n
+
+-- an AND of two clauses
+abbrev pub eitherAnd : Clause → Clause → Clause
+eitherAnd Nothing b = b
+eitherAnd (Made m) Nothing = Made m
+eitherAnd (Made m) (Made n) = Made (1 + m + n)
+
+-- there is one
+abbrev pub yields : Option Expr → Bool
+yields none = false
+yields (some e) = true
+
+-- an operand of an Or (2) is part of its clause, one of an And if it yields
+abbrev pub kept : ℕ → Option Expr → Bool
+kept op x = eqb op 2 || yields x
+
+-- the clause of a conjunct that is an OR at its top
+abbrev pub or-clause : (Name → Bool) → Expr → Option Expr
+or-clause c e = cond (is-or e) (extract-or-clause c e) none

@@ -1,0 +1,105 @@
+// ColumnChecker (192 to 229): is_left_only and is_right_only of a list, by the sets of the fields of a join's inputs.
+use crate::infer_join_predicates::Swapped;
+use crate::infer_join_predicates::places_among;
+use crate::infer_join_predicates::swap_keys;
+use crate::lr_is_preserved::Preserved;
+use conjuncts::lists::Conjuncts;
+use image::limits::MAX_DEPTH;
+use image::records::record_at;
+use push_down_base::parting::push_not;
+use push_down_base::parting::push_to;
+use utils::schema_columns::Fields;
+use utils::schema_columns::no_fields;
+use utils::schema_columns::schema_columns;
+use utils::sets::all_but;
+use utils::sets::low_places;
+ghost use mathlib.Core.Path.{_≡_};
+ghost use mathlib.Core.Bool.{true};
+ghost use mathlib.Core.List.{_++_, List};
+ghost use mathlib.Core.Option.{Option};
+ghost use Prim.Native.Nat.{_≤_};
+ghost use lib.ListN.{length};
+ghost use Rattle.image.specs.Tree.{Forest};
+ghost use Rattle.plan.proofs.Names.{nodup};
+ghost use Rattle.plan.specs.Schema.{has, schema};
+ghost use Rattle.plan.specs.Syntax.{Expr, Kind, Name, Pair, Plan};
+ghost use Rattle.rewrite.specs.PushDownFilter.{partner, push-not, push-to, rest};
+ghost use Rattle.utils.specs.Fields.{Names};
+ghost use Rattle.push_down_base.specs.Parting.{Reads};
+ghost use Rattle.push_down_join.specs.Partners.{Swaps, partnerIn};
+ghost use Rattle.push_down_join.specs.Scopes.{Asked, JoinAt, Scopes, SomeJoin, swap};
+
+// The fields of both inputs of a join, the left one's first; the same with each key's partner in its place; and sets of them: those of each
+// input, those that have no partner by the keys, and those whose partner, or where they have none they themselves, are of each input.
+pub struct Scope {
+    pub fields: Fields,
+    pub to: Fields,
+    pub left: u64,
+    pub right: u64,
+    pub alone: u64,
+    pub leftward: u64,
+    pub rightward: u64,
+}
+
+// The sets of fields of which the first k are the left input's, by the partners of the keys.
+pub fn scope_of(fields: Fields, k: usize, swapped: Swapped) -> Scope
+    requires { ⌜ (fields .len ≤ 64) × (k ≤ 64) × (swapped .to .len ≤ 64) ⌝ }
+    ensures { λ z. ⌜ ((l r : List Name) (on : List Pair) (f : Forest) → Names fields (l ++ r) → k ≡ length l → nodup (l ++ r) ≡ true →
+        Swaps swapped f (l ++ r) → ((x : Name) → partnerIn x f ≡ partner on x) →
+        ((x : Name) → has (l ++ r) x ≡ true → has (l ++ r) (swap on x) ≡ true) → Scopes z l r on) ⌝ }
+{
+    let n = fields.len;
+    let to = swapped.to;
+    let left = low_places(k);
+    let leftward = places_among(fields, to, k);
+    Scope {
+        fields,
+        to,
+        left,
+        right: all_but(left, n),
+        alone: swapped.alone,
+        leftward,
+        rightward: all_but(leftward, n),
+    }
+}
+
+// The fields of the join at record x, whose inputs stand at records y and z.
+pub fn join_scope(s: &[u8], x: usize, y: usize, z: usize) -> Scope
+    requires { ⌜ SomeJoin (now s) x y z ⌝ }
+    ensures { λ c. ⌜ ((k : Kind) (l r : Plan) (on : List Pair) (f : Option Expr) → JoinAt (now (s .entry)) x y z k l r on f →
+        Scopes c (schema l) (schema r) on) ⌝ }
+{
+    let left = schema_columns(record_at(s, y), y, MAX_DEPTH, no_fields());
+    let fields = schema_columns(record_at(s, z), z, MAX_DEPTH, left);
+    let swapped = swap_keys(record_at(s, x), x, fields);
+    scope_of(fields, left.len, swapped)
+}
+
+// Of the conjuncts c those that move to the left input.
+pub fn push_left(s: &[u8], c: Conjuncts, sc: Scope, sides: Preserved) -> Conjuncts
+    requires { ⌜ Asked (now s) sc c ⌝ }
+    ensures { λ z. ⌜ ((l r : List Name) (on : List Pair) (es : List Expr) → Scopes sc l r on → Reads (now (s .entry)) (l ++ r) c es →
+        Reads (now (s .entry)) (l ++ r) z (push-to (sides .left) l es)) ⌝ }
+{
+    push_to(s, c, sc.fields, sc.left, sides.left)
+}
+
+// Those that move to the right input: what moves to the left one does not move to this one as well.
+pub fn push_right(s: &[u8], c: Conjuncts, sc: Scope, sides: Preserved) -> Conjuncts
+    requires { ⌜ Asked (now s) sc c ⌝ }
+    ensures { λ z. ⌜ ((l r : List Name) (on : List Pair) (es : List Expr) → Scopes sc l r on → Reads (now (s .entry)) (l ++ r) c es →
+        Reads (now (s .entry)) (l ++ r) z (push-to (sides .right) r (push-not (sides .left) l es))) ⌝ }
+{
+    let stay = push_not(s, c, sc.fields, sc.left, sides.left);
+    push_to(s, stay, sc.fields, sc.right, sides.right)
+}
+
+// Those that move to neither.
+pub fn unpushed(s: &[u8], c: Conjuncts, sc: Scope, sides: Preserved) -> Conjuncts
+    requires { ⌜ Asked (now s) sc c ⌝ }
+    ensures { λ z. ⌜ ((l r : List Name) (on : List Pair) (es : List Expr) → Scopes sc l r on → Reads (now (s .entry)) (l ++ r) c es →
+        Reads (now (s .entry)) (l ++ r) z (rest (sides .left) (sides .right) l r es)) ⌝ }
+{
+    let stay = push_not(s, c, sc.fields, sc.left, sides.left);
+    push_not(s, stay, sc.fields, sc.right, sides.right)
+}

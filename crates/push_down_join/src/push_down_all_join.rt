@@ -1,0 +1,327 @@
+// push_down_all_join (401 to 525), push_down_join (527 to 572): a join over what moves to its inputs, and what stays above it.
+use crate::column_checker::Scope;
+use crate::column_checker::join_scope;
+use crate::column_checker::push_left;
+use crate::column_checker::push_right;
+use crate::column_checker::unpushed;
+use crate::extract_or_clause::extract_or_clauses_for_join;
+use crate::infer_join_predicates::infer_left;
+use crate::infer_join_predicates::infer_right;
+use crate::lr_is_preserved::Preserved;
+use crate::lr_is_preserved::is_inner;
+use crate::lr_is_preserved::lr_is_preserved;
+use crate::lr_is_preserved::on_lr_is_preserved;
+use crate::write_sides::Moves;
+use crate::write_sides::write_kept;
+use conjuncts::lists::Conjuncts;
+use conjuncts::lists::add;
+use conjuncts::lists::empty;
+use conjuncts::lists::item_at;
+use conjuncts::split_conjunction::split_at;
+use image::limits::MAX_DEPTH;
+use image::limits::MAX_LIST;
+use image::limits::NO_ROOM;
+use image::records::NEXT_LINK;
+use image::records::record_at;
+use image::words::word_at;
+use plan::kinds::FIRST_PLAN;
+use push_down_base::inputs::last_child;
+use push_down_base::predicates::Predicate;
+use push_down_base::predicates::Written;
+use utils::schema_columns::Fields;
+use writing::renames::write_renames;
+ghost use mathlib.Core.Path.{_≡_};
+ghost use mathlib.Core.Bool.{_&&_, Bool};
+ghost use mathlib.Core.List.{_++_, List, map};
+ghost use mathlib.Core.Option.{Option};
+ghost use Prim.Native.Nat.{_+_, _<_, _≤_, ℕ};
+ghost use lib.Dec.{leb};
+ghost use lib.ListN.{length};
+ghost use Rattle.image.specs.Limits.{workBytes};
+ghost use Rattle.plan.specs.Schema.{has, schema};
+ghost use Rattle.plan.specs.Syntax.{Expr, Kind, Name, Pair, Plan, join};
+ghost use Rattle.plan.specs.Trees.{joinNumber};
+ghost use Rattle.rewrite.specs.PushDownFilter.{extract-or-clauses-for-join, if-list, join-conditions, keep-predicates, left-push};
+ghost use Rattle.rewrite.specs.PushDownFilter.{on-filter-join-conditions, push-down-all-join, push-down-join, push-not, push-to, rest};
+ghost use Rattle.rewrite.specs.PushDownFilter.{rewrite-filter, right-push};
+ghost use Rattle.rewrite.specs.Utils.{replace-cols, split-conjunction?};
+ghost use Rattle.conjuncts.specs.Items.{Holds};
+ghost use Rattle.conjuncts.specs.Standing.{StandingP};
+ghost use Rattle.utils.specs.Fields.{Names};
+ghost use Rattle.utils.specs.Masks.{Masks};
+ghost use Rattle.push_down_base.specs.Arms.{Answers, Placed, Rests};
+ghost use Rattle.push_down_base.specs.Parting.{Reads};
+ghost use Rattle.push_down_base.specs.Plain.{Plain};
+ghost use Rattle.push_down_join.specs.JoinPlans.{JoinBetween, JoinHere, JoinUnder, Moved, OverJoin};
+ghost use Rattle.push_down_join.specs.Parts.{Parted, Wholes};
+ghost use Rattle.push_down_join.specs.Scopes.{Asked, Scopes, Swapper, keyed-left, keyed-right};
+ghost use Rattle.push_down_join.specs.Sides.{Sides, Smalls};
+
+// Appends the items of c, each with so much more.
+pub fn append(to: Conjuncts, c: Conjuncts, more: usize) -> Conjuncts
+    requires { ⌜ Smalls c × (more ≤ 4096) ⌝ }
+    ensures { λ r. ⌜ ((xs ys : List ℕ) → Holds to xs → Holds c ys → Holds r (xs ++ map (λ y. y + more) ys)) ⌝ }
+{
+    let n = c.len;
+    let mut r = to;
+    let mut i = 0;
+    while i < n {
+        r = add(r, item_at(c, i) + more);
+        i += 1;
+    }
+    r
+}
+
+// What of a list of conjuncts a side gets: those that move there, those of which others are inferred that do, and those that move to no side,
+// the clauses of which do.
+pub struct Part {
+    pub moved: Conjuncts,
+    pub keyed: Conjuncts,
+    pub rest: Conjuncts,
+}
+
+// The list of a side, in the source's order.
+pub fn side_push(s: &[u8], above: Part, own: Part, fields: Fields, side: u64) -> Conjuncts
+    requires { ⌜ Wholes (now s) above × Wholes (now s) own ⌝ }
+    requires { ⌜ (length (now s) ≤ workBytes) × (fields .len ≤ 64) ⌝ }
+    ensures { λ z. ⌜ ((σ : Name → Expr) (ns : List Name) (t : Name → Bool) (a i u b j v : List Expr) → Parted (now (s .entry)) ns above a i u →
+        Parted (now (s .entry)) ns own b j v → Names fields ns → Masks side ns t →
+        Sides (now (s .entry)) σ ns t z (a ++ (map (replace-cols σ) (i ++ j) ++ (b ++ extract-or-clauses-for-join t (u ++ v))))) ⌝ }
+{
+    let moved = append(empty(), above.moved, 0);
+    let inferred = append(moved, above.keyed, SWAPPED);
+    let keyed = append(inferred, own.keyed, SWAPPED);
+    let all = append(keyed, own.moved, 0);
+    let clauses = extract_or_clauses_for_join(s, all, above.rest, fields, side);
+    extract_or_clauses_for_join(s, clauses, own.rest, fields, side)
+}
+
+// A list, or none of it.
+fn if_list(told: bool, c: Conjuncts) -> Conjuncts
+    ensures { λ z. ⌜ ((s : List ℕ) (ns : List Name) (es : List Expr) → Reads s ns c es → Reads s ns z (if-list told es)) ⌝ }
+{
+    if told {
+        return c;
+    }
+    empty()
+}
+
+// What of a list the left input gets.
+fn left_part(s: &[u8], c: Conjuncts, sc: Scope, sides: Preserved, inner: bool) -> Part
+    requires { ⌜ Asked (now s) sc c ⌝ }
+    ensures { λ z. ⌜ ((l r : List Name) (on : List Pair) (es : List Expr) → Scopes sc l r on → Reads (now (s .entry)) (l ++ r) c es →
+        Parted (now (s .entry)) (l ++ r) z (push-to (sides .left) l es) (keyed-left inner l on es)
+        (if-list (sides .left) (rest (sides .left) (sides .right) l r es))) ⌝ }
+{
+    Part {
+        moved: push_left(s, c, sc, sides),
+        keyed: infer_left(s, c, sc, inner),
+        rest: if_list(sides.left, unpushed(s, c, sc, sides)),
+    }
+}
+
+// What of it the right input gets.
+fn right_part(s: &[u8], c: Conjuncts, sc: Scope, sides: Preserved, inner: bool) -> Part
+    requires { ⌜ Asked (now s) sc c ⌝ }
+    ensures { λ z. ⌜ ((l r : List Name) (on : List Pair) (es : List Expr) → Scopes sc l r on → Reads (now (s .entry)) (l ++ r) c es →
+        Parted (now (s .entry)) (l ++ r) z (push-to (sides .right) r (push-not (sides .left) l es)) (keyed-right inner l r on es)
+        (if-list (sides .right) (rest (sides .left) (sides .right) l r es))) ⌝ }
+{
+    Part {
+        moved: push_right(s, c, sc, sides),
+        keyed: infer_right(s, c, sc, inner),
+        rest: if_list(sides.right, unpushed(s, c, sc, sides)),
+    }
+}
+
+// The list of the left input, of the predicates p above a join of this kind and those of its own filter, g.
+pub fn left_push(s: &[u8], p: Conjuncts, g: Conjuncts, sc: Scope, kind: usize) -> Conjuncts
+    requires { ⌜ Asked (now s) sc p × Asked (now s) sc g ⌝ }
+    requires { ⌜ length (now s) ≤ workBytes ⌝ }
+    ensures { λ z. ⌜ ((k : Kind) (l r : List Name) (on : List Pair) (P G : List Expr) (σ : Name → Expr) → kind ≡ joinNumber k →
+        Scopes sc l r on → Reads (now (s .entry)) (l ++ r) p P → Reads (now (s .entry)) (l ++ r) g G → Swapper σ (l ++ r) on →
+        Sides (now (s .entry)) σ (l ++ r) (has l) z (left-push k l r on P G)) ⌝ }
+{
+    let over = lr_is_preserved(kind);
+    let on = on_lr_is_preserved(kind);
+    let inner = is_inner(kind);
+    let above = left_part(s, p, sc, over, inner);
+    let own = left_part(s, g, sc, on, inner);
+    side_push(s, above, own, sc.fields, sc.left)
+}
+
+// The list of the right input, of the predicates p above a join of this kind and those of its own filter, g.
+pub fn right_push(s: &[u8], p: Conjuncts, g: Conjuncts, sc: Scope, kind: usize) -> Conjuncts
+    requires { ⌜ Asked (now s) sc p × Asked (now s) sc g ⌝ }
+    requires { ⌜ length (now s) ≤ workBytes ⌝ }
+    ensures { λ z. ⌜ ((k : Kind) (l r : List Name) (on : List Pair) (P G : List Expr) (σ : Name → Expr) → kind ≡ joinNumber k →
+        Scopes sc l r on → Reads (now (s .entry)) (l ++ r) p P → Reads (now (s .entry)) (l ++ r) g G → Swapper σ (l ++ r) on →
+        Sides (now (s .entry)) σ (l ++ r) (has r) z (right-push k l r on P G)) ⌝ }
+{
+    let over = lr_is_preserved(kind);
+    let on = on_lr_is_preserved(kind);
+    let inner = is_inner(kind);
+    let above = right_part(s, p, sc, over, inner);
+    let own = right_part(s, g, sc, on, inner);
+    side_push(s, above, own, sc.fields, sc.right)
+}
+
+// What stays above a join of this kind: of an Inner one nothing.
+pub fn keep_predicates(s: &[u8], p: Conjuncts, sc: Scope, kind: usize) -> Conjuncts
+    requires { ⌜ Asked (now s) sc p ⌝ }
+    ensures { λ z. ⌜ ((k : Kind) (l r : List Name) (on : List Pair) (P G : List Expr) → kind ≡ joinNumber k → Scopes sc l r on →
+        Reads (now (s .entry)) (l ++ r) p P → Reads (now (s .entry)) (l ++ r) z (keep-predicates k l r on P G)) ⌝ }
+{
+    if_list(!is_inner(kind), unpushed(s, p, sc, lr_is_preserved(kind)))
+}
+
+// What becomes a condition of it: of an Inner one only.
+pub fn join_conditions(s: &[u8], p: Conjuncts, sc: Scope, kind: usize) -> Conjuncts
+    requires { ⌜ Asked (now s) sc p ⌝ }
+    ensures { λ z. ⌜ ((k : Kind) (l r : List Name) (on : List Pair) (P G : List Expr) → kind ≡ joinNumber k → Scopes sc l r on →
+        Reads (now (s .entry)) (l ++ r) p P → Reads (now (s .entry)) (l ++ r) z (join-conditions k l r on P G)) ⌝ }
+{
+    if_list(is_inner(kind), unpushed(s, p, sc, lr_is_preserved(kind)))
+}
+
+// Of the conjuncts g of its own filter those that move to no side.
+pub fn on_filter_join_conditions(s: &[u8], g: Conjuncts, sc: Scope, kind: usize) -> Conjuncts
+    requires { ⌜ Asked (now s) sc g ⌝ }
+    ensures { λ z. ⌜ ((k : Kind) (l r : List Name) (on : List Pair) (P G : List Expr) → kind ≡ joinNumber k → Scopes sc l r on →
+        Reads (now (s .entry)) (l ++ r) g G → Reads (now (s .entry)) (l ++ r) z (on-filter-join-conditions k l r on P G)) ⌝ }
+{
+    unpushed(s, g, sc, on_lr_is_preserved(kind))
+}
+
+// The lists of a join of this kind, of the predicates p above it and those of its own filter, g.
+pub fn moves_of(s: &[u8], p: Conjuncts, g: Conjuncts, sc: Scope, kind: usize) -> Moves
+    requires { ⌜ Asked (now s) sc p × Asked (now s) sc g ⌝ }
+    requires { ⌜ (length (now s) ≤ workBytes) × ((k : Kind) × (kind ≡ joinNumber k)) ⌝ }
+    ensures { λ v. ⌜ ((k : Kind) (l r : List Name) (on : List Pair) (P G : List Expr) (σ : Name → Expr) → kind ≡ joinNumber k →
+        Scopes sc l r on → Reads (now (s .entry)) (l ++ r) p P → Reads (now (s .entry)) (l ++ r) g G → Swapper σ (l ++ r) on →
+        Moved (now (s .entry)) σ v k l r on P G) ⌝ }
+{
+    let left = left_push(s, p, g, sc, kind);
+    let right = right_push(s, p, g, sc, kind);
+    let joined = join_conditions(s, p, sc, kind);
+    let own = on_filter_join_conditions(s, g, sc, kind);
+    let flag = (joined.len != 0) | (left.len != 0) | (right.len != 0);
+    Moves {
+        left,
+        right,
+        conditions: append(joined, own, 0),
+        kept: keep_predicates(s, p, sc, kind),
+        flag,
+    }
+}
+
+// Whether none of the lists that are written is too long.
+fn fits(v: Moves) -> bool
+    ensures { λ r. ⌜ r ≡ ((leb (v .left .len) 128 && leb (v .right .len) 128) && leb (v .conditions .len) 128) ⌝ }
+{
+    let left = v.left;
+    let right = v.right;
+    let conditions = v.conditions;
+    (left.len <= MAX_LIST) & (right.len <= MAX_LIST) & (conditions.len <= MAX_LIST)
+}
+
+// The record of the right input of the join at record x; the left one is the record after the join's.
+pub fn right_input(s: &[u8], x: usize) -> usize
+    requires { ⌜ JoinHere (now s) x ⌝ }
+    ensures { λ z. ⌜ ((k : Kind) (l r : Plan) (on : List Pair) (f : Option Expr) → Placed (now (s .entry)) x (join k l r on f) →
+        StandingP (now (s .entry)) z r) ⌝ }
+{
+    word_at(record_at(s, x + 1), NEXT_LINK)
+}
+
+// The conjuncts of the filter of the join at record x, if it has one: it is the last child, and the only one that is an expression.
+pub fn own_filter(s: &[u8], x: usize) -> Conjuncts
+    requires { ⌜ JoinHere (now s) x ⌝ }
+    ensures { λ z. ⌜ ((k : Kind) (l r : Plan) (on : List Pair) (f : Option Expr) → Placed (now (s .entry)) x (join k l r on f) →
+        Reads (now (s .entry)) (schema l ++ schema r) z (split-conjunction? f)) ⌝ }
+{
+    let y = last_child(record_at(s, x), x, MAX_DEPTH);
+    if word_at(record_at(s, y), 0) < FIRST_PLAN {
+        return split_at(s, y, empty());
+    }
+    empty()
+}
+
+// push_down_all_join: c is the predicates above the join at record x, g those of its own filter.
+fn push_down_all_join(
+    s: &[u8],
+    x: usize,
+    c: Conjuncts,
+    g: Conjuncts,
+    m: &mut [u8],
+    out: &mut [u8],
+    at: usize,
+    level: usize,
+) -> Written
+    requires { ⌜ JoinBetween (now s) x c g ⌝ }
+    requires { ⌜ (4128 ≤ length (now m)) × (level < 3000) × (length (now out) ≡ workBytes) × (at ≤ 2049) ⌝ }
+    ensures { λ n. ⌜ ((k : Kind) (l r : Plan) (on : List Pair) (f : Option Expr) (P G : List Expr) →
+        Placed (now (s .entry)) x (join k l r on f) → Reads (now (s .entry)) (schema l ++ schema r) c P →
+        Reads (now (s .entry)) (schema l ++ schema r) g G → Plain P → Plain G →
+        Answers (now (out .entry)) (now (out .exit)) at level n (push-down-all-join k l r on P G)) ⌝ }
+{
+    let z = right_input(s, x);
+    let sc = join_scope(s, x, x + 1, z);
+    let kind = word_at(record_at(s, x), 4);
+    let v = moves_of(s, c, g, sc, kind);
+    // A list that is too long is written nowhere.
+    if !fits(v) {
+        return Written {
+            next: NO_ROOM,
+            flag: v.flag,
+        };
+    }
+    let fields = sc.fields;
+    let to = sc.to;
+    write_renames(fields, to, m);
+    let next = write_kept(s, m, x, z, v, sc, out, at, level);
+    Written { next, flag: v.flag }
+}
+
+// push_down_join: c is the predicates above the join at record x, none for the Join node itself.
+pub fn push_down_join(
+    s: &[u8],
+    x: usize,
+    c: Conjuncts,
+    m: &mut [u8],
+    out: &mut [u8],
+    at: usize,
+    level: usize,
+) -> Written
+    requires { ⌜ JoinUnder (now s) x c ⌝ }
+    requires { ⌜ (4128 ≤ length (now m)) × (level < 3000) × (length (now out) ≡ workBytes) × (at ≤ 2049) ⌝ }
+    ensures { λ r. ⌜ ((k : Kind) (l q : Plan) (on : List Pair) (f : Option Expr) (P : List Expr) →
+        Placed (now (s .entry)) x (join k l q on f) → Reads (now (s .entry)) (schema l ++ schema q) c P → Plain P →
+        Answers (now (out .entry)) (now (out .exit)) at level r (push-down-join k l q on f P)) ⌝ }
+{
+    let g = own_filter(s, x);
+    push_down_all_join(s, x, c, g, m, out, at, level)
+}
+
+// Filter over Join: the predicate's conjuncts are the predicates above it.
+pub fn rewrite_join(
+    s: &[u8],
+    x: usize,
+    p: Predicate,
+    m: &mut [u8],
+    out: &mut [u8],
+    at: usize,
+    level: usize,
+) -> Written
+    requires { ⌜ OverJoin (now s) x p ⌝ }
+    requires { ⌜ (4128 ≤ length (now m)) × (level < 3000) × (length (now out) ≡ workBytes) × (at ≤ 2049) ⌝ }
+    ensures { λ r. ⌜ ((e : Expr) (k : Kind) (l q : Plan) (on : List Pair) (f : Option Expr) →
+        Rests (now (s .entry)) x p e (join k l q on f) →
+        Answers (now (out .entry)) (now (out .exit)) at level r (rewrite-filter e (join k l q on f))) ⌝ }
+{
+    let list = p.list;
+    push_down_join(s, x, list, m, out, at, level)
+}
+
+// An item with so much more has its columns replaced.
+const SWAPPED: usize = 2048;

@@ -1,0 +1,219 @@
+-- What a rewrite at a record comes to, of a Filter, of a Join, and of any other plan.
+use Prim.Native.Nat.{ℕ}
+use mathlib.Core.Path.{_≡_, refl, sym, ap, subst, _∙_}
+use mathlib.Core.Bool.{Bool, true, false}
+use mathlib.Core.List.{List, []}
+use mathlib.Core.Option.{Option}
+use native.Mathlib.Nat.{le-trans}
+use lib.Dec.{eqb}
+use Rattle.plan.specs.Lists.{_&_, all}
+use Rattle.plan.specs.Syntax.{Expr, Kind, Pair, Plan}
+use Rattle.plan.specs.Syntax.{scan, filter, project, join, alias, union, distinct, sort, repartition, limit, aggregate, window}
+use Rattle.plan.specs.Syntax.{pcons}
+use Rattle.plan.specs.Measure.{sizeP, depthP}
+use Rattle.plan.specs.Trees.{labelP, planTree}
+use Rattle.image.specs.Limits.{maxRecords, maxList}
+use borrow.Author.Tests.{le-leb}
+use Rattle.plan.proofs.Lists.{and-true, and-intro}
+use Rattle.rewrite.specs.Limits.{listP, fits}
+use Rattle.rewrite.specs.PushDownFilter.{Transformed, Transformed·no, rewrite, merges, push-down-join}
+use Rattle.rewrite.specs.RewriteAt.{Focus, result-fits}
+use Rattle.push_down_base.specs.Arms.{Placed}
+use Rattle.answers.proofs.Depths.{deep-tested}
+use Rattle.push_down_base.specs.Paths.{Ways}
+use Rattle.push_down_base.proofs.Finding.{path-to}
+use Rattle.push_down_rewrite.specs.Merging.{Inside, FilterInside, Rest, Settles, settle-first}
+use Rattle.push_down_rewrite.specs.Settled.{rewrite-settled}
+use Rattle.push_down_rewrite.proofs.FirstFilter.{first-rewrite}
+use Rattle.push_down_rewrite.proofs.Naming.{rule-there}
+use Rattle.push_down_rewrite.proofs.Within.{lists-there}
+use Rattle.push_down_rewrite.proofs.Tested.{few-records, stands-inside}
+use Rattle.push_down_rewrite.specs.Found.{JoinInside}
+use Rattle.push_down_rewrite.specs.Staying.{Stays}
+use Rattle.push_down_rewrite.specs.Outcomes.{Outcome, Finishes, answer, Outcomes}
+use Rattle.push_down_rewrite.proofs.Finishes.{no-yes}
+use Rattle.push_down_rewrite.proofs.KindOf.{kind-there, when-filter, when-join}
+
+and-false : (b : Bool) → (b & false) ≡ false
+unfolding _&_
+and-false true = refl
+and-false false = refl
+
+-- it is refused
+pub refuses : {work : List ℕ} {r : Outcome} {w : Plan} {c : Focus} → r .fits ≡ false → false ≡ result-fits c → Outcomes work r w c
+refuses e f = record {
+  fit = e ∙ f;
+  flag = λ y. no-yes (sym e ∙ y);
+  image = λ y. no-yes (sym e ∙ y);
+  same = λ y. no-yes (sym e ∙ y);
+}
+
+-- the answer is written
+pub finishes : {work : List ℕ} {r : Outcome} {w : Plan} {c : Focus} → all (λ m. fits (c .back m)) (merges (c .plan)) ≡ true
+    → Finishes work r (rewrite (c .plan) .transformed) (answer c) → Outcomes work r w c
+unfolding result-fits
+finishes {c = c} m f = record {
+  fit = f .fit ∙ sym (ap (λ b. fits (answer c) & b) m ∙ and-true (fits (answer c)));
+  flag = λ y. f .flag;
+  image = λ y z. f .image y;
+  same = λ y z. no-yes (sym z ∙ f .written y);
+}
+
+-- ---- a Filter
+
+pub record AFilter (p : Plan) : Type 0 where
+  pub expr : Expr
+  pub plan : Plan
+  pub is : p ≡ filter expr plan
+
+pub a-filter : (p : Plan) → labelP p .kind ≡ 33 → AFilter p
+a-filter p h = when-filter AFilter (λ e q. record { expr = e; plan = q; is = refl }) p h
+
+-- what stands at the record of a Filter is one
+pub the-filter : {s : List ℕ} {node : ℕ} {w : Plan} {c : Focus} → FilterInside s node → Inside s node w c → AFilter (c .plan)
+unfolding labelP
+the-filter {c = c} f h =
+    a-filter (c .plan)
+    (sym (kind-there (stands-inside h)) ∙ kind-there (stands-inside (f .inside)) ∙ ap (λ p. labelP p .kind) (f .is))
+
+module _ {s : List ℕ} {rest : Rest} {c : Focus} {e : Expr} {q : Plan} (is : c .plan ≡ filter e q)
+    (h : Settles s rest c (merges (filter e q)) (settle-first e q)) where
+  fitting : rest .fits ≡ all (λ m. fits (c .back m)) (merges (c .plan))
+  fitting = h .fit ∙ ap (λ p. all (λ m. fits (c .back m)) (merges p)) (sym is)
+
+  pub merge-unfit : rest .fits ≡ false → false ≡ result-fits c
+  unfolding result-fits
+  merge-unfit n = sym (ap (λ b. fits (answer c) & b) (sym fitting ∙ n) ∙ and-false (fits (answer c)))
+
+  pub filter-outcomes : {work : List ℕ} {r : Outcome} {w : Plan} → rest .fits ≡ true
+      → Finishes work r (rewrite-settled (settle-first e q) .transformed) (c .back (rewrite-settled (settle-first e q) .plan)) → Outcomes work r w c
+  filter-outcomes {work} {r} y f =
+      let i : rewrite-settled (settle-first e q) ≡ rewrite (c .plan) = sym (first-rewrite e q) ∙ ap rewrite (sym is) in
+      finishes (sym fitting ∙ y) (subst (λ t. Finishes work r (t .transformed) (c .back (t .plan))) i f)
+
+-- ---- a Join
+
+pub record AJoin (p : Plan) : Type 0 where
+  pub kind : Kind
+  pub lhs : Plan
+  pub rhs : Plan
+  pub keys : List Pair
+  pub condition : Option Expr
+  pub is : p ≡ join kind lhs rhs keys condition
+
+pub a-join : (p : Plan) → labelP p .kind ≡ 35 → AJoin p
+a-join p h = when-join AJoin (λ k l r on f. record { kind = k; lhs = l; rhs = r; keys = on; condition = f; is = refl }) p h
+
+pub the-join : {s : List ℕ} {node : ℕ} {w : Plan} {c : Focus} → JoinInside s node → Inside s node w c → AJoin (c .plan)
+unfolding labelP
+the-join {c = c} f h =
+    a-join (c .plan)
+    (sym (kind-there (stands-inside h)) ∙ kind-there (stands-inside (f .inside)) ∙ ap (λ p. labelP p .kind) (f .is))
+
+-- what was found, in its own place
+pub placed-inside : {s : List ℕ} {node : ℕ} {w : Plan} {c : Focus} {p : Plan} → Inside s node w c → c .plan ≡ p → Placed s node p
+placed-inside {s} {node} {w} {c} h e = subst (Placed s node) e (record {
+  short = h .short;
+  standing = stands-inside h;
+  rules = rule-there eqb node w c (h .there) (h .rules);
+  lists = le-trans (lists-there node w c (h .there)) (h .lists);
+})
+
+module _ {c : Focus} {k : Kind} {l q : Plan} {on : List Pair} {f : Option Expr} (is : c .plan ≡ join k l q on f) where
+  pub join-outcomes : {work : List ℕ} {r : Outcome} {w : Plan}
+      → Finishes work r (push-down-join k l q on f [] .transformed) (c .back (push-down-join k l q on f [] .plan)) → Outcomes work r w c
+  unfolding rewrite merges all
+  join-outcomes {work} {r} h =
+      let i : push-down-join k l q on f [] ≡ rewrite (c .plan) = ap rewrite (sym is) in
+      finishes (ap (λ p. all (λ m. fits (c .back m)) (merges p)) is) (subst (λ t. Finishes work r (t .transformed) (c .back (t .plan))) i h)
+
+-- ---- any other plan
+
+-- what was found, put back in its place
+ways : Ways (λ n p t C. C t ≡ p) (λ n ps t C. C t ≡ ps)
+ways = record {
+  root = λ p. refl;
+  in-filter = λ n p t C e h. ap (filter e) h;
+  in-project = λ n p t C es h. ap (project es) h;
+  in-left = λ n l t C k r on f h. ap (λ q. join k q r on f) h;
+  in-right = λ n r t C k l on f h. ap (λ q. join k l q on f) h;
+  in-alias = λ n p t C i h. ap (alias i) h;
+  in-union = λ n ps t C h. ap union h;
+  in-distinct = λ n p t C h. ap distinct h;
+  in-sort = λ n p t C f ks h. ap (sort f ks) h;
+  in-repartition = λ n p t C h. ap repartition h;
+  in-limit = λ n p t C i j h. ap (limit i j) h;
+  in-aggregate = λ n p t C gs ags h. ap (aggregate gs ags) h;
+  in-window = λ n p t C ws h. ap (window ws) h;
+  in-first = λ n p t C ps h. ap (λ q. pcons q ps) h;
+  in-later = λ n ps t C p h. ap (pcons p) h;
+}
+
+-- the image that was read is within the limits
+read-fits : {s : List ℕ} {node : ℕ} {w : Plan} {c : Focus} → Inside s node w c → fits w ≡ true
+unfolding fits depthP
+read-fits {w = w} h =
+    and-intro (le-leb (sizeP w) maxRecords (few-records h))
+    (and-intro (deep-tested (planTree w) (h .root .deep)) (le-leb (listP w) maxList (h .lists)))
+
+-- a plan that is neither
+unchanged : (p : Plan) → (labelP p .kind ≡ 33 → ⊥) → (labelP p .kind ≡ 35 → ⊥) → (rewrite p ≡ Transformed·no p) × (merges p ≡ [])
+unfolding rewrite merges labelP
+unchanged (scan t fs es) f j = (refl, refl)
+unchanged (filter e p) f j = absurd (f refl)
+unchanged (project es p) f j = (refl, refl)
+unchanged (join k l r on g) f j = absurd (j refl)
+unchanged (alias q p) f j = (refl, refl)
+unchanged (union ps) f j = (refl, refl)
+unchanged (distinct p) f j = (refl, refl)
+unchanged (sort n ks p) f j = (refl, refl)
+unchanged (repartition p) f j = (refl, refl)
+unchanged (limit n k p) f j = (refl, refl)
+unchanged (aggregate gs ags p) f j = (refl, refl)
+unchanged (window ws p) f j = (refl, refl)
+
+-- one that stays
+pub stays-outcomes : {work s : List ℕ} {b : Bool} {r : Outcome} {w : Plan} {node : ℕ} {c : Focus} → Inside s node w c → Stays b (c .plan) → b ≡ true
+    → r .fits ≡ true → r .flag ≡ false → r .written ≡ false → Outcomes work r w c
+unfolding result-fits all
+stays-outcomes {w = w} {node = node} {c = c} h u t y f n =
+    let k = u .kept .yes t in
+    let back : answer c ≡ w = ap (λ t. c .back (t .plan)) k ∙ path-to ways node w c (h .there) in
+    record {
+      fit =
+          y
+          ∙ sym (ap (λ ms. fits (answer c) & all (λ m. fits (c .back m)) ms) (u .unmerged t) ∙ and-true (fits (answer c)) ∙ ap fits back
+          ∙ read-fits h);
+      flag = λ z. f ∙ sym (ap (λ (t : Transformed). t .transformed) k);
+      image = λ z e. no-yes (sym n ∙ e);
+      same = λ z e. back;
+    }
+
+pub other-stays : (p : Plan) → (labelP p .kind ≡ 33 → ⊥) → (labelP p .kind ≡ 35 → ⊥) → Stays true p
+other-stays p f j = let u = unchanged p f j in record { kept = record { yes = λ y. u .0; no = λ n. no-yes (sym n) }; unmerged = λ y. u .1 }
+
+-- ---- what is written for a plan that does not stay
+
+-- the place of what was found tells plans apart
+apart : Ways (λ n p t C. (a b : Plan) → C a ≡ C b → a ≡ b) (λ n ps t C. (a b : Plan) → C a ≡ C b → a ≡ b)
+apart = record {
+  root = λ p a b e. e;
+  in-filter = λ n p t C x h a b e. h a b (let i : C a ≡ C b = cc in i);
+  in-project = λ n p t C es h a b e. h a b (let i : C a ≡ C b = cc in i);
+  in-left = λ n l t C k r on f h a b e. h a b (let i : C a ≡ C b = cc in i);
+  in-right = λ n r t C k l on f h a b e. h a b (let i : C a ≡ C b = cc in i);
+  in-alias = λ n p t C i h a b e. h a b (let i : C a ≡ C b = cc in i);
+  in-union = λ n ps t C h a b e. h a b (let i : C a ≡ C b = cc in i);
+  in-distinct = λ n p t C h a b e. h a b (let i : C a ≡ C b = cc in i);
+  in-sort = λ n p t C f ks h a b e. h a b (let i : C a ≡ C b = cc in i);
+  in-repartition = λ n p t C h a b e. h a b (let i : C a ≡ C b = cc in i);
+  in-limit = λ n p t C i j h a b e. h a b (let i : C a ≡ C b = cc in i);
+  in-aggregate = λ n p t C gs ags h a b e. h a b (let i : C a ≡ C b = cc in i);
+  in-window = λ n p t C ws h a b e. h a b (let i : C a ≡ C b = cc in i);
+  in-first = λ n p t C ps h a b e. h a b (let i : C a ≡ C b = cc in i);
+  in-later = λ n ps t C p h a b e. h a b (let i : C a ≡ C b = cc in i);
+}
+
+pub changed : {s : List ℕ} {b : Bool} {w : Plan} {node : ℕ} {c : Focus} → Inside s node w c → Stays b (c .plan) → b ≡ false → answer c ≡ w → ⊥
+changed {w = w} {node} {c} h u n e =
+    u .kept .no n (path-to apart node w c (h .there) (rewrite (c .plan) .plan) (c .plan) (e ∙ sym (path-to ways node w c (h .there))))

@@ -1,0 +1,98 @@
+// The match on a Filter's input (834 to 1262), once the Filters below are merged into it.
+use crate::filter::Settled;
+use image::records::record_at;
+use image::words::word_at;
+use plan::kinds::AGGREGATE;
+use plan::kinds::JOIN;
+use plan::kinds::PROJECTION;
+use plan::kinds::SUBQUERY_ALIAS;
+use plan::kinds::TABLE_SCAN;
+use plan::kinds::UNION;
+use plan::kinds::WINDOW;
+use push_down_arms::aggregate::rewrite_aggregate;
+use push_down_arms::projection::rewrite_projection;
+use push_down_arms::subquery_alias::rewrite_subquery_alias;
+use push_down_arms::table_scan::rewrite_table_scan;
+use push_down_arms::through::rewrite_through;
+use push_down_arms::union::rewrite_union;
+use push_down_arms::window::rewrite_window;
+use push_down_base::predicates::Predicate;
+use push_down_base::predicates::Written;
+use push_down_base::predicates::is_gone;
+use push_down_join::push_down_all_join::rewrite_join;
+use writing::make_filter::copy_plan;
+ghost use mathlib.Core.Path.{_≡_};
+ghost use mathlib.Core.Bool.{false};
+ghost use Prim.Native.Nat.{_<_, _≤_};
+ghost use lib.ListN.{length};
+ghost use Rattle.image.specs.Limits.{workBytes};
+ghost use Rattle.plan.specs.Syntax.{Expr, Plan};
+ghost use Rattle.rewrite.specs.PushDownFilter.{rewrite-filter};
+ghost use Rattle.push_down_base.specs.Arms.{Answers, Rests};
+ghost use Rattle.push_down_rewrite.specs.Found.{OnInput, SomeComes};
+ghost use Rattle.push_down_rewrite.specs.Merging.{Comes, is-filter};
+ghost use Rattle.push_down_rewrite.specs.Settled.{rewrite-settled};
+ghost use Rattle.push_down_rewrite.specs.Settled as S;
+
+// A predicate that rests on the plan at record x, which is no Filter.
+fn rewrite_input(
+    s: &[u8],
+    x: usize,
+    p: Predicate,
+    m: &mut [u8],
+    out: &mut [u8],
+    at: usize,
+    level: usize,
+) -> Written
+    requires { ⌜ OnInput (now s) x p ⌝ }
+    requires { ⌜ (4128 ≤ length (now m)) × (level < 3000) × (length (now out) ≡ workBytes) × (at ≤ 2049) ⌝ }
+    ensures { λ r. ⌜ ((e : Expr) (q : Plan) → Rests (now (s .entry)) x p e q → is-filter q ≡ false →
+        Answers (now (out .entry)) (now (out .exit)) at level r (rewrite-filter e q)) ⌝ }
+{
+    let kind = word_at(record_at(s, x), 0);
+    if kind == TABLE_SCAN {
+        return rewrite_table_scan(s, x, p, out, at, level);
+    }
+    if kind == PROJECTION {
+        return rewrite_projection(s, x, p, out, at, level);
+    }
+    if kind == JOIN {
+        return rewrite_join(s, x, p, m, out, at, level);
+    }
+    if kind == SUBQUERY_ALIAS {
+        return rewrite_subquery_alias(s, x, p, m, out, at, level);
+    }
+    if kind == UNION {
+        return rewrite_union(s, x, p, m, out, at, level);
+    }
+    if kind == AGGREGATE {
+        return rewrite_aggregate(s, x, p, out, at, level);
+    }
+    if kind == WINDOW {
+        return rewrite_window(s, x, p, out, at, level);
+    }
+    rewrite_through(s, x, p, out, at, level)
+}
+
+// The rewrite from where merging came to rest; the plan alone where no predicate is left.
+pub fn rewrite_settled(
+    s: &[u8],
+    rest: Settled,
+    m: &mut [u8],
+    out: &mut [u8],
+    at: usize,
+    level: usize,
+) -> Written
+    requires { ⌜ SomeComes (now s) rest ⌝ }
+    requires { ⌜ (4128 ≤ length (now m)) × (level < 3000) × (length (now out) ≡ workBytes) × (at ≤ 2049) ⌝ }
+    ensures { λ r. ⌜ ((t : S.Settled) → Comes (now (s .entry)) rest t →
+        Answers (now (out .entry)) (now (out .exit)) at level r (rewrite-settled t)) ⌝ }
+{
+    let p = rest.predicate;
+    let x = rest.input;
+    if is_gone(p) {
+        let next = copy_plan(s, x, out, at, level);
+        return Written { next, flag: true };
+    }
+    rewrite_input(s, x, p, m, out, at, level)
+}

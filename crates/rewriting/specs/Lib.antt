@@ -1,4 +1,0 @@
-pub mod Found
-pub mod Outcomes
-pub mod Answer
-pub mod Staying

@@ -1,0 +1,255 @@
+// schema_columns (utils.rs 144 to 156): the fields of a plan's schema, by their names, in order.
+use image::limits::MAX_DEPTH;
+use image::limits::MAX_FIELDS;
+use image::limits::TOO_MANY_FIELDS;
+use image::records::FIRST_LINK;
+use image::records::NEXT_LINK;
+use image::records::from_record;
+use image::records::label_at;
+use image::records::record_at;
+use image::words::word_at;
+ghost use mathlib.Core.Path.{_≡_};
+ghost use mathlib.Core.Bool.{cond};
+ghost use mathlib.Core.List.{_++_, _∷_, List, []};
+ghost use Prim.Native.Nat.{_-_, _<_, _≤_, ℕ};
+ghost use lib.ListN.{getD, length};
+ghost use Rattle.image.specs.Tree.{At, Readable, Tree, labelAt};
+ghost use Rattle.plan.specs.Schema.{schema};
+ghost use Rattle.plan.specs.Syntax.{Name, Plan, nm};
+ghost use Rattle.plan.specs.Trees.{planTree};
+ghost use Rattle.conjuncts.specs.Standing.{StandingP};
+ghost use Rattle.utils.specs.Fields.{Names, placeIn};
+ghost use Rattle.utils.specs.Inputs.{Input, PlanHere, below, called, calledLabel, isPlan, made, makesAll, makesField, own};
+
+// A schema of at most 64 fields: the qualifiers and the names of its fields.
+pub struct Fields {
+    pub q: [u32; 64],
+    pub n: [u32; 64],
+    pub len: usize,
+}
+
+pub fn no_fields() -> Fields
+    ensures { λ r. ⌜ Names r [] ⌝ }
+{
+    Fields {
+        q: [0u32; 64],
+        n: [0u32; 64],
+        len: 0,
+    }
+}
+
+// Appends a field, where there is room; past the end the schema is counted as too long.
+pub fn add_field(f: Fields, q: usize, n: usize) -> Fields
+    requires { ⌜ (q < 4294967296) × (n < 4294967296) ⌝ }
+    ensures { λ r. ⌜ ((ns : List Name) → Names f ns → Names r (ns ++ (nm q n ∷ []))) ⌝ }
+{
+    let i = f.len;
+    let mut r = f;
+    if i < MAX_FIELDS {
+        r.q[i] = q as u32;
+        r.n[i] = n as u32;
+        r.len = i + 1;
+        return r;
+    }
+    r.len = TOO_MANY_FIELDS;
+    r
+}
+
+// A word as a number: the index is then all that a read of it asks for.
+fn wide(x: u32) -> usize
+    ensures { λ r. ⌜ (r ≡ x) × (r < 4294967296) ⌝ }
+{
+    x as usize
+}
+
+// The qualifier of the field i.
+pub fn q_at(f: Fields, i: usize) -> usize
+    requires { ⌜ i < 64 ⌝ }
+    ensures { λ r. ⌜ (r ≡ getD (f .q) i 0) × (r < 4294967296) ⌝ }
+{
+    let qs = f.q;
+    wide(qs[i])
+}
+
+// Its name.
+pub fn n_at(f: Fields, i: usize) -> usize
+    requires { ⌜ i < 64 ⌝ }
+    ensures { λ r. ⌜ (r ≡ getD (f .n) i 0) × (r < 4294967296) ⌝ }
+{
+    let ns = f.n;
+    wide(ns[i])
+}
+
+// The first field with this name, or as many as there are.
+pub fn place_in(f: Fields, q: usize, n: usize) -> usize
+    requires { ⌜ f .len ≤ 64 ⌝ }
+    ensures { λ r. ⌜ ((ns : List Name) → Names f ns → r ≡ placeIn ns (nm q n)) ⌝ }
+{
+    let len = f.len;
+    let mut i = 0;
+    while i < len {
+        if (q_at(f, i) == q) & (n_at(f, i) == n) {
+            return i;
+        }
+        i += 1;
+    }
+    i
+}
+
+// Whether a part makes a field.
+fn makes_field(kind: usize) -> bool
+    ensures { λ b. ⌜ b ≡ makesField kind ⌝ }
+{
+    (kind == 48) | (kind == 49) | (kind == 52) | (kind == 53)
+}
+
+// Whether the schema of a plan is what its parts make: of a TableScan, a Projection, an Aggregate.
+fn makes_all(kind: usize) -> bool
+    ensures { λ b. ⌜ b ≡ makesAll kind ⌝ }
+{
+    (kind == 32) | (kind == 34) | (kind == 42)
+}
+
+// Whether a record is a plan's.
+pub fn is_plan_kind(kind: usize) -> bool
+    ensures { λ b. ⌜ b ≡ isPlan kind ⌝ }
+{
+    (32 <= kind) & (kind <= 43)
+}
+
+// The input whose fields come first: of a semi or anti join its own side.
+fn own_input(kind: usize, p: usize) -> usize
+    ensures { λ r. ⌜ r ≡ own kind p ⌝ }
+{
+    if (kind == 35) & ((p == 6) | (p == 8)) {
+        return 1;
+    }
+    0
+}
+
+// The qualifier that the fields of a plan's input get, if they get one: of two aliases the upper one's.
+fn below_alias(kind: usize, p: usize, set: bool, q: usize) -> usize
+    ensures { λ r. ⌜ r ≡ below kind p set q ⌝ }
+{
+    if (kind == 36) & !set {
+        return p;
+    }
+    q
+}
+
+// One less, if told.
+fn less_if(n: usize, yes: bool) -> usize
+    ensures { λ r. ⌜ r ≡ cond yes (n - 1) n ⌝ }
+{
+    if yes & (0 < n) {
+        return n - 1;
+    }
+    n
+}
+
+// The record of the input with this place, counted from 0; 0 if there is none.
+pub fn input_at(part: &[u8], base: usize, place: usize) -> usize
+    requires { ⌜ ((d : ℕ) × Readable d (now part) base) ⌝ }
+    ensures { λ r. ⌜ ((t : Tree) → At t (now (part .entry)) base → Input (now (part .entry)) base (t .below) place r) ⌝ }
+{
+    let mut left = place;
+    let mut at = word_at(part, FIRST_LINK);
+    while at != 0 {
+        let child = from_record(part, base, at);
+        let here = is_plan_kind(word_at(child, 0));
+        if here & (left == 0) {
+            return at;
+        }
+        left = less_if(left, here);
+        at = word_at(child, NEXT_LINK);
+    }
+    0
+}
+
+// Appends the field that the part at the start of s makes, with the qualifier q if `set`.
+fn add_part(s: &[u8], into: Fields, set: bool, q: usize) -> Fields
+    requires { ⌜ (32 ≤ length (now s)) × (q < 4294967296) ⌝ }
+    ensures { λ r. ⌜ ((ns : List Name) → Names into ns → Names r (ns ++ called set q (calledLabel (labelAt (now (s .entry)))))) ⌝ }
+{
+    let l = label_at(s);
+    if makes_field(l.kind) {
+        if set {
+            return add_field(into, q, l.q);
+        }
+        return add_field(into, l.p, l.q);
+    }
+    into
+}
+
+// Appends the fields that the children of the record at the start of `part` make.
+fn add_parts(part: &[u8], base: usize, into: Fields, set: bool, q: usize) -> Fields
+    requires { ⌜ ((d : ℕ) × Readable d (now part) base) × (q < 4294967296) ⌝ }
+    ensures { λ r. ⌜ ((t : Tree) (ns : List Name) → At t (now (part .entry)) base → Names into ns
+        → Names r (ns ++ called set q (made (t .below)))) ⌝ }
+{
+    let mut r = into;
+    let mut at = word_at(part, FIRST_LINK);
+    while at != 0 {
+        let child = from_record(part, base, at);
+        r = add_part(child, r, set, q);
+        at = word_at(child, NEXT_LINK);
+    }
+    r
+}
+
+// Appends the fields of the plan at the start of `part`, all with the qualifier q if `set`.
+pub fn add_schema(
+    part: &[u8],
+    base: usize,
+    depth: usize,
+    into: Fields,
+    set: bool,
+    q: usize,
+) -> Fields
+    requires { ⌜ PlanHere (now part) base depth × (q < 4294967296) ⌝ }
+    ensures { λ r. ⌜ ((p : Plan) (ns : List Name) → At (planTree p) (now (part .entry)) base → Names into ns
+        → Names r (ns ++ called set q (schema p))) ⌝ }
+{
+    let l = label_at(part);
+    if makes_all(l.kind) {
+        return add_parts(part, base, into, set, q);
+    }
+    let n = input_at(part, base, own_input(l.kind, l.p));
+    if n == 0 {
+        return into;
+    }
+    let input = from_record(part, base, n);
+    let r = add_schema(
+        input,
+        n,
+        depth - 1,
+        into,
+        set | (l.kind == 36),
+        below_alias(l.kind, l.p, set, q),
+    );
+    if l.kind == 43 {
+        return add_parts(part, base, r, set, q);
+    }
+    if (l.kind == 35) & (l.p <= 4) {
+        let m = input_at(part, base, 1);
+        let right = from_record(part, base, m);
+        return add_schema(right, m, depth - 1, r, set, q);
+    }
+    r
+}
+
+// Appends the fields of the plan at the start of `part`.
+pub fn schema_columns(part: &[u8], base: usize, depth: usize, into: Fields) -> Fields
+    requires { ⌜ PlanHere (now part) base depth ⌝ }
+    ensures { λ r. ⌜ ((p : Plan) (ns : List Name) → At (planTree p) (now (part .entry)) base → Names into ns → Names r (ns ++ schema p)) ⌝ }
+{
+    add_schema(part, base, depth, into, false, 0)
+}
+
+// Appends the fields of the plan at record n of the image.
+pub fn schema_at(s: &[u8], n: usize, into: Fields) -> Fields
+    requires { ⌜ ((p : Plan) × StandingP (now s) n p) ⌝ }
+    ensures { λ r. ⌜ ((p : Plan) (ns : List Name) → StandingP (now (s .entry)) n p → Names into ns → Names r (ns ++ schema p)) ⌝ }
+{
+    schema_columns(record_at(s, n), n, MAX_DEPTH, into)
+}
