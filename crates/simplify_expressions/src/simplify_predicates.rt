@@ -15,9 +15,10 @@ use image::words::word_at;
 use plan::values::Case;
 use plan::values::Literal;
 use plan::values::Value;
+use plan::values::code_of;
+use plan::values::is_null;
+use plan::values::kind_of;
 use plan::values::literal_of;
-use plan::words::BOOLEAN;
-use plan::words::INTEGER;
 ghost use mathlib.Core.Path.{_≡_};
 ghost use mathlib.Core.Bool.{Bool};
 ghost use mathlib.Core.List.{_++_, List, map};
@@ -29,7 +30,7 @@ ghost use Rattle.plan.specs.Integers.{FitsE};
 ghost use Rattle.plan.specs.Lists.{all, choose, keep};
 ghost use Rattle.plan.specs.Syntax.{Expr, nm};
 ghost use Rattle.plan.specs.Trees.{exprTree};
-ghost use Rattle.meaning.specs.Meaning.{code, isN, kindOf, sameV};
+ghost use Rattle.meaning.specs.Meaning.{sameV};
 ghost use Rattle.rewrite.specs.SimplifyPredicates.{Side, eq-expr, eq-part, find-most-restrictive-predicate, first-kind, is-better};
 ghost use Rattle.rewrite.specs.SimplifyPredicates.{lit-val, make, most-restrictive, name-under, of-kind, simplify-column-predicates};
 ghost use Rattle.rewrite.specs.SimplifyPredicates.{simplify-predicates, sort-out, val, view};
@@ -322,46 +323,6 @@ pub fn most_restrictive(s: &[u8], c: Conjuncts, into: Conjuncts, lower: bool) ->
         return add_if(into, item_at(c, best), true);
     }
     extend(s, into, c)
-}
-
-pub fn is_null(v: Value) -> bool
-    ensures { λ r. ⌜ r ≡ isN (lit-val v) ⌝ }
-{
-    let case = v.case;
-    match case {
-        Case::Null => true,
-        Case::Integer(_) => false,
-        Case::Truth(_) => false,
-    }
-}
-
-// The kind of a value: 0 of NULL.
-pub fn kind_of(v: Value) -> usize
-    ensures { λ r. ⌜ r ≡ kindOf (lit-val v) ⌝ }
-{
-    let case = v.case;
-    match case {
-        Case::Null => 0,
-        Case::Integer(_) => INTEGER,
-        Case::Truth(_) => BOOLEAN,
-    }
-}
-
-// Where a value stands in the order of its type.
-pub fn code_of(v: Value) -> i64
-    ensures { λ r. ⌜ r ≡ code (lit-val v) ⌝ }
-{
-    let case = v.case;
-    match case {
-        Case::Null => 0,
-        Case::Integer(z) => z,
-        Case::Truth(b) => {
-            if b {
-                return 1;
-            }
-            0
-        }
-    }
 }
 
 // Whether the literal b lies further than a.
