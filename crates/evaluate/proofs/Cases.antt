@@ -1,6 +1,4 @@
--- What the code asks of a value record is what the definitions say of the value that it is.
---     null-case, kind-case, code-case     whether it is NULL, its type, where it stands in its order
---     not-compared, compared              a comparison of two
+-- A comparison of two value records is the definition's of the values that they are.
 -- Assumes nothing.
 use mathlib.Core.Path.{_≡_, refl}
 use mathlib.Core.Bool.{Bool, true, false, not, _||_}
@@ -11,26 +9,8 @@ use Rattle.plan.specs.Lists.{_&_}
 use Rattle.plan.specs.Syntax.{null, truth, Cmp}
 use Rattle.plan.specs.Values.{caseOf, caseNull, caseKind, caseCode}
 use Rattle.plan.specs.declared.values.Case.{Case}
-use Rattle.plan.specs.declared.values.Case.the-variants.{Null, Integer, Truth}
-use Rattle.meaning.specs.Meaning.{isN, kindOf, code, holds, comparable, compare}
-
-pub null-case : (k : Case) → caseNull k ≡ isN (caseOf k)
-null-case Null = refl
-null-case (Integer z) = refl
-null-case (Truth b) = refl
-
-pub kind-case : (k : Case) → caseKind k ≡ kindOf (caseOf k)
-kind-case Null = refl
-kind-case (Integer z) = refl
-kind-case (Truth b) = refl
-
-pub code-case : (k : Case) → caseCode k ≡ code (caseOf k)
-code-case Null = refl
-code-case (Integer z) = refl
-code-case (Truth true) = refl
-code-case (Truth false) = refl
-
--- ---- comparisons
+use Rattle.meaning.specs.Meaning.{holds, comparable, compare}
+use Rattle.meaning.proofs.Cases.{null-case, kind-case, code-case}
 
 neither : (n e : Bool) → not n & e ≡ not (n || not e)
 unfolding _&_

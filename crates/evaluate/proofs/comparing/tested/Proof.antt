@@ -1,7 +1,7 @@
 -- `comparing::tested` meets its contract.
 use mathlib.Core.Path.{_∙_}
 use Rattle.plan.specs.Read.{nth}
-use Rattle.evaluate.proofs.Cases.{null-case}
+use Rattle.meaning.proofs.Cases.{null-case}
 use Rattle.evaluate.proofs.TruthLaws.{and-is, other-test}
 use borrow.Author.Needs.{needs}
 use Rattle.evaluate.proofs.comparing.tested.Statement.{statement}

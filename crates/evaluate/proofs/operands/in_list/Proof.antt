@@ -1,7 +1,7 @@
 -- `operands::in_list` meets its contract.
 use mathlib.Core.Path.{_∙_}
 use borrow.Author.Needs.{needs}
-use Rattle.evaluate.proofs.Cases.{null-case}
+use Rattle.meaning.proofs.Cases.{null-case}
 use Rattle.evaluate.proofs.operands.in_list.Statement.{statement}
 use Rattle.evaluate.proofs.operands.in_list.Tie as tie
 

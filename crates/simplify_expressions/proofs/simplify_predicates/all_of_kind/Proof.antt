@@ -9,7 +9,7 @@ use Rattle.plan.specs.Lists.{all}
 use Rattle.rewrite.specs.SimplifyPredicates.{of-kind}
 use Rattle.conjuncts.specs.Items.{Lists}
 use Rattle.conjuncts.proofs.Listed.{lists-length, at-end}
-use Rattle.evaluate.proofs.Cases.{null-case, kind-case}
+use Rattle.meaning.proofs.Cases.{null-case, kind-case}
 use Rattle.simplify_expressions.specs.Seen.{sideIn}
 use Rattle.simplify_expressions.proofs.Sides.{of-kind-next}
 use Rattle.simplify_expressions.proofs.simplify_predicates.all_of_kind.Statement.{statement}

@@ -8,7 +8,7 @@ use Rattle.plan.specs.Syntax.{Expr}
 use Rattle.rewrite.specs.SimplifyPredicates.{first-kind}
 use Rattle.conjuncts.specs.Items.{Lists}
 use Rattle.conjuncts.proofs.Listed.{lists-length, at-end}
-use Rattle.evaluate.proofs.Cases.{null-case, kind-case}
+use Rattle.meaning.proofs.Cases.{null-case, kind-case}
 use Rattle.simplify_expressions.specs.Seen.{sideIn}
 use Rattle.simplify_expressions.proofs.Sides.{kind-next}
 use Rattle.simplify_expressions.proofs.simplify_predicates.first_kind.Statement.{statement}

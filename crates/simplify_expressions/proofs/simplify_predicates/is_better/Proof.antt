@@ -1,7 +1,7 @@
 -- `simplify_predicates::is_better` meets its contract.
 use mathlib.Core.Path.{_∙_}
 use borrow.Author.Needs.{needs}
-use Rattle.evaluate.proofs.Cases.{null-case, code-case}
+use Rattle.meaning.proofs.Cases.{null-case, code-case}
 use Rattle.simplify_expressions.proofs.Sides.{and-is}
 use Rattle.simplify_expressions.proofs.simplify_predicates.is_better.Statement.{statement}
 use Rattle.simplify_expressions.proofs.simplify_predicates.is_better.Tie as tie

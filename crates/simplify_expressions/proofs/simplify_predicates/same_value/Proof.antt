@@ -1,7 +1,7 @@
 -- `simplify_predicates::same_value` meets its contract.
 use mathlib.Core.Path.{_∙_}
 use borrow.Author.Needs.{needs}
-use Rattle.evaluate.proofs.Cases.{kind-case, code-case}
+use Rattle.meaning.proofs.Cases.{kind-case, code-case}
 use Rattle.simplify_expressions.proofs.Sides.{and-is}
 use Rattle.simplify_expressions.proofs.simplify_predicates.same_value.Statement.{statement}
 use Rattle.simplify_expressions.proofs.simplify_predicates.same_value.Tie as tie
