@@ -1,5 +1,5 @@
 -- Name (6): a reference names one field, qualifier and name. In a schema, and in both inputs of a join together, no two fields share both,
--- and a name without qualifier is held by no other field; at most 64 fields.
+-- and a name without qualifier is held by no other field; and there are no more fields than `maxFields`.
 use Prim.Native.Nat.{ℕ, suc}
 use mathlib.Core.Bool.{Bool, true, not, _||_, cond}
 use mathlib.Core.List.{List, [], _∷_, _++_}
@@ -43,7 +43,7 @@ abbrev pub distinct-names : List Name → Bool
 distinct-names [] = true
 distinct-names (x ∷ s) = not (any (clash x) s) & distinct-names s
 
--- no two fields clash, at most 64
+-- no two fields clash, and there are not too many
 unfoldable pub sound : List Name → Bool
 sound s = distinct-names s & leb (length s) maxFields
 

@@ -11,7 +11,7 @@ use Rattle.plan.specs.Lists.{_&_, all}
 use Rattle.plan.specs.Syntax.{Op, and, or, cmp, Test, isNull, isNotNull, isTrue, isFalse, isUnknown, isNotTrue, isNotFalse, isNotUnknown}
 use Rattle.plan.specs.Syntax.{Expr, col, num, bool, nul, bin, neg, test, between, inlist, fn, Exprs, enil, econs, Field, Agg, count, min}
 use Rattle.plan.specs.Syntax.{max, Plan, scan, filter, project, join, alias, union, distinct, sort, repartition, limit, aggregate, window}
-use Rattle.plan.specs.Syntax.{Plans, pnil, pcons}
+use Rattle.plan.specs.Syntax.{Plans, pnil, pcons, integerType, booleanType}
 use Rattle.plan.specs.Types.{Types, type-of, types, types-first, field-types, both-types, Scanned, scans}
 use Rattle.acceptance.specs.Marks.{marks-in, Rules, marks-of}
 
@@ -19,11 +19,11 @@ use Rattle.acceptance.specs.Marks.{marks-in, Rules, marks-of}
 
 -- And and Or take booleans, comparisons operands of one type
 abbrev pub operands : Op → ℕ → ℕ → Bool
-operands and a b = eqb a 2 & eqb b 2
-operands or a b = eqb a 2 & eqb b 2
+operands and a b = eqb a booleanType & eqb b booleanType
+operands or a b = eqb a booleanType & eqb b booleanType
 operands (cmp c) a b = eqb a b
 
--- tests 1 and 2 take any type
+-- IsNull and IsNotNull take any type
 abbrev pub any-type : Test → Bool
 any-type isNull = true
 any-type isNotNull = true
@@ -46,14 +46,14 @@ typed-operands τ (num z) = true
 typed-operands τ (bool b) = true
 typed-operands τ (nul t) = true
 typed-operands τ (bin o a b) = operands o (type-of τ a) (type-of τ b)
-typed-operands τ (neg a) = eqb (type-of τ a) 2
-typed-operands τ (test t a) = any-type t || eqb (type-of τ a) 2
+typed-operands τ (neg a) = eqb (type-of τ a) booleanType
+typed-operands τ (test t a) = any-type t || eqb (type-of τ a) booleanType
 typed-operands τ (between n a l u) = eqb (type-of τ a) (type-of τ l) & eqb (type-of τ a) (type-of τ u)
 typed-operands τ (inlist n a xs) = of-type τ (type-of τ a) xs
 typed-operands τ (fn p q r xs) = true
 
 abbrev pub is-boolean : Types → Expr → Bool
-is-boolean τ e = eqb (type-of τ e) 2
+is-boolean τ e = eqb (type-of τ e) booleanType
 
 abbrev pub is-boolean? : Types → Option Expr → Bool
 is-boolean? τ none = true
@@ -64,8 +64,8 @@ is-boolean? τ (some e) = is-boolean τ e
 -- Count takes any type, Min and Max integers
 abbrev pub takes-type : Agg → ℕ → Bool
 takes-type count t = true
-takes-type min t = eqb t 1
-takes-type max t = eqb t 1
+takes-type min t = eqb t integerType
+takes-type max t = eqb t integerType
 
 -- by place, widths included
 abbrev pub same-types : List ℕ → List ℕ → Bool

@@ -16,7 +16,7 @@ use Rattle.plan.specs.Lists.{choose}
 use Rattle.plan.specs.Measure.{sizeP}
 use Rattle.plan.specs.Syntax.{Plan}
 use Rattle.plan.specs.Trees.{bitOf}
-use Rattle.check_fields.proofs.KindRanges.{plan-range}
+use Rattle.plan.proofs.KindRanges.{plan-range}
 use Rattle.utils.specs.Inputs.{isPlan as plan-number}
 use Rattle.acceptance.specs.Accepted.{WellFormed, Accepted}
 use Rattle.rewrite.specs.Pass.{pass-refused}

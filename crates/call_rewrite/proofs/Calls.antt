@@ -11,7 +11,7 @@ use Rattle.image.specs.Word.{word}
 use Rattle.image.specs.Tree.{labelAt}
 use Rattle.plan.specs.Kinds.{isPlan}
 use Rattle.plan.specs.Lists.{choose}
-use Rattle.check_fields.proofs.KindRanges.{plan-range}
+use Rattle.plan.proofs.KindRanges.{plan-range}
 use Rattle.utils.specs.Inputs.{isPlan as plan-number}
 use Rattle.plan.specs.Measure.{sizeP}
 use Rattle.plan.specs.Syntax.{Plan}

@@ -1,4 +1,5 @@
 // The types of the fields that a Filter's predicate stands over.
+use check_types::places::Whose;
 use check_types::places::place_type;
 use image::limits::MAX_FIELDS;
 ghost use mathlib.Core.Path.{_≡_};
@@ -20,7 +21,7 @@ pub fn field_types(s: &[u8], base: usize, at: usize, n: usize) -> [usize; MAX_FI
     let mut types = [0usize; MAX_FIELDS];
     let mut k = 0;
     while k < n {
-        types[k] = place_type(s, base, at, 1, k);
+        types[k] = place_type(s, base, at, Whose::FirstPlan, k);
         k += 1;
     }
     types

@@ -8,6 +8,7 @@ use native.Mathlib.Omega.{arith}
 use lib.Dec.{eqb, leb}
 use lib.ListN.{length, drop, length-drop, length-append}
 use borrow.Author.Tests.{le-leb, lt-leb, eqb-true, eqb-false}
+use Rattle.check_fields.specs.Roles.{noPlan, creates, joins, extends}
 use Rattle.image.specs.Tree.{Label, Forest, none, node, size, Stands, Linked, Node}
 use Rattle.plan.specs.Kinds as K
 use Rattle.plan.specs.Kinds.{What, expr, plan, part, unknown, what, whatOf, planW}
@@ -15,8 +16,9 @@ use Rattle.plan.specs.Syntax.{Name, nm}
 use Rattle.check_fields.specs.Fields.{Schema, made, madeBy, inputs, inputsBy, fieldsP, requalify, joinFields, first, second}
 use Rattle.plan.proofs.Rebuilt.{kind-p, kind-w}
 use Rattle.image.proofs.Stepping.{Step}
-use Rattle.check_fields.proofs.KindRanges.{plan-kind}
-use Rattle.check_fields.specs.Count.{hits, hit, near, counted, input, makes, role, roleP, own, below}
+use Rattle.check_fields.specs.Count.{hits, hit, near, counted, input, makes, role, roleP, own, underAlias}
+use Rattle.check_fields.specs.declared.questions.Question.{Question}
+use Rattle.check_fields.specs.declared.questions.Question.the-variants.{Exact, ByName, Every, Clashing, Nothing}
 
 module _ (h : Name → Bool) where
   -- of two schemas, one after the other
@@ -42,13 +44,20 @@ module _ (h : Name → Bool) where
 
 -- ---- the inputs
 
+-- a record with a role is a plan
+pub plan-of : (w : What) → (role w ≡ noPlan → ⊥) → (k : K.PlanKind) × (w ≡ plan k)
+plan-of (expr k) z = absurd (z refl)
+plan-of (part k) z = absurd (z refl)
+plan-of unknown z = absurd (z refl)
+plan-of (plan k) z = (k, refl)
+
 module _ (f : Forest) (l : Label) (cs ns : Forest) (is : f ≡ node l cs ns) where
   -- a record that is no plan is passed over
-  pub inputs-part : role (what l) ≡ 0 → inputs f ≡ inputs ns
+  pub inputs-part : role (what l) ≡ noPlan → inputs f ≡ inputs ns
   unfolding inputs
   inputs-part e = rw is (go (what l) e)
     where
-      go : (w : What) → role w ≡ 0 → inputsBy w l cs (inputs cs) (inputs ns) ≡ inputs ns
+      go : (w : What) → role w ≡ noPlan → inputsBy w l cs (inputs cs) (inputs ns) ≡ inputs ns
       go (expr k) z = refl
       go (part k) z = refl
       go unknown z = refl
@@ -65,42 +74,38 @@ module _ (f : Forest) (l : Label) (cs ns : Forest) (is : f ≡ node l cs ns) whe
       go (plan K.Aggregate) z = absurd (omega arith)
       go (plan K.Window) z = absurd (omega arith)
 
-  -- a record with a role is a plan
-  plan-of : (w : What) → (role w ≡ 0 → ⊥) → (k : K.PlanKind) × (w ≡ plan k)
-  plan-of (expr k) z = absurd (z refl)
-  plan-of (part k) z = absurd (z refl)
-  plan-of unknown z = absurd (z refl)
-  plan-of (plan k) z = (k, refl)
-
   -- a plan's schema stands in front
-  pub inputs-plan : (role (what l) ≡ 0 → ⊥) → (k : K.PlanKind) × (what l ≡ plan k) × (inputs f ≡ fieldsP k l cs (inputs cs) ∷ inputs ns)
+  pub inputs-plan : (role (what l) ≡ noPlan → ⊥) → (k : K.PlanKind) × (what l ≡ plan k) × (inputs f ≡ fieldsP k l cs (inputs cs) ∷ inputs ns)
   unfolding inputs
   inputs-plan z =
       let k = plan-of (what l) z in (k .0, k .1, ap inputs is ∙ ap (λ (w : What). inputsBy w l cs (inputs cs) (inputs ns)) (k .1))
 
 -- below an alias one asks by the name alone, or for none
-pub renamed-one : (mode p q n r m : ℕ) → hit mode q n p m ≡ hit (below 3 p mode q) q n r m
-renamed-one mode p q n r m = go (eqb mode 0) refl (eqb p q) (eqb mode 3) refl (near q p)
+pub renamed-one : (asks : Question) (p q n r m : ℕ) → hit asks q n p m ≡ hit (underAlias p asks q) q n r m
+renamed-one Exact p q n r m = go (eqb p q)
   where
-    go : (a : Bool) → eqb mode 0 ≡ a → (b c : Bool) → eqb mode 3 ≡ c → (d : Bool)
-        → cond a (b && eqb m n) (cond (eqb mode 1) (eqb m n) (cond c (d && eqb m n) (eqb mode 2)))
-        ≡ hit (cond a (cond b 1 4) (cond c (cond d 1 4) mode)) q n r m
-    go true e true c g d = refl
-    go true e false c g d = refl
-    go false e b true g true = rw (eqb-true mode 3 g)
-    go false e b true g false = rw (eqb-true mode 3 g)
-    go false e b false g d = rw (e, g)
+    go : (b : Bool) → (b && eqb m n) ≡ hit (cond b ByName Nothing) q n r m
+    go true = refl
+    go false = refl
+renamed-one ByName p q n r m = refl
+renamed-one Every p q n r m = refl
+renamed-one Clashing p q n r m = go (near q p)
+  where
+    go : (b : Bool) → (b && eqb m n) ≡ hit (cond b ByName Nothing) q n r m
+    go true = refl
+    go false = refl
+renamed-one Nothing p q n r m = refl
 
 -- so an alias changes the question
-pub renamed : (mode p q n : ℕ) (s : Schema) → counted (hits mode q n) (map (requalify p) s) ≡ counted (hits (below 3 p mode q) q n) s
+pub renamed : (asks : Question) (p q n : ℕ) (s : Schema) → counted (hits asks q n) (map (requalify p) s) ≡ counted (hits (underAlias p asks q) q n) s
 unfolding counted requalify
-renamed mode p q n [] = refl
-renamed mode p q n (f ∷ s) = step (f .name) (renamed mode p q n s)
+renamed asks p q n [] = refl
+renamed asks p q n (f ∷ s) = step (f .name) (renamed asks p q n s)
   where
-    step : (x : Name) → counted (hits mode q n) (map (requalify p) s) ≡ counted (hits (below 3 p mode q) q n) s
-        → counted (hits mode q n) (map (requalify p) (record { name = x; ty = f .ty } ∷ s))
-        ≡ counted (hits (below 3 p mode q) q n) (record { name = x; ty = f .ty } ∷ s)
-    step (nm r m) e = rw (renamed-one mode p q n r m, e)
+    step : (x : Name) → counted (hits asks q n) (map (requalify p) s) ≡ counted (hits (underAlias p asks q) q n) s
+        → counted (hits asks q n) (map (requalify p) (record { name = x; ty = f .ty } ∷ s))
+        ≡ counted (hits (underAlias p asks q) q n) (record { name = x; ty = f .ty } ∷ s)
+    step (nm r m) e = rw (renamed-one asks p q n r m, e)
 
 -- the fields by role
 pub input-0 : (ins : List Schema) → first [] ins ≡ input 0 ins
@@ -130,8 +135,8 @@ module _ (l : Label) (cs : Forest) (ins : List Schema) where
   base K.Aggregate = first [] ins
   base K.Window = first [] ins
 
-  -- role 1: the fields are those of the parts
-  pub from-parts : (k : K.PlanKind) → roleP k ≡ 1 → fieldsP k l cs ins ≡ made (base k) cs
+  -- the fields are those of the parts
+  pub from-parts : (k : K.PlanKind) → roleP k ≡ creates → fieldsP k l cs ins ≡ made (base k) cs
   from-parts K.TableScan e = refl
   from-parts K.Filter e = absurd (omega arith)
   from-parts K.Projection e = refl
@@ -145,8 +150,8 @@ module _ (l : Label) (cs : Forest) (ins : List Schema) where
   from-parts K.Aggregate e = refl
   from-parts K.Window e = absurd (omega arith)
 
-  -- role 2: a join that gives both sides
-  pub from-both : (k : K.PlanKind) → roleP k ≡ 2 → l .p ≤ 4 → fieldsP k l cs ins ≡ input 0 ins ++ input 1 ins
+  -- a join that gives both sides
+  pub from-both : (k : K.PlanKind) → roleP k ≡ joins → l .p ≤ 4 → fieldsP k l cs ins ≡ input 0 ins ++ input 1 ins
   unfolding joinFields
   from-both K.TableScan e p = absurd (omega arith)
   from-both K.Filter e p = absurd (omega arith)
@@ -167,8 +172,8 @@ module _ (l : Label) (cs : Forest) (ins : List Schema) where
   side false true = refl
   side false false = refl
 
-  -- role 2: a join that gives one side
-  pub from-side : (k : K.PlanKind) → roleP k ≡ 2 → 4 < l .p → fieldsP k l cs ins ≡ input (own 2 (l .p)) ins
+  -- a join that gives one side
+  pub from-side : (k : K.PlanKind) → roleP k ≡ joins → 4 < l .p → fieldsP k l cs ins ≡ input (own joins (l .p)) ins
   unfolding joinFields
   from-side K.TableScan e p = absurd (omega arith)
   from-side K.Filter e p = absurd (omega arith)
@@ -183,8 +188,8 @@ module _ (l : Label) (cs : Forest) (ins : List Schema) where
   from-side K.Aggregate e p = absurd (omega arith)
   from-side K.Window e p = absurd (omega arith)
 
-  -- role 4: the input's fields, and those of the parts
-  pub from-input-and-parts : (k : K.PlanKind) → roleP k ≡ 4 → fieldsP k l cs ins ≡ input 0 ins ++ made (base k) cs
+  -- the input's fields, and those of the parts
+  pub from-input-and-parts : (k : K.PlanKind) → roleP k ≡ extends → fieldsP k l cs ins ≡ input 0 ins ++ made (base k) cs
   from-input-and-parts K.TableScan e = absurd (omega arith)
   from-input-and-parts K.Filter e = absurd (omega arith)
   from-input-and-parts K.Projection e = absurd (omega arith)
@@ -292,11 +297,11 @@ abbrev pub of-kind : ℕ → Label
 of-kind k = record { kind = k; p = 0; q = 0; r = 0; lo = 0; hi = 0 }
 
 -- the last of the parts that make a field
-pub makes-last : (n : ℕ) → (n ≡ 48 → ⊥) → (n ≡ 49 → ⊥) → (n ≡ 52 → ⊥) → eqb n 53 ≡ makes (whatOf n)
+pub makes-last : (n : ℕ) → (n ≡ K.numberQ K.FieldPart → ⊥) → (n ≡ K.numberQ K.EntryPart → ⊥) → (n ≡ K.numberQ K.AggPart → ⊥) → eqb n (K.numberQ K.WinPart) ≡ makes (whatOf n)
 unfolding whatOf K.among
-makes-last n a b c = go (eqb n 53) refl
+makes-last n a b c = go (eqb n (K.numberQ K.WinPart)) refl
   where
-    none-left : (w : What) → whatOf n ≡ w → (n ≡ 53 → ⊥) → false ≡ makes w
+    none-left : (w : What) → whatOf n ≡ w → (n ≡ K.numberQ K.WinPart → ⊥) → false ≡ makes w
     none-left (expr k) e d = refl
     none-left (plan k) e d = refl
     none-left unknown e d = refl
@@ -307,11 +312,12 @@ makes-last n a b c = go (eqb n 53) refl
     none-left (part K.AggPart) e d = absurd (c (kind-w (of-kind n) K.AggPart e))
     none-left (part K.WinPart) e d = absurd (d (kind-w (of-kind n) K.WinPart e))
 
-    go : (x : Bool) → eqb n 53 ≡ x → x ≡ makes (whatOf n)
-    go true e = rw (eqb-true n 53 e) refl
-    go false e = none-left (whatOf n) refl (eqb-false n 53 e)
+    go : (x : Bool) → eqb n (K.numberQ K.WinPart) ≡ x → x ≡ makes (whatOf n)
+    go true e = rw (eqb-true n (K.numberQ K.WinPart) e) refl
+    go false e = none-left (whatOf n) refl (eqb-false n (K.numberQ K.WinPart) e)
 
-module _ (n : ℕ) (a : n ≡ 32 → ⊥) (b : n ≡ 34 → ⊥) (c : n ≡ 42 → ⊥) (d : n ≡ 35 → ⊥) (g : n ≡ 36 → ⊥) (i : n ≡ 43 → ⊥) where
+module _ (n : ℕ) (a : n ≡ K.numberP K.TableScan → ⊥) (b : n ≡ K.numberP K.Projection → ⊥) (c : n ≡ K.numberP K.Aggregate → ⊥)
+    (d : n ≡ K.numberP K.Join → ⊥) (g : n ≡ K.numberP K.SubqueryAlias → ⊥) (i : n ≡ K.numberP K.Window → ⊥) where
   role-rest : (w : What) → whatOf n ≡ w → cond (planW w) 5 0 ≡ role w
   role-rest (expr k) e = refl
   role-rest (part k) e = refl
@@ -329,20 +335,20 @@ module _ (n : ℕ) (a : n ≡ 32 → ⊥) (b : n ≡ 34 → ⊥) (c : n ≡ 42 �
   role-rest (plan K.Aggregate) e = absurd (c (kind-p (of-kind n) K.Aggregate e))
   role-rest (plan K.Window) e = absurd (i (kind-p (of-kind n) K.Window e))
 
-  pub role-last : (x : Bool) → (leb 32 n && leb n 43) ≡ x → cond x 5 0 ≡ role (whatOf n)
-  role-last x e = rw (← (plan-kind n ∙ e)) (role-rest (whatOf n) refl)
+  pub role-last : (x : Bool) → planW (whatOf n) ≡ x → cond x 5 0 ≡ role (whatOf n)
+  role-last x e = rw (← e) (role-rest (whatOf n) refl)
 
 -- ---- what a plan has, by its role, as the code goes
 
 module _ {f : Forest} {s : List ℕ} {b at : ℕ} {part : List ℕ} {v : Node} (w : Step f s b at part v) (r : ℕ)
     (R : r ≡ role (whatOf (v .kind))) where
   -- a record that is no plan
-  pub skip-part : r ≡ 0 → inputs f ≡ inputs (w .after)
+  pub skip-part : r ≡ noPlan → inputs f ≡ inputs (w .after)
   skip-part z =
       inputs-part f (w .label) (w .below) (w .after) (w .is) (sym (ap (λ (n : ℕ). role (whatOf n)) (w .kind)) ∙ sym R ∙ z)
 
   -- the kind of the plan, and the schemas from it on
-  pub of-plan : (r ≡ 0 → ⊥)
+  pub of-plan : (r ≡ noPlan → ⊥)
       → (k : K.PlanKind) × (r ≡ roleP k) × (inputs f ≡ fieldsP k (w .label) (w .below) (inputs (w .below)) ∷ inputs (w .after)) ×
       (v .kind ≡ K.numberP k)
   of-plan z =
@@ -351,31 +357,31 @@ module _ {f : Forest} {s : List ℕ} {b at : ℕ} {part : List ℕ} {v : Node} (
       (k .0, e ∙ ap role (k .1), k .2, w .kind ∙ kind-p (w .label) (k .0) (k .1))
 
   -- a plan that is not the one asked for
-  pub skip-plan : (r ≡ 0 → ⊥) → (k : ℕ) → (k ≡ 0 → ⊥) → drop k (inputs f) ≡ drop (k - 1) (inputs (w .after))
+  pub skip-plan : (r ≡ noPlan → ⊥) → (k : ℕ) → (k ≡ 0 → ⊥) → drop k (inputs f) ≡ drop (k - 1) (inputs (w .after))
   skip-plan z zero nz = absurd (nz refl)
   skip-plan z (suc k) nz = let e : suc k - 1 ≡ k = omega arith in ap (drop (suc k)) (of-plan z .2) ∙ rw e
 
   module _ (k : ℕ) (zero-k : k ≡ 0) where
     -- the plan that is asked for
-    pub here : (z : r ≡ 0 → ⊥) → input k (inputs f) ≡ fieldsP (of-plan z .0) (w .label) (w .below) (inputs (w .below))
+    pub here : (z : r ≡ noPlan → ⊥) → input k (inputs f) ≡ fieldsP (of-plan z .0) (w .label) (w .below) (inputs (w .below))
     unfolding input
     here z = rw zero-k (ap (input 0) (of-plan z .2))
 
     -- its fields are made by its parts
-    pub has-parts : r ≡ 1 → (c : Schema) × (input k (inputs f) ≡ made c (w .below))
+    pub has-parts : r ≡ creates → (c : Schema) × (input k (inputs f) ≡ made c (w .below))
     has-parts e =
-        let z : r ≡ 0 → ⊥ = λ q. omega arith in (
+        let z : r ≡ noPlan → ⊥ = λ q. omega arith in (
           base (w .label) (w .below) (inputs (w .below)) (of-plan z .0),
           here z
               ∙ from-parts (w .label) (w .below) (inputs (w .below)) (of-plan z .0) (sym (of-plan z .1) ∙ e),
         )
 
--- the question 2 counts all fields
-pub counted-all : (q n : ℕ) (s : Schema) → counted (hits 2 q n) s ≡ length s
+-- the question for every field counts them all
+pub counted-all : (q n : ℕ) (s : Schema) → counted (hits Every q n) s ≡ length s
 unfolding counted
 counted-all q n [] = refl
 counted-all q n (f ∷ s) = step (f .name) (counted-all q n s)
   where
-    step : (x : Name) → counted (hits 2 q n) s ≡ length s
-        → cond (hits 2 q n x) (counted (hits 2 q n) s + 1) (counted (hits 2 q n) s) ≡ suc (length s)
+    step : (x : Name) → counted (hits Every q n) s ≡ length s
+        → cond (hits Every q n x) (counted (hits Every q n) s + 1) (counted (hits Every q n) s) ≡ suc (length s)
     step (nm r m) e = rw e (omega arith)

@@ -1,5 +1,4 @@
 pub mod Counting
-pub mod KindRanges
 pub mod Scoping
 pub mod Seeking
 pub mod Typing

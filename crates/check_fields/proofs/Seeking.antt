@@ -12,6 +12,7 @@ use native.Mathlib.Omega.{arith}
 use lib.Dec.{eqb, leb}
 use lib.ListN.{length, drop}
 use borrow.Author.Tests.{eq-eqb, ne-eqb, le-leb, eqb-true, eqb-false, leb-true, leb-false}
+use Rattle.check_fields.specs.Roles.{noPlan, creates, joins, extends}
 use Rattle.image.specs.Tree.{Label, Forest, none, Linked, Node}
 use Rattle.image.proofs.Walking.{left, ended}
 use Rattle.image.proofs.Stepping.{Step}
@@ -21,7 +22,9 @@ use Rattle.plan.specs.Lists.{_&_}
 use Rattle.plan.specs.Schema.{same}
 use Rattle.plan.specs.Syntax.{Name, nm}
 use Rattle.check_fields.specs.Fields.{Schema, nameOf, made, madeBy, inputs, fieldsP, requalify, typeIn}
-use Rattle.check_fields.specs.Count.{hits, hit, counted, input, makes, role, roleP, own, below}
+use Rattle.check_fields.specs.Count.{hits, hit, counted, input, makes, role, roleP, own, below, underAlias}
+use Rattle.check_fields.specs.declared.questions.Question.{Question}
+use Rattle.check_fields.specs.declared.questions.Question.the-variants.{Exact}
 use Rattle.check_fields.specs.Typed.{partType}
 use Rattle.check_fields.specs.Seek.{seek, told, typeFound, allPlaces, passedOf, partsOver, Begins, Planned, Makes}
 use Rattle.check_fields.specs.declared.fields.Sought.{Sought}
@@ -92,19 +95,19 @@ module _ (h : Name → Bool) where
   told-same d k s e = ap (told d) e ∙ told-seek d k s
 
 -- the first field with a qualifier and a name has the type of the definition
-pub seek-name : (q n : ℕ) (s : Schema) → typeFound (seek (hits 0 q n) 0 s) ≡ typeIn s (nm q n)
+pub seek-name : (q n : ℕ) (s : Schema) → typeFound (seek (hits Exact q n) 0 s) ≡ typeIn s (nm q n)
 unfolding seek typeIn _&_
 seek-name q n [] = refl
 seek-name q n (f ∷ s) = step (f .name) (seek-name q n s)
   where
-    go : (a b : Bool) (t : ℕ) → typeFound (seek (hits 0 q n) 0 s) ≡ t
-        → typeFound (cond (a && b) (Known (f .ty)) (seek (hits 0 q n) 0 s)) ≡ cond (a & b) (f .ty) t
+    go : (a b : Bool) (t : ℕ) → typeFound (seek (hits Exact q n) 0 s) ≡ t
+        → typeFound (cond (a && b) (Known (f .ty)) (seek (hits Exact q n) 0 s)) ≡ cond (a & b) (f .ty) t
     go true true t e = refl
     go true false t e = e
     go false b t e = e
 
-    step : (x : Name) → typeFound (seek (hits 0 q n) 0 s) ≡ typeIn s (nm q n)
-        → typeFound (seek (hits 0 q n) 0 (record { name = x; ty = f .ty } ∷ s)) ≡ cond (same x (nm q n)) (f .ty) (typeIn s (nm q n))
+    step : (x : Name) → typeFound (seek (hits Exact q n) 0 s) ≡ typeIn s (nm q n)
+        → typeFound (seek (hits Exact q n) 0 (record { name = x; ty = f .ty } ∷ s)) ≡ cond (same x (nm q n)) (f .ty) (typeIn s (nm q n))
     step (nm r m) e = go (eqb r q) (eqb m n) (typeIn s (nm q n)) e
 
 -- over no schema a name has no type
@@ -121,16 +124,16 @@ passed-told d (Named q n) = refl
 passed-told d (Left k) = refl
 
 -- an alias changes the question
-seek-renamed : (mode p q n k : ℕ) (s : Schema) → seek (hits mode q n) k (map (requalify p) s) ≡ seek (hits (below 3 p mode q) q n) k s
+seek-renamed : (asks : Question) (p q n k : ℕ) (s : Schema) → seek (hits asks q n) k (map (requalify p) s) ≡ seek (hits (underAlias p asks q) q n) k s
 unfolding seek requalify
-seek-renamed mode p q n k [] = refl
-seek-renamed mode p q n k (f ∷ s) = step (f .name) (seek-renamed mode p q n (k - 1) s) (seek-renamed mode p q n k s)
+seek-renamed asks p q n k [] = refl
+seek-renamed asks p q n k (f ∷ s) = step (f .name) (seek-renamed asks p q n (k - 1) s) (seek-renamed asks p q n k s)
   where
-    step : (x : Name) → seek (hits mode q n) (k - 1) (map (requalify p) s) ≡ seek (hits (below 3 p mode q) q n) (k - 1) s
-        → seek (hits mode q n) k (map (requalify p) s) ≡ seek (hits (below 3 p mode q) q n) k s
-        → seek (hits mode q n) k (map (requalify p) (record { name = x; ty = f .ty } ∷ s))
-        ≡ seek (hits (below 3 p mode q) q n) k (record { name = x; ty = f .ty } ∷ s)
-    step (nm r m) e g = rw (renamed-one mode p q n r m, e, g)
+    step : (x : Name) → seek (hits asks q n) (k - 1) (map (requalify p) s) ≡ seek (hits (underAlias p asks q) q n) (k - 1) s
+        → seek (hits asks q n) k (map (requalify p) s) ≡ seek (hits (underAlias p asks q) q n) k s
+        → seek (hits asks q n) k (map (requalify p) (record { name = x; ty = f .ty } ∷ s))
+        ≡ seek (hits (underAlias p asks q) q n) k (record { name = x; ty = f .ty } ∷ s)
+    step (nm r m) e g = rw (renamed-one asks p q n r m, e, g)
 
 -- ---- the parts
 
@@ -150,40 +153,40 @@ seek-made-by h k d l cs rest (part K.AggPart) = refl
 seek-made-by h k d l cs rest (part K.WinPart) = refl
 
 -- of the parts f those of g are still to come, and j of the k to be passed
-abbrev pub Made : ℕ → ℕ → ℕ → ℕ → ℕ → Forest → Forest → Type 0
-Made mode q n k j f g = (d : Schema) → seek (hits mode q n) k (made d f) ≡ seek (hits mode q n) j (made d g)
+abbrev pub Made : Question → ℕ → ℕ → ℕ → ℕ → Forest → Forest → Type 0
+Made asks q n k j f g = (d : Schema) → seek (hits asks q n) k (made d f) ≡ seek (hits asks q n) j (made d g)
 
 -- none is still to come
-pub made-done : (mode q n k j : ℕ) (f : Forest) → Made mode q n k j f none → (d : Schema) → Left j ≡ seek (hits mode q n) k (made d f)
+pub made-done : (asks : Question) (q n k j : ℕ) (f : Forest) → Made asks q n k j f none → (d : Schema) → Left j ≡ seek (hits asks q n) k (made d f)
 unfolding seek made
-made-done mode q n k j f e d = sym (e d)
+made-done asks q n k j f e d = sym (e d)
 
-module _ (mode q n j : ℕ) {f : Forest} {s : List ℕ} {b at : ℕ} {part : List ℕ} {v : Node} (w : Step f s b at part v)
-    {x y : Bool} (X : x ≡ makes (whatOf (v .kind))) (Y : y ≡ hit mode q n (v .p) (v .q)) where
+module _ (asks : Question) (q n j : ℕ) {f : Forest} {s : List ℕ} {b at : ℕ} {part : List ℕ} {v : Node} (w : Step f s b at part v)
+    {x y : Bool} (X : x ≡ makes (whatOf (v .kind))) (Y : y ≡ hit asks q n (v .p) (v .q)) where
   made-turn : (z : Bool) → (x && y) ≡ z → (d : Schema)
-      → seek (hits mode q n) j (made d f)
-      ≡ cond z (cond (eqb j 0) (Known (partType (what (w .label)) d (w .label) (w .below))) (seek (hits mode q n) (j - 1) (made d (w .after))))
-      (seek (hits mode q n) j (made d (w .after)))
+      → seek (hits asks q n) j (made d f)
+      ≡ cond z (cond (eqb j 0) (Known (partType (what (w .label)) d (w .label) (w .below))) (seek (hits asks q n) (j - 1) (made d (w .after))))
+      (seek (hits asks q n) j (made d (w .after)))
   unfolding made
   made-turn z m d =
       let e2 : x ≡ makes (what (w .label)) = X ∙ ap (λ (k : ℕ). makes (whatOf k)) (w .kind) in
-      let g2 : y ≡ hit mode q n (w .label .p) (w .label .q) = Y ∙ ap (λ (k : ℕ). hit mode q n k (v .q)) (w .p)
-      ∙ ap (λ (k : ℕ). hit mode q n (w .label .p) k) (w .q) in
-      let m2 : (makes (what (w .label)) && hits mode q n (nameOf (w .label))) ≡ z = rw (← e2, ← g2) m in
-      ap (λ (g : Forest). seek (hits mode q n) j (made d g)) (w .is)
-      ∙ seek-made-by (hits mode q n) j d (w .label) (w .below) (made d (w .after)) (what (w .label)) ∙ rw m2
+      let g2 : y ≡ hit asks q n (w .label .p) (w .label .q) = Y ∙ ap (λ (k : ℕ). hit asks q n k (v .q)) (w .p)
+      ∙ ap (λ (k : ℕ). hit asks q n (w .label .p) k) (w .q) in
+      let m2 : (makes (what (w .label)) && hits asks q n (nameOf (w .label))) ≡ z = rw (← e2, ← g2) m in
+      ap (λ (g : Forest). seek (hits asks q n) j (made d g)) (w .is)
+      ∙ seek-made-by (hits asks q n) j d (w .label) (w .below) (made d (w .after)) (what (w .label)) ∙ rw m2
 
   -- a part that is not asked for
-  pub made-skip : (x && y) ≡ false → Made mode q n j j f (w .after)
+  pub made-skip : (x && y) ≡ false → Made asks q n j j f (w .after)
   made-skip m d = made-turn false m d
 
   -- one that is passed
-  pub made-pass : (x && y) ≡ true → (j ≡ 0 → ⊥) → Made mode q n j (j - 1) f (w .after)
+  pub made-pass : (x && y) ≡ true → (j ≡ 0 → ⊥) → Made asks q n j (j - 1) f (w .after)
   made-pass m z d = made-turn true m d ∙ rw (ne-eqb j 0 z)
 
   -- the one sought
   pub made-found : (x && y) ≡ true → j ≡ 0 → (d : Schema)
-      → Known (partType (what (w .label)) d (w .label) (w .below)) ≡ seek (hits mode q n) j (made d f)
+      → Known (partType (what (w .label)) d (w .label) (w .below)) ≡ seek (hits asks q n) j (made d f)
   made-found m z d = sym (made-turn true m d ∙ rw (eq-eqb j 0 z))
 
 -- a part that is asked for makes a field
@@ -224,10 +227,10 @@ plan-fields {f} {i = i} y = sym (input-drop i (inputs f) ∙ ap (input 0) (y .pl
 module _ {f : Forest} {s : List ℕ} {b at : ℕ} {part : List ℕ} {v : Node} (w : Step f s b at part v) {r : ℕ}
     (R : r ≡ role (whatOf (v .kind))) where
   -- the walk stands at a plan
-  pub begins : (r ≡ 0 → ⊥) → Begins f
+  pub begins : (r ≡ noPlan → ⊥) → Begins f
   begins z = subst Begins (sym (w .is)) (λ q. z (R ∙ ap (λ (k : ℕ). role (whatOf k)) (w .kind) ∙ q))
 
-  pub is-plan : Begins f → r ≡ 0 → ⊥
+  pub is-plan : Begins f → r ≡ noPlan → ⊥
   is-plan h e = subst Begins (w .is) h (sym (ap (λ (k : ℕ). role (whatOf k)) (w .kind)) ∙ sym R ∙ e)
 
 -- there is no such plan
@@ -254,14 +257,14 @@ module _ (h : Name → Bool) (f : Forest) (s : List ℕ) (b at : ℕ) (k : Linke
 
 module _ (kind : ℕ) (f : Forest) {a b : ℕ} {x y : Sought} (e : x ≡ Named a b) (g : told (partsOver kind f) x ≡ y) where
   -- over no schema
-  pub named-none : kind ≡ 32 → Known 0 ≡ y
+  pub named-none : kind ≡ K.numberP K.TableScan → Known 0 ≡ y
   unfolding typeIn
   named-none z = (let n : partsOver kind f ≡ [] = rw z in rw (e, n) at g)
 
   -- over the input's
-  pub named-some : (kind ≡ 32 → ⊥) → {t : ℕ} {u : Sought} → t ≡ typeFound u → u ≡ seek (hits 0 a b) 0 (input 0 (inputs f)) → Known t ≡ y
+  pub named-some : (kind ≡ K.numberP K.TableScan → ⊥) → {t : ℕ} {u : Sought} → t ≡ typeFound u → u ≡ seek (hits Exact a b) 0 (input 0 (inputs f)) → Known t ≡ y
   named-some z {t} p q =
-      let n : partsOver kind f ≡ input 0 (inputs f) = rw (ne-eqb kind 32 z) in
+      let n : partsOver kind f ≡ input 0 (inputs f) = rw (ne-eqb kind (K.numberP K.TableScan) z) in
       let i : t ≡ typeIn (input 0 (inputs f)) (nm a b) =
       p ∙ ap typeFound q ∙ seek-name a b (input 0 (inputs f)) in
       rw i (rw (e, n) at g)
@@ -283,158 +286,158 @@ base-of l cs K.Limit = input-0 (inputs cs)
 base-of l cs K.Aggregate = input-0 (inputs cs)
 base-of l cs K.Window = input-0 (inputs cs)
 
--- roles 3 and 5: the input's, by the question for it
-from-input : (l : Label) (cs : Forest) (ins : List Schema) (kind : K.PlanKind) (mode q n k : ℕ)
-    → (roleP kind ≡ 1 → ⊥) → (roleP kind ≡ 2 → ⊥) → (roleP kind ≡ 4 → ⊥)
-    → seek (hits mode q n) k (fieldsP kind l cs ins) ≡ seek (hits (below (roleP kind) (l .p) mode q) q n) k (input 0 ins)
-from-input l cs ins K.TableScan mode q n k a b d = absurd (a refl)
-from-input l cs ins K.Filter mode q n k a b d = rw (input-0 ins)
-from-input l cs ins K.Projection mode q n k a b d = absurd (a refl)
-from-input l cs ins K.Join mode q n k a b d = absurd (b refl)
-from-input l cs ins K.SubqueryAlias mode q n k a b d = rw (input-0 ins) (seek-renamed mode (l .p) q n k (input 0 ins))
-from-input l cs ins K.Union mode q n k a b d = rw (input-0 ins)
-from-input l cs ins K.Distinct mode q n k a b d = rw (input-0 ins)
-from-input l cs ins K.Sort mode q n k a b d = rw (input-0 ins)
-from-input l cs ins K.Repartition mode q n k a b d = rw (input-0 ins)
-from-input l cs ins K.Limit mode q n k a b d = rw (input-0 ins)
-from-input l cs ins K.Aggregate mode q n k a b d = absurd (a refl)
-from-input l cs ins K.Window mode q n k a b d = absurd (d refl)
+-- an alias, and a plan that passes its input's fields on: the input's, by the question for it
+from-input : (l : Label) (cs : Forest) (ins : List Schema) (kind : K.PlanKind) (asks : Question) (q n k : ℕ)
+    → (roleP kind ≡ creates → ⊥) → (roleP kind ≡ joins → ⊥) → (roleP kind ≡ extends → ⊥)
+    → seek (hits asks q n) k (fieldsP kind l cs ins) ≡ seek (hits (below (roleP kind) (l .p) asks q) q n) k (input 0 ins)
+from-input l cs ins K.TableScan asks q n k a b d = absurd (a refl)
+from-input l cs ins K.Filter asks q n k a b d = rw (input-0 ins)
+from-input l cs ins K.Projection asks q n k a b d = absurd (a refl)
+from-input l cs ins K.Join asks q n k a b d = absurd (b refl)
+from-input l cs ins K.SubqueryAlias asks q n k a b d = rw (input-0 ins) (seek-renamed asks (l .p) q n k (input 0 ins))
+from-input l cs ins K.Union asks q n k a b d = rw (input-0 ins)
+from-input l cs ins K.Distinct asks q n k a b d = rw (input-0 ins)
+from-input l cs ins K.Sort asks q n k a b d = rw (input-0 ins)
+from-input l cs ins K.Repartition asks q n k a b d = rw (input-0 ins)
+from-input l cs ins K.Limit asks q n k a b d = rw (input-0 ins)
+from-input l cs ins K.Aggregate asks q n k a b d = absurd (a refl)
+from-input l cs ins K.Window asks q n k a b d = absurd (d refl)
 
 module _ {f : Forest} {s : List ℕ} {b at : ℕ} {part : List ℕ} {v : Node} (w : Step f s b at part v) (r : ℕ)
-    (R : r ≡ role (whatOf (v .kind))) (mode q n k : ℕ) where
+    (R : r ≡ role (whatOf (v .kind))) (asks : Question) (q n k : ℕ) where
   -- the schemas of the plan's inputs
   abbrev ins : List Schema
   ins = inputs (w .below)
 
   -- what the input is asked
   abbrev pub asked : Sought
-  asked = seek (hits (below r (v .p) mode q) q n) k (input (own r (v .p)) ins)
+  asked = seek (hits (below r (v .p) asks q) q n) k (input (own r (v .p)) ins)
 
   -- the fields of its parts
   abbrev pub partsOf : Schema
   partsOf = made (partsOver (v .kind) (w .below)) (w .below)
 
   -- the schema that they stand over
-  based : (z : r ≡ 0 → ⊥) → base (w .label) (w .below) ins (of-plan w r R z .0) ≡ partsOver (v .kind) (w .below)
+  based : (z : r ≡ noPlan → ⊥) → base (w .label) (w .below) ins (of-plan w r R z .0) ≡ partsOver (v .kind) (w .below)
   based z = base-of (w .label) (w .below) (of-plan w r R z .0) ∙ ap (λ (y : ℕ). partsOver y (w .below)) (sym (of-plan w r R z .3))
 
   -- its parts make its fields
-  pub by-parts : r ≡ 1 → seek (hits mode q n) k partsOf ≡ seek (hits mode q n) k (input 0 (inputs f))
+  pub by-parts : r ≡ creates → seek (hits asks q n) k partsOf ≡ seek (hits asks q n) k (input 0 (inputs f))
   by-parts e =
-      let z : r ≡ 0 → ⊥ = λ q. omega arith in
+      let z : r ≡ noPlan → ⊥ = λ q. omega arith in
       let o = of-plan w r R z in
-      ap (seek (hits mode q n) k)
+      ap (seek (hits asks q n) k)
       (sym (here w r R 0 refl z ∙ from-parts (w .label) (w .below) ins (o .0) (sym (o .1) ∙ e)
       ∙ ap (λ (d : Schema). made d (w .below)) (based z)))
 
   -- both inputs
-  pub by-both : (eqb r 2 && leb (v .p) 4) ≡ true
-      → onward asked (λ j. seek (hits mode q n) j (input 1 ins)) ≡ seek (hits mode q n) k (input 0 (inputs f))
+  pub by-both : (eqb r joins && leb (v .p) 4) ≡ true
+      → onward asked (λ j. seek (hits asks q n) j (input 1 ins)) ≡ seek (hits asks q n) k (input 0 (inputs f))
   by-both g =
-      let e : r ≡ 2 = eqb-true r 2 (both (eqb r 2) (leb (v .p) 4) g .0) in
-      let p : v .p ≤ 4 = leb-true (v .p) 4 (both (eqb r 2) (leb (v .p) 4) g .1) in
-      let z : r ≡ 0 → ⊥ = λ q. omega arith in
+      let e : r ≡ joins = eqb-true r joins (both (eqb r joins) (leb (v .p) 4) g .0) in
+      let p : v .p ≤ 4 = leb-true (v .p) 4 (both (eqb r joins) (leb (v .p) 4) g .1) in
+      let z : r ≡ noPlan → ⊥ = λ q. omega arith in
       let o = of-plan w r R z in
       let l : own r (v .p) ≡ 0 = rw (e, le-leb (v .p) 4 p) in
-      let m : below r (v .p) mode q ≡ mode = rw e in
+      let m : below r (v .p) asks q ≡ asks = rw e in
       rw (
         here w r R 0 refl z,
         from-both (w .label) (w .below) ins (o .0) (sym (o .1) ∙ e) (subst (λ (x : ℕ). x ≤ 4) (w .p) p),
         l,
         m,
       )
-      (sym (seek-++ (hits mode q n) k (input 0 ins) (input 1 ins)))
+      (sym (seek-++ (hits asks q n) k (input 0 ins) (input 1 ins)))
     where
       both : (a b : Bool) → (a && b) ≡ true → (a ≡ true) × (b ≡ true)
       both true b e = (refl, e)
       both false b e = (e, let z : _≡_ {A = ℕ} 0 1 = cc in absurd (omega arith))
 
   -- its input and its parts
-  pub by-more : r ≡ 4 → onward asked (λ j. seek (hits mode q n) j partsOf) ≡ seek (hits mode q n) k (input 0 (inputs f))
+  pub by-more : r ≡ extends → onward asked (λ j. seek (hits asks q n) j partsOf) ≡ seek (hits asks q n) k (input 0 (inputs f))
   by-more e =
-      let z : r ≡ 0 → ⊥ = λ q. omega arith in
+      let z : r ≡ noPlan → ⊥ = λ q. omega arith in
       let o = of-plan w r R z in
       let l : own r (v .p) ≡ 0 = rw e in
-      let m : below r (v .p) mode q ≡ mode = rw e in
+      let m : below r (v .p) asks q ≡ asks = rw e in
       rw (l, m)
-      (sym (ap (seek (hits mode q n) k)
+      (sym (ap (seek (hits asks q n) k)
       (here w r R 0 refl z ∙ from-input-and-parts (w .label) (w .below) ins (o .0) (sym (o .1) ∙ e)
       ∙ ap (λ (d : Schema). input 0 ins ++ made d (w .below)) (based z))
-      ∙ seek-++ (hits mode q n) k (input 0 ins) partsOf))
+      ∙ seek-++ (hits asks q n) k (input 0 ins) partsOf))
 
   -- one input
-  pub by-asked : (r ≡ 0 → ⊥) → (r ≡ 1 → ⊥) → (eqb r 2 && leb (v .p) 4) ≡ false → (r ≡ 4 → ⊥)
-      → asked ≡ seek (hits mode q n) k (input 0 (inputs f))
-  by-asked z a g d = go (eqb r 2) refl g
+  pub by-asked : (r ≡ noPlan → ⊥) → (r ≡ creates → ⊥) → (eqb r joins && leb (v .p) 4) ≡ false → (r ≡ extends → ⊥)
+      → asked ≡ seek (hits asks q n) k (input 0 (inputs f))
+  by-asked z a g d = go (eqb r joins) refl g
     where
-      go : (x : Bool) → eqb r 2 ≡ x → (x && leb (v .p) 4) ≡ false → asked ≡ seek (hits mode q n) k (input 0 (inputs f))
+      go : (x : Bool) → eqb r joins ≡ x → (x && leb (v .p) 4) ≡ false → asked ≡ seek (hits asks q n) k (input 0 (inputs f))
       go true e h =
-          let e2 : r ≡ 2 = eqb-true r 2 e in
+          let e2 : r ≡ joins = eqb-true r joins e in
           let o = of-plan w r R z in
-          let m : below r (v .p) mode q ≡ mode = rw e2 in
-          let i : own r (v .p) ≡ own 2 (w .label .p) = ap (λ (x : ℕ). own x (v .p)) e2 ∙ ap (own 2) (w .p) in
+          let m : below r (v .p) asks q ≡ asks = rw e2 in
+          let i : own r (v .p) ≡ own joins (w .label .p) = ap (λ (x : ℕ). own x (v .p)) e2 ∙ ap (own 2) (w .p) in
           rw (m, i)
-          (ap (seek (hits mode q n) k)
+          (ap (seek (hits asks q n) k)
           (sym (here w r R 0 refl z
           ∙ from-side (w .label) (w .below) ins (o .0) (sym (o .1) ∙ e2) (subst (λ (x : ℕ). 4 < x) (w .p) (leb-false (v .p) 4 h)))))
       go false e h =
           let o = of-plan w r R z in
-          let n2 : r ≡ 2 → ⊥ = eqb-false r 2 e in
+          let n2 : r ≡ joins → ⊥ = eqb-false r joins e in
           let i : own r (v .p) ≡ 0 = rw e in
-          let m : below r (v .p) mode q ≡ below (roleP (o .0)) (w .label .p) mode q =
-          ap (λ (x : ℕ). below x (v .p) mode q) (o .1) ∙ ap (λ (x : ℕ). below (roleP (o .0)) x mode q) (w .p) in
+          let m : below r (v .p) asks q ≡ below (roleP (o .0)) (w .label .p) asks q =
+          ap (λ (x : ℕ). below x (v .p) asks q) (o .1) ∙ ap (λ (x : ℕ). below (roleP (o .0)) x asks q) (w .p) in
           rw (i, m)
-          (sym (ap (seek (hits mode q n) k) (here w r R 0 refl z)
-          ∙ from-input (w .label) (w .below) ins (o .0) mode q n k (λ x. a (o .1 ∙ x)) (λ x. n2 (o .1 ∙ x)) (λ x. d (o .1 ∙ x))))
+          (sym (ap (seek (hits asks q n) k) (here w r R 0 refl z)
+          ∙ from-input (w .label) (w .below) ins (o .0) asks q n k (λ x. a (o .1 ∙ x)) (λ x. n2 (o .1 ∙ x)) (λ x. d (o .1 ∙ x))))
 
   -- the input has it
-  pub by-stop : (r ≡ 0 → ⊥) → (r ≡ 1 → ⊥) → (x : Sought) → x ≡ asked → ((g : ℕ → Sought) → onward x g ≡ x)
-      → x ≡ seek (hits mode q n) k (input 0 (inputs f))
-  by-stop z a x e stop = go (eqb r 2 && leb (v .p) 4) refl (eqb r 4) refl
+  pub by-stop : (r ≡ noPlan → ⊥) → (r ≡ creates → ⊥) → (x : Sought) → x ≡ asked → ((g : ℕ → Sought) → onward x g ≡ x)
+      → x ≡ seek (hits asks q n) k (input 0 (inputs f))
+  by-stop z a x e stop = go (eqb r joins && leb (v .p) 4) refl (eqb r extends) refl
     where
-      go : (m : Bool) → (eqb r 2 && leb (v .p) 4) ≡ m → (o : Bool) → eqb r 4 ≡ o → x ≡ seek (hits mode q n) k (input 0 (inputs f))
+      go : (m : Bool) → (eqb r joins && leb (v .p) 4) ≡ m → (o : Bool) → eqb r extends ≡ o → x ≡ seek (hits asks q n) k (input 0 (inputs f))
       go true g o h =
-          let G : ℕ → Sought = λ j. seek (hits mode q n) j (input 1 ins) in sym (stop G) ∙ ap (λ (t : Sought). onward t G) e ∙ by-both g
+          let G : ℕ → Sought = λ j. seek (hits asks q n) j (input 1 ins) in sym (stop G) ∙ ap (λ (t : Sought). onward t G) e ∙ by-both g
       go false g true h =
-          let G : ℕ → Sought = λ j. seek (hits mode q n) j partsOf in sym (stop G) ∙ ap (λ (t : Sought). onward t G) e ∙ by-more (eqb-true r 4 h)
-      go false g false h = e ∙ by-asked z a g (eqb-false r 4 h)
+          let G : ℕ → Sought = λ j. seek (hits asks q n) j partsOf in sym (stop G) ∙ ap (λ (t : Sought). onward t G) e ∙ by-more (eqb-true r extends h)
+      go false g false h = e ∙ by-asked z a g (eqb-false r extends h)
 
   -- it has it not: the other input, or the parts
   module _ {j : ℕ} (e : Left j ≡ asked) where
-    pub on-right : (eqb r 2 && leb (v .p) 4) ≡ true → seek (hits mode q n) j (input 1 ins) ≡ seek (hits mode q n) k (input 0 (inputs f))
-    on-right g = ap (λ (t : Sought). onward t (λ i. seek (hits mode q n) i (input 1 ins))) e ∙ by-both g
+    pub on-right : (eqb r joins && leb (v .p) 4) ≡ true → seek (hits asks q n) j (input 1 ins) ≡ seek (hits asks q n) k (input 0 (inputs f))
+    on-right g = ap (λ (t : Sought). onward t (λ i. seek (hits asks q n) i (input 1 ins))) e ∙ by-both g
 
-    pub on-parts : r ≡ 4 → seek (hits mode q n) j partsOf ≡ seek (hits mode q n) k (input 0 (inputs f))
-    on-parts g = ap (λ (t : Sought). onward t (λ i. seek (hits mode q n) i partsOf)) e ∙ by-more g
+    pub on-parts : r ≡ extends → seek (hits asks q n) j partsOf ≡ seek (hits asks q n) k (input 0 (inputs f))
+    on-parts g = ap (λ (t : Sought). onward t (λ i. seek (hits asks q n) i partsOf)) e ∙ by-more g
 
 -- ---- the plan that is asked
 
 -- the plan with the place itself
-pub makes-start : {f : Forest} {s : List ℕ} {b at i r : ℕ} (mode q : ℕ) → Planned f s b at i r → Makes f s b at i mode q r mode
-makes-start mode q y =
+pub makes-start : {f : Forest} {s : List ℕ} {b at i r : ℕ} (asks : Question) (q : ℕ) → Planned f s b at i r → Makes f s b at i asks q r asks
+makes-start asks q y =
     record {
       forest = y .forest;
       linked = y .linked;
       begins = y .begins;
-      same = λ n k. ap (seek (hits mode q n) k) (plan-fields y);
+      same = λ n k. ap (seek (hits asks q n) k) (plan-fields y);
       less = y .less;
     }
 
 -- there is none
-pub makes-none : {f : Forest} {s : List ℕ} {b at i mode q r m : ℕ} (n k : ℕ) → Makes f s b at i mode q r m → r ≡ 0
-    → Left k ≡ seek (hits mode q n) k (input i (inputs f))
+pub makes-none : {f : Forest} {s : List ℕ} {b at i : ℕ} {asks : Question} {q r : ℕ} {m : Question} (n k : ℕ) → Makes f s b at i asks q r m → r ≡ 0
+    → Left k ≡ seek (hits asks q n) k (input i (inputs f))
 unfolding input inputs
 makes-none {q = q} {r} {m} n k y z =
     sym (seek-none (hits m q n) k _ (ap (λ (g : Forest). input 0 (inputs g)) (ended (y .forest) _ _ r (y .linked) z))) ∙ y .same n k
 
-pub makes-end : {f : Forest} {s : List ℕ} {b at i mode q r m : ℕ} → Makes f s b at i mode q r m → r ≡ 0 → Makes f s b at i mode q 0 m
-makes-end {f} {s} {b} {at} {i} {mode} {q} {r} {m} y z = subst (λ (n : ℕ). Makes f s b at i mode q n m) z y
+pub makes-end : {f : Forest} {s : List ℕ} {b at i : ℕ} {asks : Question} {q r : ℕ} {m : Question} → Makes f s b at i asks q r m → r ≡ 0 → Makes f s b at i asks q 0 m
+makes-end {f} {s} {b} {at} {i} {asks} {q} {r} {m} y z = subst (λ (n : ℕ). Makes f s b at i asks q n m) z y
 
 -- past a plan that has one input's fields and no others
-pub makes-step : {f : Forest} {s : List ℕ} {b at i mode q r m : ℕ} {part : List ℕ} {v : Node} (y : Makes f s b at i mode q r m)
+pub makes-step : {f : Forest} {s : List ℕ} {b at i : ℕ} {asks : Question} {q r : ℕ} {m : Question} {part : List ℕ} {v : Node} (y : Makes f s b at i asks q r m)
     (w : Step (y .forest) s b r part v) (x : ℕ) → x ≡ role (whatOf (v .kind))
-    → (x ≡ 1 → ⊥) → (x ≡ 4 → ⊥) → (eqb x 2 && leb (v .p) 4) ≡ false → {o u j : ℕ} → o ≡ below x (v .p) m q → u ≡ own x (v .p)
-    → Planned (w .below) s b (v .first) u j → left s b (v .first) < left s b r → Makes f s b at i mode q j o
+    → (x ≡ creates → ⊥) → (x ≡ extends → ⊥) → (eqb x joins && leb (v .p) 4) ≡ false → {o : Question} {u j : ℕ} → o ≡ below x (v .p) m q → u ≡ own x (v .p)
+    → Planned (w .below) s b (v .first) u j → left s b (v .first) < left s b r → Makes f s b at i asks q j o
 makes-step {q = q} {m = m} y w x X a d g O U z l =
     record {
       forest = z .forest;
@@ -447,12 +450,12 @@ makes-step {q = q} {m = m} y w x X a d g O U z l =
     }
 
 -- the code's test of such a plan
-pub passes-on : (r p : ℕ) → ((eqb r 1 || eqb r 4) || (eqb r 2 && leb p 4)) ≡ false
-    → (r ≡ 1 → ⊥) × (r ≡ 4 → ⊥) × ((eqb r 2 && leb p 4) ≡ false)
-passes-on r p h = go (eqb r 1) refl (eqb r 4) refl h
+pub passes-on : (r p : ℕ) → ((eqb r creates || eqb r extends) || (eqb r joins && leb p 4)) ≡ false
+    → (r ≡ creates → ⊥) × (r ≡ extends → ⊥) × ((eqb r joins && leb p 4) ≡ false)
+passes-on r p h = go (eqb r creates) refl (eqb r extends) refl h
   where
-    go : (a : Bool) → eqb r 1 ≡ a → (b : Bool) → eqb r 4 ≡ b → ((a || b) || (eqb r 2 && leb p 4)) ≡ false
-        → (r ≡ 1 → ⊥) × (r ≡ 4 → ⊥) × ((eqb r 2 && leb p 4) ≡ false)
-    go false e false g k = (eqb-false r 1 e, eqb-false r 4 g, k)
+    go : (a : Bool) → eqb r creates ≡ a → (b : Bool) → eqb r extends ≡ b → ((a || b) || (eqb r joins && leb p 4)) ≡ false
+        → (r ≡ creates → ⊥) × (r ≡ extends → ⊥) × ((eqb r joins && leb p 4) ≡ false)
+    go false e false g k = (eqb-false r creates e, eqb-false r extends g, k)
     go false e true g k = let z : _≡_ {A = ℕ} 0 1 = cc in absurd (omega arith)
     go true e b g k = let z : _≡_ {A = ℕ} 0 1 = cc in absurd (omega arith)

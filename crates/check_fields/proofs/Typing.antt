@@ -1,11 +1,10 @@
 -- Laws of types: of an expression, of the field that a part makes.
 -- Assumes nothing.
 use mathlib.Core.Path.{_≡_, refl, sym, ap, _∙_}
-use mathlib.Core.Bool.{Bool, true, cond, _&&_}
+use mathlib.Core.Bool.{Bool, true, cond}
 use mathlib.Core.List.{List}
 use Prim.Native.Nat.{ℕ, _-_, _*_}
 use native.Mathlib.Omega.{arith}
-use lib.Dec.{leb}
 use lib.ListN.{drop}
 use Rattle.image.specs.Tree.{Label, Forest, Linked, labelAt, Node, nodeOf}
 use Rattle.image.specs.Word.{word}
@@ -17,15 +16,15 @@ use Rattle.plan.proofs.Rebuilt.{kind-w, kind-e}
 use Rattle.check_fields.specs.Fields.{Schema, typeIn, typeOf, typeBy, typeFirst}
 use Rattle.check_fields.specs.Count.{makes}
 use Rattle.check_fields.specs.Typed.{plainType, partType}
-use Rattle.check_fields.proofs.KindRanges.{expr-kind}
 use Rattle.check_fields.proofs.Counting.{of-kind}
 
 -- ---- the tables of the code
 
 -- what is left of the kinds of expressions is boolean
-pub plain-other : (n : ℕ) (p r : ℕ) → (n ≡ 2 → ⊥) → (n ≡ 4 → ⊥) → (n ≡ 10 → ⊥) → (n ≡ 1 → ⊥) → (x : Bool) → (leb 1 n && leb n 10) ≡ x
+pub plain-other : (n : ℕ) (p r : ℕ) → (n ≡ K.numberE K.Integer → ⊥) → (n ≡ K.numberE K.Null → ⊥) → (n ≡ K.numberE K.Function → ⊥)
+    → (n ≡ K.numberE K.Column → ⊥) → (x : Bool) → exprW (whatOf n) ≡ x
     → cond x 2 0 ≡ plainType (whatOf n) p r
-plain-other n p r a b c d x e = rw (← (expr-kind n ∙ e)) (go (whatOf n) refl)
+plain-other n p r a b c d x e = rw (← e) (go (whatOf n) refl)
   where
     go : (w : What) → whatOf n ≡ w → cond (exprW w) 2 0 ≡ plainType w p r
     go (plan k) q = refl
@@ -59,12 +58,12 @@ plain-by (expr K.InList) d l z = refl
 plain-by (expr K.Function) d l z = refl
 
 -- a column has the type of its field
-pub source-column : (s : List ℕ) (v : Node) (d : Schema) → v ≡ nodeOf s → v .kind ≡ 1 → typeIn d (nm (v .p) (v .q)) ≡ typeOf d (labelAt s)
+pub source-column : (s : List ℕ) (v : Node) (d : Schema) → v ≡ nodeOf s → v .kind ≡ K.numberE K.Column → typeIn d (nm (v .p) (v .q)) ≡ typeOf d (labelAt s)
 unfolding typeOf whatOf K.among
 source-column s v d g e = let e2 : word s 0 ≡ 1 = ap (λ (x : Node). x .kind) (sym g) ∙ e in rw (g, e2) refl
 
 -- another expression has it outright
-pub source-plain : (s : List ℕ) (v : Node) (d : Schema) {t : ℕ} → v ≡ nodeOf s → (v .kind ≡ 1 → ⊥)
+pub source-plain : (s : List ℕ) (v : Node) (d : Schema) {t : ℕ} → v ≡ nodeOf s → (v .kind ≡ K.numberE K.Column → ⊥)
     → t ≡ plainType (whatOf (v .kind)) (v .p) (v .r) → t ≡ typeOf d (labelAt s)
 unfolding typeOf
 source-plain s v d {t} g z e =
@@ -75,23 +74,23 @@ source-plain s v d {t} g z e =
 
 module _ (l : Label) (cs : Forest) (d : Schema) (v : Node) (same-kind : v .kind ≡ l .kind) where
   -- a scan's field has its own type
-  pub of-field : v .r ≡ l .r → v .kind ≡ 48 → v .r ≡ partType (what l) d l cs
+  pub of-field : v .r ≡ l .r → v .kind ≡ K.numberQ K.FieldPart → v .r ≡ partType (what l) d l cs
   unfolding whatOf K.among
   of-field r e = r ∙ sym (ap (λ (k : ℕ). partType (whatOf k) d l cs) (sym same-kind ∙ e))
 
   -- an entry has that of its expression
-  of-entry : v .kind ≡ 49 → typeFirst d cs ≡ partType (what l) d l cs
+  of-entry : v .kind ≡ K.numberQ K.EntryPart → typeFirst d cs ≡ partType (what l) d l cs
   unfolding whatOf K.among
   of-entry e = sym (ap (λ (k : ℕ). partType (whatOf k) d l cs) (sym same-kind ∙ e))
 
   module _ (s : List ℕ) (at : ℕ) (h : Linked cs s at (v .first)) where
     -- an entry without one has none
-    pub of-no-entry : v .kind ≡ 49 → v .first ≡ 0 → 0 ≡ partType (what l) d l cs
+    pub of-no-entry : v .kind ≡ K.numberQ K.EntryPart → v .first ≡ 0 → 0 ≡ partType (what l) d l cs
     unfolding typeFirst
     of-no-entry e z = sym (ap (typeFirst d) (ended cs s at (v .first) h z)) ∙ of-entry e
 
     -- read where the expression stands
-    pub of-an-entry : {part : List ℕ} → v .kind ≡ 49 → (v .first ≡ 0 → ⊥) → part ≡ drop (32 * (v .first - at)) s
+    pub of-an-entry : {part : List ℕ} → v .kind ≡ K.numberQ K.EntryPart → (v .first ≡ 0 → ⊥) → part ≡ drop (32 * (v .first - at)) s
         → typeOf d (labelAt part) ≡ partType (what l) d l cs
     unfolding typeFirst
     of-an-entry e z g =
@@ -99,7 +98,7 @@ module _ (l : Label) (cs : Forest) (d : Schema) (v : Node) (same-kind : v .kind 
         ap (λ (x : List ℕ). typeOf d (labelAt x)) g ∙ ap (typeOf d) (u .here .head .label) ∙ sym (ap (typeFirst d) (u .is)) ∙ of-entry e
 
   -- counts and extremes are integers
-  pub of-other : makes (what l) ≡ true → (v .kind ≡ 48 → ⊥) → (v .kind ≡ 49 → ⊥) → 1 ≡ partType (what l) d l cs
+  pub of-other : makes (what l) ≡ true → (v .kind ≡ K.numberQ K.FieldPart → ⊥) → (v .kind ≡ K.numberQ K.EntryPart → ⊥) → 1 ≡ partType (what l) d l cs
   of-other m a b = go (what l) refl m
     where
       go : (u : What) → what l ≡ u → makes u ≡ true → 1 ≡ partType u d l cs

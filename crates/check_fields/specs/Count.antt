@@ -1,5 +1,4 @@
--- Fields of a schema counted by a question: 0 those with the qualifier and the name, 1 those with the name, 2 all, 3 those that clash,
--- else none.
+-- Fields of a schema counted by a question: those with the qualifier and the name, those with the name, all, those that clash, or none.
 use mathlib.Core.Bool.{Bool, true, false, cond, _&&_, _||_}
 use mathlib.Core.List.{List, [], _∷_}
 use Prim.Native.Nat.{ℕ, zero, suc, _+_}
@@ -7,21 +6,28 @@ use lib.Dec.{eqb, leb}
 use Rattle.plan.specs.Kinds.{What, expr, plan, part, unknown, PlanKind, TableScan, Filter, Projection, Join, SubqueryAlias, Union, Distinct}
 use Rattle.plan.specs.Kinds.{Sort, Repartition, Limit, Aggregate, Window, PartKind, FieldPart, EntryPart, PairPart, KeyPart, AggPart}
 use Rattle.plan.specs.Kinds.{WinPart}
-use Rattle.plan.specs.Syntax.{Name, nm}
+use Rattle.plan.specs.Syntax.{Name, nm, full, leftSemi, leftAnti}
+use Rattle.plan.specs.Trees.{joinNumber}
 use Rattle.check_fields.specs.Fields.{Schema}
+use Rattle.check_fields.specs.Roles.{noPlan, creates, joins, renames, extends, passes}
+use Rattle.check_fields.specs.declared.questions.Question.{Question}
+use Rattle.check_fields.specs.declared.questions.Question.the-variants.{Exact, ByName, Every, Clashing, Nothing}
 
 -- the qualifiers q and r do not tell two fields of one name apart
 abbrev pub near : ℕ → ℕ → Bool
 near q r = (eqb r q || eqb r 0) || eqb q 0
 
 -- the question finds the field with the qualifier r and the name m
-abbrev pub hit : ℕ → ℕ → ℕ → ℕ → ℕ → Bool
-hit mode q n r m =
-    cond (eqb mode 0) (eqb r q && eqb m n) (cond (eqb mode 1) (eqb m n) (cond (eqb mode 3) (near q r && eqb m n) (eqb mode 2)))
+abbrev pub hit : Question → ℕ → ℕ → ℕ → ℕ → Bool
+hit Exact q n r m = eqb r q && eqb m n
+hit ByName q n r m = eqb m n
+hit Every q n r m = true
+hit Clashing q n r m = near q r && eqb m n
+hit Nothing q n r m = false
 
 -- the same of a name
-abbrev pub hits : ℕ → ℕ → ℕ → Name → Bool
-hits mode q n (nm r m) = hit mode q n r m
+abbrev pub hits : Question → ℕ → ℕ → Name → Bool
+hits asks q n (nm r m) = hit asks q n r m
 
 -- how many fields it finds
 unfoldable pub counted : (Name → Bool) → Schema → ℕ
@@ -49,32 +55,40 @@ makes (plan k) = false
 makes (part k) = makesQ k
 makes unknown = false
 
--- where a plan has its fields from: 1 its parts, 2 its inputs as a join, 3 its input renamed, 4 its input and its parts, 5 its first input;
--- 0 no plan
+-- where a plan has its fields from
 abbrev pub roleP : PlanKind → ℕ
-roleP TableScan = 1
-roleP Filter = 5
-roleP Projection = 1
-roleP Join = 2
-roleP SubqueryAlias = 3
-roleP Union = 5
-roleP Distinct = 5
-roleP Sort = 5
-roleP Repartition = 5
-roleP Limit = 5
-roleP Aggregate = 1
-roleP Window = 4
+roleP TableScan = creates
+roleP Filter = passes
+roleP Projection = creates
+roleP Join = joins
+roleP SubqueryAlias = renames
+roleP Union = passes
+roleP Distinct = passes
+roleP Sort = passes
+roleP Repartition = passes
+roleP Limit = passes
+roleP Aggregate = creates
+roleP Window = extends
 
 abbrev pub role : What → ℕ
-role (expr k) = 0
+role (expr k) = noPlan
 role (plan k) = roleP k
-role (part k) = 0
-role unknown = 0
+role (part k) = noPlan
+role unknown = noPlan
 
 -- the input that is asked, the first for joins that give both
 abbrev pub own : ℕ → ℕ → ℕ
-own k p = cond (eqb k 2) (cond (leb p 4) 0 (cond (eqb p 5) 0 (cond (eqb p 7) 0 1))) 0
+own k p =
+    cond (eqb k joins) (cond (leb p (joinNumber full)) 0 (cond (eqb p (joinNumber leftSemi)) 0 (cond (eqb p (joinNumber leftAnti)) 0 1))) 0
 
--- the question that is put to it: an alias has one qualifier for all
-abbrev pub below : ℕ → ℕ → ℕ → ℕ → ℕ
-below k p mode q = cond (eqb k 3) (cond (eqb mode 0) (cond (eqb p q) 1 4) (cond (eqb mode 3) (cond (near q p) 1 4) mode)) mode
+-- the question that is put to the input of an alias with the qualifier p: all its fields have that
+abbrev pub underAlias : ℕ → Question → ℕ → Question
+underAlias p Exact q = cond (eqb p q) ByName Nothing
+underAlias p ByName q = ByName
+underAlias p Every q = Every
+underAlias p Clashing q = cond (near q p) ByName Nothing
+underAlias p Nothing q = Nothing
+
+-- the question that is put to the input
+abbrev pub below : ℕ → ℕ → Question → ℕ → Question
+below k p asks q = cond (eqb k renames) (underAlias p asks q) asks

@@ -1,5 +1,5 @@
--- The schema of a plan, read off its records: made of its label, its children and the schemas of its inputs. On the tree of a plan it is the
--- plan's schema (proofs), and the code, which has records and no plan, is proved against it.
+-- The schema of a plan, read off its records: made of its label, its children and the schemas of its inputs. On the tree of a plan it is
+-- the plan's schema (proofs), and the code, which has records and no plan, is proved against it.
 use mathlib.Core.Bool.{_||_, cond}
 use mathlib.Core.List.{List, [], _∷_, _++_, map}
 use Prim.Native.Nat.{ℕ}
@@ -9,7 +9,8 @@ use Rattle.plan.specs.Kinds.{What, expr, plan, part, unknown, what, ExprKind, C
 use Rattle.plan.specs.Kinds.{InList, Function, PlanKind, TableScan, Filter, Projection, Join, SubqueryAlias, Union, Distinct, Sort}
 use Rattle.plan.specs.Kinds.{Repartition, Limit, Aggregate, Window, PartKind, FieldPart, EntryPart, PairPart, KeyPart, AggPart, WinPart}
 use Rattle.plan.specs.Schema.{same}
-use Rattle.plan.specs.Syntax.{Name, nm}
+use Rattle.plan.specs.Syntax.{Name, nm, noType, integerType, booleanType, full, leftSemi, leftAnti}
+use Rattle.plan.specs.Trees.{joinNumber}
 
 -- the first and the second of a list, or what stands for them
 unfoldable pub first : {A : Type 0} → A → List A → A
@@ -20,7 +21,7 @@ unfoldable pub second : {A : Type 0} → A → List A → A
 second d [] = d
 second d (x ∷ xs) = first d xs
 
--- a field of a schema; its type is 1 for integer, 2 for boolean
+-- a field of a schema, with the number of its type
 pub record Fld : Type 0 where
   pub name : Name
   pub ty : ℕ
@@ -35,36 +36,36 @@ Schema = List Fld
 abbrev pub nameOf : Label → Name
 nameOf l = nm (l .p) (l .q)
 
--- ---- the type of an expression, by its own record and the schema it stands over; 0 for none
+-- ---- the type of an expression, by its own record and the schema it stands over
 
 unfoldable pub typeIn : Schema → Name → ℕ
-typeIn [] x = 0
+typeIn [] x = noType
 typeIn (f ∷ s) x = cond (same (f .name) x) (f .ty) (typeIn s x)
 
 abbrev pub typeE : ExprKind → Schema → Label → ℕ
 typeE Column s l = typeIn s (nameOf l)
-typeE Integer s l = 1
-typeE Boolean s l = 2
+typeE Integer s l = integerType
+typeE Boolean s l = booleanType
 typeE Null s l = l .p
-typeE Binary s l = 2
-typeE Not s l = 2
-typeE Test s l = 2
-typeE Between s l = 2
-typeE InList s l = 2
+typeE Binary s l = booleanType
+typeE Not s l = booleanType
+typeE Test s l = booleanType
+typeE Between s l = booleanType
+typeE InList s l = booleanType
 typeE Function s l = l .r
 
 abbrev pub typeBy : What → Schema → Label → ℕ
 typeBy (expr k) s l = typeE k s l
-typeBy (plan k) s l = 0
-typeBy (part k) s l = 0
-typeBy unknown s l = 0
+typeBy (plan k) s l = noType
+typeBy (part k) s l = noType
+typeBy unknown s l = noType
 
 unfoldable pub typeOf : Schema → Label → ℕ
 typeOf s l = typeBy (what l) s l
 
 -- the type of the first expression of a forest
 unfoldable pub typeFirst : Schema → Forest → ℕ
-typeFirst s none = 0
+typeFirst s none = noType
 typeFirst s (node l cs ns) = typeOf s l
 
 -- ---- the schema of a plan
@@ -75,8 +76,8 @@ madeQ FieldPart s l cs rest = fld (nameOf l) (l .r) ∷ rest
 madeQ EntryPart s l cs rest = fld (nameOf l) (typeFirst s cs) ∷ rest
 madeQ PairPart s l cs rest = rest
 madeQ KeyPart s l cs rest = rest
-madeQ AggPart s l cs rest = fld (nameOf l) 1 ∷ rest
-madeQ WinPart s l cs rest = fld (nameOf l) 1 ∷ rest
+madeQ AggPart s l cs rest = fld (nameOf l) integerType ∷ rest
+madeQ WinPart s l cs rest = fld (nameOf l) integerType ∷ rest
 
 abbrev pub madeBy : What → Schema → Label → Forest → Schema → Schema
 madeBy (expr k) s l cs rest = rest
@@ -97,7 +98,7 @@ requalify q f = fld (again (f .name)) (f .ty)
 
 -- Inner, Left, Right and Full give both sides; semi and anti joins their own
 unfoldable pub joinFields : ℕ → Schema → Schema → Schema
-joinFields p l r = cond (leb p 4) (l ++ r) (cond (eqb p 5 || eqb p 7) l r)
+joinFields p l r = cond (leb p (joinNumber full)) (l ++ r) (cond (eqb p (joinNumber leftSemi) || eqb p (joinNumber leftAnti)) l r)
 
 -- of a plan's label, its children and the schemas of its inputs
 abbrev pub fieldsP : PlanKind → Label → Forest → List Schema → Schema

@@ -1,5 +1,6 @@
 pub mod Count
 pub mod Fields
+pub mod Roles
 pub mod Rules
 pub mod Scopes
 pub mod Seek

@@ -10,6 +10,8 @@ use Rattle.plan.specs.Kinds.{Test, Between, InList, Function, PlanKind, TableSc
 use Rattle.plan.specs.Kinds.{Sort, Repartition, Limit, Aggregate, Window, PartKind, FieldPart, EntryPart, PairPart, KeyPart, AggPart}
 use Rattle.plan.specs.Kinds.{WinPart}
 use Rattle.image.specs.Lowest.{Found, lowest, alone}
+use Rattle.plan.specs.Syntax.{noType, integerType, booleanType, or, isNotNull, count}
+use Rattle.plan.specs.Trees.{opNumber, testNumber, aggNumber}
 use Rattle.check_fields.specs.Fields.{Fld, Schema, nameOf, typeOf, made, fieldsP, inputs, namesIn, first, second}
 use Rattle.acceptance.specs.Names.{sound, holders}
 use Rattle.acceptance.specs.Types.{same-types}
@@ -106,7 +108,7 @@ typesOf c after none = []
 typesOf c after (node l cs ns) = put (isExpr l) (typeOf (seen c) l) (typesOf after after ns)
 
 abbrev pub booleans : List ℕ → Bool
-booleans ts = all (eqb 2) ts
+booleans ts = all (eqb booleanType) ts
 
 unfoldable pub alike : List ℕ → Bool
 alike [] = true
@@ -131,9 +133,9 @@ typeOkE Column l ts = true
 typeOkE Integer l ts = true
 typeOkE Boolean l ts = true
 typeOkE Null l ts = true
-typeOkE Binary l ts = cond (leb (l .p) 2) (booleans ts) (alike ts)
+typeOkE Binary l ts = cond (leb (l .p) (opNumber or)) (booleans ts) (alike ts)
 typeOkE Not l ts = booleans ts
-typeOkE Test l ts = leb (l .p) 2 || booleans ts
+typeOkE Test l ts = leb (l .p) (testNumber isNotNull) || booleans ts
 typeOkE Between l ts = alike ts
 typeOkE InList l ts = alike ts
 typeOkE Function l ts = true
@@ -159,8 +161,8 @@ typeOkQ FieldPart l ts = true
 typeOkQ EntryPart l ts = true
 typeOkQ PairPart l ts = alike ts
 typeOkQ KeyPart l ts = true
-typeOkQ AggPart l ts = eqb (l .r) 1 || eqb (first 0 ts) 1
-typeOkQ WinPart l ts = eqb (l .r) 1 || eqb (first 0 ts) 1
+typeOkQ AggPart l ts = eqb (l .r) (aggNumber count) || eqb (first noType ts) integerType
+typeOkQ WinPart l ts = eqb (l .r) (aggNumber count) || eqb (first noType ts) integerType
 
 abbrev pub typeOkBy : What → Forest → Label → Forest → List ℕ → Bool
 typeOkBy (expr k) root l cs ts = typeOkE k l ts

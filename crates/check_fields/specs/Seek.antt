@@ -7,10 +7,12 @@ use lib.Dec.{eqb}
 use lib.ListN.{drop}
 use Rattle.image.specs.Tree.{Forest, none, node, Linked}
 use Rattle.image.proofs.Walking.{left}
-use Rattle.plan.specs.Kinds.{what}
-use Rattle.plan.specs.Syntax.{Name, nm}
+use Rattle.plan.specs.Kinds.{what, numberP, TableScan}
+use Rattle.plan.specs.Syntax.{Name, nm, noType}
 use Rattle.check_fields.specs.Fields.{Schema, inputs, typeIn}
+use Rattle.check_fields.specs.Roles.{noPlan}
 use Rattle.check_fields.specs.Count.{hits, input, role}
+use Rattle.check_fields.specs.declared.questions.Question.{Question}
 use Rattle.check_fields.specs.declared.fields.Sought.{Sought}
 use Rattle.check_fields.specs.declared.fields.Sought.the-variants.{Known, Named, Left}
 
@@ -25,11 +27,11 @@ told d (Known t) = Known t
 told d (Named q n) = Known (typeIn d (nm q n))
 told d (Left k) = Left k
 
--- its type; 0 for none
+-- its type, or none
 abbrev pub typeFound : Sought → ℕ
 typeFound (Known t) = t
-typeFound (Named q n) = 0
-typeFound (Left k) = 0
+typeFound (Named q n) = noType
+typeFound (Left k) = noType
 
 -- more than any schema has fields: the largest number of the code
 abbrev pub allPlaces : ℕ
@@ -43,12 +45,12 @@ passedOf (Left j) = allPlaces - j
 
 -- the schema that the parts of a plan of this kind stand over: a scan's over none
 abbrev pub partsOver : ℕ → Forest → Schema
-partsOver kind cs = cond (eqb kind 32) [] (input 0 (inputs cs))
+partsOver kind cs = cond (eqb kind (numberP TableScan)) [] (input 0 (inputs cs))
 
 -- the forest begins with a plan, or is none
 abbrev pub Begins : Forest → Type 0
 Begins none = Unit {0}
-Begins (node l cs ns) = role (what l) ≡ 0 → ⊥
+Begins (node l cs ns) = role (what l) ≡ noPlan → ⊥
 
 -- the trees of f from its plan with the place `skip` on are linked at r, which is 0 where there is none
 pub record Planned (f : Forest) (s : List ℕ) (b at skip r : ℕ) : Type 0 where
@@ -59,9 +61,9 @@ pub record Planned (f : Forest) (s : List ℕ) (b at skip r : ℕ) : Type 0 wher
   pub less : left s b r ≤ left s b at
 
 -- the trees at r begin with the plan that is asked, by the question m, for the fields of f's plan with the place `skip`
-pub record Makes (f : Forest) (s : List ℕ) (b at skip mode q r m : ℕ) : Type 0 where
+pub record Makes (f : Forest) (s : List ℕ) (b at skip : ℕ) (asks : Question) (q r : ℕ) (m : Question) : Type 0 where
   pub forest : Forest
   pub linked : Linked forest s b r
   pub begins : Begins forest
-  pub same : (n k : ℕ) → seek (hits m q n) k (input 0 (inputs forest)) ≡ seek (hits mode q n) k (input skip (inputs f))
+  pub same : (n k : ℕ) → seek (hits m q n) k (input 0 (inputs forest)) ≡ seek (hits asks q n) k (input skip (inputs f))
   pub less : left s b r ≤ left s b at

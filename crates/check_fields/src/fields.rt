@@ -1,7 +1,36 @@
 // The fields of a plan's schema, asked for by recursion on the plan's records: no schema is stored.
+use crate::questions::Question;
+use crate::roles::CREATES;
+use crate::roles::EXTENDS;
+use crate::roles::JOINS;
+use crate::roles::NO_PLAN;
+use crate::roles::PASSES;
+use crate::roles::RENAMES;
 use image::records::Node;
 use image::records::from_record;
 use image::records::look;
+use plan::kinds::AGGREGATE;
+use plan::kinds::AGGREGATE_ENTRY;
+use plan::kinds::COLUMN;
+use plan::kinds::ENTRY;
+use plan::kinds::FIELD;
+use plan::kinds::FUNCTION;
+use plan::kinds::INTEGER_LITERAL;
+use plan::kinds::JOIN;
+use plan::kinds::NULL_LITERAL;
+use plan::kinds::PROJECTION;
+use plan::kinds::SUBQUERY_ALIAS;
+use plan::kinds::TABLE_SCAN;
+use plan::kinds::WINDOW;
+use plan::kinds::WINDOW_ENTRY;
+use plan::kinds::is_expression;
+use plan::kinds::is_plan;
+use plan::words::BOOLEAN;
+use plan::words::FULL;
+use plan::words::INTEGER;
+use plan::words::LEFT_ANTI;
+use plan::words::LEFT_SEMI;
+use plan::words::NO_TYPE;
 ghost use mathlib.Core.Path.{_≡_};
 ghost use mathlib.Core.Bool.{true};
 ghost use Prim.Native.Nat.{_≤_};
@@ -9,7 +38,7 @@ ghost use lib.ListN.{length};
 ghost use Rattle.image.specs.Places.{Chained};
 ghost use Rattle.image.specs.Tree.{Forest, Label, Linked, labelAt};
 ghost use Rattle.plan.specs.Kinds.{what, whatOf};
-ghost use Rattle.check_fields.specs.Count.{below, counted, hit, hits, input, makes, own, role};
+ghost use Rattle.check_fields.specs.Count.{below, counted, hit, hits, input, makes, own, role, underAlias};
 ghost use Rattle.check_fields.specs.Fields.{Schema, inputs, made, typeOf};
 ghost use Rattle.check_fields.specs.Seek.{Makes, Planned, partsOver, passedOf, seek, told, typeFound};
 ghost use Rattle.check_fields.specs.Typed.{partType, plainType};
@@ -23,78 +52,74 @@ fn near(q: usize, r: usize) -> bool
 }
 
 // Whether the question asks for the field with the qualifier r and the name m.
-fn is_hit(mode: usize, q: usize, n: usize, r: usize, m: usize) -> bool
-    ensures { λ b. ⌜ b ≡ hit mode q n r m ⌝ }
+fn is_hit(asks: Question, q: usize, n: usize, r: usize, m: usize) -> bool
+    ensures { λ b. ⌜ b ≡ hit asks q n r m ⌝ }
 {
-    if mode == 0 {
-        return (r == q) & (m == n);
+    match asks {
+        Question::Exact => (r == q) & (m == n),
+        Question::ByName => m == n,
+        Question::Every => true,
+        Question::Clashing => near(q, r) & (m == n),
+        Question::Nothing => false,
     }
-    if mode == 1 {
-        return m == n;
-    }
-    if mode == 3 {
-        return near(q, r) & (m == n);
-    }
-    mode == 2
 }
 
 // Whether a part makes a field.
 pub fn makes_one(kind: usize) -> bool
     ensures { λ b. ⌜ b ≡ makes (whatOf kind) ⌝ }
 {
-    if kind == 48 {
+    if kind == FIELD {
         return true;
     }
-    if kind == 49 {
+    if kind == ENTRY {
         return true;
     }
-    if kind == 52 {
+    if kind == AGGREGATE_ENTRY {
         return true;
     }
-    kind == 53
+    kind == WINDOW_ENTRY
 }
 
-// Where a plan has its fields from: 1 its parts, 2 its inputs as a join, 3 its input renamed, 4 its input and its parts, 5 its first input;
-// 0 for a record that is no plan.
+// Where a record of the kind has its fields from.
 pub fn role_of(kind: usize) -> usize
     ensures { λ r. ⌜ r ≡ role (whatOf kind) ⌝ }
 {
-    if kind == 32 {
-        return 1;
+    if kind == TABLE_SCAN {
+        return CREATES;
     }
-    if kind == 34 {
-        return 1;
+    if kind == PROJECTION {
+        return CREATES;
     }
-    if kind == 42 {
-        return 1;
+    if kind == AGGREGATE {
+        return CREATES;
     }
-    if kind == 35 {
-        return 2;
+    if kind == JOIN {
+        return JOINS;
     }
-    if kind == 36 {
-        return 3;
+    if kind == SUBQUERY_ALIAS {
+        return RENAMES;
     }
-    if kind == 43 {
-        return 4;
+    if kind == WINDOW {
+        return EXTENDS;
     }
-    if (32 <= kind) & (kind <= 43) {
-        return 5;
+    if is_plan(kind) {
+        return PASSES;
     }
-    0
+    NO_PLAN
 }
 
 // The input that is asked: for semi and anti joins their own, else the first.
 pub fn own_input(role: usize, p: usize) -> usize
     ensures { λ r. ⌜ r ≡ own role p ⌝ }
 {
-    if role == 2 {
-        if p <= 4 {
+    if role == JOINS {
+        if p <= FULL {
             return 0;
         }
-        if p == 5 {
+        if p == LEFT_SEMI {
             return 0;
         }
-        if p == 7 {
+        if p == LEFT_ANTI {
             return 0;
         }
         return 1;
@@ -102,26 +127,37 @@ pub fn own_input(role: usize, p: usize) -> usize
     0
 }
 
-// The question that is put to the input: an alias has one qualifier for all its fields.
-fn question(role: usize, p: usize, mode: usize, q: usize) -> usize
-    ensures { λ r. ⌜ r ≡ below role p mode q ⌝ }
+// The question that is put to the input of an alias with the qualifier p: all its fields have that.
+fn under_alias(p: usize, asks: Question, q: usize) -> Question
+    ensures { λ r. ⌜ r ≡ underAlias p asks q ⌝ }
 {
-    if role == 3 {
-        if mode == 0 {
+    match asks {
+        Question::Exact => {
             if p == q {
-                return 1;
+                return Question::ByName;
             }
-            return 4;
+            Question::Nothing
         }
-        if mode == 3 {
+        Question::ByName => Question::ByName,
+        Question::Every => Question::Every,
+        Question::Clashing => {
             if near(q, p) {
-                return 1;
+                return Question::ByName;
             }
-            return 4;
+            Question::Nothing
         }
-        return mode;
+        Question::Nothing => Question::Nothing,
     }
-    mode
+}
+
+// The question that is put to the input.
+fn question(role: usize, p: usize, asks: Question, q: usize) -> Question
+    ensures { λ r. ⌜ r ≡ below role p asks q ⌝ }
+{
+    if role == RENAMES {
+        return under_alias(p, asks, q);
+    }
+    asks
 }
 
 // What a search for a field finds.
@@ -141,22 +177,22 @@ pub const ALL: usize = 18446744073709551615;
 fn plain_type(kind: usize, p: usize, r: usize) -> usize
     ensures { λ t. ⌜ t ≡ plainType (whatOf kind) p r ⌝ }
 {
-    if kind == 2 {
-        return 1;
+    if kind == INTEGER_LITERAL {
+        return INTEGER;
     }
-    if kind == 4 {
+    if kind == NULL_LITERAL {
         return p;
     }
-    if kind == 10 {
+    if kind == FUNCTION {
         return r;
     }
-    if kind == 1 {
-        return 0;
+    if kind == COLUMN {
+        return NO_TYPE;
     }
-    if (1 <= kind) & (kind <= 10) {
-        return 2;
+    if is_expression(kind) {
+        return BOOLEAN;
     }
-    0
+    NO_TYPE
 }
 
 // The type of the expression at the start of s.
@@ -165,7 +201,7 @@ pub fn source_of(s: &[u8]) -> Sought
     ensures { λ x. ⌜ ((d : Schema) → told d x ≡ Sought.Known (typeOf d (labelAt (now (s .entry))))) ⌝ }
 {
     let v = look(s);
-    if v.kind == 1 {
+    if v.kind == COLUMN {
         return Sought::Named(v.p, v.q);
     }
     Sought::Known(plain_type(v.kind, v.p, v.r))
@@ -177,16 +213,16 @@ fn made_by(part: &[u8], at: usize, v: Node) -> Sought
     ensures { λ x. ⌜ ((l : Label) (cs : Forest) (d : Schema) → v .kind ≡ l .kind → v .r ≡ l .r → Linked cs (now (part .entry)) at (v .first)
         → makes (what l) ≡ true → told d x ≡ Sought.Known (partType (what l) d l cs)) ⌝ }
 {
-    if v.kind == 48 {
+    if v.kind == FIELD {
         return Sought::Known(v.r);
     }
-    if v.kind == 49 {
+    if v.kind == ENTRY {
         if v.first == 0 {
-            return Sought::Known(0);
+            return Sought::Known(NO_TYPE);
         }
         return source_of(from_record(part, at, v.first));
     }
-    Sought::Known(1)
+    Sought::Known(INTEGER)
 }
 
 // Of the fields asked for that the parts from record `at` on make, the one with the place k.
@@ -194,20 +230,20 @@ pub fn seek_made(
     s: &[u8],
     base: usize,
     at: usize,
-    mode: usize,
+    asks: Question,
     q: usize,
     n: usize,
     k: usize,
 ) -> Sought
     requires { ⌜ Chained (now s) base at ⌝ }
-    ensures { λ x. ⌜ ((f : Forest) (d : Schema) → Linked f (now (s .entry)) base at → told d x ≡ seek (hits mode q n) k (made d f)) ⌝ }
+    ensures { λ x. ⌜ ((f : Forest) (d : Schema) → Linked f (now (s .entry)) base at → told d x ≡ seek (hits asks q n) k (made d f)) ⌝ }
 {
     let mut left = k;
     let mut here = at;
     while here != 0 {
         let part = from_record(s, base, here);
         let v = look(part);
-        if makes_one(v.kind) & is_hit(mode, q, n, v.p, v.q) {
+        if makes_one(v.kind) & is_hit(asks, q, n, v.p, v.q) {
             if left == 0 {
                 return made_by(part, here, v);
             }
@@ -227,7 +263,7 @@ pub fn plan_at(s: &[u8], base: usize, at: usize, skip: usize) -> usize
     let mut here = at;
     while here != 0 {
         let v = look(from_record(s, base, here));
-        if role_of(v.kind) != 0 {
+        if role_of(v.kind) != NO_PLAN {
             if left == 0 {
                 return here;
             }
@@ -241,30 +277,30 @@ pub fn plan_at(s: &[u8], base: usize, at: usize, skip: usize) -> usize
 // The plan that is asked for fields, or 0, and the question that is put to it.
 pub struct Maker {
     pub at: usize,
-    pub mode: usize,
+    pub asks: Question,
 }
 
-// Past the plans that have the fields of one input and no others: the plan to ask for those of the one with the place `skip` among the trees
-// from record `at` on.
-fn find_maker(s: &[u8], base: usize, at: usize, skip: usize, mode: usize, q: usize) -> Maker
+// Past the plans that have the fields of one input and no others: the plan to ask for those of the one with the place `skip` among the
+// trees from record `at` on.
+fn find_maker(s: &[u8], base: usize, at: usize, skip: usize, asks: Question, q: usize) -> Maker
     requires { ⌜ Chained (now s) base at ⌝ }
-    ensures { λ x. ⌜ ((f : Forest) → Linked f (now (s .entry)) base at → Makes f (now (s .entry)) base at skip mode q (x .at) (x .mode)) ⌝ }
+    ensures { λ x. ⌜ ((f : Forest) → Linked f (now (s .entry)) base at → Makes f (now (s .entry)) base at skip asks q (x .at) (x .asks)) ⌝ }
 {
-    let mut asked = mode;
+    let mut asked = asks;
     let mut here = plan_at(s, base, at, skip);
     while here != 0 {
         let v = look(from_record(s, base, here));
         let role = role_of(v.kind);
-        if (role == 1) | (role == 4) | ((role == 2) & (v.p <= 4)) {
+        if (role == CREATES) | (role == EXTENDS) | ((role == JOINS) & (v.p <= FULL)) {
             return Maker {
                 at: here,
-                mode: asked,
+                asks: asked,
             };
         }
         asked = question(role, v.p, asked, q);
         here = plan_at(s, base, v.first, own_input(role, v.p));
     }
-    Maker { at: 0, mode: asked }
+    Maker { at: 0, asks: asked }
 }
 
 // The type that a search found; 0 for none.
@@ -273,8 +309,8 @@ pub fn type_found(x: Sought) -> usize
 {
     match x {
         Sought::Known(t) => t,
-        Sought::Named(_, _) => 0,
-        Sought::Left(_) => 0,
+        Sought::Named(_, _) => NO_TYPE,
+        Sought::Left(_) => NO_TYPE,
     }
 }
 
@@ -285,24 +321,24 @@ pub fn seek_field(
     base: usize,
     at: usize,
     skip: usize,
-    mode: usize,
+    asks: Question,
     q: usize,
     n: usize,
     k: usize,
 ) -> Sought
     requires { ⌜ Chained (now s) base at ⌝ }
-    ensures { λ x. ⌜ ((f : Forest) → Linked f (now (s .entry)) base at → x ≡ seek (hits mode q n) k (input skip (inputs f))) ⌝ }
+    ensures { λ x. ⌜ ((f : Forest) → Linked f (now (s .entry)) base at → x ≡ seek (hits asks q n) k (input skip (inputs f))) ⌝ }
 {
-    let x = find_maker(s, base, at, skip, mode, q);
+    let x = find_maker(s, base, at, skip, asks, q);
     let here = x.at;
-    let asked = x.mode;
+    let asked = x.asks;
     if here == 0 {
         return Sought::Left(k);
     }
     let part = from_record(s, base, here);
     let v = look(part);
     let role = role_of(v.kind);
-    if role == 1 {
+    if role == CREATES {
         return seek_parts(part, here, v.first, v.kind, asked, q, n, k);
     }
     let under = seek_field(
@@ -319,10 +355,10 @@ pub fn seek_field(
         Sought::Known(t) => Sought::Known(t),
         Sought::Named(a, b) => Sought::Named(a, b),
         Sought::Left(j) => {
-            if (role == 2) & (v.p <= 4) {
+            if (role == JOINS) & (v.p <= FULL) {
                 return seek_field(part, here, v.first, 1, asked, q, n, j);
             }
-            if role == 4 {
+            if role == EXTENDS {
                 return seek_parts(part, here, v.first, v.kind, asked, q, n, j);
             }
             Sought::Left(j)
@@ -336,22 +372,22 @@ fn seek_parts(
     base: usize,
     at: usize,
     kind: usize,
-    mode: usize,
+    asks: Question,
     q: usize,
     n: usize,
     k: usize,
 ) -> Sought
     requires { ⌜ Chained (now s) base at ⌝ }
-    ensures { λ x. ⌜ ((f : Forest) → Linked f (now (s .entry)) base at → x ≡ seek (hits mode q n) k (made (partsOver kind f) f)) ⌝ }
+    ensures { λ x. ⌜ ((f : Forest) → Linked f (now (s .entry)) base at → x ≡ seek (hits asks q n) k (made (partsOver kind f) f)) ⌝ }
 {
-    let made = seek_made(s, base, at, mode, q, n, k);
+    let made = seek_made(s, base, at, asks, q, n, k);
     match made {
         Sought::Known(t) => Sought::Known(t),
         Sought::Named(a, b) => {
-            if kind == 32 {
-                return Sought::Known(0);
+            if kind == TABLE_SCAN {
+                return Sought::Known(NO_TYPE);
             }
-            Sought::Known(type_found(seek_field(s, base, at, 0, 0, a, b, 0)))
+            Sought::Known(type_found(seek_field(s, base, at, 0, Question::Exact, a, b, 0)))
         }
         Sought::Left(j) => Sought::Left(j),
     }
@@ -369,11 +405,11 @@ pub fn passed(x: Sought) -> usize
 }
 
 // How many fields that the question asks for are made by the parts from record `at` on.
-pub fn made_count(s: &[u8], base: usize, at: usize, mode: usize, q: usize, n: usize) -> usize
+pub fn made_count(s: &[u8], base: usize, at: usize, asks: Question, q: usize, n: usize) -> usize
     requires { ⌜ Chained (now s) base at ⌝ }
-    ensures { λ r. ⌜ ((f : Forest) (c : Schema) → Linked f (now (s .entry)) base at → r ≡ counted (hits mode q n) (made c f)) ⌝ }
+    ensures { λ r. ⌜ ((f : Forest) (c : Schema) → Linked f (now (s .entry)) base at → r ≡ counted (hits asks q n) (made c f)) ⌝ }
 {
-    passed(seek_made(s, base, at, mode, q, n, ALL))
+    passed(seek_made(s, base, at, asks, q, n, ALL))
 }
 
 // How many fields that the question asks for has the plan with the place `skip` among the trees from record `at` on.
@@ -382,12 +418,12 @@ pub fn holders(
     base: usize,
     at: usize,
     skip: usize,
-    mode: usize,
+    asks: Question,
     q: usize,
     n: usize,
 ) -> usize
     requires { ⌜ Chained (now s) base at ⌝ }
-    ensures { λ r. ⌜ ((f : Forest) → Linked f (now (s .entry)) base at → r ≡ counted (hits mode q n) (input skip (inputs f))) ⌝ }
+    ensures { λ r. ⌜ ((f : Forest) → Linked f (now (s .entry)) base at → r ≡ counted (hits asks q n) (input skip (inputs f))) ⌝ }
 {
-    passed(seek_field(s, base, at, skip, mode, q, n, ALL))
+    passed(seek_field(s, base, at, skip, asks, q, n, ALL))
 }

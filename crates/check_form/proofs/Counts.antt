@@ -18,10 +18,10 @@ use Rattle.plan.specs.Kinds.{What, expr, plan, part, unknown, what, whatOf, amo
 use Rattle.plan.specs.Form.{end, one, childrenBy, isAnd, conjuncts, exprsIn, listBy, formOk}
 use Rattle.plan.proofs.Lists.{and-l, and-true}
 use Rattle.plan.proofs.Rebuilt.{kind-p}
-use Rattle.check_form.specs.declared.kinds.Sort.the-variants.{Expression}
+use Rattle.check_form.specs.declared.sorts.Sort.the-variants.{Expression}
 use Rattle.check_form.specs.Sorts.{sortOf}
 use Rattle.check_form.specs.Patterns.{item, lastItem, meets, fitting}
-use Rattle.check_form.proofs.Bools.{both}
+use Rattle.plan.proofs.Bools.{both}
 use Rattle.image.proofs.Along.{Along, along-start, along-end, along-step, here-in}
 use Rattle.check_form.proofs.Patterned.{sorted}
 
@@ -36,13 +36,13 @@ operands : (f : Forest) → meets 11110000 f ≡ one isExpr (one isExpr end) f
 unfolding meets item lastItem sortOf
 operands f = refl
 
-pub fits-aggregate : (k p : ℕ) (f : Forest) {x y : Bool} → k ≡ 42 → x ≡ meets p f → y ≡ meets 12000000 f → (x && not y) ≡ fitting k p f
+pub fits-aggregate : (k p : ℕ) (f : Forest) {x y : Bool} → k ≡ K.numberP K.Aggregate → x ≡ meets p f → y ≡ meets 12000000 f → (x && not y) ≡ fitting k p f
 unfolding fitting _&_
 fits-aggregate k p f {x} {y} e a b = rw (a, b, e, input-alone f) (both (meets p f) (not (one isPlan end f)))
 
-pub fits-other : (k p : ℕ) (f : Forest) {x : Bool} → (k ≡ 42 → ⊥) → x ≡ meets p f → x ≡ fitting k p f
+pub fits-other : (k p : ℕ) (f : Forest) {x : Bool} → (k ≡ K.numberP K.Aggregate → ⊥) → x ≡ meets p f → x ≡ fitting k p f
 unfolding fitting _&_
-fits-other k p f {x} e a = rw (a, ne-eqb k 42 e) (sym (and-true (meets p f)))
+fits-other k p f {x} e a = rw (a, ne-eqb k (K.numberP K.Aggregate) e) (sym (and-true (meets p f)))
 
 -- the pattern of a leaf
 no-children : (f : Forest) → meets 0 f ≡ end f
@@ -115,7 +115,7 @@ module _ {s : List ℕ} {b from : ℕ} where
 
 and-expr : (l : Label) (cs : Forest) → isAnd l cs ≡ true → isExpr l ≡ true
 unfolding isAnd whatOf among
-and-expr l cs h = let e : l .kind ≡ 5 = eqb-true (l .kind) 5 (and-l _ _ h) in ap (λ (n : ℕ). K.exprW (whatOf n)) e
+and-expr l cs h = let e : l .kind ≡ K.numberE K.Binary = eqb-true (l .kind) (K.numberE K.Binary) (and-l _ _ h) in ap (λ (n : ℕ). K.exprW (whatOf n)) e
 
 -- an And is read as a sum
 split : (a e : Bool) (n : ℕ) → (a ≡ true → e ≡ true) → cond e (cond a n 1) 0 ≤ n + 1
@@ -158,15 +158,15 @@ module _ {f : Forest} {s : List ℕ} {b at : ℕ} {part : List ℕ} {v : Node} (
 -- ---- an And of two expressions
 
 module _ (l : Label) (f : Forest) {kind p : ℕ} (k : kind ≡ l .kind) (q : p ≡ l .p) where
-  pub and-kind : (kind ≡ 5 → ⊥) → false ≡ isAnd l f
+  pub and-kind : (kind ≡ K.numberE K.Binary → ⊥) → false ≡ isAnd l f
   unfolding isAnd _&_
   and-kind z = rw (ne-eqb (l .kind) 5 (λ e. z (k ∙ e)))
 
-  pub and-operator : kind ≡ 5 → (p ≡ 1 → ⊥) → false ≡ isAnd l f
+  pub and-operator : kind ≡ K.numberE K.Binary → (p ≡ 1 → ⊥) → false ≡ isAnd l f
   unfolding isAnd _&_
   and-operator e z = rw (eq-eqb (l .kind) 5 (sym k ∙ e), ne-eqb (l .p) 1 (λ i. z (q ∙ i)))
 
-  pub and-two : {x : Bool} → kind ≡ 5 → p ≡ 1 → x ≡ meets 11110000 f → x ≡ isAnd l f
+  pub and-two : {x : Bool} → kind ≡ K.numberE K.Binary → p ≡ 1 → x ≡ meets 11110000 f → x ≡ isAnd l f
   unfolding isAnd _&_
   and-two e i m = m ∙ operands f ∙ rw (eq-eqb (l .kind) 5 (sym k ∙ e), eq-eqb (l .p) 1 (sym q ∙ i))
 
@@ -177,19 +177,19 @@ abbrev of-number : ℕ → Label
 of-number n = record { kind = n; p = 0; q = 0; r = 0; lo = 0; hi = 0 }
 
 module _ (f : Forest) (n : ℕ) where
-  pub list-scan : {x : ℕ} → n ≡ 32 → x ≡ exprsIn f → x ≡ listBy (whatOf n) f
+  pub list-scan : {x : ℕ} → n ≡ K.numberP K.TableScan → x ≡ exprsIn f → x ≡ listBy (whatOf n) f
   unfolding whatOf among
   list-scan e h = rw e h
 
-  pub list-filter : {x : ℕ} → n ≡ 33 → x ≡ conjuncts f → x ≡ listBy (whatOf n) f
+  pub list-filter : {x : ℕ} → n ≡ K.numberP K.Filter → x ≡ conjuncts f → x ≡ listBy (whatOf n) f
   unfolding whatOf among
   list-filter e h = rw e h
 
-  pub list-join : {x : ℕ} → n ≡ 35 → x ≡ conjuncts f → x ≡ listBy (whatOf n) f
+  pub list-join : {x : ℕ} → n ≡ K.numberP K.Join → x ≡ conjuncts f → x ≡ listBy (whatOf n) f
   unfolding whatOf among
   list-join e h = rw e h
 
-  pub list-other : (n ≡ 32 → ⊥) → (n ≡ 33 → ⊥) → (n ≡ 35 → ⊥) → 0 ≡ listBy (whatOf n) f
+  pub list-other : (n ≡ K.numberP K.TableScan → ⊥) → (n ≡ K.numberP K.Filter → ⊥) → (n ≡ K.numberP K.Join → ⊥) → 0 ≡ listBy (whatOf n) f
   list-other a b c = go (whatOf n) refl
     where
       go : (w : What) → whatOf n ≡ w → 0 ≡ listBy w f

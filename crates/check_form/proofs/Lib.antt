@@ -1,6 +1,4 @@
-pub mod Bools
 pub mod Counts
-pub mod Numbers
 pub mod Patterned
 pub mod Rooting
 pub mod Roots

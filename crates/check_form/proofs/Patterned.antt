@@ -5,7 +5,7 @@ use mathlib.Core.Bool.{Bool, true, false, cond, _&&_}
 use mathlib.Core.List.{List, [], _∷_}
 use Prim.Native.Nat.{ℕ, _-_, _*_, _/_, _%_}
 use native.Mathlib.Omega.{arith}
-use lib.Dec.{eqb, leb}
+use lib.Dec.{eqb}
 use lib.ListN.{getD, drop}
 use borrow.Author.Tests.{eq-eqb, ne-eqb}
 use Rattle.image.specs.Tree.{Label, Forest, none, node, Linked, Node, nodeOf}
@@ -14,14 +14,14 @@ use Rattle.image.specs.declared.places.Place.{Place}
 use Rattle.image.specs.declared.places.Place.the-variants.{At, Nowhere}
 use Rattle.image.proofs.Stepping.{Step}
 use Rattle.plan.specs.Lists.{_&_}
-use Rattle.plan.specs.Kinds.{unknown, whatOf, among}
+use Rattle.plan.specs.Kinds.{unknown, whatOf, among, exprW, planW, partW, numberE, numberP, numberQ, Column, TableScan, FieldPart}
 use Rattle.plan.specs.Form.{end, one, past, perhaps, childrenBy}
 use Rattle.plan.proofs.Lists.{and-true}
-use Rattle.check_form.specs.declared.kinds.Sort.{Sort}
+use Rattle.check_form.specs.declared.sorts.Sort.{Sort}
 use Rattle.check_form.specs.Sorts.{sortOf, ofSort}
 use Rattle.check_form.specs.Patterns.{sortFor, item, lastItem, meets, fitting, Follows, Leads}
-use Rattle.check_form.proofs.Bools.{both}
-use Rattle.check_form.proofs.Numbers.{at, from-run, to-run}
+use Rattle.plan.proofs.Bools.{both}
+use Rattle.plan.proofs.KindRanges.{at, expr-run, plan-run, part-run}
 use Rattle.image.proofs.Along.{Along, along-start, along-end, along-step, here-in}
 
 -- ---- the tables
@@ -36,17 +36,17 @@ plans =
 abbrev parts : List ℕ
 parts = 0 ∷ 11000000 ∷ 11110000 ∷ 11000000 ∷ 11000000 ∷ 11290000 ∷ []
 
-pub pattern-expr : (k : ℕ) → (leb 1 k && leb k 10) ≡ true → (f : Forest) → fitting k (getD exprs (k - 1) 0) f ≡ childrenBy (whatOf k) f
+pub pattern-expr : (k : ℕ) → exprW (whatOf k) ≡ true → (f : Forest) → fitting k (getD exprs (k - numberE Column) 0) f ≡ childrenBy (whatOf k) f
 unfolding fitting meets item lastItem sortOf whatOf among _&_
 pattern-expr k h f =
-    at (λ n. fitting n (getD exprs (n - 1) 0) f ≡ childrenBy (whatOf n) f) 10 1 k
+    at (λ n. fitting n (getD exprs (n - numberE Column) 0) f ≡ childrenBy (whatOf n) f) 10 (numberE Column) k
     (and-true _, (and-true _, (and-true _, (and-true _, (and-true _, (and-true _, (and-true _, (and-true _, (and-true _, (and-true _, tt))))))))))
-    (from-run 1 10 k h) (omega (arith, to-run 1 10 k h))
+    (expr-run k h .0) (omega (arith, expr-run k h .1))
 
-pub pattern-plan : (k : ℕ) → (leb 32 k && leb k 43) ≡ true → (f : Forest) → fitting k (getD plans (k - 32) 0) f ≡ childrenBy (whatOf k) f
+pub pattern-plan : (k : ℕ) → planW (whatOf k) ≡ true → (f : Forest) → fitting k (getD plans (k - numberP TableScan) 0) f ≡ childrenBy (whatOf k) f
 unfolding fitting meets item lastItem sortOf whatOf among _&_
 pattern-plan k h f =
-    at (λ n. fitting n (getD plans (n - 32) 0) f ≡ childrenBy (whatOf n) f) 12 32 k (
+    at (λ n. fitting n (getD plans (n - numberP TableScan) 0) f ≡ childrenBy (whatOf n) f) 12 (numberP TableScan) k (
       and-true _,
       (
         and-true _,
@@ -56,14 +56,14 @@ pattern-plan k h f =
         ),
       ),
     )
-    (from-run 32 43 k h) (omega (arith, to-run 32 43 k h))
+    (plan-run k h .0) (omega (arith, plan-run k h .1))
 
-pub pattern-part : (k : ℕ) → (leb 48 k && leb k 53) ≡ true → (f : Forest) → fitting k (getD parts (k - 48) 0) f ≡ childrenBy (whatOf k) f
+pub pattern-part : (k : ℕ) → partW (whatOf k) ≡ true → (f : Forest) → fitting k (getD parts (k - numberQ FieldPart) 0) f ≡ childrenBy (whatOf k) f
 unfolding fitting meets item lastItem sortOf whatOf among _&_
 pattern-part k h f =
-    at (λ n. fitting n (getD parts (n - 48) 0) f ≡ childrenBy (whatOf n) f) 6 48 k
+    at (λ n. fitting n (getD parts (n - numberQ FieldPart) 0) f ≡ childrenBy (whatOf n) f) 6 (numberQ FieldPart) k
     (and-true _, (and-true _, (and-true _, (and-true _, (and-true _, (and-true _, tt))))))
-    (from-run 48 53 k h) (omega (arith, to-run 48 53 k h))
+    (part-run k h .0) (omega (arith, part-run k h .1))
 
 pub pattern-never : (k : ℕ) → whatOf k ≡ unknown → (f : Forest) → fitting k 99999999 f ≡ childrenBy (whatOf k) f
 unfolding fitting meets item _&_

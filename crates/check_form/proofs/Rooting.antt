@@ -13,7 +13,7 @@ use Rattle.image.specs.declared.places.Place.the-variants.{At}
 use Rattle.image.proofs.Walking.{linked-first}
 use Rattle.plan.specs.Kinds.{isPlan, planW, whatOf}
 use Rattle.plan.specs.Form.{formOk, badForm}
-use Rattle.check_form.specs.declared.kinds.Sort.the-variants.{Plan}
+use Rattle.check_form.specs.declared.sorts.Sort.the-variants.{Plan}
 use Rattle.check_form.specs.Sorts.{sortOf}
 use Rattle.check_form.specs.Misformed.{misformed}
 use Rattle.check_form.proofs.Search.{low-root}

@@ -5,19 +5,19 @@ use mathlib.Core.Bool.{Bool, true, false, _&&_}
 use mathlib.Core.List.{List, [], _∷_}
 use Prim.Native.Nat.{ℕ, zero, suc, _+_, _-_, _*_, _/_, _%_, _≤_, _<_}
 use native.Mathlib.Omega.{arith}
-use lib.Dec.{eqb, leb}
+use lib.Dec.{eqb}
 use lib.ListN.{drop, getD}
 use lib.Seq.{drop-drop}
 use borrow.Author.Tests.{eqb-true, le-leb, lt-leb}
 use Rattle.image.specs.Tree.{Label, labelAt}
 use Rattle.image.specs.Lowest.{nothing, found, orElse, unless}
 use Rattle.plan.specs.Lists.{_&_}
-use Rattle.plan.specs.Kinds.{What, expr, plan, part, unknown, whatOf, among}
+use Rattle.plan.specs.Kinds.{What, expr, plan, part, unknown, whatOf, among, exprW, planW, partW, numberE, numberP, numberQ, Column, TableScan, Sort, FieldPart}
 use Rattle.plan.specs.Words.{Row, _to_, inside, fits, wordsBy, wordsOk}
 use Rattle.acceptance.specs.Check.{badWords}
 use Rattle.check_form.specs.Rows.{rangeOf, decoded, rowBy}
-use Rattle.check_form.proofs.Bools.{both, and-left, and-right}
-use Rattle.check_form.proofs.Numbers.{at, from-run, to-run}
+use Rattle.plan.proofs.Bools.{both, and-left, and-right}
+use Rattle.plan.proofs.KindRanges.{at, expr-run, plan-run, part-run}
 
 -- ---- the tables
 
@@ -30,18 +30,18 @@ plans = 10000 ∷ 0 ∷ 0 ∷ 50000 ∷ 20000 ∷ 0 ∷ 0 ∷ 30000 ∷ 0 ∷ 11
 abbrev parts : List ℕ
 parts = 12430 ∷ 12000 ∷ 0 ∷ 30000 ∷ 12700 ∷ 12700 ∷ []
 
-pub row-expr : (k p : ℕ) → (leb 1 k && leb k 10) ≡ true → decoded (getD exprs (k - 1) 0) ≡ rowBy (whatOf k) p
+pub row-expr : (k p : ℕ) → exprW (whatOf k) ≡ true → decoded (getD exprs (k - numberE Column) 0) ≡ rowBy (whatOf k) p
 unfolding decoded rangeOf whatOf among
 row-expr k p h =
-    at (λ n. decoded (getD exprs (n - 1) 0) ≡ rowBy (whatOf n) p) 10 1 k
+    at (λ n. decoded (getD exprs (n - numberE Column) 0) ≡ rowBy (whatOf n) p) 10 (numberE Column) k
     (refl, (refl, (refl, (refl, (refl, (refl, (refl, (refl, (refl, (refl, tt))))))))))
-    (from-run 1 10 k h) (omega (arith, to-run 1 10 k h))
+    (expr-run k h .0) (omega (arith, expr-run k h .1))
 
 -- a Sort here has no fetch
-pub row-plan : (k p : ℕ) → (eqb k 39 && eqb p 1) ≡ false → (leb 32 k && leb k 43) ≡ true → decoded (getD plans (k - 32) 0) ≡ rowBy (whatOf k) p
+pub row-plan : (k p : ℕ) → (eqb k (numberP Sort) && eqb p 1) ≡ false → planW (whatOf k) ≡ true → decoded (getD plans (k - numberP TableScan) 0) ≡ rowBy (whatOf k) p
 unfolding decoded rangeOf whatOf among
 row-plan k p f h =
-    at (λ n. (eqb n 39 && eqb p 1) ≡ false → decoded (getD plans (n - 32) 0) ≡ rowBy (whatOf n) p) 12 32 k (
+    at (λ n. (eqb n (numberP Sort) && eqb p 1) ≡ false → decoded (getD plans (n - numberP TableScan) 0) ≡ rowBy (whatOf n) p) 12 (numberP TableScan) k (
       λ _. refl,
       (
         λ _. refl,
@@ -51,18 +51,18 @@ row-plan k p f h =
         ),
       ),
     )
-    (from-run 32 43 k h) (omega (arith, to-run 32 43 k h)) f
+    (plan-run k h .0) (omega (arith, plan-run k h .1)) f
 
-pub row-part : (k p : ℕ) → (leb 48 k && leb k 53) ≡ true → decoded (getD parts (k - 48) 0) ≡ rowBy (whatOf k) p
+pub row-part : (k p : ℕ) → partW (whatOf k) ≡ true → decoded (getD parts (k - numberQ FieldPart) 0) ≡ rowBy (whatOf k) p
 unfolding decoded rangeOf whatOf among
 row-part k p h =
-    at (λ n. decoded (getD parts (n - 48) 0) ≡ rowBy (whatOf n) p) 6 48 k
+    at (λ n. decoded (getD parts (n - numberQ FieldPart) 0) ≡ rowBy (whatOf n) p) 6 (numberQ FieldPart) k
     (refl, (refl, (refl, (refl, (refl, (refl, tt))))))
-    (from-run 48 53 k h) (omega (arith, to-run 48 53 k h))
+    (part-run k h .0) (omega (arith, part-run k h .1))
 
-pub row-fetch : (k p : ℕ) → (eqb k 39 && eqb p 1) ≡ true → decoded 30010 ≡ rowBy (whatOf k) p
+pub row-fetch : (k p : ℕ) → (eqb k (numberP Sort) && eqb p 1) ≡ true → decoded 30010 ≡ rowBy (whatOf k) p
 unfolding decoded rangeOf whatOf among
-row-fetch k p h = rw (eqb-true k 39 (and-left (eqb k 39) (eqb p 1) h), and-right (eqb k 39) (eqb p 1) h)
+row-fetch k p h = rw (eqb-true k (numberP Sort) (and-left (eqb k (numberP Sort)) (eqb p 1) h), and-right (eqb k (numberP Sort)) (eqb p 1) h)
 
 pub row-unknown : (k p : ℕ) → whatOf k ≡ unknown → decoded 88888 ≡ rowBy (whatOf k) p
 unfolding decoded rangeOf

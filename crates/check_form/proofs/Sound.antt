@@ -5,15 +5,13 @@
 use mathlib.Core.Path.{_≡_, refl}
 use mathlib.Core.Bool.{Bool, true, false, cond}
 use mathlib.Core.List.{List}
-use Prim.Native.Nat.{ℕ, _*_, _/_, _≤_}
+use Prim.Native.Nat.{ℕ, _/_}
 use native.Mathlib.Omega.{arith}
 use lib.ListN.{length}
-use Rattle.image.specs.Limits.{maxRecords}
 use Rattle.image.specs.Tree as Trees
 use Rattle.image.specs.Tree.{Tree}
 use Rattle.image.specs.Flat.{sizeT}
 use Rattle.image.specs.Lowest.{Found, nothing, found, unless, alone}
-use Rattle.plan.specs.Words.{Worded}
 use Rattle.plan.specs.Form.{badForm}
 use Rattle.plan.specs.Read.{planAt}
 use Rattle.acceptance.specs.Check.{bufferOk, badWords, Links, tree, broken, linked, tooDeep, Verdict, at, checkPlan, checkTree, checkLinks}
@@ -21,6 +19,7 @@ use Rattle.acceptance.specs.Check.{check}
 use Rattle.acceptance.proofs.Accept.{words-of, worded, links-count, links-stand, buffer-of as sized}
 use Rattle.check_form.specs.declared.checked.Formed.{Formed}
 use Rattle.check_form.specs.declared.checked.Formed.the-variants.{Buffer, Record, Depth, Form, Whole}
+use Rattle.check_form.specs.Sound.{Sound}
 use Rattle.check_form.specs.Formed.{stop, formedTree, formedLinks, formed, numbered, later}
 
 -- ---- the check
@@ -62,17 +61,6 @@ no-buffer false rest h = let z : _≡_ {A = ℕ} 0 1 = cc in absurd (omega arith
 no-link : (k : Links) → formedLinks k ≡ Whole → (t : Tree) × (k ≡ tree t) × (formedTree t ≡ Whole)
 no-link (tree t) h = (t, refl, h)
 no-link (broken r) h = let z : _≡_ {A = ℕ} 0 1 = cc in absurd (omega arith)
-
--- what holds of an image that meets none of the tests 1 to 5
-pub record Sound (s : List ℕ) : Type 0 where
-  pub tree : Tree
-  pub links : linked s (length s / 32) ≡ Links.tree tree
-  pub stands : Trees.At tree s 0
-  pub bytes : length s ≡ 32 * sizeT tree
-  pub records : sizeT tree ≤ maxRecords
-  pub words : Worded (alone tree)
-  pub depth : tooDeep tree ≡ nothing
-  pub form : badForm tree ≡ nothing
 
 pub sound : (s : List ℕ) → formed s ≡ Whole → Sound s
 unfolding formed formedTree

@@ -6,3 +6,4 @@ pub mod Patterns
 pub mod Rooted
 pub mod Rows
 pub mod Sorts
+pub mod Sound

@@ -2,21 +2,21 @@
 use mathlib.Core.Path.{_≡_}
 use mathlib.Core.Bool.{Bool, false, not, cond}
 use mathlib.Core.List.{List}
-use Prim.Native.Nat.{ℕ, _+_, _/_, _%_}
+use Prim.Native.Nat.{ℕ, _+_, _-_, _/_, _%_}
 use lib.Dec.{eqb}
 use Rattle.image.specs.Tree.{Forest, Linked}
 use Rattle.image.specs.declared.places.Place.{Place}
 use Rattle.image.specs.declared.places.Place.the-variants.{At, Nowhere}
 use Rattle.plan.specs.Lists.{_&_}
-use Rattle.plan.specs.Kinds.{isPlan}
+use Rattle.plan.specs.Kinds.{isPlan, numberE, numberP, numberQ, Column, Aggregate, FieldPart}
 use Rattle.plan.specs.Form.{end, one, many, perhaps}
 use Rattle.check_form.specs.Sorts.{ofSort}
-use Rattle.check_form.specs.declared.kinds.Sort.{Sort}
-use Rattle.check_form.specs.declared.kinds.Sort.the-variants.{Expression, Plan, Kind}
+use Rattle.check_form.specs.declared.sorts.Sort.{Sort}
+use Rattle.check_form.specs.declared.sorts.Sort.the-variants.{Expression, Plan, Kind}
 
 -- 1 expressions, 2 plans, 9 columns, and 3 to 8 the parts in their order
 abbrev pub sortFor : ℕ → Sort
-sortFor n = cond (eqb n 1) Expression (cond (eqb n 2) Plan (cond (eqb n 9) (Kind 1) (Kind (45 + n))))
+sortFor n = cond (eqb n 1) Expression (cond (eqb n 2) Plan (cond (eqb n 9) (Kind (numberE Column)) (Kind (numberQ FieldPart - 3 + n))))
 
 -- an item that others follow: 0 none, 1 one of the sort, 2 any number
 unfoldable pub item : ℕ → (Forest → Bool) → Forest → Bool
@@ -35,7 +35,7 @@ meets p f = item (p / 1000000) (item (p / 10000 % 100) (item (p / 100 % 100) (la
 
 -- the children of a record of the kind: they meet the pattern, and those of an Aggregate are more than its input
 unfoldable pub fitting : ℕ → ℕ → Forest → Bool
-fitting kind p f = meets p f & not (eqb kind 42 & one isPlan end f)
+fitting kind p f = meets p f & not (eqb kind (numberP Aggregate) & one isPlan end f)
 
 -- what is left after a part of a pattern: it fails, whatever is to follow, or the trees from record n on are to meet what follows
 abbrev pub Follows : ((Forest → Bool) → Forest → Bool) → Forest → List ℕ → ℕ → Place → Type 0

@@ -4,8 +4,8 @@ use Prim.Native.Nat.{ℕ}
 use lib.Dec.{eqb}
 use Rattle.image.specs.Tree.{Label}
 use Rattle.plan.specs.Kinds.{whatOf, exprW, planW}
-use Rattle.check_form.specs.declared.kinds.Sort.{Sort}
-use Rattle.check_form.specs.declared.kinds.Sort.the-variants.{Expression, Plan, Kind}
+use Rattle.check_form.specs.declared.sorts.Sort.{Sort}
+use Rattle.check_form.specs.declared.sorts.Sort.the-variants.{Expression, Plan, Kind}
 
 -- a record with this number for its kind is of the sort
 unfoldable pub sortOf : Sort → ℕ → Bool

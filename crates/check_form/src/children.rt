@@ -1,29 +1,27 @@
 // Form (5): the children of a record, and the length of lists.
-use crate::kinds::AGGREGATE;
-use crate::kinds::BINARY;
-use crate::kinds::FILTER;
-use crate::kinds::JOIN;
-use crate::kinds::Sort;
-use crate::kinds::TABLE_SCAN;
-use crate::kinds::of_sort;
-use crate::patterns::INPUT;
-use crate::patterns::LEAF;
-use crate::patterns::OPERANDS;
 use crate::patterns::meets_pattern;
 use crate::patterns::pattern_of;
+use crate::sorts::Sort;
+use crate::sorts::of_sort;
 use image::limits::MAX_LIST;
 use image::records::Node;
 use image::records::from_record;
 use image::records::look;
+use plan::child_patterns::INPUT;
+use plan::child_patterns::LEAF;
+use plan::child_patterns::OPERANDS;
+use plan::kinds::AGGREGATE;
+use plan::kinds::BINARY_EXPR;
+use plan::kinds::FILTER;
+use plan::kinds::JOIN;
+use plan::kinds::TABLE_SCAN;
+use plan::words::AND;
 ghost use mathlib.Core.Path.{_≡_};
 ghost use mathlib.Core.Bool.{cond};
 ghost use Rattle.image.specs.Places.{Chained};
 ghost use Rattle.image.specs.Tree.{Forest, Label, Linked};
 ghost use Rattle.plan.specs.Form.{childrenBy, conjuncts, exprsIn, formOk, isAnd, listBy};
 ghost use Rattle.plan.specs.Kinds.{whatOf};
-
-// The operator And of a BinaryExpr.
-const AND: usize = 1;
 
 // Whether the trees from record `first` on are the children of a record of the kind.
 pub fn children_ok(s: &[u8], base: usize, first: usize, kind: usize) -> bool
@@ -68,7 +66,7 @@ fn is_and(s: &[u8], base: usize, v: Node) -> bool
     ensures { λ r. ⌜ ((l : Label) (f : Forest) → v .kind ≡ l .kind → v .p ≡ l .p
         → Linked f (now (s .entry)) base (v .first) → r ≡ isAnd l f) ⌝ }
 {
-    if v.kind != BINARY {
+    if v.kind != BINARY_EXPR {
         return false;
     }
     if v.p != AND {

@@ -6,7 +6,8 @@ use image::records::from_record;
 use image::records::look;
 use image::words::word_at;
 ghost use mathlib.Core.Path.{_≡_};
-ghost use Prim.Native.Nat.{_≤_};
+ghost use Prim.Native.Nat.{_+_, _≤_};
+ghost use Rattle.image.specs.Limits.{maxDepth};
 ghost use Rattle.image.specs.Places.{Chained, placeOf};
 ghost use Rattle.image.specs.Tree.{At, Forest, Linked, Tree};
 ghost use Rattle.acceptance.specs.Check.{tooDeep};
@@ -15,7 +16,7 @@ ghost use Rattle.check_form.specs.Rooted.{Rooted};
 
 // The lowest record that is too deep, of the trees from record `first` on, which stand at the depth `level`.
 pub fn too_deep(s: &[u8], base: usize, first: usize, level: usize) -> Place
-    requires { ⌜ Chained (now s) base first × (level ≤ 257) ⌝ }
+    requires { ⌜ Chained (now s) base first × (level ≤ maxDepth + 1) ⌝ }
     ensures { λ r. ⌜ ((f : Forest) → Linked f (now (s .entry)) base first → r ≡ placeOf (deepest level first f)) ⌝ }
 {
     let mut at = first;

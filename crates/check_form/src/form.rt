@@ -1,7 +1,7 @@
 // Form (5): the lowest record that has the wrong children, or a list that is too long.
 use crate::children::form_ok;
-use crate::kinds::Sort;
-use crate::kinds::of_sort;
+use crate::sorts::Sort;
+use crate::sorts::of_sort;
 use image::places::Place;
 use image::records::from_record;
 use image::records::look;

@@ -4,7 +4,7 @@ pub mod checked;
 pub mod children;
 pub mod depth;
 pub mod form;
-pub mod kinds;
 pub mod linking;
 pub mod patterns;
+pub mod sorts;
 pub mod words;

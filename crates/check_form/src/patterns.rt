@@ -1,16 +1,20 @@
 // Patterns of children: up to four items, one after another, and then the end.
-use crate::kinds::COLUMN;
-use crate::kinds::FIRST_EXPRESSION;
-use crate::kinds::FIRST_PART;
-use crate::kinds::FIRST_PLAN;
-use crate::kinds::LAST_EXPRESSION;
-use crate::kinds::LAST_PART;
-use crate::kinds::LAST_PLAN;
-use crate::kinds::Sort;
-use crate::kinds::of_sort;
+use crate::sorts::Sort;
+use crate::sorts::of_sort;
 use image::places::Place;
 use image::records::from_record;
 use image::records::look;
+use plan::child_patterns::EXPRESSION_PATTERNS;
+use plan::child_patterns::NEVER;
+use plan::child_patterns::PART_PATTERNS;
+use plan::child_patterns::PLAN_PATTERNS;
+use plan::kinds::COLUMN;
+use plan::kinds::FIRST_EXPRESSION;
+use plan::kinds::FIRST_PART;
+use plan::kinds::FIRST_PLAN;
+use plan::kinds::is_expression;
+use plan::kinds::is_part;
+use plan::kinds::is_plan;
 ghost use mathlib.Core.Path.{_≡_};
 ghost use Prim.Native.Nat.{_<_};
 ghost use Rattle.image.specs.Places.{Chained};
@@ -20,73 +24,24 @@ ghost use Rattle.plan.specs.Kinds.{whatOf};
 ghost use Rattle.check_form.specs.Patterns.{Leads, fitting, item, lastItem, meets, sortFor};
 ghost use Rattle.check_form.specs.Sorts.{ofSort};
 
-// An item is two digits. The first says how many: 1 one, 2 any number, 3 one or none, 0 no item.
-// The second says of which sort: 1 expressions, 2 plans, 3 to 8 the parts in their order, 9 columns.
-// A pattern has four items. The patterns of each kind, in the order of their numbers:
-const EXPRESSIONS: [usize; 10] = [
-    0, // Column
-    0, // integer
-    0, // boolean
-    0, // NULL
-    11110000, // BinaryExpr
-    11000000, // Not
-    11000000, // test
-    11111100, // Between
-    11112100, // InList
-    21000000, // function
-];
-
-const PLANS: [usize; 12] = [
-    23210000, // TableScan
-    11120000, // Filter
-    14241200, // Projection
-    12122531, // Join
-    12000000, // SubqueryAlias
-    12122200, // Union
-    12000000, // Distinct
-    26120000, // Sort
-    12000000, // Repartition
-    12000000, // Limit
-    24271200, // Aggregate, which has an entry besides
-    18281200, // Window
-];
-
-const PARTS: [usize; 6] = [
-    0, // field
-    11000000, // entry
-    11110000, // key pair
-    11000000, // sort key
-    11000000, // entry of an Aggregate
-    11290000, // entry of a Window
-];
-
-// No children meet it.
-const NEVER: usize = 99999999;
-
-// No children.
-pub const LEAF: usize = 0;
-
-// Two expressions.
-pub const OPERANDS: usize = 11110000;
-
-// One plan.
-pub const INPUT: usize = 12000000;
-
 // The pattern of a kind's children.
 pub fn pattern_of(kind: usize) -> usize
     ensures { λ r. ⌜ ((f : Forest) → fitting kind r f ≡ childrenBy (whatOf kind) f) ⌝ }
 {
-    if (FIRST_EXPRESSION <= kind) & (kind <= LAST_EXPRESSION) {
-        return EXPRESSIONS[kind - FIRST_EXPRESSION];
+    if is_expression(kind) {
+        return EXPRESSION_PATTERNS[kind - FIRST_EXPRESSION];
     }
-    if (FIRST_PLAN <= kind) & (kind <= LAST_PLAN) {
-        return PLANS[kind - FIRST_PLAN];
+    if is_plan(kind) {
+        return PLAN_PATTERNS[kind - FIRST_PLAN];
     }
-    if (FIRST_PART <= kind) & (kind <= LAST_PART) {
-        return PARTS[kind - FIRST_PART];
+    if is_part(kind) {
+        return PART_PATTERNS[kind - FIRST_PART];
     }
     NEVER
 }
+
+// The parts have the numbers from 3 on, in the order of their kinds.
+const BEFORE_PARTS: usize = FIRST_PART - 3;
 
 // The sort with the number.
 fn sort_for(n: usize) -> Sort
@@ -102,8 +57,7 @@ fn sort_for(n: usize) -> Sort
     if n == 9 {
         return Sort::Kind(COLUMN);
     }
-    // The parts begin at 48.
-    Sort::Kind(45 + n)
+    Sort::Kind(BEFORE_PARTS + n)
 }
 
 // The record after all in front that are of the sort; 0 where none is left.

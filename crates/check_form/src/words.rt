@@ -1,15 +1,23 @@
 // Record (2): the range of each word of a record, by its kind.
-use crate::kinds::FIRST_EXPRESSION;
-use crate::kinds::FIRST_PART;
-use crate::kinds::FIRST_PLAN;
-use crate::kinds::LAST_EXPRESSION;
-use crate::kinds::LAST_PART;
-use crate::kinds::LAST_PLAN;
-use crate::kinds::SORT;
 use image::places::Place;
 use image::records::Label;
 use image::records::from_record;
 use image::records::label_at;
+use plan::kinds::FIRST_EXPRESSION;
+use plan::kinds::FIRST_PART;
+use plan::kinds::FIRST_PLAN;
+use plan::kinds::SORT;
+use plan::kinds::is_expression;
+use plan::kinds::is_part;
+use plan::kinds::is_plan;
+use plan::word_ranges::EXPRESSION_ROWS;
+use plan::word_ranges::FETCHING;
+use plan::word_ranges::HIGH;
+use plan::word_ranges::LOW;
+use plan::word_ranges::PART_ROWS;
+use plan::word_ranges::PLAN_ROWS;
+use plan::word_ranges::UNKNOWN;
+use plan::words::FETCHES;
 ghost use mathlib.Core.Path.{_≡_};
 ghost use Prim.Native.Nat.{_*_, _<_, _≤_};
 ghost use lib.ListN.{length};
@@ -19,73 +27,21 @@ ghost use Rattle.plan.specs.Words.{inside, wordsOk};
 ghost use Rattle.acceptance.specs.Check.{badWords};
 ghost use Rattle.check_form.specs.Rows.{decoded, rangeOf, rowBy};
 
-const MAX_WORD: usize = 4294967295;
-
-// The ranges have numbers: 0 unused; 1 any; 2 a name, or the qualifier of an alias; 3 a bit; 4 a type; 5 one of eight;
-// 6 the marks of a function; 7 Count, Min or Max; 8 and 9 have no number in them.
-const LOW: [usize; 10] = [0, 0, 1, 0, 1, 1, 0, 1, 1, 1];
-
-const HIGH: [usize; 10] = [0, MAX_WORD, MAX_WORD, 1, 2, 8, 3, 3, 0, 0];
-
-// A row has five digits: the ranges of p, q, r, lo and hi. The rows of each kind, in the order of their numbers:
-const EXPRESSIONS: [usize; 10] = [
-    12000, // Column
-    11, // integer
-    30000, // boolean
-    40000, // NULL
-    50000, // BinaryExpr
-    0, // Not
-    50000, // test
-    30000, // Between
-    30000, // InList
-    16400, // function
-];
-
-const PLANS: [usize; 12] = [
-    10000, // TableScan
-    0, // Filter
-    0, // Projection
-    50000, // Join
-    20000, // SubqueryAlias
-    0, // Union
-    0, // Distinct
-    30000, // Sort without a fetch
-    0, // Repartition
-    11, // Limit
-    0, // Aggregate
-    0, // Window
-];
-
-const PARTS: [usize; 6] = [
-    12430, // field
-    12000, // entry
-    0, // key pair
-    30000, // sort key
-    12700, // entry of an Aggregate
-    12700, // entry of a Window
-];
-
-// A Sort with a fetch.
-const FETCHING: usize = 30010;
-
-// A kind that is not known.
-const UNKNOWN: usize = 88888;
-
 // The row of a kind; p says whether a Sort has a fetch.
 fn row_of(kind: usize, p: usize) -> usize
     ensures { λ r. ⌜ decoded r ≡ rowBy (whatOf kind) p ⌝ }
 {
-    if (FIRST_EXPRESSION <= kind) & (kind <= LAST_EXPRESSION) {
-        return EXPRESSIONS[kind - FIRST_EXPRESSION];
+    if is_expression(kind) {
+        return EXPRESSION_ROWS[kind - FIRST_EXPRESSION];
     }
-    if (kind == SORT) & (p == 1) {
+    if (kind == SORT) & (p == FETCHES) {
         return FETCHING;
     }
-    if (FIRST_PLAN <= kind) & (kind <= LAST_PLAN) {
-        return PLANS[kind - FIRST_PLAN];
+    if is_plan(kind) {
+        return PLAN_ROWS[kind - FIRST_PLAN];
     }
-    if (FIRST_PART <= kind) & (kind <= LAST_PART) {
-        return PARTS[kind - FIRST_PART];
+    if is_part(kind) {
+        return PART_ROWS[kind - FIRST_PART];
     }
     UNKNOWN
 }

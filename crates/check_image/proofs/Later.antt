@@ -14,7 +14,8 @@ use Rattle.acceptance.specs.Types.{badType}
 use Rattle.acceptance.specs.Check.{linked, verdict, at, checkPlan, check}
 use Rattle.check_form.specs.Formed.{formed, numbered, later}
 use Rattle.check_form.specs.declared.checked.Formed.{Formed}
-use Rattle.check_form.proofs.Sound.{Sound, check-is}
+use Rattle.check_form.specs.Sound.{Sound}
+use Rattle.check_form.proofs.Sound.{check-is}
 use Rattle.check_fields.specs.Rules.{badNames, badTypes}
 use Rattle.check_names.proofs.TreeNames.{tree-names}
 use Rattle.check_names.proofs.TreeTypes.{tree-types}

@@ -8,8 +8,8 @@ ghost use mathlib.Core.Path.{_≡_};
 ghost use Prim.Native.Nat.{_/_};
 ghost use lib.ListN.{length};
 ghost use Rattle.acceptance.specs.Check.{linked};
-ghost use Rattle.check_form.proofs.Sound.{Sound};
 ghost use Rattle.check_form.specs.Formed.{later};
+ghost use Rattle.check_form.specs.Sound.{Sound};
 ghost use Rattle.check_image.specs.Answer.{verdictOf};
 ghost use Rattle.acceptance.specs.Check as Check;
 

@@ -11,6 +11,9 @@ use native.Mathlib.Omega.{arith}
 use lib.Dec.{eqb, leb}
 use lib.ListN.{length, length-append}
 use borrow.Author.Tests.{eq-eqb, ne-eqb, le-leb, leb-true, eqb-true, eqb-false}
+use Rattle.check_fields.specs.Roles.{joins}
+use Rattle.check_fields.specs.declared.questions.Question.{Question}
+use Rattle.check_fields.specs.declared.questions.Question.the-variants.{ByName, Clashing, Nothing}
 use Rattle.image.specs.Limits.{maxFields}
 use Rattle.image.specs.Tree.{Label, Forest, none, node}
 use Rattle.plan.specs.Lists.{_&_, any}
@@ -22,7 +25,7 @@ use Rattle.acceptance.specs.Names.{clash, distinct-names, sound}
 use Rattle.check_fields.specs.Count.{counted, hits, near, input, roleP, own}
 use Rattle.check_fields.specs.Fields.{Fld, Schema, nameOf, made, madeBy, inputs, requalify, joinFields, namesIn, first, second}
 use Rattle.check_fields.specs.Rules.{nameP}
-use Rattle.check_names.specs.Singles.{allOf, called, single, ownOf, ownSort, ownMode, apart}
+use Rattle.check_names.specs.Singles.{allOf, called, single, ownOf, ownView, ownQuestion, apart}
 use Rattle.check_fields.proofs.Counting.{renamed, input-0, input-1, counted-++}
 use Rattle.check_fields.proofs.Scoping.{all-of}
 
@@ -87,7 +90,7 @@ unfolding _&_
 clash-self (nm q n) = rw (eq-eqb n n refl, eq-eqb q q refl)
 
 -- the question for clashes
-asks-clash : (q n : ℕ) (x : Name) → hits 3 q n x ≡ clash (nm q n) x
+asks-clash : (q n : ℕ) (x : Name) → hits Clashing q n x ≡ clash (nm q n) x
 unfolding _&_
 asks-clash q n (nm r m) = rw (eqb-sym m n, eqb-sym r q) (go (eqb q r) (eqb r 0) (eqb q 0) (eqb n m))
   where
@@ -145,11 +148,11 @@ distinct-once (f ∷ s) = go (any (clash (f .name)) (namesIn s)) refl (distinct-
     go false e r = rw (clash-self (f .name), ← none-any (f .name) s, e) (r ∙ sym (same-all f s s e))
 
 -- and that is what the question for clashes finds
-distinct-single : (s : Schema) → distinct-names (namesIn s) ≡ allOf (single s 3) s
-distinct-single s = distinct-once s ∙ allOf-cong (once s) (single s 3) agree s
+distinct-single : (s : Schema) → distinct-names (namesIn s) ≡ allOf (single s Clashing) s
+distinct-single s = distinct-once s ∙ allOf-cong (once s) (single s Clashing) agree s
   where
-    agree : (x : Name) → once s x ≡ single s 3 x
-    agree (nm q n) = ap (λ (k : ℕ). eqb k 1) (sym (counted-cong (hits 3 q n) (clash (nm q n)) (asks-clash q n) s))
+    agree : (x : Name) → once s x ≡ single s Clashing x
+    agree (nm q n) = ap (λ (k : ℕ). eqb k 1) (sym (counted-cong (hits Clashing q n) (clash (nm q n)) (asks-clash q n) s))
 
 -- ---- sound schemas
 
@@ -160,12 +163,12 @@ length-names [] = refl
 length-names (f ∷ s) = ap suc (length-names s)
 
 -- a schema is sound if the question tells its fields apart
-pub sound-apart : (s : Schema) → sound (namesIn s) ≡ apart 3 s
+pub sound-apart : (s : Schema) → sound (namesIn s) ≡ apart Clashing s
 unfolding sound
 sound-apart s = rw (distinct-single s, length-names s) refl
 
 -- below an alias two fields clash if they share the name
-pub renamed-apart : (p : ℕ) (s : Schema) → sound (namesIn (map (requalify p) s)) ≡ apart 1 s
+pub renamed-apart : (p : ℕ) (s : Schema) → sound (namesIn (map (requalify p) s)) ≡ apart ByName s
 unfolding sound
 renamed-apart p s =
     let t : Schema = map (requalify p) s in
@@ -173,26 +176,26 @@ renamed-apart p s =
       distinct-single t,
       length-names t,
       length-renamed s,
-      allOf-renamed (single t 3) p s,
-      allOf-cong (λ x. single t 3 (called true p x)) (single s 1) agree s,
+      allOf-renamed (single t Clashing) p s,
+      allOf-cong (λ x. single t Clashing (called true p x)) (single s ByName) agree s,
     ) refl
   where
     length-renamed : (s : Schema) → length (map (requalify p) s) ≡ length s
     length-renamed [] = refl
     length-renamed (f ∷ s) = ap suc (length-renamed s)
 
-    by-name : (m r : ℕ) (x : Name) → hits 1 p m x ≡ hits 1 r m x
+    by-name : (m r : ℕ) (x : Name) → hits ByName p m x ≡ hits ByName r m x
     by-name m r (nm q n) = refl
 
     near-self : near p p ≡ true
     near-self = rw (eq-eqb p p refl)
 
-    agree : (x : Name) → single (map (requalify p) s) 3 (called true p x) ≡ single s 1 x
+    agree : (x : Name) → single (map (requalify p) s) Clashing (called true p x) ≡ single s ByName x
     agree (nm r m) =
         ap (λ (k : ℕ). eqb k 1)
-        (renamed 3 p p m s
-        ∙ ap (λ (b : Bool). counted (hits (cond b 1 4) p m) s) near-self
-        ∙ counted-cong (hits 1 p m) (hits 1 r m) (by-name m r) s)
+        (renamed Clashing p p m s
+        ∙ ap (λ (b : Bool). counted (hits (cond b ByName Nothing) p m) s) near-self
+        ∙ counted-cong (hits ByName p m) (hits ByName r m) (by-name m r) s)
 
 -- the names that parts make do not depend on what they stand over
 names-made : (c d : Schema) (f : Forest) → namesIn (made c f) ≡ namesIn (made d f)
@@ -333,11 +336,11 @@ beside a b h e p q = all-intro h a (λ f m. e (f .name) ∙ eq-eqb _ 1 (one f m 
 -- so of two schemas of which one is sound, the fields of the other tell
 module _ (s t : Schema) where
   abbrev both-in : Name → Bool
-  both-in = single (s ++ t) 3
+  both-in = single (s ++ t) Clashing
 
   agree-both : (x : Name) → both-in x ≡ eqb (counted (clash x) s + counted (clash x) t) 1
   agree-both (nm q n) =
-      ap (λ (k : ℕ). eqb k 1) (counted-cong (hits 3 q n) (clash (nm q n)) (asks-clash q n) (s ++ t) ∙ counted-++ (clash (nm q n)) s t)
+      ap (λ (k : ℕ). eqb k 1) (counted-cong (hits Clashing q n) (clash (nm q n)) (asks-clash q n) (s ++ t) ∙ counted-++ (clash (nm q n)) s t)
 
   once-of : (a : Schema) → sound (namesIn a) ≡ true → allOf (once a) a ≡ true
   unfolding sound
@@ -369,14 +372,14 @@ module _ (s t : Schema) where
 
 -- the same by the number of the input that is sound
 pub beside-own : (i : ℕ) (ins : List Schema) → i ≤ 1 → sound (namesIn (input i ins)) ≡ true
-    → allOf (single (input 0 ins ++ input 1 ins) 3) (input (1 - i) ins)
-    ≡ allOf (single (input 0 ins ++ input 1 ins) 3) (input 0 ins ++ input 1 ins)
+    → allOf (single (input 0 ins ++ input 1 ins) Clashing) (input (1 - i) ins)
+    ≡ allOf (single (input 0 ins ++ input 1 ins) Clashing) (input 0 ins ++ input 1 ins)
 beside-own zero ins l e = beside-left (input 0 ins) (input 1 ins) e
 beside-own (suc zero) ins l e = beside-right (input 0 ins) (input 1 ins) e
 beside-own (suc (suc i)) ins l e = absurd (omega arith)
 
 -- a semi or anti join has the fields of input 0 or 1
-pub own-few : (p : ℕ) → own 2 p ≤ 1
+pub own-few : (p : ℕ) → own joins p ≤ 1
 own-few p = go (leb p 4) (eqb p 5) (eqb p 7)
   where
     go : (a b c : Bool) → cond a 0 (cond b 0 (cond c 0 1)) ≤ 1
@@ -446,7 +449,7 @@ input-sound K.Aggregate l cs ins e h = absurd (omega arith)
 input-sound K.Window l cs ins e h = sound-left (namesIn (first [] ins)) (namesIn (made (first [] ins) cs)) (rw names-++ at h)
 
 -- both inputs of a join are
-pub second-sound : (k : K.PlanKind) (l : Label) (cs : Forest) (ins : List Schema) → roleP k ≡ 2 → nameP k l cs ins ≡ true
+pub second-sound : (k : K.PlanKind) (l : Label) (cs : Forest) (ins : List Schema) → roleP k ≡ joins → nameP k l cs ins ≡ true
     → sound (namesIn (second [] ins)) ≡ true
 second-sound K.TableScan l cs ins e h = absurd (omega arith)
 second-sound K.Filter l cs ins e h = absurd (omega arith)
@@ -464,27 +467,27 @@ second-sound K.Window l cs ins e h = absurd (omega arith)
 -- ---- the rule of a plan
 
 -- what stands alone in a scope
-apart-alone : (mode : ℕ) (s : Schema) → apart mode s ≡ apart mode (s ++ [])
-apart-alone mode s = ap (apart mode) (sym (all-of s))
+apart-alone : (asks : Question) (s : Schema) → apart asks s ≡ apart asks (s ++ [])
+apart-alone asks s = ap (apart asks) (sym (all-of s))
 
 -- a schema that stands alone
-sound-alone : (s t : Schema) → s ≡ t → sound (namesIn s) ≡ apart 3 (t ++ [])
-sound-alone s t e = ap (λ (u : Schema). sound (namesIn u)) e ∙ sound-apart t ∙ apart-alone 3 t
+sound-alone : (s t : Schema) → s ≡ t → sound (namesIn s) ≡ apart Clashing (t ++ [])
+sound-alone s t e = ap (λ (u : Schema). sound (namesIn u)) e ∙ sound-apart t ∙ apart-alone Clashing t
 
 -- one that the parts make
-sound-made : (c : Schema) (f : Forest) → sound (namesIn (made c f)) ≡ apart 3 (made [] f ++ [])
+sound-made : (c : Schema) (f : Forest) → sound (namesIn (made c f)) ≡ apart Clashing (made [] f ++ [])
 sound-made c f = ap sound (names-made c [] f) ∙ sound-alone (made [] f) (made [] f) refl
 
 -- by the kind of the plan
 by-kind : (k : K.PlanKind) (l : Label) (cs : Forest)
-    → nameP k l cs (inputs cs) ≡ apart (ownMode (roleP k)) (ownOf (ownSort (roleP k)) cs)
+    → nameP k l cs (inputs cs) ≡ apart (ownQuestion (roleP k)) (ownOf (ownView (roleP k)) cs)
 by-kind K.TableScan l cs = sound-made [] cs
 by-kind K.Filter l cs = sound-alone _ _ (input-0 (inputs cs))
 by-kind K.Projection l cs = sound-made (first [] (inputs cs)) cs
 by-kind K.Join l cs =
     join-sound (l .p) (first [] (inputs cs)) (second [] (inputs cs))
     ∙ rw (input-0 (inputs cs), input-1 (inputs cs)) (sound-apart (input 0 (inputs cs) ++ input 1 (inputs cs)))
-by-kind K.SubqueryAlias l cs = renamed-apart (l .p) (first [] (inputs cs)) ∙ rw (input-0 (inputs cs)) (apart-alone 1 (input 0 (inputs cs)))
+by-kind K.SubqueryAlias l cs = renamed-apart (l .p) (first [] (inputs cs)) ∙ rw (input-0 (inputs cs)) (apart-alone ByName (input 0 (inputs cs)))
 by-kind K.Union l cs = sound-alone _ _ (input-0 (inputs cs))
 by-kind K.Distinct l cs = sound-alone _ _ (input-0 (inputs cs))
 by-kind K.Sort l cs = sound-alone _ _ (input-0 (inputs cs))
@@ -494,12 +497,12 @@ by-kind K.Aggregate l cs = sound-made (first [] (inputs cs)) cs
 by-kind K.Window l cs =
     ap sound (names-++ s (made s cs) ∙ ap (λ (xs : List Name). namesIn s ++ xs) (names-made s [] cs) ∙ sym (names-++ s (made [] cs)))
     ∙ sound-apart (s ++ made [] cs)
-    ∙ ap (λ (u : Schema). apart 3 (u ++ made [] cs)) (input-0 (inputs cs))
+    ∙ ap (λ (u : Schema). apart Clashing (u ++ made [] cs)) (input-0 (inputs cs))
   where
     s : Schema
     s = first [] (inputs cs)
 
 -- the rule of a plan is that the schema which the code reads off its children is told apart
 pub rule-by-role : {r : ℕ} (k : K.PlanKind) (l : Label) (cs : Forest) → r ≡ roleP k
-    → apart (ownMode r) (ownOf (ownSort r) cs) ≡ nameP k l cs (inputs cs)
-rule-by-role k l cs e = ap (λ (n : ℕ). apart (ownMode n) (ownOf (ownSort n) cs)) e ∙ sym (by-kind k l cs)
+    → apart (ownQuestion r) (ownOf (ownView r) cs) ≡ nameP k l cs (inputs cs)
+rule-by-role k l cs e = ap (λ (n : ℕ). apart (ownQuestion n) (ownOf (ownView n) cs)) e ∙ sym (by-kind k l cs)

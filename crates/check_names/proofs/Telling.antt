@@ -8,6 +8,11 @@ use native.Mathlib.Omega.{arith}
 use lib.Dec.{eqb, leb}
 use lib.ListN.{length}
 use borrow.Author.Tests.{eq-eqb, ne-eqb, le-leb, lt-leb, eqb-true, eqb-false, leb-true, leb-false}
+use Rattle.check_fields.specs.Roles.{noPlan, creates, joins, renames, extends}
+use Rattle.check_fields.specs.declared.scopes.View.{View}
+use Rattle.check_fields.specs.declared.scopes.View.the-variants.{Nothing, FirstInput, SecondInput, BothInputs, Parts, FirstInputAndParts}
+use Rattle.check_fields.specs.declared.questions.Question.{Question}
+use Rattle.check_fields.specs.declared.questions.Question.the-variants.{Every}
 use Rattle.image.specs.Tree.{Label, Forest, none, Node}
 use Rattle.image.proofs.Stepping.{Step}
 use Rattle.image.specs.Limits.{maxFields}
@@ -80,7 +85,7 @@ unfolding allOf
 none-held h t e = rw e
 
 module _ (l : Label) (cs : Forest) (ins : List Schema) where
-  from-renamed : (k : K.PlanKind) → roleP k ≡ 3 → fieldsP k l cs ins ≡ map (requalify (l .p)) (input 0 ins)
+  from-renamed : (k : K.PlanKind) → roleP k ≡ renames → fieldsP k l cs ins ≡ map (requalify (l .p)) (input 0 ins)
   from-renamed K.TableScan e = absurd (omega arith)
   from-renamed K.Filter e = absurd (omega arith)
   from-renamed K.Projection e = absurd (omega arith)
@@ -108,13 +113,13 @@ module _ (l : Label) (cs : Forest) (ins : List Schema) where
   from-first K.Aggregate e = absurd (omega arith)
   from-first K.Window e = absurd (omega arith)
 
-own-first : (r p : ℕ) → (r ≡ 2 → ⊥) → own r p ≡ 0
-own-first r p e = rw (ne-eqb r 2 e)
+own-first : (r p : ℕ) → (r ≡ joins → ⊥) → own r p ≡ 0
+own-first r p e = rw (ne-eqb r joins e)
 
-own-both : (r p : ℕ) → r ≡ 2 → p ≤ 4 → own r p ≡ 0
-own-both r p e g = rw (eq-eqb r 2 e, le-leb p 4 g)
+own-both : (r p : ℕ) → r ≡ joins → p ≤ 4 → own r p ≡ 0
+own-both r p e g = rw (eq-eqb r joins e, le-leb p 4 g)
 
-own-two : (r p q : ℕ) → r ≡ 2 → p ≡ q → own 2 q ≡ own r p
+own-two : (r p q : ℕ) → r ≡ joins → p ≡ q → own joins q ≡ own r p
 own-two r p q e g = rw (e, g) refl
 
 -- the schema of a plan, by its role, as the code goes
@@ -124,30 +129,30 @@ module _ {f : Forest} {s : List ℕ} {b at : ℕ} {part : List ℕ} {v : Node} (
   abbrev ins : List Schema
   ins = inputs (w .below)
 
-  fields-both : r ≡ 2 → v .p ≤ 4 → input k (inputs f) ≡ input (own r (v .p)) ins ++ input 1 ins
+  fields-both : r ≡ joins → v .p ≤ 4 → input k (inputs f) ≡ input (own r (v .p)) ins ++ input 1 ins
   fields-both e p =
-      let z : r ≡ 0 → ⊥ = λ q. omega arith in
+      let z : r ≡ noPlan → ⊥ = λ q. omega arith in
       let o = of-plan w r R z in
       here w r R k zero-k z ∙ from-both (w .label) (w .below) ins (o .0) (sym (o .1) ∙ e) (subst (λ (x : ℕ). x ≤ 4) (w .p) p)
       ∙ ap (λ (i : ℕ). input i ins ++ input 1 ins) (sym (own-both r (v .p) e p))
 
-  fields-side : r ≡ 2 → 4 < v .p → input k (inputs f) ≡ input (own r (v .p)) ins
+  fields-side : r ≡ joins → 4 < v .p → input k (inputs f) ≡ input (own r (v .p)) ins
   fields-side e p =
-      let z : r ≡ 0 → ⊥ = λ q. omega arith in
+      let z : r ≡ noPlan → ⊥ = λ q. omega arith in
       let o = of-plan w r R z in
       here w r R k zero-k z ∙ from-side (w .label) (w .below) ins (o .0) (sym (o .1) ∙ e) (subst (λ (x : ℕ). 4 < x) (w .p) p)
       ∙ ap (λ (i : ℕ). input i ins) (own-two r (v .p) (w .label .p) e (w .p))
 
-  fields-renamed : r ≡ 3 → input k (inputs f) ≡ map (requalify (v .p)) (input 0 ins)
+  fields-renamed : r ≡ renames → input k (inputs f) ≡ map (requalify (v .p)) (input 0 ins)
   fields-renamed e =
-      let z : r ≡ 0 → ⊥ = λ q. omega arith in
+      let z : r ≡ noPlan → ⊥ = λ q. omega arith in
       let o = of-plan w r R z in
       here w r R k zero-k z ∙ from-renamed (w .label) (w .below) ins (o .0) (sym (o .1) ∙ e)
       ∙ ap (λ (q : ℕ). map (requalify q) (input 0 ins)) (sym (w .p))
 
-  fields-more : r ≡ 4 → (c : Schema) × (input k (inputs f) ≡ input (own r (v .p)) ins ++ made c (w .below))
+  fields-more : r ≡ extends → (c : Schema) × (input k (inputs f) ≡ input (own r (v .p)) ins ++ made c (w .below))
   fields-more e =
-      let z : r ≡ 0 → ⊥ = λ q. omega arith in
+      let z : r ≡ noPlan → ⊥ = λ q. omega arith in
       let o = of-plan w r R z in
       let c = base (w .label) (w .below) ins (o .0) in (
         c,
@@ -157,38 +162,38 @@ module _ {f : Forest} {s : List ℕ} {b at : ℕ} {part : List ℕ} {v : Node} (
 
   fields-first : 4 < r → input k (inputs f) ≡ input (own r (v .p)) ins
   fields-first e =
-      let z : r ≡ 0 → ⊥ = λ q. omega arith in
+      let z : r ≡ noPlan → ⊥ = λ q. omega arith in
       let o = of-plan w r R z in
       here w r R k zero-k z ∙ from-first (w .label) (w .below) ins (o .0) (subst (λ (x : ℕ). 4 < x) (o .1) e)
       ∙ ap (λ (i : ℕ). input i ins) (sym (own-first r (v .p) (λ q. omega arith)))
 
   module _ (h : Name → Bool) where
     -- where the input that is asked fails, the plan does
-    pub held-fails : (r ≡ 0 → ⊥) → (r ≡ 1 → ⊥) → (r ≡ 3 → ⊥) → allOf h (input (own r (v .p)) ins) ≡ false
+    pub held-fails : (r ≡ noPlan → ⊥) → (r ≡ creates → ⊥) → (r ≡ renames → ⊥) → allOf h (input (own r (v .p)) ins) ≡ false
         → false ≡ allOf h (input k (inputs f))
     unfolding _&_
-    held-fails z a d y = sym (go (eqb r 2) refl (leb (v .p) 4) refl (eqb r 4) refl)
+    held-fails z a d y = sym (go (eqb r joins) refl (leb (v .p) 4) refl (eqb r extends) refl)
       where
-        go : (i : Bool) → eqb r 2 ≡ i → (j : Bool) → leb (v .p) 4 ≡ j → (n : Bool) → eqb r 4 ≡ n → allOf h (input k (inputs f)) ≡ false
+        go : (i : Bool) → eqb r joins ≡ i → (j : Bool) → leb (v .p) 4 ≡ j → (n : Bool) → eqb r extends ≡ n → allOf h (input k (inputs f)) ≡ false
         go true e true p n g =
-            ap (allOf h) (fields-both (eqb-true r 2 e) (leb-true (v .p) 4 p)) ∙ allOf-++ h (input (own r (v .p)) ins) (input 1 ins)
+            ap (allOf h) (fields-both (eqb-true r joins e) (leb-true (v .p) 4 p)) ∙ allOf-++ h (input (own r (v .p)) ins) (input 1 ins)
             ∙ rw y refl
-        go true e false p n g = ap (allOf h) (fields-side (eqb-true r 2 e) (leb-false (v .p) 4 p)) ∙ y
+        go true e false p n g = ap (allOf h) (fields-side (eqb-true r joins e) (leb-false (v .p) 4 p)) ∙ y
         go false e j p true g =
-            let c = fields-more (eqb-true r 4 g) in
+            let c = fields-more (eqb-true r extends g) in
             ap (allOf h) (c .1) ∙ allOf-++ h (input (own r (v .p)) ins) (made (c .0) (w .below)) ∙ rw y refl
-        go false e j p false g = ap (allOf h) (fields-first (omega (arith, eqb-false r 2 e, eqb-false r 4 g))) ∙ y
+        go false e j p false g = ap (allOf h) (fields-first (omega (arith, eqb-false r joins e, eqb-false r extends g))) ∙ y
 
     -- where it passes, a join that gives both sides goes on with the other
-    pub held-both : r ≡ 2 → v .p ≤ 4 → allOf h (input (own r (v .p)) ins) ≡ true → allOf h (input 1 ins) ≡ allOf h (input k (inputs f))
+    pub held-both : r ≡ joins → v .p ≤ 4 → allOf h (input (own r (v .p)) ins) ≡ true → allOf h (input 1 ins) ≡ allOf h (input k (inputs f))
     unfolding _&_
     held-both e p y = sym (ap (allOf h) (fields-both e p) ∙ allOf-++ h (input (own r (v .p)) ins) (input 1 ins) ∙ rw y refl)
 
-    pub held-side : r ≡ 2 → 4 < v .p → allOf h (input (own r (v .p)) ins) ≡ true → true ≡ allOf h (input k (inputs f))
+    pub held-side : r ≡ joins → 4 < v .p → allOf h (input (own r (v .p)) ins) ≡ true → true ≡ allOf h (input k (inputs f))
     held-side e p y = sym (ap (allOf h) (fields-side e p) ∙ y)
 
     -- a window with its parts
-    pub held-more : r ≡ 4 → allOf h (input (own r (v .p)) ins) ≡ true
+    pub held-more : r ≡ extends → allOf h (input (own r (v .p)) ins) ≡ true
         → (c : Schema) × (allOf h (made c (w .below)) ≡ allOf h (input k (inputs f)))
     unfolding _&_
     held-more e y =
@@ -199,23 +204,23 @@ module _ {f : Forest} {s : List ℕ} {b at : ℕ} {part : List ℕ} {v : Node} (
     held-first e y = sym (ap (allOf h) (fields-first e) ∙ y)
 
   -- an alias calls its fields by its own qualifier, unless another stands above
-  pub held-renamed : (t : Schema) (mode : ℕ) (renamed : Bool) (to : ℕ) → r ≡ 3
-      → allOf (lone t mode true (cond renamed to (v .p))) (input 0 ins) ≡ allOf (lone t mode renamed to) (input k (inputs f))
-  held-renamed t mode renamed to e =
-      sym (ap (allOf (lone t mode renamed to)) (fields-renamed e)
-      ∙ allOf-renamed (lone t mode renamed to) (v .p) (input 0 ins)
-      ∙ allOf-cong (λ x. lone t mode renamed to (called true (v .p) x)) (lone t mode true (cond renamed to (v .p))) agree (input 0 ins))
+  pub held-renamed : (t : Schema) (asks : Question) (renamed : Bool) (to : ℕ) → r ≡ renames
+      → allOf (lone t asks true (cond renamed to (v .p))) (input 0 ins) ≡ allOf (lone t asks renamed to) (input k (inputs f))
+  held-renamed t asks renamed to e =
+      sym (ap (allOf (lone t asks renamed to)) (fields-renamed e)
+      ∙ allOf-renamed (lone t asks renamed to) (v .p) (input 0 ins)
+      ∙ allOf-cong (λ x. lone t asks renamed to (called true (v .p) x)) (lone t asks true (cond renamed to (v .p))) agree (input 0 ins))
     where
-      agree : (x : Name) → lone t mode renamed to (called true (v .p) x) ≡ lone t mode true (cond renamed to (v .p)) x
+      agree : (x : Name) → lone t asks renamed to (called true (v .p) x) ≡ lone t asks true (cond renamed to (v .p)) x
       agree (nm q n) = refl
 
 -- ---- a whole schema
 
 -- no alias stands above
-pub as-called : (t : Schema) (mode : ℕ) (s : Schema) → allOf (lone t mode false 0) s ≡ allOf (single t mode) s
-as-called t mode s = allOf-cong (lone t mode false 0) (single t mode) agree s
+pub as-called : (t : Schema) (asks : Question) (s : Schema) → allOf (lone t asks false 0) s ≡ allOf (single t asks) s
+as-called t asks s = allOf-cong (lone t asks false 0) (single t asks) agree s
   where
-    agree : (x : Name) → lone t mode false 0 x ≡ single t mode x
+    agree : (x : Name) → lone t asks false 0 x ≡ single t asks x
     agree (nm q n) = refl
 
 module _ (h : Name → Bool) (s t : Schema) where
@@ -233,32 +238,32 @@ pub none-fails : (h : Name → Bool) → true ≡ allOf h []
 unfolding allOf
 none-fails h = refl
 
-module _ (n : ℕ) (f : Forest) where
-  pub own-first-input : n ≡ 1 → input 0 (inputs f) ≡ ownOf n f
+module _ (v : View) (f : Forest) where
+  pub own-none : v ≡ Nothing → [] ≡ ownOf v f
+  own-none e = rw e refl
+
+  pub own-first-input : v ≡ FirstInput → input 0 (inputs f) ≡ ownOf v f
   own-first-input e = rw e (sym (all-of (input 0 (inputs f))))
 
-  pub own-both-inputs : n ≡ 2 → input 0 (inputs f) ++ input 1 (inputs f) ≡ ownOf n f
-  own-both-inputs e = rw e refl
-
-  pub own-parts : n ≡ 3 → made [] f ≡ ownOf n f
-  own-parts e = rw e (sym (all-of (made [] f)))
-
-  pub own-second-input : n ≡ 4 → input 1 (inputs f) ≡ ownOf n f
+  pub own-second-input : v ≡ SecondInput → input 1 (inputs f) ≡ ownOf v f
   own-second-input e = rw e (sym (all-of (input 1 (inputs f))))
 
-  pub own-input-and-parts : n ≡ 5 → input 0 (inputs f) ++ made [] f ≡ ownOf n f
-  own-input-and-parts e = rw e refl
+  pub own-both-inputs : v ≡ BothInputs → input 0 (inputs f) ++ input 1 (inputs f) ≡ ownOf v f
+  own-both-inputs e = rw e refl
 
-  pub own-none : (n ≡ 1 → ⊥) → (n ≡ 2 → ⊥) → (n ≡ 3 → ⊥) → (n ≡ 4 → ⊥) → (n ≡ 5 → ⊥) → [] ≡ ownOf n f
-  own-none a b c d e = rw (ne-eqb n 1 a, ne-eqb n 2 b, ne-eqb n 3 c, ne-eqb n 4 d, ne-eqb n 5 e) refl
+  pub own-parts : v ≡ Parts → made [] f ≡ ownOf v f
+  own-parts e = rw e (sym (all-of (made [] f)))
+
+  pub own-input-and-parts : v ≡ FirstInputAndParts → input 0 (inputs f) ++ made [] f ≡ ownOf v f
+  own-input-and-parts e = rw e refl
 
 -- ---- the number of fields
 
-module _ (mode : ℕ) (s : Schema) {k : ℕ} (e : k ≡ counted (hits 2 0 0) s) where
+module _ (asks : Question) (s : Schema) {k : ℕ} (e : k ≡ counted (hits Every 0 0) s) where
   -- too many fields
-  pub too-many : maxFields < k → false ≡ apart mode s
-  too-many l = sym (rw (lt-leb (length s) maxFields (omega (arith, counted-all 0 0 s))) (and-false (allOf (single s mode) s)))
+  pub too-many : maxFields < k → false ≡ apart asks s
+  too-many l = sym (rw (lt-leb (length s) maxFields (omega (arith, counted-all 0 0 s))) (and-false (allOf (single s asks) s)))
 
   -- not too many: what is left is that they are told apart
-  pub not-many : k ≤ maxFields → allOf (single s mode) s ≡ apart mode s
-  not-many l = sym (rw (le-leb (length s) maxFields (omega (arith, counted-all 0 0 s))) (and-true (allOf (single s mode) s)))
+  pub not-many : k ≤ maxFields → allOf (single s asks) s ≡ apart asks s
+  not-many l = sym (rw (le-leb (length s) maxFields (omega (arith, counted-all 0 0 s))) (and-true (allOf (single s asks) s)))

@@ -65,7 +65,7 @@ module _ (t : ℕ) where
   none-scanned d = refl
 
   no-scan : (e : Expr) → isKind (plan K.TableScan) (labelE e) ≡ false
-  no-scan e = no-part-e e 32 (omega arith)
+  no-scan e = no-part-e e (K.numberP K.TableScan) (omega arith)
 
   ahead : (e : Expr) (ns : Forest) → Scanless (kidsE e) → Scanless ns → Scanless (before e ns)
   ahead e ns h k d = past-tree (labelE e) (kidsE e) ns (no-scan e) h d ∙ k d

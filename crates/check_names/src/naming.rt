@@ -2,14 +2,21 @@
 use crate::schemas::is_sound;
 use crate::schemas::is_sound_beside;
 use check_fields::fields::role_of;
-use check_fields::scopes::first_sort;
+use check_fields::questions::Question;
+use check_fields::roles::CREATES;
+use check_fields::roles::JOINS;
+use check_fields::roles::NO_PLAN;
+use check_fields::scopes::View;
+use check_fields::scopes::first_view;
 use check_fields::scopes::held_in;
-use check_fields::scopes::rest_sort;
-use check_fields::scopes::sort_of;
+use check_fields::scopes::rest_view;
+use check_fields::scopes::view_of;
 use image::places::Place;
 use image::records::Node;
 use image::records::from_record;
 use image::records::look;
+use plan::kinds::COLUMN;
+use plan::words::FULL;
 ghost use mathlib.Core.Path.{_≡_};
 ghost use mathlib.Core.Bool.{true};
 ghost use Prim.Native.Nat.{_-_, _<_, ℕ};
@@ -25,7 +32,7 @@ ghost use Rattle.check_fields.specs.Scopes.{scopeOf};
 ghost use Rattle.check_names.specs.Singles.{knownInputs};
 ghost use Rattle.check_fields.specs.Count as Count;
 
-// Whether the record keeps the rule: `part` begins there, v is what was looked at, the scope of the slice g and the number `here` is what it
+// Whether the record keeps the rule: `part` begins there, v is what was looked at, the slice g and the view `here` are what it
 // stands over. A plan that is known to be sound is not tested again, but of a semi or anti join the other input.
 fn name_ok(
     part: &[u8],
@@ -36,7 +43,7 @@ fn name_ok(
     g: &[u8],
     gb: usize,
     ga: usize,
-    here: usize,
+    here: View,
 ) -> bool
     requires { ⌜ Chained (now part) at (v .first) × Chained (now g) gb ga × (role ≡ Count.role (whatOf (v .kind))) ⌝ }
     ensures { λ b. ⌜ ((l : Label) (cs e : Forest) → v .kind ≡ l .kind → v .p ≡ l .p → v .q ≡ l .q
@@ -44,16 +51,16 @@ fn name_ok(
         → (known ≡ true → sound (namesIn (input 0 (inputs (node l cs none)))) ≡ true)
         → b ≡ nameOk (scopeOf here e) l cs) ⌝ }
 {
-    if v.kind == 1 {
-        return held_in(g, gb, ga, here, 0, v.p, v.q) == 1;
+    if v.kind == COLUMN {
+        return held_in(g, gb, ga, here, Question::Exact, v.p, v.q) == 1;
     }
-    if role == 0 {
+    if role == NO_PLAN {
         return true;
     }
     if !known {
         return is_sound(part, at, v.first, role);
     }
-    if (role == 2) & (4 < v.p) {
+    if (role == JOINS) & (FULL < v.p) {
         return is_sound_beside(part, at, v.first, v.p);
     }
     true
@@ -63,10 +70,10 @@ fn name_ok(
 fn known_inputs(role: usize) -> usize
     ensures { λ n. ⌜ n ≡ knownInputs role ⌝ }
 {
-    if role == 2 {
+    if role == JOINS {
         return 2;
     }
-    if 1 < role {
+    if CREATES < role {
         return 1;
     }
     0
@@ -82,7 +89,8 @@ fn but_one(known: usize) -> usize
     known - 1
 }
 
-// The lowest record that breaks the rule, of the trees from record `at` on: the first stands over the scope `here`, the others over `after`.
+// The lowest record that breaks the rule, of the trees from record `at` on: the first stands over the view `here`, the others over
+// `after`.
 // `known`: so many of the first plans among them are sound, since their fields are among those of their parent, which is.
 pub fn bad_name(
     s: &[u8],
@@ -91,8 +99,8 @@ pub fn bad_name(
     g: &[u8],
     gb: usize,
     ga: usize,
-    here: usize,
-    after: usize,
+    here: View,
+    after: View,
     known: usize,
 ) -> Place
     requires { ⌜ Chained (now s) base at × Chained (now g) gb ga ⌝ }
@@ -109,7 +117,7 @@ pub fn bad_name(
     if !name_ok(part, at, v, role, 0 < known, g, gb, ga, here) {
         return Place::At(at);
     }
-    if role == 0 {
+    if role == NO_PLAN {
         let below = bad_name(
             part,
             at,
@@ -117,8 +125,8 @@ pub fn bad_name(
             g,
             gb,
             ga,
-            first_sort(v.kind, here),
-            rest_sort(v.kind, here),
+            first_view(v.kind, here),
+            rest_view(v.kind, here),
             0,
         );
         match below {
@@ -126,9 +134,9 @@ pub fn bad_name(
             Place::Nowhere => bad_name(s, base, v.next, g, gb, ga, after, after, known),
         }
     } else {
-        let sort = sort_of(v.kind);
+        let own = view_of(v.kind);
         let inputs = known_inputs(role);
-        let under = bad_name(part, at, v.first, part, at, v.first, sort, sort, inputs);
+        let under = bad_name(part, at, v.first, part, at, v.first, own, own, inputs);
         match under {
             Place::At(r) => Place::At(r),
             Place::Nowhere => bad_name(s, base, v.next, g, gb, ga, after, after, but_one(known)),
@@ -143,9 +151,9 @@ pub fn bad_names(s: &[u8]) -> Place
 {
     let v = look(s);
     let role = role_of(v.kind);
-    if !name_ok(s, 0, v, role, false, s, 0, 0, 0) {
+    if !name_ok(s, 0, v, role, false, s, 0, 0, View::Nothing) {
         return Place::At(0);
     }
-    let sort = sort_of(v.kind);
-    bad_name(s, 0, v.first, s, 0, v.first, sort, sort, known_inputs(role))
+    let own = view_of(v.kind);
+    bad_name(s, 0, v.first, s, 0, v.first, own, own, known_inputs(role))
 }

@@ -1,14 +1,19 @@
-// Whether a plan's schema is sound: each of its fields clashes with one field, itself, and there are at most 64.
-use check_fields::fields::holders;
-use check_fields::fields::made_count;
+// Whether a plan's schema is sound: each of its fields clashes with one field, itself, and there are not too many.
 use check_fields::fields::makes_one;
 use check_fields::fields::own_input;
 use check_fields::fields::plan_at;
 use check_fields::fields::role_of;
+use check_fields::questions::Question;
+use check_fields::roles::CREATES;
+use check_fields::roles::EXTENDS;
+use check_fields::roles::JOINS;
+use check_fields::roles::RENAMES;
+use check_fields::scopes::View;
 use check_fields::scopes::held_in;
 use image::limits::MAX_FIELDS;
 use image::records::from_record;
 use image::records::look;
+use plan::words::FULL;
 ghost use mathlib.Core.Path.{_≡_};
 ghost use mathlib.Core.Bool.{cond, true};
 ghost use Rattle.image.specs.Places.{Chained};
@@ -16,36 +21,28 @@ ghost use Rattle.image.specs.Tree.{Forest, Label, Linked};
 ghost use Rattle.plan.specs.Kinds.{Join, PlanKind};
 ghost use Rattle.plan.specs.Syntax.{nm};
 ghost use Rattle.acceptance.specs.Names.{sound};
-ghost use Rattle.check_fields.specs.Count.{counted, hits, input, own, roleP};
+ghost use Rattle.check_fields.specs.Count.{input, own, roleP};
 ghost use Rattle.check_fields.specs.Fields.{Schema, inputs, made, namesIn};
+ghost use Rattle.check_fields.specs.Roles.{joins};
 ghost use Rattle.check_fields.specs.Rules.{nameP};
-ghost use Rattle.check_names.specs.Singles.{allOf, lone, ownMode, ownOf, ownSort, single};
+ghost use Rattle.check_names.specs.Singles.{allOf, lone, ownOf, ownQuestion, ownView, single};
 
 // The schema whose fields are told apart: the children of its plan, which of their fields it has, and the question that tells them.
 pub struct Whole {
     pub base: usize,
     pub at: usize,
-    pub sort: usize,
-    pub mode: usize,
-}
-
-// How many fields that the question asks for has a plan's schema.
-fn held_by(g: &[u8], base: usize, at: usize, sort: usize, mode: usize, q: usize, n: usize) -> usize
-    requires { ⌜ Chained (now g) base at ⌝ }
-    ensures { λ r. ⌜ ((f : Forest) → Linked f (now (g .entry)) base at → r ≡ counted (hits mode q n) (ownOf sort f)) ⌝ }
-{
-    if sort == 5 {
-        return holders(g, base, at, 0, mode, q, n) + made_count(g, base, at, mode, q, n);
-    }
-    held_in(g, base, at, sort, mode, q, n)
+    pub view: View,
+    pub asks: Question,
 }
 
 // Whether the question finds one field.
 fn is_single(g: &[u8], w: Whole, q: usize, n: usize) -> bool
     requires { ⌜ Chained (now g) (w .base) (w .at) ⌝ }
-    ensures { λ b. ⌜ ((e : Forest) → Linked e (now (g .entry)) (w .base) (w .at) → b ≡ single (ownOf (w .sort) e) (w .mode) (nm q n)) ⌝ }
+    ensures { λ b. ⌜ ((e : Forest) → Linked e (now (g .entry)) (w .base) (w .at) → b ≡ single (ownOf (w .view) e) (w .asks) (nm q n)) ⌝ }
 {
-    held_by(g, w.base, w.at, w.sort, w.mode, q, n) == 1
+    let view = w.view;
+    let asks = w.asks;
+    held_in(g, w.base, w.at, view, asks, q, n) == 1
 }
 
 // The qualifier of a field where an alias with the qualifier `to` stands above, or none does.
@@ -62,7 +59,7 @@ fn qualifier(renamed: bool, to: usize, p: usize) -> usize
 fn all_made(g: &[u8], w: Whole, s: &[u8], base: usize, at: usize, renamed: bool, to: usize) -> bool
     requires { ⌜ Chained (now g) (w .base) (w .at) × Chained (now s) base at ⌝ }
     ensures { λ b. ⌜ ((e f : Forest) (c : Schema) → Linked e (now (g .entry)) (w .base) (w .at) → Linked f (now (s .entry)) base at
-        → b ≡ allOf (lone (ownOf (w .sort) e) (w .mode) renamed to) (made c f)) ⌝ }
+        → b ≡ allOf (lone (ownOf (w .view) e) (w .asks) renamed to) (made c f)) ⌝ }
 {
     if at == 0 {
         return true;
@@ -91,7 +88,7 @@ fn all_held(
 ) -> bool
     requires { ⌜ Chained (now g) (w .base) (w .at) × Chained (now s) base at ⌝ }
     ensures { λ b. ⌜ ((e f : Forest) → Linked e (now (g .entry)) (w .base) (w .at) → Linked f (now (s .entry)) base at
-        → b ≡ allOf (lone (ownOf (w .sort) e) (w .mode) renamed to) (input skip (inputs f))) ⌝ }
+        → b ≡ allOf (lone (ownOf (w .view) e) (w .asks) renamed to) (input skip (inputs f))) ⌝ }
 {
     let here = plan_at(s, base, at, skip);
     if here == 0 {
@@ -100,10 +97,10 @@ fn all_held(
     let part = from_record(s, base, here);
     let v = look(part);
     let role = role_of(v.kind);
-    if role == 1 {
+    if role == CREATES {
         return all_made(g, w, part, here, v.first, renamed, to);
     }
-    if role == 3 {
+    if role == RENAMES {
         return all_held(
             g,
             w,
@@ -118,13 +115,13 @@ fn all_held(
     if !all_held(g, w, part, here, v.first, own_input(role, v.p), renamed, to) {
         return false;
     }
-    if role == 2 {
-        if v.p <= 4 {
+    if role == JOINS {
+        if v.p <= FULL {
             return all_held(g, w, part, here, v.first, 1, renamed, to);
         }
         return true;
     }
-    if role == 4 {
+    if role == EXTENDS {
         return all_made(g, w, part, here, v.first, renamed, to);
     }
     true
@@ -134,78 +131,74 @@ fn all_held(
 fn all_single(g: &[u8], w: Whole) -> bool
     requires { ⌜ Chained (now g) (w .base) (w .at) ⌝ }
     ensures { λ b. ⌜ ((e : Forest) → Linked e (now (g .entry)) (w .base) (w .at)
-        → b ≡ allOf (single (ownOf (w .sort) e) (w .mode)) (ownOf (w .sort) e)) ⌝ }
+        → b ≡ allOf (single (ownOf (w .view) e) (w .asks)) (ownOf (w .view) e)) ⌝ }
 {
     let base = w.base;
     let at = w.at;
-    let sort = w.sort;
-    if sort == 1 {
-        return all_held(g, w, g, base, at, 0, false, 0);
-    }
-    if sort == 2 {
-        if all_held(g, w, g, base, at, 0, false, 0) {
-            return all_held(g, w, g, base, at, 1, false, 0);
+    let view = w.view;
+    match view {
+        View::Nothing => true,
+        View::FirstInput => all_held(g, w, g, base, at, 0, false, 0),
+        View::SecondInput => all_held(g, w, g, base, at, 1, false, 0),
+        View::BothInputs => {
+            if all_held(g, w, g, base, at, 0, false, 0) {
+                return all_held(g, w, g, base, at, 1, false, 0);
+            }
+            false
         }
-        return false;
-    }
-    if sort == 3 {
-        return all_made(g, w, g, base, at, false, 0);
-    }
-    if sort == 4 {
-        return all_held(g, w, g, base, at, 1, false, 0);
-    }
-    if sort == 5 {
-        if all_held(g, w, g, base, at, 0, false, 0) {
-            return all_made(g, w, g, base, at, false, 0);
+        View::Parts => all_made(g, w, g, base, at, false, 0),
+        View::FirstInputAndParts => {
+            if all_held(g, w, g, base, at, 0, false, 0) {
+                return all_made(g, w, g, base, at, false, 0);
+            }
+            false
         }
-        return false;
     }
-    true
 }
 
 // Which fields of its children a plan's schema has, by the plan's role; a join's are judged with both inputs together.
-fn own_sort(role: usize) -> usize
-    ensures { λ r. ⌜ r ≡ ownSort role ⌝ }
+fn own_view(role: usize) -> View
+    ensures { λ r. ⌜ r ≡ ownView role ⌝ }
 {
-    if role == 1 {
-        return 3;
+    if role == CREATES {
+        return View::Parts;
     }
-    if role == 2 {
-        return 2;
+    if role == JOINS {
+        return View::BothInputs;
     }
-    if role == 4 {
-        return 5;
+    if role == EXTENDS {
+        return View::FirstInputAndParts;
     }
-    1
+    View::FirstInput
 }
 
 // The question that tells its fields apart: under an alias the name alone.
-fn own_mode(role: usize) -> usize
-    ensures { λ r. ⌜ r ≡ ownMode role ⌝ }
+fn own_question(role: usize) -> Question
+    ensures { λ r. ⌜ r ≡ ownQuestion role ⌝ }
 {
-    if role == 3 {
-        return 1;
+    if role == RENAMES {
+        return Question::ByName;
     }
-    3
+    Question::Clashing
 }
 
-// Whether the two inputs of a join of the kind p are sound together, where the one is whose fields a semi or anti join has: those of the other
-// are told apart.
+// Whether the two inputs of a join of the kind p are sound together, where the one is whose fields a semi or anti join has: those of the
+// other are told apart.
 pub fn is_sound_beside(g: &[u8], base: usize, at: usize, p: usize) -> bool
     requires { ⌜ Chained (now g) base at ⌝ }
-    ensures { λ b. ⌜ ((l : Label) (cs : Forest) → Linked cs (now (g .entry)) base at → sound (namesIn (input (own 2 p) (inputs cs))) ≡ true
-        → b ≡ nameP Join l cs (inputs cs)) ⌝ }
+    ensures { λ b. ⌜ ((l : Label) (cs : Forest) → Linked cs (now (g .entry)) base at
+        → sound (namesIn (input (own joins p) (inputs cs))) ≡ true → b ≡ nameP Join l cs (inputs cs)) ⌝ }
 {
-    if MAX_FIELDS < held_in(g, base, at, 2, 2, 0, 0) {
+    if MAX_FIELDS < held_in(g, base, at, View::BothInputs, Question::Every, 0, 0) {
         return false;
     }
     let both = Whole {
         base: base,
         at: at,
-        sort: 2,
-        mode: 3,
+        view: View::BothInputs,
+        asks: Question::Clashing,
     };
-    all_held(g, both, g, base, at, 1 - own_input(2, p), false, 0)
+    all_held(g, both, g, base, at, 1 - own_input(JOINS, p), false, 0)
 }
 
 // Whether the schema of a plan of this role, whose children are from record `at` on, is sound, and for a join both inputs together.
@@ -214,8 +207,8 @@ pub fn is_sound(g: &[u8], base: usize, at: usize, role: usize) -> bool
     ensures { λ b. ⌜ ((k : PlanKind) (l : Label) (cs : Forest) → role ≡ roleP k → Linked cs (now (g .entry)) base at
         → b ≡ nameP k l cs (inputs cs)) ⌝ }
 {
-    let sort = own_sort(role);
-    if MAX_FIELDS < held_by(g, base, at, sort, 2, 0, 0) {
+    let view = own_view(role);
+    if MAX_FIELDS < held_in(g, base, at, view, Question::Every, 0, 0) {
         return false;
     }
     all_single(
@@ -223,8 +216,8 @@ pub fn is_sound(g: &[u8], base: usize, at: usize, role: usize) -> bool
         Whole {
             base: base,
             at: at,
-            sort: sort,
-            mode: own_mode(role),
+            view: view,
+            asks: own_question(role),
         },
     )
 }

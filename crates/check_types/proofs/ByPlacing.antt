@@ -12,6 +12,8 @@ use native.Mathlib.Omega.{arith}
 use lib.Dec.{ltb}
 use lib.ListN.{length}
 use borrow.Author.Tests.{eq-eqb, ne-eqb, eqb-true, ltb-true, ltb-false}
+use Rattle.check_fields.specs.Roles.{noPlan}
+use Rattle.check_fields.specs.declared.questions.Question.the-variants.{Every}
 use Rattle.image.specs.Tree.{Forest, none, Node}
 use Rattle.image.proofs.Walking.{ended}
 use Rattle.image.proofs.Stepping.{Step}
@@ -32,20 +34,20 @@ use Rattle.check_types.specs.ByPlace.{tyAt}
 -- ---- places
 
 -- the search for a place among all fields finds its type
-pub seek-place : (k : ℕ) (s : Schema) → typeFound (seek (hits 2 0 0) k s) ≡ tyAt k s
+pub seek-place : (k : ℕ) (s : Schema) → typeFound (seek (hits Every 0 0) k s) ≡ tyAt k s
 unfolding seek tyAt
 seek-place k [] = refl
 seek-place zero (f ∷ s) = go (f .name)
   where
-    go : (x : Name) → typeFound (seek (hits 2 0 0) 0 (record { name = x; ty = f .ty } ∷ s)) ≡ f .ty
+    go : (x : Name) → typeFound (seek (hits Every 0 0) 0 (record { name = x; ty = f .ty } ∷ s)) ≡ f .ty
     go (nm r m) = refl
 seek-place (suc k) (f ∷ s) = go (f .name) (seek-place k s)
   where
     back : suc k - 1 ≡ k
     back = omega arith
 
-    go : (x : Name) → typeFound (seek (hits 2 0 0) k s) ≡ tyAt k s
-        → typeFound (seek (hits 2 0 0) (suc k) (record { name = x; ty = f .ty } ∷ s)) ≡ tyAt k s
+    go : (x : Name) → typeFound (seek (hits Every 0 0) k s) ≡ tyAt k s
+        → typeFound (seek (hits Every 0 0) (suc k) (record { name = x; ty = f .ty } ∷ s)) ≡ tyAt k s
     go (nm r m) e = rw (ne-eqb (suc k) 0 (λ q. omega arith), back) e
 
 -- ---- the same types
@@ -75,7 +77,7 @@ refuted : (x : Bool) → (x ≡ true → ⊥) → false ≡ x
 refuted true n = absurd (n refl)
 refuted false n = refl
 
-module _ (a b : Schema) {n m : ℕ} (N : n ≡ counted (hits 2 0 0) a) (M : m ≡ counted (hits 2 0 0) b) where
+module _ (a b : Schema) {n m : ℕ} (N : n ≡ counted (hits Every 0 0) a) (M : m ≡ counted (hits Every 0 0) b) where
   -- widths that differ
   pub other-width : (n ≡ m → ⊥) → false ≡ same-types (typesIn a) (typesIn b)
   other-width d = refuted _ (λ e. d (omega (arith, same-true a b e .0, counted-all 0 0 a, counted-all 0 0 b)))
@@ -123,14 +125,14 @@ cons-all t ins g rest e = rw e
 module _ {f : Forest} {s : List ℕ} {b at : ℕ} {part : List ℕ} {v : Node} (w : Step f s b at part v) (r : ℕ) (R : r ≡ role (whatOf (v .kind)))
     (t : Schema → Bool) where
   -- the first record is a plan
-  pub all-not : (r ≡ 0 → ⊥) → {x : Bool} → x ≡ t (input 0 (inputs f)) → x ≡ false → false ≡ all t (inputs f)
+  pub all-not : (r ≡ noPlan → ⊥) → {x : Bool} → x ≡ t (input 0 (inputs f)) → x ≡ false → false ≡ all t (inputs f)
   unfolding _&_
   all-not z e n = sym (cons-all t (inputs f) _ _ (of-plan w r R z .2) ∙ ap (λ (y : Bool). y & all t (inputs (w .after))) (sym e ∙ n))
 
-  pub all-more : (r ≡ 0 → ⊥) → {x : Bool} → x ≡ t (input 0 (inputs f)) → x ≡ true → all t (inputs (w .after)) ≡ all t (inputs f)
+  pub all-more : (r ≡ noPlan → ⊥) → {x : Bool} → x ≡ t (input 0 (inputs f)) → x ≡ true → all t (inputs (w .after)) ≡ all t (inputs f)
   unfolding _&_
   all-more z e n = sym (cons-all t (inputs f) _ _ (of-plan w r R z .2) ∙ ap (λ (y : Bool). y & all t (inputs (w .after))) (sym e ∙ n))
 
   -- it is none
-  pub all-skip : r ≡ 0 → all t (inputs (w .after)) ≡ all t (inputs f)
+  pub all-skip : r ≡ noPlan → all t (inputs (w .after)) ≡ all t (inputs f)
   all-skip z = ap (all t) (sym (skip-part w r R z))

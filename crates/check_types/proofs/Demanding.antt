@@ -22,26 +22,27 @@ use Rattle.plan.proofs.Rebuilt.{kind-e, kind-p, kind-w}
 use Rattle.check_fields.specs.Fields.{Schema, first, typeOf}
 use Rattle.check_fields.specs.Rules.{Scope, seen, typesOf, alike}
 use Rattle.check_fields.proofs.Counting.{of-kind}
+use Rattle.check_types.specs.declared.operands.Demand.the-variants.{Nothing}
 use Rattle.check_types.specs.Demands.{demandOf, booleanKind}
 
 -- ---- the table of the code
 
 -- a number of no kind takes nothing
-not-known : (n : ℕ) → whatOf n ≡ unknown → booleanKind n ≡ 0
+not-known : (n : ℕ) → whatOf n ≡ unknown → booleanKind n ≡ Nothing
 unfolding whatOf K.among
 not-known n e =
     rw (
-      ne-eqb n 6 (other 6 (expr K.Not) refl (λ z. let y : _≡_ {A = ℕ} 0 1 = cc in omega arith)),
-      ne-eqb n 32 (other 32 (plan K.TableScan) refl (λ z. let y : _≡_ {A = ℕ} 0 1 = cc in omega arith)),
-      ne-eqb n 33 (other 33 (plan K.Filter) refl (λ z. let y : _≡_ {A = ℕ} 0 1 = cc in omega arith)),
-      ne-eqb n 35 (other 35 (plan K.Join) refl (λ z. let y : _≡_ {A = ℕ} 0 1 = cc in omega arith)),
+      ne-eqb n (K.numberE K.Not) (other (K.numberE K.Not) (expr K.Not) refl (λ z. let y : _≡_ {A = ℕ} 0 1 = cc in omega arith)),
+      ne-eqb n (K.numberP K.TableScan) (other (K.numberP K.TableScan) (plan K.TableScan) refl (λ z. let y : _≡_ {A = ℕ} 0 1 = cc in omega arith)),
+      ne-eqb n (K.numberP K.Filter) (other (K.numberP K.Filter) (plan K.Filter) refl (λ z. let y : _≡_ {A = ℕ} 0 1 = cc in omega arith)),
+      ne-eqb n (K.numberP K.Join) (other (K.numberP K.Join) (plan K.Join) refl (λ z. let y : _≡_ {A = ℕ} 0 1 = cc in omega arith)),
     )
   where
     other : (m : ℕ) (w : What) → whatOf m ≡ w → (w ≡ unknown → ⊥) → n ≡ m → ⊥
     other m w g z q = z (sym g ∙ ap whatOf (sym q) ∙ e)
 
 -- of the kinds that the code has not named yet, Not and the plans with predicates take booleans
-pub demand-last : (n p r : ℕ) → (n ≡ 5 → ⊥) → (n ≡ 7 → ⊥) → (n ≡ 52 → ⊥) → (n ≡ 53 → ⊥) → (n ≡ 8 → ⊥) → (n ≡ 9 → ⊥) → (n ≡ 50 → ⊥)
+pub demand-last : (n p r : ℕ) → (n ≡ K.numberE K.Binary → ⊥) → (n ≡ K.numberE K.Test → ⊥) → (n ≡ K.numberQ K.AggPart → ⊥) → (n ≡ K.numberQ K.WinPart → ⊥) → (n ≡ K.numberE K.Between → ⊥) → (n ≡ K.numberE K.InList → ⊥) → (n ≡ K.numberQ K.PairPart → ⊥)
     → booleanKind n ≡ demandOf (whatOf n) p r
 demand-last n p r a b c d g h i = go (whatOf n) refl
   where

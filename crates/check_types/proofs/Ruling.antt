@@ -14,6 +14,9 @@ use Rattle.plan.proofs.Rebuilt.{kind-p}
 use Rattle.acceptance.specs.Types.{same-types}
 use Rattle.check_fields.specs.Fields.{made, inputs, first}
 use Rattle.check_fields.specs.Rules.{booleans, alike, typesIn, united, scanTypes, typeOkBy}
+use Rattle.plan.specs.Syntax.{noType, integerType}
+use Rattle.check_types.specs.declared.operands.Demand.{Demand}
+use Rattle.check_types.specs.declared.operands.Demand.the-variants.{Nothing, Booleans, OneType, IntegerFirst}
 use Rattle.check_types.specs.Demands.{demandOf, met}
 use Rattle.check_types.proofs.Scanning.{Looked}
 
@@ -41,7 +44,7 @@ more unknown root l cs = true
 
 module _ (root : Forest) (l : Label) (cs : Forest) (ts : List ℕ) where
   -- any type, or what is asked
-  count-or : (b : Bool) → b || eqb (first 0 ts) 1 ≡ met (cond b 0 3) ts & true
+  count-or : (b : Bool) → b || eqb (first noType ts) integerType ≡ met (cond b Nothing IntegerFirst) ts & true
   count-or true = sym (and-true true)
   count-or false = sym (and-true (eqb (first 0 ts) 1))
 
@@ -53,13 +56,13 @@ module _ (root : Forest) (l : Label) (cs : Forest) (ts : List ℕ) where
   rule-is (expr K.Null) = sym (and-true true)
   rule-is (expr K.Binary) = go (leb (l .p) 2)
     where
-      go : (b : Bool) → cond b (booleans ts) (alike ts) ≡ met (cond b 1 2) ts & true
+      go : (b : Bool) → cond b (booleans ts) (alike ts) ≡ met (cond b Booleans OneType) ts & true
       go true = sym (and-true (booleans ts))
       go false = sym (and-true (alike ts))
   rule-is (expr K.Not) = sym (and-true (booleans ts))
   rule-is (expr K.Test) = go (leb (l .p) 2)
     where
-      go : (b : Bool) → b || booleans ts ≡ met (cond b 0 1) ts & true
+      go : (b : Bool) → b || booleans ts ≡ met (cond b Nothing Booleans) ts & true
       go true = sym (and-true true)
       go false = sym (and-true (booleans ts))
   rule-is (expr K.Between) = sym (and-true (alike ts))
@@ -103,14 +106,14 @@ module _ (root : Forest) (l : Label) (cs : Forest) (ts : List ℕ) where
   more-none (plan K.Aggregate) a b = refl
   more-none (plan K.Window) a b = refl
 
-module _ {t : Tree} {s : List ℕ} {b : ℕ} {v : Node} (k : Looked t s b v) (root : Forest) (ts : List ℕ) {d : ℕ} {m : Bool}
+module _ {t : Tree} {s : List ℕ} {b : ℕ} {v : Node} (k : Looked t s b v) (root : Forest) (ts : List ℕ) {d : Demand} {m : Bool}
     (D : d ≡ demandOf (whatOf (v .kind)) (v .p) (v .r)) (M : m ≡ met d ts) where
   -- the same as the code asks it
   rule-by : typeOkBy (what (t .label)) root (t .label) (t .below) ts ≡ m & more (what (t .label)) root (t .label) (t .below)
   rule-by =
       rule-is root (t .label) (t .below) ts (what (t .label))
       ∙ ap (λ (x : Bool). x & more (what (t .label)) root (t .label) (t .below))
-      (sym (M ∙ ap (λ (x : ℕ). met x ts) (D ∙ ap (λ (x : ℕ). demandOf (whatOf x) (v .p) (v .r)) (k .kind)
+      (sym (M ∙ ap (λ (x : Demand). met x ts) (D ∙ ap (λ (x : ℕ). demandOf (whatOf x) (v .p) (v .r)) (k .kind)
       ∙ ap (λ (x : ℕ). demandOf (what (t .label)) x (v .r)) (k .p) ∙ ap (λ (x : ℕ). demandOf (what (t .label)) (t .label .p) x) (k .r))))
 
   -- its own expressions are wrong
@@ -125,7 +128,7 @@ module _ {t : Tree} {s : List ℕ} {b : ℕ} {v : Node} (k : Looked t s b v) (ro
     rule-then = sym (rule-by ∙ ap (λ (x : Bool). x & more (what (t .label)) root (t .label) (t .below)) e)
 
     -- a scan: the types of the first scan of its table
-    pub rule-scan : v .kind ≡ 32 → same-types (typesIn (made [] (t .below))) (scanTypes (v .p) [] root) ≡ typeOkBy (what (t .label)) root
+    pub rule-scan : v .kind ≡ K.numberP K.TableScan → same-types (typesIn (made [] (t .below))) (scanTypes (v .p) [] root) ≡ typeOkBy (what (t .label)) root
         (t .label) (t .below) ts
     unfolding whatOf K.among
     rule-scan z =
@@ -133,12 +136,12 @@ module _ {t : Tree} {s : List ℕ} {b : ℕ} {v : Node} (k : Looked t s b v) (ro
         ∙ ap (λ (x : ℕ). more (whatOf x) root (t .label) (t .below)) (sym (sym (k .kind) ∙ z)) ∙ rule-then
 
     -- a Union: its inputs united
-    pub rule-union : v .kind ≡ 37 → united (inputs (t .below)) ≡ typeOkBy (what (t .label)) root (t .label) (t .below) ts
+    pub rule-union : v .kind ≡ K.numberP K.Union → united (inputs (t .below)) ≡ typeOkBy (what (t .label)) root (t .label) (t .below) ts
     unfolding whatOf K.among
     rule-union z = ap (λ (x : ℕ). more (whatOf x) root (t .label) (t .below)) (sym (sym (k .kind) ∙ z)) ∙ rule-then
 
     -- another record asks no more
-    pub rule-rest : (v .kind ≡ 32 → ⊥) → (v .kind ≡ 37 → ⊥) → true ≡ typeOkBy (what (t .label)) root (t .label) (t .below) ts
+    pub rule-rest : (v .kind ≡ K.numberP K.TableScan → ⊥) → (v .kind ≡ K.numberP K.Union → ⊥) → true ≡ typeOkBy (what (t .label)) root (t .label) (t .below) ts
     rule-rest a c =
         more-none root (t .label) (t .below) ts (what (t .label))
         (λ q. a (k .kind ∙ kind-p (t .label) K.TableScan q)) (λ q. c (k .kind ∙ kind-p (t .label) K.Union q))

@@ -9,6 +9,8 @@ use lib.Dec.{eqb, ltb}
 use lib.ListN.{length, drop}
 use lib.Seq.{drop-drop}
 use borrow.Author.Tests.{eq-eqb, ne-eqb, eqb-true, eqb-false, ltb-true, ltb-false}
+use Rattle.check_fields.specs.declared.questions.Question.the-variants.{Every}
+use Rattle.plan.specs.Kinds as K
 use Rattle.image.specs.Word.{word}
 use Rattle.image.specs.Tree.{Label, Forest, none, node, size, link, Stands, Linked, Tree, At, Node, nodeOf, labelAt}
 use Rattle.image.specs.Lowest.{alone}
@@ -51,13 +53,13 @@ and-same true b = refl
 and-same false b = refl
 
 -- a record by the code's test of it
-scan-by : (t : ℕ) (d : List ℕ) (l : Label) (cs ns : Forest) (k p : ℕ) {x : Bool} → k ≡ l .kind → p ≡ l .p → (eqb k 32 && eqb p t) ≡ x
+scan-by : (t : ℕ) (d : List ℕ) (l : Label) (cs ns : Forest) (k p : ℕ) {x : Bool} → k ≡ l .kind → p ≡ l .p → (eqb k (K.numberP K.TableScan) && eqb p t) ≡ x
     → scanTypes t d (node l cs ns) ≡ cond x (typesIn (made [] cs)) (scanTypes t (scanTypes t d ns) cs)
 unfolding scanTypes
 scan-by t d l cs ns k p e g h =
     ap (λ (y : Bool). cond y (typesIn (made [] cs)) (scanTypes t (scanTypes t d ns) cs))
-    (sym (and-same (eqb (l .kind) 32) (eqb (l .p) t)) ∙ ap (λ (n : ℕ). eqb n 32 && eqb (l .p) t) (sym e)
-    ∙ ap (λ (n : ℕ). eqb k 32 && eqb n t) (sym g) ∙ h)
+    (sym (and-same (eqb (l .kind) (K.numberP K.TableScan)) (eqb (l .p) t)) ∙ ap (λ (n : ℕ). eqb n (K.numberP K.TableScan) && eqb (l .p) t) (sym e)
+    ∙ ap (λ (n : ℕ). eqb k (K.numberP K.TableScan) && eqb n t) (sym g) ∙ h)
 
 -- the record with this number is a scan of the table
 abbrev pub scansAt : ℕ → List ℕ → ℕ → Bool
@@ -164,7 +166,7 @@ module _ (s : List ℕ) {part : List ℕ} {v : Node} (i : ℕ) (e : part ≡ dro
   there = let z : i - 0 ≡ i = omega arith in e ∙ ap (λ (n : ℕ). drop (32 * n) s) z
 
   -- its test of a record
-  pub scan-test : (t : ℕ) {x : Bool} → (eqb (v .kind) 32 && eqb (v .p) t) ≡ x → scansAt t s i ≡ x
+  pub scan-test : (t : ℕ) {x : Bool} → (eqb (v .kind) (K.numberP K.TableScan) && eqb (v .p) t) ≡ x → scansAt t s i ≡ x
   scan-test t h = rw (← there) (rw g at h)
 
   -- the scan's children
@@ -172,7 +174,7 @@ module _ (s : List ℕ) {part : List ℕ} {v : Node} (i : ℕ) (e : part ≡ dro
   lowest-linked t ts y = rw (g, there) (y .linked)
 
 -- a schema has no fields just where its types are none
-pub no-fields : (s : Schema) {n : ℕ} → n ≡ counted (hits 2 0 0) s → eqb n 0 ≡ same-types (typesIn s) []
+pub no-fields : (s : Schema) {n : ℕ} → n ≡ counted (hits Every 0 0) s → eqb n 0 ≡ same-types (typesIn s) []
 unfolding typesIn
 no-fields [] {n} e = eq-eqb n 0 (e ∙ counted-all 0 0 [])
 no-fields (f ∷ s) {n} e = ne-eqb n 0 (λ q. omega (arith, counted-all 0 0 (f ∷ s)))

@@ -10,12 +10,11 @@ use Rattle.image.specs.Places.{placeOf}
 use Rattle.image.specs.declared.places.Place.the-variants.{At}
 use Rattle.image.proofs.Lowest.{lowest-none}
 use Rattle.image.proofs.Finding.{or-nothing, lowest-at}
-use Rattle.plan.specs.Kinds as K
-use Rattle.plan.specs.Kinds.{What, expr, plan, part, unknown, what, whatOf}
-use Rattle.check_fields.specs.Fields.{inputs}
-use Rattle.check_fields.specs.Rules.{Scope, over, hand, handBy, handP, typesOf, typeOk, typeOkBy, badTypes}
-use Rattle.check_fields.specs.Scopes.{scopeOf, sortP, sortW}
-use Rattle.check_fields.proofs.Counting.{input-0, input-1}
+use Rattle.plan.specs.Kinds.{what, whatOf}
+use Rattle.check_fields.specs.Rules.{Scope, over, hand, typesOf, typeOk, typeOkBy, badTypes}
+use Rattle.check_fields.specs.Scopes.{scopeOf, viewW}
+use Rattle.check_fields.specs.declared.scopes.View.{View}
+use Rattle.check_fields.proofs.Scoping.{hand-root}
 use Rattle.check_types.proofs.Scanning.{Looked}
 
 -- ---- the rule of types
@@ -28,41 +27,11 @@ rule-of root c l cs x y h e = e ∙ ap (λ (p : Scope × Scope). typeOkBy (what 
 
 -- ---- the root
 
--- what a plan hands down, as the code says it
-hand-p : (k : K.PlanKind) (cs : Forest) → handP k cs (inputs cs) ≡ scopeOf (sortP k) cs
-hand-p K.TableScan cs = refl
-hand-p K.Filter cs = rw (input-0 (inputs cs)) refl
-hand-p K.Projection cs = rw (input-0 (inputs cs)) refl
-hand-p K.Join cs = rw (input-0 (inputs cs), input-1 (inputs cs)) refl
-hand-p K.SubqueryAlias cs = rw (input-0 (inputs cs)) refl
-hand-p K.Union cs = refl
-hand-p K.Distinct cs = rw (input-0 (inputs cs)) refl
-hand-p K.Sort cs = rw (input-0 (inputs cs)) refl
-hand-p K.Repartition cs = rw (input-0 (inputs cs)) refl
-hand-p K.Limit cs = rw (input-0 (inputs cs)) refl
-hand-p K.Aggregate cs = rw (input-0 (inputs cs)) refl
-hand-p K.Window cs = rw (input-0 (inputs cs)) refl
-
--- over no fields a record that is no plan hands down none
-hand-root : (w : What) (cs : Forest) → handBy w (over [] []) cs ≡ (scopeOf (sortW w) cs, scopeOf (sortW w) cs)
-hand-root (expr k) cs = refl
-hand-root (plan k) cs = rw (hand-p k cs) refl
-hand-root (part K.FieldPart) cs = refl
-hand-root (part K.EntryPart) cs = refl
-hand-root (part K.PairPart) cs = refl
-hand-root (part K.KeyPart) cs = refl
-hand-root (part K.AggPart) cs = refl
-hand-root (part K.WinPart) cs = refl
-hand-root unknown cs = refl
-
-module _ {t : Tree} {s : List ℕ} {v : Node} (k : Looked t s 0 v) {r : ℕ} (R : r ≡ sortW (whatOf (v .kind))) {x : Bool}
+module _ {t : Tree} {s : List ℕ} {v : Node} (k : Looked t s 0 v) {r : View} (R : r ≡ viewW (whatOf (v .kind))) {x : Bool}
     (X : x ≡ typeOkBy (what (t .label)) (alone t) (t .label) (t .below) (typesOf (scopeOf r (t .below)) (scopeOf r (t .below)) (t .below))) where
   -- what the root hands down
   handed : hand (over [] []) (t .label) (t .below) ≡ (scopeOf r (t .below), scopeOf r (t .below))
-  unfolding hand
-  handed =
-      hand-root (what (t .label)) (t .below)
-      ∙ ap (λ (n : ℕ). (scopeOf n (t .below), scopeOf n (t .below))) (sym (R ∙ ap (λ (n : ℕ). sortW (whatOf n)) (k .kind)))
+  handed = hand-root (t .label) (t .below) (R ∙ ap (λ (n : ℕ). viewW (whatOf n)) (k .kind))
 
   -- what is found below the root
   abbrev below-root : Found

@@ -1,84 +1,107 @@
-// What a record asks of the types of its own expressions.
+// What a record asks of the types of its own expressions, and whether they are so.
+use check_fields::scopes::View;
 use check_fields::scopes::type_of;
 use image::records::from_record;
 use image::records::look;
+use plan::kinds::AGGREGATE_ENTRY;
+use plan::kinds::BETWEEN;
+use plan::kinds::BINARY_EXPR;
+use plan::kinds::FILTER;
+use plan::kinds::IN_LIST;
+use plan::kinds::JOIN;
+use plan::kinds::NOT;
+use plan::kinds::PAIR;
+use plan::kinds::TABLE_SCAN;
+use plan::kinds::TEST;
+use plan::kinds::WINDOW_ENTRY;
+use plan::kinds::is_expression;
+use plan::words::BOOLEAN;
+use plan::words::COUNT;
+use plan::words::INTEGER;
+use plan::words::IS_NOT_NULL;
+use plan::words::NO_TYPE;
+use plan::words::OR;
 ghost use mathlib.Core.Path.{_≡_};
 ghost use lib.Dec.{eqb};
 ghost use Rattle.image.specs.Places.{Chained};
 ghost use Rattle.image.specs.Tree.{Forest, Linked};
-ghost use Rattle.plan.specs.Kinds.{exprW, whatOf};
+ghost use Rattle.plan.specs.Kinds.{whatOf};
 ghost use Rattle.plan.specs.Lists.{all};
+ghost use Rattle.plan.specs.Syntax.{noType};
 ghost use Rattle.check_fields.specs.Fields.{first};
 ghost use Rattle.check_fields.specs.Rules.{alike, typesOf};
 ghost use Rattle.check_fields.specs.Scopes.{scopeOf};
 ghost use Rattle.check_types.specs.Demands.{booleanKind, demandOf, integerOr, met};
 
-// Whether the kind is an expression's.
-fn is_expr(kind: usize) -> bool
-    ensures { λ b. ⌜ b ≡ exprW (whatOf kind) ⌝ }
-{
-    (1 <= kind) & (kind <= 10)
+// What a record asks of the types of its own expressions.
+pub enum Demand {
+    Nothing,
+    Booleans,
+    // One type for all of them.
+    OneType,
+    // The first of them is an integer.
+    IntegerFirst,
 }
 
 // Count takes any type, Min and Max an integer.
-fn integer_unless_count(r: usize) -> usize
+fn integer_unless_count(r: usize) -> Demand
     ensures { λ d. ⌜ d ≡ integerOr r ⌝ }
 {
-    if r == 1 {
-        return 0;
+    if r == COUNT {
+        return Demand::Nothing;
     }
-    3
+    Demand::IntegerFirst
 }
 
 // Not and the plans with predicates take booleans.
-fn takes_booleans(kind: usize) -> usize
+fn takes_booleans(kind: usize) -> Demand
     ensures { λ d. ⌜ d ≡ booleanKind kind ⌝ }
 {
-    if kind == 6 {
-        return 1;
+    if kind == NOT {
+        return Demand::Booleans;
     }
-    if kind == 32 {
-        return 1;
+    if kind == TABLE_SCAN {
+        return Demand::Booleans;
     }
-    if kind == 33 {
-        return 1;
+    if kind == FILTER {
+        return Demand::Booleans;
     }
-    if kind == 35 {
-        return 1;
+    if kind == JOIN {
+        return Demand::Booleans;
     }
-    0
+    Demand::Nothing
 }
 
-// What a record asks for: 1 booleans, 2 one type for all, 3 an integer first, 0 nothing.
-pub fn demand(kind: usize, p: usize, r: usize) -> usize
+// What a record of the kind asks for.
+pub fn demand_of(kind: usize, p: usize, r: usize) -> Demand
     ensures { λ d. ⌜ d ≡ demandOf (whatOf kind) p r ⌝ }
 {
-    if kind == 5 {
-        if p <= 2 {
-            return 1;
+    if kind == BINARY_EXPR {
+        if p <= OR {
+            return Demand::Booleans;
         }
-        return 2;
+        return Demand::OneType;
     }
-    if kind == 7 {
-        if p <= 2 {
-            return 0;
+    if kind == TEST {
+        if p <= IS_NOT_NULL {
+            return Demand::Nothing;
         }
-        return 1;
+        return Demand::Booleans;
     }
-    if kind == 52 {
+    if kind == AGGREGATE_ENTRY {
         return integer_unless_count(r);
     }
-    if kind == 53 {
+    if kind == WINDOW_ENTRY {
         return integer_unless_count(r);
     }
-    if kind == 8 {
-        return 2;
+    if kind == BETWEEN {
+        return Demand::OneType;
     }
-    if kind == 9 {
-        return 2;
+    if kind == IN_LIST {
+        return Demand::OneType;
     }
-    if kind == 50 {
-        return 2;
+    if kind == PAIR {
+        return Demand::OneType;
     }
     takes_booleans(kind)
 }
@@ -91,19 +114,19 @@ pub fn first_type(
     g: &[u8],
     gb: usize,
     ga: usize,
-    here: usize,
-    after: usize,
+    here: View,
+    after: View,
 ) -> usize
     requires { ⌜ Chained (now s) base at × Chained (now g) gb ga ⌝ }
     ensures { λ r. ⌜ ((f e : Forest) → Linked f (now (s .entry)) base at → Linked e (now (g .entry)) gb ga
-        → r ≡ first 0 (typesOf (scopeOf here e) (scopeOf after e) f)) ⌝ }
+        → r ≡ first noType (typesOf (scopeOf here e) (scopeOf after e) f)) ⌝ }
 {
     if at == 0 {
-        return 0;
+        return NO_TYPE;
     }
     let part = from_record(s, base, at);
     let v = look(part);
-    if is_expr(v.kind) {
+    if is_expression(v.kind) {
         return type_of(part, g, gb, ga, here);
     }
     first_type(s, base, v.next, g, gb, ga, after, after)
@@ -117,8 +140,8 @@ pub fn all_have(
     g: &[u8],
     gb: usize,
     ga: usize,
-    here: usize,
-    after: usize,
+    here: View,
+    after: View,
     t: usize,
 ) -> bool
     requires { ⌜ Chained (now s) base at × Chained (now g) gb ga ⌝ }
@@ -130,7 +153,7 @@ pub fn all_have(
     }
     let part = from_record(s, base, at);
     let v = look(part);
-    if is_expr(v.kind) {
+    if is_expression(v.kind) {
         if t != type_of(part, g, gb, ga, here) {
             return false;
         }
@@ -147,8 +170,8 @@ pub fn all_alike(
     g: &[u8],
     gb: usize,
     ga: usize,
-    here: usize,
-    after: usize,
+    here: View,
+    after: View,
 ) -> bool
     requires { ⌜ Chained (now s) base at × Chained (now g) gb ga ⌝ }
     ensures { λ r. ⌜ ((f e : Forest) → Linked f (now (s .entry)) base at → Linked e (now (g .entry)) gb ga
@@ -159,7 +182,7 @@ pub fn all_alike(
     }
     let part = from_record(s, base, at);
     let v = look(part);
-    if is_expr(v.kind) {
+    if is_expression(v.kind) {
         let t = type_of(part, g, gb, ga, here);
         return all_have(s, base, v.next, g, gb, ga, after, after, t);
     }
@@ -168,28 +191,24 @@ pub fn all_alike(
 
 // Whether the expressions from record `at` on are as the record above them asks.
 pub fn meets(
-    d: usize,
+    d: Demand,
     s: &[u8],
     base: usize,
     at: usize,
     g: &[u8],
     gb: usize,
     ga: usize,
-    here: usize,
-    after: usize,
+    here: View,
+    after: View,
 ) -> bool
     requires { ⌜ Chained (now s) base at × Chained (now g) gb ga ⌝ }
     ensures { λ r. ⌜ ((f e : Forest) → Linked f (now (s .entry)) base at → Linked e (now (g .entry)) gb ga
         → r ≡ met d (typesOf (scopeOf here e) (scopeOf after e) f)) ⌝ }
 {
-    if d == 1 {
-        return all_have(s, base, at, g, gb, ga, here, after, 2);
+    match d {
+        Demand::Nothing => true,
+        Demand::Booleans => all_have(s, base, at, g, gb, ga, here, after, BOOLEAN),
+        Demand::OneType => all_alike(s, base, at, g, gb, ga, here, after),
+        Demand::IntegerFirst => first_type(s, base, at, g, gb, ga, here, after) == INTEGER,
     }
-    if d == 2 {
-        return all_alike(s, base, at, g, gb, ga, here, after);
-    }
-    if d == 3 {
-        return first_type(s, base, at, g, gb, ga, here, after) == 1;
-    }
-    true
 }

@@ -6,6 +6,8 @@ use check_fields::fields::role_of;
 use check_fields::fields::seek_field;
 use check_fields::fields::seek_made;
 use check_fields::fields::type_found;
+use check_fields::questions::Question;
+use check_fields::roles::NO_PLAN;
 use image::records::from_record;
 use image::records::look;
 ghost use mathlib.Core.Path.{_≡_};
@@ -18,29 +20,37 @@ ghost use Rattle.check_fields.specs.Fields.{inputs};
 ghost use Rattle.check_fields.specs.Rules.{typesIn, united};
 ghost use Rattle.check_types.specs.ByPlace.{schemaOf, tyAt};
 
-// How many fields: 0 those that the parts make, as a scan's, else those of the first plan.
-fn width(s: &[u8], base: usize, at: usize, which: usize) -> usize
-    requires { ⌜ Chained (now s) base at ⌝ }
-    ensures { λ r. ⌜ ((f : Forest) → Linked f (now (s .entry)) base at → r ≡ counted (hits 2 0 0) (schemaOf which f)) ⌝ }
-{
-    if which == 0 {
-        return made_count(s, base, at, 2, 0, 0);
-    }
-    holders(s, base, at, 0, 2, 0, 0)
+// Whose fields are meant, of the trees from a record on.
+pub enum Whose {
+    // Those that the parts make, as a scan's.
+    Parts,
+    // Those of the first plan.
+    FirstPlan,
 }
 
-// The type of the field with the place k, as in `width`; 0 for none.
-pub fn place_type(s: &[u8], base: usize, at: usize, which: usize, k: usize) -> usize
+// How many fields there are.
+fn width(s: &[u8], base: usize, at: usize, whose: Whose) -> usize
     requires { ⌜ Chained (now s) base at ⌝ }
-    ensures { λ r. ⌜ ((f : Forest) → Linked f (now (s .entry)) base at → r ≡ tyAt k (schemaOf which f)) ⌝ }
+    ensures { λ r. ⌜ ((f : Forest) → Linked f (now (s .entry)) base at → r ≡ counted (hits Question.Every 0 0) (schemaOf whose f)) ⌝ }
 {
-    if which == 0 {
-        return type_found(seek_made(s, base, at, 2, 0, 0, k));
+    match whose {
+        Whose::Parts => made_count(s, base, at, Question::Every, 0, 0),
+        Whose::FirstPlan => holders(s, base, at, 0, Question::Every, 0, 0),
     }
-    type_found(seek_field(s, base, at, 0, 2, 0, 0, k))
 }
 
-// Whether two schemas, as in `width`, have the same types by place, widths included.
+// The type of the field with the place k, or no type.
+pub fn place_type(s: &[u8], base: usize, at: usize, whose: Whose, k: usize) -> usize
+    requires { ⌜ Chained (now s) base at ⌝ }
+    ensures { λ r. ⌜ ((f : Forest) → Linked f (now (s .entry)) base at → r ≡ tyAt k (schemaOf whose f)) ⌝ }
+{
+    match whose {
+        Whose::Parts => type_found(seek_made(s, base, at, Question::Every, 0, 0, k)),
+        Whose::FirstPlan => type_found(seek_field(s, base, at, 0, Question::Every, 0, 0, k)),
+    }
+}
+
+// Whether two schemas have the same types by place, widths included.
 pub fn same_fields(
     s: &[u8],
     base: usize,
@@ -48,19 +58,19 @@ pub fn same_fields(
     g: &[u8],
     gb: usize,
     ga: usize,
-    which: usize,
+    whose: Whose,
 ) -> bool
     requires { ⌜ Chained (now s) base at × Chained (now g) gb ga ⌝ }
     ensures { λ r. ⌜ ((f e : Forest) → Linked f (now (s .entry)) base at → Linked e (now (g .entry)) gb ga
-        → r ≡ same-types (typesIn (schemaOf which f)) (typesIn (schemaOf which e))) ⌝ }
+        → r ≡ same-types (typesIn (schemaOf whose f)) (typesIn (schemaOf whose e))) ⌝ }
 {
-    let n = width(s, base, at, which);
-    if n != width(g, gb, ga, which) {
+    let n = width(s, base, at, whose);
+    if n != width(g, gb, ga, whose) {
         return false;
     }
     let mut k = 0;
     while k < n {
-        if place_type(s, base, at, which, k) != place_type(g, gb, ga, which, k) {
+        if place_type(s, base, at, whose, k) != place_type(g, gb, ga, whose, k) {
             return false;
         }
         k += 1;
@@ -79,8 +89,8 @@ pub fn as_first(s: &[u8], base: usize, at: usize, g: &[u8], gb: usize, ga: usize
     }
     let part = from_record(s, base, at);
     let v = look(part);
-    if role_of(v.kind) != 0 {
-        if !same_fields(s, base, at, g, gb, ga, 1) {
+    if role_of(v.kind) != NO_PLAN {
+        if !same_fields(s, base, at, g, gb, ga, Whose::FirstPlan) {
             return false;
         }
         return as_first(s, base, v.next, g, gb, ga);

@@ -1,14 +1,18 @@
 // The walk of test 7: the lowest record whose types are wrong, with the scope handed down.
-use crate::operands::demand;
+use crate::operands::demand_of;
 use crate::operands::meets;
 use crate::places::united;
 use crate::scans::as_scanned;
-use check_fields::scopes::first_sort;
-use check_fields::scopes::rest_sort;
-use check_fields::scopes::sort_of;
+use check_fields::scopes::View;
+use check_fields::scopes::first_view;
+use check_fields::scopes::rest_view;
+use check_fields::scopes::view_of;
 use image::places::Place;
 use image::records::from_record;
 use image::records::look;
+use plan::kinds::TABLE_SCAN;
+use plan::kinds::UNION;
+use plan::kinds::is_plan;
 ghost use mathlib.Core.Path.{_≡_};
 ghost use Rattle.image.specs.Lowest.{alone, lowest};
 ghost use Rattle.image.specs.Places.{Chained, placeOf};
@@ -25,8 +29,8 @@ pub fn type_ok(
     g: &[u8],
     gb: usize,
     ga: usize,
-    here: usize,
-    after: usize,
+    here: View,
+    after: View,
     root: &[u8],
 ) -> bool
     requires { ⌜ Planted (now s) at × Chained (now g) gb ga × Filled (now root) ⌝ }
@@ -34,14 +38,14 @@ pub fn type_ok(
         → r ≡ typeOkBy (what (t .label)) (alone u) (t .label) (t .below) (typesOf (scopeOf here e) (scopeOf after e) (t .below))) ⌝ }
 {
     let v = look(s);
-    let d = demand(v.kind, v.p, v.r);
+    let d = demand_of(v.kind, v.p, v.r);
     if !meets(d, s, at, v.first, g, gb, ga, here, after) {
         return false;
     }
-    if v.kind == 32 {
+    if v.kind == TABLE_SCAN {
         return as_scanned(root, v.p, s, at, v.first);
     }
-    if v.kind == 37 {
+    if v.kind == UNION {
         return united(s, at, v.first);
     }
     true
@@ -55,36 +59,36 @@ pub fn bad_type(
     g: &[u8],
     gb: usize,
     ga: usize,
-    here: usize,
-    after: usize,
+    here: View,
+    after: View,
     root: &[u8],
 ) -> Place
     requires { ⌜ Chained (now s) base at × Chained (now g) gb ga × Filled (now root) ⌝ }
-    ensures { λ r. ⌜ ((f e : Forest) (u : Tree) → Linked f (now (s .entry)) base at → Linked e (now (g .entry)) gb ga → At u (now (root .entry)) 0
-        → r ≡ placeOf (lowest (typeOk (alone u)) hand (scopeOf here e) (scopeOf after e) at f)) ⌝ }
+    ensures { λ r. ⌜ ((f e : Forest) (u : Tree) → Linked f (now (s .entry)) base at → Linked e (now (g .entry)) gb ga
+        → At u (now (root .entry)) 0 → r ≡ placeOf (lowest (typeOk (alone u)) hand (scopeOf here e) (scopeOf after e) at f)) ⌝ }
 {
     if at == 0 {
         return Place::Nowhere;
     }
     let part = from_record(s, base, at);
     let v = look(part);
-    let sort = sort_of(v.kind);
-    if sort == 9 {
-        let i = first_sort(v.kind, here);
-        let j = rest_sort(v.kind, here);
-        if !type_ok(part, at, g, gb, ga, i, j, root) {
+    if !is_plan(v.kind) {
+        let first = first_view(v.kind, here);
+        let rest = rest_view(v.kind, here);
+        if !type_ok(part, at, g, gb, ga, first, rest, root) {
             return Place::At(at);
         }
-        let below = bad_type(part, at, v.first, g, gb, ga, i, j, root);
+        let below = bad_type(part, at, v.first, g, gb, ga, first, rest, root);
         match below {
             Place::At(r) => Place::At(r),
             Place::Nowhere => bad_type(s, base, v.next, g, gb, ga, after, after, root),
         }
     } else {
-        if !type_ok(part, at, part, at, v.first, sort, sort, root) {
+        let own = view_of(v.kind);
+        if !type_ok(part, at, part, at, v.first, own, own, root) {
             return Place::At(at);
         }
-        let under = bad_type(part, at, v.first, part, at, v.first, sort, sort, root);
+        let under = bad_type(part, at, v.first, part, at, v.first, own, own, root);
         match under {
             Place::At(r) => Place::At(r),
             Place::Nowhere => bad_type(s, base, v.next, g, gb, ga, after, after, root),
@@ -98,9 +102,9 @@ pub fn bad_types(s: &[u8]) -> Place
     ensures { λ r. ⌜ ((t : Tree) → At t (now (s .entry)) 0 → r ≡ placeOf (badTypes t)) ⌝ }
 {
     let v = look(s);
-    let sort = sort_of(v.kind);
-    if !type_ok(s, 0, s, 0, v.first, sort, sort, s) {
+    let own = view_of(v.kind);
+    if !type_ok(s, 0, s, 0, v.first, own, own, s) {
         return Place::At(0);
     }
-    bad_type(s, 0, v.first, s, 0, v.first, sort, sort, s)
+    bad_type(s, 0, v.first, s, 0, v.first, own, own, s)
 }

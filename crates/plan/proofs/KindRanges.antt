@@ -9,7 +9,9 @@ use Prim.Native.Nat.{ℕ, zero, suc, _+_, _≤_, _<_}
 use native.Mathlib.Omega.{arith}
 use lib.Dec.{eqb, leb}
 use borrow.Author.Tests.{leb-true, leb-false, eqb-true}
-use Rattle.plan.specs.Kinds.{What, expr, plan, part, unknown, kinds, among, whatOf, numberOf, exprW, planW, partW}
+use Rattle.image.specs.Tree.{Label}
+use Rattle.plan.specs.Kinds.{What, expr, plan, part, unknown, kinds, among, whatOf, numberOf, numberE, numberP, numberQ}
+use Rattle.plan.specs.Kinds.{exprW, planW, partW, isPlan, Column, Function, TableScan, Window, FieldPart, WinPart}
 use Rattle.plan.proofs.Bools.{and-left, and-right, same-truth}
 
 -- ---- a run of numbers
@@ -29,10 +31,10 @@ at P (suc n) a k h l m = go (leb (suc a) k) refl (λ q. at P n (suc a) k (h .1) 
     go false e r = let q : a ≡ k = omega (arith, leb-false (suc a) k e) in subst P q (h .0)
 
 -- what the test for a run says
-pub from-run : (a b k : ℕ) → (leb a k && leb k b) ≡ true → a ≤ k
+from-run : (a b k : ℕ) → (leb a k && leb k b) ≡ true → a ≤ k
 from-run a b k h = leb-true a k (and-left (leb a k) (leb k b) h)
 
-pub to-run : (a b k : ℕ) → (leb a k && leb k b) ≡ true → k ≤ b
+to-run : (a b k : ℕ) → (leb a k && leb k b) ≡ true → k ≤ b
 to-run a b k h = leb-true k b (and-right (leb a k) (leb k b) h)
 
 -- ---- a sort of kinds, and the run from a to b
@@ -68,25 +70,48 @@ module _ (is : What → Bool) (a b : ℕ) where
       same-truth (is (whatOf k)) (within k) (in-run k kinds u h)
       (λ q. at (λ m. is (whatOf m) ≡ true) n a k e (from-run a b k q) (omega (arith, to-run a b k q)))
 
-pub expr-kind : (k : ℕ) → exprW (whatOf k) ≡ (leb 1 k && leb k 10)
+-- ---- the runs of the three sorts
+
+abbrev pub expr-number : ℕ → Bool
+expr-number k = leb (numberE Column) k && leb k (numberE Function)
+
+abbrev pub plan-number : ℕ → Bool
+plan-number k = leb (numberP TableScan) k && leb k (numberP Window)
+
+abbrev pub part-number : ℕ → Bool
+part-number k = leb (numberQ FieldPart) k && leb k (numberQ WinPart)
+
+pub expr-kind : (k : ℕ) → exprW (whatOf k) ≡ expr-number k
 unfolding whatOf among
 expr-kind = ranged exprW 1 10 10 (omega arith) refl refl (refl, (refl, (refl, (refl, (refl, (refl, (refl, (refl, (refl, (refl, tt))))))))))
 
-pub plan-kind : (k : ℕ) → planW (whatOf k) ≡ (leb 32 k && leb k 43)
+pub plan-kind : (k : ℕ) → planW (whatOf k) ≡ plan-number k
 unfolding whatOf among
 plan-kind =
     ranged planW 32 43 12 (omega arith) refl refl (refl, (refl, (refl, (refl, (refl, (refl, (refl, (refl, (refl, (refl, (refl, (refl, tt))))))))))))
 
-pub part-kind : (k : ℕ) → partW (whatOf k) ≡ (leb 48 k && leb k 53)
+pub part-kind : (k : ℕ) → partW (whatOf k) ≡ part-number k
 unfolding whatOf among
 part-kind = ranged partW 48 53 6 (omega arith) refl refl (refl, (refl, (refl, (refl, (refl, (refl, tt))))))
 
--- no other number is a kind
-pub no-kind : (k : ℕ) → (leb 1 k && leb k 10) ≡ false → (leb 32 k && leb k 43) ≡ false → (leb 48 k && leb k 53) ≡ false → whatOf k ≡ unknown
-no-kind k e p q = go (whatOf k) (expr-kind k ∙ e) (plan-kind k ∙ p) (part-kind k ∙ q)
-  where
-    go : (w : What) → exprW w ≡ false → planW w ≡ false → partW w ≡ false → w ≡ unknown
-    go (expr x) a b c = cc
-    go (plan x) a b c = cc
-    go (part x) a b c = cc
-    go unknown a b c = refl
+-- a record is a plan's just if its kind is in the run
+pub plan-range : (l : Label) → isPlan l ≡ plan-number (l .kind)
+plan-range l = plan-kind (l .kind)
+
+-- where the run of a sort begins and ends
+module _ (k : ℕ) where
+  pub expr-run : exprW (whatOf k) ≡ true → (numberE Column ≤ k) × (k ≤ numberE Function)
+  expr-run h = let e = sym (expr-kind k) ∙ h in (from-run _ 10 k e, to-run 1 _ k e)
+
+  pub plan-run : planW (whatOf k) ≡ true → (numberP TableScan ≤ k) × (k ≤ numberP Window)
+  plan-run h = let e = sym (plan-kind k) ∙ h in (from-run _ 43 k e, to-run 32 _ k e)
+
+  pub part-run : partW (whatOf k) ≡ true → (numberQ FieldPart ≤ k) × (k ≤ numberQ WinPart)
+  part-run h = let e = sym (part-kind k) ∙ h in (from-run _ 53 k e, to-run 48 _ k e)
+
+-- what is of none of the sorts is no kind
+pub no-kind : (w : What) → exprW w ≡ false → planW w ≡ false → partW w ≡ false → w ≡ unknown
+no-kind (expr x) a b c = cc
+no-kind (plan x) a b c = cc
+no-kind (part x) a b c = cc
+no-kind unknown a b c = refl

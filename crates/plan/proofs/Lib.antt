@@ -4,7 +4,6 @@ pub mod Integers
 pub mod Lists
 pub mod Names
 pub mod Measure
-pub mod PlanKinds
 pub mod Rebuilt
 pub mod Types
 pub mod Written

@@ -147,39 +147,39 @@ module _ {A : Type 0} (l : A → Label) (k : A → Forest) (q : K.PartKind) (is 
 
 -- ---- kinds of plans and expressions
 
-below44 : (p : Plan) → leb (labelP p .kind) 43 ≡ true
+last-plan : (p : Plan) → leb (labelP p .kind) (K.numberP K.Window) ≡ true
 unfolding labelP
-below44 (scan t fs es) = refl
-below44 (filter e p) = refl
-below44 (project es p) = refl
-below44 (join k l r on f) = refl
-below44 (alias q p) = refl
-below44 (union ps) = refl
-below44 (distinct p) = refl
-below44 (sort f ks p) = refl
-below44 (repartition p) = refl
-below44 (limit n k p) = refl
-below44 (aggregate gs ags p) = refl
-below44 (window ws p) = refl
+last-plan (scan t fs es) = refl
+last-plan (filter e p) = refl
+last-plan (project es p) = refl
+last-plan (join k l r on f) = refl
+last-plan (alias q p) = refl
+last-plan (union ps) = refl
+last-plan (distinct p) = refl
+last-plan (sort f ks p) = refl
+last-plan (repartition p) = refl
+last-plan (limit n k p) = refl
+last-plan (aggregate gs ags p) = refl
+last-plan (window ws p) = refl
 
-pub no-part : (p : Plan) (n : ℕ) → 43 < n → eqb (labelP p .kind) n ≡ false
-no-part p n h = ne-eqb (labelP p .kind) n (λ e. omega (arith, leb-true (labelP p .kind) 43 (below44 p)))
+pub no-part : (p : Plan) (n : ℕ) → K.numberP K.Window < n → eqb (labelP p .kind) n ≡ false
+no-part p n h = ne-eqb (labelP p .kind) n (λ e. omega (arith, leb-true (labelP p .kind) (K.numberP K.Window) (last-plan p)))
 
-below11 : (e : Expr) → leb (labelE e .kind) 10 ≡ true
+last-expression : (e : Expr) → leb (labelE e .kind) (K.numberE K.Function) ≡ true
 unfolding labelE
-below11 (col x) = refl
-below11 (num z) = refl
-below11 (bool b) = refl
-below11 (nul t) = refl
-below11 (bin o a b) = refl
-below11 (neg a) = refl
-below11 (test t a) = refl
-below11 (between n a l h) = refl
-below11 (inlist n a xs) = refl
-below11 (fn p q r xs) = refl
+last-expression (col x) = refl
+last-expression (num z) = refl
+last-expression (bool b) = refl
+last-expression (nul t) = refl
+last-expression (bin o a b) = refl
+last-expression (neg a) = refl
+last-expression (test t a) = refl
+last-expression (between n a l h) = refl
+last-expression (inlist n a xs) = refl
+last-expression (fn p q r xs) = refl
 
-pub no-part-e : (e : Expr) (n : ℕ) → 10 < n → eqb (labelE e .kind) n ≡ false
-no-part-e e n h = ne-eqb (labelE e .kind) n (λ q. omega (arith, leb-true (labelE e .kind) 10 (below11 e)))
+pub no-part-e : (e : Expr) (n : ℕ) → K.numberE K.Function < n → eqb (labelE e .kind) n ≡ false
+no-part-e e n h = ne-eqb (labelE e .kind) n (λ q. omega (arith, leb-true (labelE e .kind) (K.numberE K.Function) (last-expression e)))
 
 pub expr-what : (e : Expr) → (k : K.ExprKind) × (what (labelE e) ≡ expr k)
 unfolding labelE whatOf among
@@ -241,7 +241,7 @@ filters-back (e ∷ es) h = rw (expr-back e (h .0), filters-back es (h .1))
 filters-stop : (es : List Expr) → Stops isField (each labelE kidsE es none)
 unfolding each
 filters-stop [] = tt
-filters-stop (e ∷ es) = no-part-e e 48 (omega arith)
+filters-stop (e ∷ es) = no-part-e e (K.numberQ K.FieldPart) (omega arith)
 
 filters-plans : (es : List Expr) → plansOf (each labelE kidsE es none) ≡ pnil
 unfolding plansOf each
@@ -250,7 +250,7 @@ filters-plans (e ∷ es) = rw (expr-what e .1, filters-plans es)
 
 own-stops : (f : Option Expr) → Stops isPair (filterKids f)
 own-stops O.none = tt
-own-stops (some e) = no-part-e e 50 (omega arith)
+own-stops (some e) = no-part-e e (K.numberQ K.PairPart) (omega arith)
 
 own-back : (f : Option Expr) → Fits? f → perhapsE (exprsOf (filterKids f)) ≡ f
 unfolding exprsOf
@@ -269,11 +269,11 @@ fetch-back (some n) = refl
 module _ (p : Plan) where
   runs-entry : (es : List Entry) → Every (λ (e : Entry). FitsE (e .expr)) es
       → run isEntry entryOf (each entryLabel entryKids es (node (labelP p) (kidsP p) none)) ≡ es
-  runs-entry es h = run-each isEntry entryOf entryLabel entryKids (λ e. FitsE (e .expr)) (λ x. refl) entry-back es _ h (no-part p 49 (omega arith))
+  runs-entry es h = run-each isEntry entryOf entryLabel entryKids (λ e. FitsE (e .expr)) (λ x. refl) entry-back es _ h (no-part p (K.numberQ K.EntryPart) (omega arith))
 
   aggs-stop : (ags : List AggEntry) → Stops isEntry (each aggLabel aggKids ags (node (labelP p) (kidsP p) none))
   unfolding each
-  aggs-stop [] = no-part p 49 (omega arith)
+  aggs-stop [] = no-part p (K.numberQ K.EntryPart) (omega arith)
   aggs-stop (a ∷ ags) = refl
 
 mutual
@@ -307,7 +307,7 @@ mutual
       rw (
         fetch-back f,
         run-each isKey keyOf keyLabel keyKids (λ (k : Key). FitsE (k .expr)) (λ x. refl) key-back ks (node (labelP p) (kidsP p) none) (h .0)
-            (no-part p 51 (omega arith)),
+            (no-part p (K.numberQ K.KeyPart) (omega arith)),
         plans-each keyLabel keyKids K.KeyPart (λ x. refl) ks (node (labelP p) (kidsP p) none),
         plan-back p none (h .1),
       )
@@ -319,7 +319,7 @@ mutual
         run-each isEntry entryOf entryLabel entryKids (λ (e : Entry). FitsE (e .expr)) (λ x. refl) entry-back gs tail (h .0) (aggs-stop p ags),
         past-each isEntry entryLabel entryKids (λ x. refl) gs tail (aggs-stop p ags),
         run-each isAgg aggOf aggLabel aggKids (λ (a : AggEntry). FitsE (a .expr)) (λ x. refl) aggentry-back ags
-            (node (labelP p) (kidsP p) none) (h .1) (no-part p 52 (omega arith)),
+            (node (labelP p) (kidsP p) none) (h .1) (no-part p (K.numberQ K.AggPart) (omega arith)),
         plans-each entryLabel entryKids K.EntryPart (λ x. refl) gs tail,
         plans-each aggLabel aggKids K.AggPart (λ x. refl) ags (node (labelP p) (kidsP p) none),
         plan-back p none (h .2),
@@ -327,7 +327,7 @@ mutual
   plan-back (window ws p) ns h =
       rw (
         run-each isWin winOf winLabel winKids (λ (w : WinEntry). FitsE (w .expr)) (λ x. refl) win-back ws (node (labelP p) (kidsP p) none)
-            (h .0) (no-part p 53 (omega arith)),
+            (h .0) (no-part p (K.numberQ K.WinPart) (omega arith)),
         plans-each winLabel winKids K.WinPart (λ x. refl) ws (node (labelP p) (kidsP p) none),
         plan-back p none (h .1),
       )

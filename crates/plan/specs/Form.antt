@@ -5,6 +5,8 @@ use lib.Dec.{eqb, leb}
 use Rattle.image.specs.Tree.{Label, Forest, none, node, Tree}
 use Rattle.image.specs.Limits.{maxList}
 use Rattle.image.specs.Lowest.{Found, orElse, unless, lowest, alone}
+use Rattle.plan.specs.Syntax.{and}
+use Rattle.plan.specs.Trees.{opNumber}
 use Rattle.plan.specs.Lists.{_&_}
 use Rattle.plan.specs.Kinds.{What, expr, plan, part, unknown, what, isExpr, isPlan, isKind, ExprKind, Column, Integer, Boolean, Null}
 use Rattle.plan.specs.Kinds.{Binary, Not, Test, Between, InList, Function, PlanKind, TableScan, Filter, Projection, Join}
@@ -81,7 +83,7 @@ childrenBy unknown f = false
 
 -- an And of two expressions; any other And is refused itself, and is not split
 unfoldable pub isAnd : Label → Forest → Bool
-isAnd l cs = isKind (expr Binary) l & eqb (l .p) 1 & one isExpr (one isExpr end) cs
+isAnd l cs = isKind (expr Binary) l & eqb (l .p) (opNumber and) & one isExpr (one isExpr end) cs
 
 -- the conjuncts of all expressions of the forest
 unfoldable pub conjuncts : Forest → ℕ

@@ -21,10 +21,10 @@ ValueRecord = Value
 
 -- an integer, a boolean, a NULL of a type
 abbrev pub integer : ℤ → ValueRecord
-integer z = record { ty = 1; case = Integer z }
+integer z = record { ty = S.integerType; case = Integer z }
 
 abbrev pub boolean : Bool → ValueRecord
-boolean b = record { ty = 2; case = Truth b }
+boolean b = record { ty = S.booleanType; case = Truth b }
 
 abbrev pub nullOf : ℕ → ValueRecord
 nullOf t = record { ty = t; case = Null }
@@ -62,7 +62,7 @@ literalBy t (Truth b) = S.bool b
 abbrev pub literalIs : ValueRecord → S.Expr
 literalIs v = literalBy (v .ty) (v .case)
 
--- the literal that a record is: an integer (2), a boolean (3) or a NULL (4)
+-- the literal that a record is: an integer, a boolean or a NULL
 unfoldable pub literalOf : Label → Literal
 literalOf l =
     cond (eqb (l .kind) (K.numberE K.Integer)) (Of (integer (signed (l .lo) (l .hi))))

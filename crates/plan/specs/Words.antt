@@ -6,6 +6,7 @@ use mathlib.Core.Path.{_≡_}
 use Rattle.image.specs.Tree.{Label, Forest, none, node}
 use Rattle.image.specs.Limits.{maxWord}
 use Rattle.plan.specs.Lists.{_&_}
+use Rattle.plan.specs.Syntax.{integerType, booleanType}
 use Rattle.plan.specs.Kinds.{What, expr, plan, part, unknown, what, ExprKind, Column, Integer, Boolean, Null, Binary, Not, Test}
 use Rattle.plan.specs.Kinds.{Between, InList, Function, PlanKind, TableScan, Filter, Projection, Join, SubqueryAlias, Union, Distinct}
 use Rattle.plan.specs.Kinds.{Sort, Repartition, Limit, Aggregate, Window, PartKind, FieldPart, EntryPart, PairPart, KeyPart, AggPart}
@@ -43,9 +44,8 @@ name = 1 to maxWord
 abbrev pub bit : Range
 bit = 0 to 1
 
--- 1 integer, 2 boolean
 abbrev pub type : Range
-type = 1 to 2
+type = integerType to booleanType
 
 abbrev pub rowE : ExprKind → Row
 rowE Column = row any name unused unused unused

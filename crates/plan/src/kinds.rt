@@ -1,5 +1,6 @@
 // The kinds of records and the numbers that their words hold, all of them: those of specs/Kinds.antt and specs/Trees.antt.
-// A new kind is one number here, one row in each table of children.rt and words.rt, and a failed proof wherever it is not treated.
+// A new kind is one number here, one row in each table of word_ranges.rt and child_patterns.rt, and a failed proof wherever it is not
+// treated.
 ghost use mathlib.Core.Path.{_≡_};
 ghost use Rattle.plan.specs.Kinds.{exprW, partW, planW, whatOf};
 

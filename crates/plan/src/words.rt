@@ -53,7 +53,7 @@ pub const LEFT_ANTI: usize = 7;
 
 pub const RIGHT_ANTI: usize = 8;
 
-// ---- the aggregates of the entries 52 and 53: r
+// ---- the aggregates of the entries of an Aggregate and of a Window: r
 
 pub const COUNT: usize = 1;
 

@@ -19,7 +19,7 @@ use Rattle.plan.specs.Kinds.{isPlan, whatOf, among}
 use Rattle.plan.specs.Trees.{columnLabel, labelE, kidsE, forestE, before, each, nothingBelow, fieldLabel, entryLabel, entryKids, pairLabel}
 use Rattle.plan.specs.Trees.{pairKids, keyLabel, keyKids, aggLabel, aggKids, winLabel, winKids, filterKids, labelP, kidsP, forestP}
 use Rattle.plan.specs.Measure.{sizeE, sizeP, sizes}
-use Rattle.plan.proofs.PlanKinds.{plan-number, plan-kind}
+use Rattle.plan.proofs.KindRanges.{plan-number, plan-range}
 use Rattle.rewrite.specs.RewriteAt.{Focus, FocusAll, here, inside, inside-all, first-of, later-of, focus, focus-all}
 use Rattle.rewrite.proofs.PassByRecords.{plan-records, plan-records-all}
 
@@ -483,7 +483,7 @@ marks-kinds : (f : Forest) → marks f ≡ map plan-number (kinds f)
 unfolding marks kinds
 marks-kinds none = refl
 marks-kinds (node l cs ns) =
-    ap₂ _∷_ (plan-kind l) (ap₂ _++_ (marks-kinds cs) (marks-kinds ns) ∙ sym (map-append plan-number (kinds cs) (kinds ns)))
+    ap₂ _∷_ (plan-range l) (ap₂ _++_ (marks-kinds cs) (marks-kinds ns) ∙ sym (map-append plan-number (kinds cs) (kinds ns)))
 
 at-kind : (xs : List ℕ) (n : ℕ) → getD (map plan-number xs) n false ≡ plan-number (getD xs n 0)
 unfolding _&_
@@ -496,5 +496,5 @@ pub focus-kind : (n : ℕ) (p : Plan) → is-some (focus n p) ≡ plan-number (g
 unfolding plan-marks plan-kinds
 focus-kind n p =
     focus-marks p n
-    ∙ ap (λ bs. getD bs n false) (ap₂ _∷_ (plan-kind (labelP p)) (marks-kinds (kidsP p)))
+    ∙ ap (λ bs. getD bs n false) (ap₂ _∷_ (plan-range (labelP p)) (marks-kinds (kidsP p)))
     ∙ at-kind (plan-kinds p) n

@@ -11,10 +11,10 @@ use Rattle.check_fields.proofs.fields.find_maker.Statement.{statement}
 use Rattle.check_fields.proofs.fields.find_maker.Tie as tie
 
 abbrev Inv-loop : tie.InvT-loop
-Inv-loop s base at skip mode q m₀ r₀ m r = (f : Forest) → Linked f s base at → Makes f s base at skip mode q r m
+Inv-loop s base at skip q m₀ r₀ m r = (f : Forest) → Linked f s base at → Makes f s base at skip m₀ q r m
 
 abbrev μ-loop : tie.MeasureT-loop
-μ-loop s base at skip mode q m₀ r₀ m r = left s base r
+μ-loop s base at skip q m₀ r₀ m r = left s base r
 
 pub find-maker-spec : {M : Type 1} → statement M
 find-maker-spec =
@@ -35,7 +35,8 @@ find-maker-spec =
     (λ c κs. let p = c .before .before .before .before .before .before .before .before .before .before .before .pre in let y =
     c .before .before .before .before .before .before .before .before .loop .inv (p .forest) (p .linked) in
     let w = step (y .forest) (y .linked) (c .before .before .before .before .before .before .before .loop-test .taken)
-    (c .before .before .before .before .before .before .from-record .ensures) (c .before .before .before .before .before .look .ensures) in
+    (c .before .before .before .before .before .before .from-record .ensures) (c .before .before .before .before .before .look .ensures)
+    in
     record { forest = w .below; linked = within-first w (c .before .before .before .before .before .before .from-record .ensures) })
     (λ c. let p = c .before .before .before .before .before .before .before .before .before .before .before .before .pre in let y =
     c .before .before .before .before .before .before .before .before .before .loop .inv (p .forest) (p .linked) in
@@ -44,7 +45,8 @@ find-maker-spec =
     (c .before .before .before .before .before .before .look .ensures) in
     omega (
       arith,
-      c .plan-at2 .ensures (w .below) (within-first w (c .before .before .before .before .before .before .before .from-record .ensures)) .less,
+      c .plan-at2 .ensures (w .below) (within-first w (c .before .before .before .before .before .before .before .from-record .ensures))
+          .less,
       less-first w (c .before .before .before .before .before .before .before .from-record .ensures) (y .linked)
           (c .before .before .before .before .before .before .before .before .loop-test .taken),
     ))
@@ -53,7 +55,8 @@ find-maker-spec =
     (c .before .before .before .before .before .before .before .from-record .ensures)
     (c .before .before .before .before .before .before .look .ensures) in
     let n = passes-on _ (c .before .before .before .before .before .before .look .result .p) (c .before .before .before .if1 .left) in
-    makes-step y w _ (c .before .before .before .before .before .role-of .ensures) (n .0) (n .1) (n .2) (c .before .before .question .ensures)
+    makes-step y w _ (c .before .before .before .before .before .role-of .ensures) (n .0) (n .1) (n .2) (c .before .before .question
+    .ensures)
     (c .before .own-input .ensures)
     (c .plan-at2 .ensures (w .below) (within-first w (c .before .before .before .before .before .before .before .from-record .ensures)))
     (less-first w (c .before .before .before .before .before .before .before .from-record .ensures) (y .linked)

@@ -1,5 +1,6 @@
 -- `fields::role_of` meets its contract.
-use mathlib.Core.Path.{refl}
+use mathlib.Core.Path.{refl, sym, _∙_}
+use borrow.Author.Needs.{needs}
 use mathlib.Core.Bool.{true, false}
 use Rattle.plan.specs.Kinds.{whatOf, among}
 use Rattle.check_fields.proofs.Counting.{role-last}
@@ -12,9 +13,14 @@ role-of-spec =
     tie.close
     (tie.spec (λ c. rw (c .if1 .taken) refl) (λ c. rw (c .if2 .taken) refl) (λ c. rw (c .if3 .taken) refl) (λ c. rw (c .if4 .taken) refl)
     (λ c. rw (c .if5 .taken) refl) (λ c. rw (c .if6 .taken) refl)
-    (λ c. role-last _ (c .before .before .before .before .before .before .if1 .left) (c .before .before .before .before .before .if2 .left)
-    (c .before .before .before .before .if3 .left) (c .before .before .before .if4 .left) (c .before .before .if5 .left)
-    (c .before .if6 .left) true (c .if7 .taken))
-    (λ c. role-last _ (c .before .before .before .before .before .before .if1 .left) (c .before .before .before .before .before .if2 .left)
-    (c .before .before .before .before .if3 .left) (c .before .before .before .if4 .left) (c .before .before .if5 .left)
-    (c .before .if6 .left) false (c .if7 .left)))
+    (λ c κs. search needs)
+    (λ c. role-last _ (c .before .before .before .before .before .before .before .if1 .left) (c .before .before .before .before .before
+    .before .if2 .left)
+    (c .before .before .before .before .before .if3 .left) (c .before .before .before .before .if4 .left) (c .before .before .before .if5
+    .left)
+    (c .before .before .if6 .left) true (sym (c .before .is-plan .ensures) ∙ c .if7 .taken))
+    (λ c. role-last _ (c .before .before .before .before .before .before .before .if1 .left) (c .before .before .before .before .before
+    .before .if2 .left)
+    (c .before .before .before .before .before .if3 .left) (c .before .before .before .before .if4 .left) (c .before .before .before .if5
+    .left)
+    (c .before .before .if6 .left) false (sym (c .before .is-plan .ensures) ∙ c .if7 .left)))

@@ -9,10 +9,10 @@ use Rattle.check_fields.proofs.fields.seek_made.Statement.{statement}
 use Rattle.check_fields.proofs.fields.seek_made.Tie as tie
 
 abbrev Inv-loop : tie.InvT-loop
-Inv-loop s base at mode q n k j₀ i₀ j i = Along (Made mode q n k j) s base at i
+Inv-loop s base at asks q n k j₀ i₀ j i = Along (Made asks q n k j) s base at i
 
 abbrev μ-loop : tie.MeasureT-loop
-μ-loop s base at mode q n k j₀ i₀ j i = left s base i
+μ-loop s base at asks q n k j₀ i₀ j i = left s base i
 
 pub seek-made-spec : {M : Type 1} → statement M
 seek-made-spec =

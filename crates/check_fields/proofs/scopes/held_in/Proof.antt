@@ -12,5 +12,6 @@ held-in-spec =
     (tie.spec
     (λ c κs. search needs)
     (λ c κs. search needs)
-    (λ c f h. c .passed .ensures ∙ passed-seen _ (c .before .before .before .args .sort) f _ _ _ (c .before .seek-seen .result) h (omega arith)
+    (λ c f h. c .passed .ensures ∙ passed-seen _ (c .before .before .before .args .view) f _ _ _ (c .before .seek-seen .result) h (omega
+    arith)
     (c .before .seek-seen .ensures f h)))

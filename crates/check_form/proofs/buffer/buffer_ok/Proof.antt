@@ -1,6 +1,6 @@
 -- `buffer::buffer_ok` meets its contract.
 use Rattle.acceptance.specs.Check.{bufferOk}
-use Rattle.check_form.proofs.Bools.{both}
+use Rattle.plan.proofs.Bools.{both}
 use Rattle.check_form.proofs.buffer.buffer_ok.Statement.{statement}
 use Rattle.check_form.proofs.buffer.buffer_ok.Tie as tie
 

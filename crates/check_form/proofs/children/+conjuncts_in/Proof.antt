@@ -14,7 +14,7 @@ use Rattle.check_form.proofs.children.conjuncts_in.Kinds as conjuncts-i
 use Rattle.check_form.proofs.children.+conjuncts_in.Lts-conjuncts_in as conjuncts-in-lts
 use Rattle.check_form.proofs.children.is_and.Reads as is-and-reads
 use Rattle.check_form.proofs.children.one_if.Reads as one-if-reads
-use Rattle.check_form.proofs.kinds.of_sort.Reads as of-sort-reads
+use Rattle.check_form.proofs.sorts.of_sort.Reads as of-sort-reads
 use Rattle.image.proofs.records.from_record.Reads as from-record-reads
 use Rattle.image.proofs.records.look.Reads as look-reads
 use Rattle.check_form.proofs.children.+conjuncts_in.{statement}

@@ -6,6 +6,7 @@ use lib.Dec.{leb}
 use native.Mathlib.Omega.{arith}
 use borrow.Author.Needs.{needs}
 use borrow.Author.Tests.{le-leb, lt-leb}
+use Rattle.image.specs.Limits.{maxDepth}
 use Rattle.image.specs.Tree.{Label, Forest}
 use Rattle.image.specs.Limits.{maxDepth}
 use Rattle.image.proofs.Walking.{left}
@@ -58,7 +59,7 @@ pub +too-deep-spec : {M : Type 1} → statement M
     too-deep-Inv-loop
     too-deep-μ-loop
     (λ c. search-start rule deeper _ (c .before .pre .1 .0))
-    (λ c. search-here rule deeper _ (c .before .before .loop .inv) (c .before .loop-test .taken) refl refl (λ f w. lt-leb _ 256 (c .if1 .taken)))
+    (λ c. search-here rule deeper _ (c .before .before .loop .inv) (c .before .loop-test .taken) refl refl (λ f w. lt-leb _ maxDepth (c .if1 .taken)))
     (λ c κs. within (c .before .before .loop .inv .chained) (c .before .loop-test .taken))
     (λ c κs. whole (c .before .before .before .loop .inv .chained) (c .before .before .loop-test .taken) (c .from-record .ensures))
     (λ c. omega arith)
@@ -70,7 +71,7 @@ pub +too-deep-spec : {M : Type 1} → statement M
     (λ c. search-below rule deeper _ (c .before .before .before .before .before .before .before .before .loop .inv)
     (c .before .before .before .before .before .before .before .loop-test .taken)
     (c .before .before .before .before .before .from-record .ensures) (c .before .before .before .before .look .ensures)
-    (λ f w. le-leb _ 256 (c .before .before .before .before .before .before .if1 .left))
+    (λ f w. le-leb _ maxDepth (c .before .before .before .before .before .before .if1 .left))
     (c .before .before .before .too-deep .ensures) (c .before .below .given .1))
     (λ c. search needs)
     (λ c. let w = here (c .before .before .before .before .before .before .before .loop .inv)
@@ -79,6 +80,6 @@ pub +too-deep-spec : {M : Type 1} → statement M
     (λ c. search-on rule deeper _ (c .before .before .before .before .before .before .before .loop .inv)
     (c .before .before .before .before .before .before .loop-test .taken)
     (c .before .before .before .before .from-record .ensures) (c .before .before .before .look .ensures)
-    (λ f w. le-leb _ 256 (c .before .before .before .before .before .if1 .left))
+    (λ f w. le-leb _ maxDepth (c .before .before .before .before .before .if1 .left))
     (c .before .before .too-deep .ensures) (c .enum-told .given .1))
     (λ c. search-end rule deeper _ (c .before .loop .inv) (c .loop-test .left))

@@ -2,7 +2,7 @@
 use mathlib.Core.Path.{sym, ap, _∙_}
 use borrow.Author.Needs.{needs}
 use Rattle.plan.specs.Form.{end, perhaps}
-use Rattle.check_form.specs.declared.kinds.Sort.{Sort}
+use Rattle.check_form.specs.declared.sorts.Sort.{Sort}
 use Rattle.check_form.specs.Sorts.{ofSort}
 use Rattle.check_form.proofs.Patterned.{last-perhaps, last-other, leads-nowhere, leads-on, end-link}
 use Rattle.check_form.proofs.patterns.last_item.Statement.{statement}

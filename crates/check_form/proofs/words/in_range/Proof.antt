@@ -2,7 +2,7 @@
 use borrow.Author.Needs.{needs}
 use Rattle.plan.specs.Words.{inside}
 use Rattle.check_form.specs.Rows.{rangeOf}
-use Rattle.check_form.proofs.Bools.{both}
+use Rattle.plan.proofs.Bools.{both}
 use Rattle.check_form.proofs.words.in_range.Statement.{statement}
 use Rattle.check_form.proofs.words.in_range.Tie as tie
 

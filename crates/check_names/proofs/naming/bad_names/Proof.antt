@@ -8,7 +8,7 @@ use Rattle.image.specs.Tree.{none}
 use Rattle.plan.specs.Kinds.{whatOf}
 use Rattle.check_fields.specs.Count.{role}
 use Rattle.check_fields.specs.Rules.{Scope, over, nameOk, hand, badNames}
-use Rattle.check_fields.specs.Scopes.{sortW}
+use Rattle.check_fields.specs.Scopes.{viewW}
 use Rattle.check_names.proofs.Finding.{root-here, root-below, rooted}
 use Rattle.check_names.proofs.NameRule.{never, sound-root}
 use Rattle.check_fields.proofs.Scoping.{hand-root}
@@ -53,4 +53,4 @@ bad-names-spec =
     (c .before .before .before .before .before .role-of .ensures ∙ ap (λ (n : ℕ). role (whatOf n)) (w .kind)) (c .before .known-inputs .ensures)
     ok)
     ∙ root-below nameOk hand nothing-seen nothing-seen t _ _ _ (w .first-number)
-    (hand-root (t .label) (t .below) (c .before .before .sort-of .ensures ∙ ap (λ (n : ℕ). sortW (whatOf n)) (w .kind))) ok))
+    (hand-root (t .label) (t .below) (c .before .before .view-of .ensures ∙ ap (λ (n : ℕ). viewW (whatOf n)) (w .kind))) ok))

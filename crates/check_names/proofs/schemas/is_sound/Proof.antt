@@ -14,10 +14,10 @@ is-sound-spec =
     (λ c κs. search needs)
     (λ c κs. search needs)
     (λ c k l f e h.
-    rw (← rule-by-role k l f e, ← c .before .before .own-sort .ensures)
-    (too-many _ _ (c .before .held-by .ensures f h) (c .if1 .taken)))
+    rw (← rule-by-role k l f e, ← c .before .before .own-view .ensures)
+    (too-many _ _ (c .before .held-in .ensures f h) (c .if1 .taken)))
     (λ c κs. search needs)
     (λ c κs. search needs)
     (λ c k l f e h.
-    rw (← rule-by-role k l f e, ← c .before .before .before .before .own-sort .ensures, ← c .before .own-mode .ensures)
-    (c .all-single .ensures f h ∙ not-many _ _ (c .before .before .before .held-by .ensures f h) (omega arith))))
+    rw (← rule-by-role k l f e, ← c .before .before .before .before .own-view .ensures, ← c .before .own-question .ensures)
+    (c .all-single .ensures f h ∙ not-many _ _ (c .before .before .before .held-in .ensures f h) (omega arith))))

@@ -15,7 +15,7 @@ use Rattle.image.proofs.records.from_record.Reads as from-record-reads
 use Rattle.image.proofs.records.look.Reads as look-reads
 use Rattle.check_fields.proofs.scopes.type_of.Reads as type-of-reads
 use Rattle.check_types.proofs.operands.all_have.Reads as all-have-reads
-use Rattle.check_types.proofs.operands.is_expr.Reads as is-expr-reads
+use Rattle.plan.proofs.kinds.is_expression.Reads as is-expression-reads
 use Rattle.check_types.proofs.operands.+all_alike.{statement}
 use Rattle.check_types.proofs.operands.+all_alike.Tie.{close}
 
@@ -36,8 +36,8 @@ pub +all-alike-spec : {M : Type 1} → statement M
   from-record-reads.Learnt,
   look-reads.Asked,
   look-reads.Learnt,
-  is-expr-reads.Asked,
-  is-expr-reads.Learnt,
+  is-expression-reads.Asked,
+  is-expression-reads.Learnt,
   type-of-reads.Asked,
   type-of-reads.Learnt,
   all-have-reads.Asked,
@@ -63,7 +63,7 @@ pub +all-alike-spec : {M : Type 1} → statement M
     (λ c f e h g. let w = step f h (c .before .before .before .before .before .before .if1 .left)
     (c .before .before .before .before .before .from-record .ensures) (c .before .before .before .before .look .ensures) in
     c .all-have .ensures (w .after) e (w .next) g
-    ∙ alike-here w _ _ (c .before .before .before .is-expr .ensures) (c .before .before .if2 .taken)
+    ∙ alike-here w _ _ (c .before .before .before .is-expression .ensures) (c .before .before .if2 .taken)
     (type-here w _ h (c .before .before .before .before .before .from-record .ensures) (c .before .type-of .ensures e g)))
     (λ c κs. let p = c .before .before .before .before .before .before .before .pre .1 .0 in
     let w = step (p .forest) (p .linked) (c .before .before .before .before .if1 .left) (c .before .before .before .from-record .ensures)
@@ -73,4 +73,4 @@ pub +all-alike-spec : {M : Type 1} → statement M
     ))
     (λ c f e h g. let w = step f h (c .before .before .before .before .before .if1 .left) (c .before .before .before .before .from-record .ensures)
     (c .before .before .before .look .ensures) in
-    c .all-alike .ensures (w .after) e (w .next) g ∙ alike-skip w _ _ (c .before .before .is-expr .ensures) (c .before .if2 .left))
+    c .all-alike .ensures (w .after) e (w .next) g ∙ alike-skip w _ _ (c .before .before .is-expression .ensures) (c .before .if2 .left))

@@ -14,7 +14,7 @@ use Rattle.check_types.proofs.operands.+all_have.Lts-all_have as all-ha
 use Rattle.image.proofs.records.from_record.Reads as from-record-reads
 use Rattle.image.proofs.records.look.Reads as look-reads
 use Rattle.check_fields.proofs.scopes.type_of.Reads as type-of-reads
-use Rattle.check_types.proofs.operands.is_expr.Reads as is-expr-reads
+use Rattle.plan.proofs.kinds.is_expression.Reads as is-expression-reads
 use Rattle.check_types.proofs.operands.+all_have.{statement}
 use Rattle.check_types.proofs.operands.+all_have.Tie.{close}
 
@@ -34,8 +34,8 @@ pub +all-have-spec : {M : Type 1} → statement M
   from-record-reads.Learnt,
   look-reads.Asked,
   look-reads.Learnt,
-  is-expr-reads.Asked,
-  is-expr-reads.Learnt,
+  is-expression-reads.Asked,
+  is-expression-reads.Learnt,
   type-of-reads.Asked,
   type-of-reads.Learnt,
   all-have-below t,
@@ -56,7 +56,7 @@ pub +all-have-spec : {M : Type 1} → statement M
     ))
     (λ c f e h g. let w = step f h (c .before .before .before .before .before .before .if1 .left)
     (c .before .before .before .before .before .from-record .ensures) (c .before .before .before .before .look .ensures) in have-not w _ _
-    (c .before .before .before .is-expr .ensures) (c .before .before .if2 .taken)
+    (c .before .before .before .is-expression .ensures) (c .before .before .if2 .taken)
     (type-here w _ h (c .before .before .before .before .before .from-record .ensures) (c .before .type-of .ensures e g)) _ (c .if3 .taken))
     (λ c κs. let p = c .before .before .before .before .before .before .before .before .before .pre .1 .0 in let w = step (p .forest)
     (p .linked) (c .before .before .before .before .before .before .if1 .left)
@@ -71,7 +71,7 @@ pub +all-have-spec : {M : Type 1} → statement M
     (λ c f e h g. let w = step f h (c .before .before .before .before .before .before .before .if1 .left)
     (c .before .before .before .before .before .before .from-record .ensures)
     (c .before .before .before .before .before .look .ensures) in c .all-have .ensures (w .after) e (w .next) g
-    ∙ have-more w _ _ (c .before .before .before .before .is-expr .ensures) (c .before .before .before .if2 .taken)
+    ∙ have-more w _ _ (c .before .before .before .before .is-expression .ensures) (c .before .before .before .if2 .taken)
     (type-here w _ h (c .before .before .before .before .before .before .from-record .ensures) (c .before .before .type-of .ensures e g))
     _ (c .before .if3 .left))
     (λ c κs. let p = c .before .before .before .before .before .before .before .pre .1 .0 in let w = step (p .forest) (p .linked)
@@ -85,4 +85,4 @@ pub +all-have-spec : {M : Type 1} → statement M
     ))
     (λ c f e h g. let w = step f h (c .before .before .before .before .before .if1 .left)
     (c .before .before .before .before .from-record .ensures) (c .before .before .before .look .ensures) in c .all-have2 .ensures
-    (w .after) e (w .next) g ∙ have-skip w _ _ (c .before .before .is-expr .ensures) _ (c .before .if2 .left))
+    (w .after) e (w .next) g ∙ have-skip w _ _ (c .before .before .is-expression .ensures) _ (c .before .if2 .left))

@@ -14,7 +14,7 @@ use Rattle.check_types.proofs.operands.+first_type.Lts-first_type as fi
 use Rattle.image.proofs.records.from_record.Reads as from-record-reads
 use Rattle.image.proofs.records.look.Reads as look-reads
 use Rattle.check_fields.proofs.scopes.type_of.Reads as type-of-reads
-use Rattle.check_types.proofs.operands.is_expr.Reads as is-expr-reads
+use Rattle.plan.proofs.kinds.is_expression.Reads as is-expression-reads
 use Rattle.check_types.proofs.operands.+first_type.{statement}
 use Rattle.check_types.proofs.operands.+first_type.Tie.{close}
 
@@ -35,8 +35,8 @@ pub +first-type-spec : {M : Type 1} → statement M
   from-record-reads.Learnt,
   look-reads.Asked,
   look-reads.Learnt,
-  is-expr-reads.Asked,
-  is-expr-reads.Learnt,
+  is-expression-reads.Asked,
+  is-expression-reads.Learnt,
   type-of-reads.Asked,
   type-of-reads.Learnt,
   first-type-below t,
@@ -57,7 +57,7 @@ pub +first-type-spec : {M : Type 1} → statement M
     ))
     (λ c f e h g. let w = step f h (c .before .before .before .before .before .if1 .left)
     (c .before .before .before .before .from-record .ensures) (c .before .before .before .look .ensures) in first-here w _ _
-    (c .before .before .is-expr .ensures) (c .before .if2 .taken)
+    (c .before .before .is-expression .ensures) (c .before .if2 .taken)
     (type-here w _ h (c .before .before .before .before .from-record .ensures) (c .type-of .ensures e g)))
     (λ c κs. let p = c .before .before .before .before .before .before .before .pre .1 .0 in let w = step (p .forest) (p .linked)
     (c .before .before .before .before .if1 .left) (c .before .before .before .from-record .ensures) (c .before .before .look .ensures) in (
@@ -70,4 +70,4 @@ pub +first-type-spec : {M : Type 1} → statement M
     ))
     (λ c f e h g. let w = step f h (c .before .before .before .before .before .if1 .left)
     (c .before .before .before .before .from-record .ensures) (c .before .before .before .look .ensures) in c .first-type .ensures
-    (w .after) e (w .next) g ∙ first-skip w _ _ (c .before .before .is-expr .ensures) (c .before .if2 .left))
+    (w .after) e (w .next) g ∙ first-skip w _ _ (c .before .before .is-expression .ensures) (c .before .if2 .left))

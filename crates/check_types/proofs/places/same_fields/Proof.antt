@@ -9,11 +9,11 @@ use Rattle.check_types.proofs.places.same_fields.Statement.{statement}
 use Rattle.check_types.proofs.places.same_fields.Tie as tie
 
 abbrev Inv-loop : tie.InvT-loop
-Inv-loop s base at g gb ga which n k₀ k =
-    (f e : Forest) → Linked f s base at → Linked e g gb ga → (m : ℕ) → m < k → tyAt m (schemaOf which f) ≡ tyAt m (schemaOf which e)
+Inv-loop s base at g gb ga whose n k₀ k =
+    (f e : Forest) → Linked f s base at → Linked e g gb ga → (m : ℕ) → m < k → tyAt m (schemaOf whose f) ≡ tyAt m (schemaOf whose e)
 
 abbrev μ-loop : tie.MeasureT-loop
-μ-loop s base at g gb ga which n k₀ k = n - k
+μ-loop s base at g gb ga whose n k₀ k = n - k
 
 pub same-fields-spec : {M : Type 1} → statement M
 same-fields-spec =
@@ -31,8 +31,8 @@ same-fields-spec =
     (λ c. omega arith)
     (λ c. omega arith)
     (λ c f e h g. one-more (λ m. tyAt m
-    (schemaOf (c .before .before .before .before .before .before .before .before .before .before .args .which) f) ≡ tyAt m
-    (schemaOf (c .before .before .before .before .before .before .before .before .before .before .args .which) e)) _
+    (schemaOf (c .before .before .before .before .before .before .before .before .before .before .args .whose) f) ≡ tyAt m
+    (schemaOf (c .before .before .before .before .before .before .before .before .before .before .args .whose) e)) _
     (c .before .before .before .before .loop .inv f e h g)
     (sym (c .before .before .place-type .ensures f h) ∙ c .if2 .left ∙ c .before .place-type2 .ensures e g))
     (λ c f e h g. same-all _ _ (c .before .before .before .before .width .ensures f h) (c .before .before .before .width2 .ensures e g)

@@ -21,9 +21,10 @@ use Rattle.check_types.proofs.walk.bad_type.Kinds as bad-type-kinds
 use Rattle.check_types.proofs.walk.+bad_type.Lts-bad_type as bad-type-lts
 use Rattle.image.proofs.records.from_record.Reads as from-record-reads
 use Rattle.image.proofs.records.look.Reads as look-reads
-use Rattle.check_fields.proofs.scopes.first_sort.Reads as first-sort-reads
-use Rattle.check_fields.proofs.scopes.rest_sort.Reads as rest-sort-reads
-use Rattle.check_fields.proofs.scopes.sort_of.Reads as sort-of-reads
+use Rattle.check_fields.proofs.scopes.first_view.Reads as first-view-reads
+use Rattle.check_fields.proofs.scopes.rest_view.Reads as rest-view-reads
+use Rattle.plan.proofs.kinds.is_plan.Reads as is-plan-reads
+use Rattle.check_fields.proofs.scopes.view_of.Reads as view-of-reads
 use Rattle.check_types.proofs.walk.type_ok.Reads as type-ok-reads
 use Rattle.check_types.proofs.walk.+bad_type.{statement}
 use Rattle.check_types.proofs.walk.+bad_type.Tie.{close}
@@ -44,27 +45,31 @@ pub +bad-type-spec : {M : Type 1} → statement M
   from-record-reads.Learnt,
   look-reads.Asked,
   look-reads.Learnt,
-  sort-of-reads.Asked,
-  sort-of-reads.Learnt,
-  first-sort-reads.Asked,
-  first-sort-reads.Learnt,
-  rest-sort-reads.Asked,
-  rest-sort-reads.Learnt,
+  is-plan-reads.Asked,
+  is-plan-reads.Learnt,
+  first-view-reads.Asked,
+  first-view-reads.Learnt,
+  rest-view-reads.Asked,
+  rest-view-reads.Learnt,
   type-ok-reads.Asked,
   type-ok-reads.Learnt,
   bad-type-below t,
   bad-type.Post,
+  view-of-reads.Asked,
+  view-of-reads.Learnt,
 )
     (bad-type-at t)
     bad-type.Post
     (λ c f e u h g z. place-none (typeOk (alone u)) hand _ _ _ f (ended f _ _ _ h (c .if1 .taken)))
     (λ c κs. let p = c .before .before .before .before .pre .1 .0 in let u = turn (p .forest) (p .linked) (c .if1 .left) in omega arith)
-    (λ c κs. let p = c .before .before .before .before .before .pre .1 .0 in let u = turn (p .forest) (p .linked) (c .before .if1 .left) in rw
+    (λ c κs. let p = c .before .before .before .before .before .pre .1 .0 in let u = turn (p .forest) (p .linked) (c .before .if1 .left)
+    in rw
     (c .from-record .ensures, length-drop) (omega arith))
     (λ c κs. tt)
     (λ c κs. tt)
     (λ c κs. tt)
-    (λ c κs. let p = c .before .before .before .before .before .before .before .before .before .before .pre .1 .0 in let w = step (p .forest)
+    (λ c κs. let p = c .before .before .before .before .before .before .before .before .before .before .pre .1 .0 in let w = step (p
+    .forest)
     (p .linked) (c .before .before .before .before .before .before .if1 .left)
     (c .before .before .before .before .before .from-record .ensures) (c .before .before .before .before .look .ensures) in (
       record {
@@ -72,8 +77,7 @@ pub +bad-type-spec : {M : Type 1} → statement M
         at = tree-at w (p .linked)
             (c .before .before .before .before .before .from-record .ensures);
       },
-      c .before .before .before .before .before .before .before .before
-          .before .before .pre .1 .1,
+      c .before .before .before .before .before .before .before .before .before .before .pre .1 .1,
       c .before .before .before .before .before .before .before .before .before .before .pre .1 .2,
     ))
     (λ c f e u h g z. let w = step f h (c .before .before .before .before .before .before .before .before .if1 .left)
@@ -82,13 +86,13 @@ pub +bad-type-spec : {M : Type 1} → statement M
     (scopeOf (c .before .before .before .before .before .before .before .before .before .before .before .before .args .here) e)
     (scopeOf (c .before .before .before .before .before .before .before .before .before .before .before .before .args .after) e) _ _
     (hand-part w (c .before .before .before .before .before .before .before .before .before .before .before .before .args .here) e
-    (c .before .before .before .before .before .sort-of .ensures) (c .before .before .before .before .if2 .taken)
-    (c .before .before .before .first-sort .ensures) (c .before .before .rest-sort .ensures))
+    (sym (c .before .before .before .before .before .is-plan .ensures) ∙ not-true _ (c .before .before .before .before .if2 .taken))
+    (c .before .before .before .first-view .ensures) (c .before .before .rest-view .ensures))
     (rule-of (alone u) (scopeOf (c .before .before .before .before .before .before .before .before .before .before .before .before .args
     .here) e) (w .label) (w .below) _ _
     (hand-part w (c .before .before .before .before .before .before .before .before .before .before .before .before .args .here) e
-    (c .before .before .before .before .before .sort-of .ensures) (c .before .before .before .before .if2 .taken)
-    (c .before .before .before .first-sort .ensures) (c .before .before .rest-sort .ensures))
+    (sym (c .before .before .before .before .before .is-plan .ensures) ∙ not-true _ (c .before .before .before .before .if2 .taken))
+    (c .before .before .before .first-view .ensures) (c .before .before .rest-view .ensures))
     (c .before .type-ok .ensures (record { label = w .label; below = w .below }) u e
     (tree-at w h (c .before .before .before .before .before .before .before .from-record .ensures)) g z)) (not-true _ (c .if3 .taken)))
     (λ c κs. let p = c .before .before .before .before .before .before .before .before .before .before .before .before .pre .1 .0 in let w
@@ -98,75 +102,79 @@ pub +bad-type-spec : {M : Type 1} → statement M
       omega (arith, w .down),
       (
         record { forest = w .below; linked = w .first },
-        c .before .before .before .before .before .before .before
-            .before .before .before .before .before .pre .1 .1,
-        c .before .before .before .before .before .before .before .before .before .before
-            .before .before .pre .1 .2,
+        c .before .before .before .before .before .before .before .before .before .before .before .before .pre .1 .1,
+        c .before .before .before .before .before .before .before .before .before .before .before .before .pre .1 .2,
       ),
     ))
     (λ c. search needs)
     (λ c. search needs)
-    (λ c κs. let p = c .before .before .before .before .before .before .before .before .before .before .before .before .before .before .before
-    .pre .1 .0 in let w = step (p .forest) (p .linked)
+    (λ c κs. let p = c .before .before .before .before .before .before .before .before .before .before .before .before .before .before
+    .before .pre .1 .0 in let w = step (p .forest) (p .linked)
     (c .before .before .before .before .before .before .before .before .before .before .before .if1 .left)
     (c .before .before .before .before .before .before .before .before .before .before .from-record .ensures)
     (c .before .before .before .before .before .before .before .before .before .look .ensures) in (
       omega (arith, w .less),
       (
         record { forest = w .after; linked = w .next },
-        c .before .before .before .before .before .before .before
-            .before .before .before .before .before .before .before .before .pre .1 .1,
-        c .before .before .before .before .before .before .before
-            .before .before .before .before .before .before .before .before .pre .1 .2,
+        c .before .before .before .before .before .before .before .before .before .before .before .before .before .before .before .pre .1
+            .1,
+        c .before .before .before .before .before .before .before .before .before .before .before .before .before .before .before .pre .1
+            .2,
       ),
     ))
-    (λ c κs. let p = c .before .before .before .before .before .before .before .before .pre .1 .0 in let w = step (p .forest) (p .linked)
-    (c .before .before .before .before .if1 .left) (c .before .before .before .from-record .ensures) (c .before .before .look .ensures) in (
+    (λ c κs. tt)
+    (λ c κs. let p = c .before .before .before .before .before .before .before .before .before .pre .1 .0 in let w = step (p .forest) (p
+    .linked)
+    (c .before .before .before .before .before .if1 .left) (c .before .before .before .before .from-record .ensures) (c .before .before
+    .before .look .ensures) in (
       record {
         tree = record { label = w .label; below = w .below };
         at = tree-at w (p .linked)
-            (c .before .before .before .from-record .ensures);
+            (c .before .before .before .before .from-record .ensures);
       },
       record { forest = w .below; linked = w .first },
-      c .before .before .before
-          .before .before .before .before .before .pre .1 .2,
+      c .before .before .before .before .before .before .before .before .before .pre .1 .2,
     ))
-    (λ c f e u h g z. let w = step f h (c .before .before .before .before .before .before .if1 .left)
-    (c .before .before .before .before .before .from-record .ensures) (c .before .before .before .before .look .ensures) in place-here
-    (typeOk (alone u)) hand w (scopeOf (c .before .before .before .before .before .before .before .before .before .before .args .here) e)
-    (scopeOf (c .before .before .before .before .before .before .before .before .before .before .args .after) e) _ _
-    (hand-plan w (scopeOf (c .before .before .before .before .before .before .before .before .before .before .args .here) e) _
-    (c .before .before .before .sort-of .ensures) (c .before .before .if2 .left))
-    (rule-of (alone u) (scopeOf (c .before .before .before .before .before .before .before .before .before .before .args .here) e)
+    (λ c f e u h g z. let w = step f h (c .before .before .before .before .before .before .before .if1 .left)
+    (c .before .before .before .before .before .before .from-record .ensures) (c .before .before .before .before .before .look .ensures)
+    in place-here
+    (typeOk (alone u)) hand w (scopeOf (c .before .before .before .before .before .before .before .before .before .before .before .args
+    .here) e)
+    (scopeOf (c .before .before .before .before .before .before .before .before .before .before .before .args .after) e) _ _
+    (hand-plan w (scopeOf (c .before .before .before .before .before .before .before .before .before .before .before .args .here) e) _
+    (c .before .before .view-of .ensures) (sym (c .before .before .before .before .is-plan .ensures) ∙ not-false _ (c .before .before
+    .before .if2 .left)))
+    (rule-of (alone u) (scopeOf (c .before .before .before .before .before .before .before .before .before .before .before .args .here) e)
     (w .label) (w .below) _ _ (hand-plan w
-    (scopeOf (c .before .before .before .before .before .before .before .before .before .before .args .here) e) _
-    (c .before .before .before .sort-of .ensures) (c .before .before .if2 .left))
+    (scopeOf (c .before .before .before .before .before .before .before .before .before .before .before .args .here) e) _
+    (c .before .before .view-of .ensures) (sym (c .before .before .before .before .is-plan .ensures) ∙ not-false _ (c .before .before
+    .before .if2 .left)))
     (c .before .type-ok2 .ensures (record { label = w .label; below = w .below }) u (w .below)
-    (tree-at w h (c .before .before .before .before .before .from-record .ensures)) (w .first) z)) (not-true _ (c .if4 .taken)))
-    (λ c κs. let p = c .before .before .before .before .before .before .before .before .before .before .pre .1 .0 in let w = step (p .forest)
-    (p .linked) (c .before .before .before .before .before .before .if1 .left)
-    (c .before .before .before .before .before .from-record .ensures) (c .before .before .before .before .look .ensures) in (
+    (tree-at w h (c .before .before .before .before .before .before .from-record .ensures)) (w .first) z)) (not-true _ (c .if4 .taken)))
+    (λ c κs. let p = c .before .before .before .before .before .before .before .before .before .before .before .pre .1 .0 in let w = step
+    (p .forest)
+    (p .linked) (c .before .before .before .before .before .before .before .if1 .left)
+    (c .before .before .before .before .before .before .from-record .ensures) (c .before .before .before .before .before .look .ensures)
+    in (
       omega (arith, w .down),
       (
         record { forest = w .below; linked = w .first },
         record { forest = w .below; linked = w .first },
-        c .before
-            .before .before .before .before .before .before .before .before .before .pre .1 .2,
+        c .before .before .before .before .before .before .before .before .before .before .before .pre .1 .2,
       ),
     ))
     (λ c. search needs)
     (λ c. search needs)
-    (λ c κs. let p = c .before .before .before .before .before .before .before .before .before .before .before .before .before .pre .1 .0 in
-    let w = step (p .forest) (p .linked) (c .before .before .before .before .before .before .before .before .before .if1 .left)
-    (c .before .before .before .before .before .before .before .before .from-record .ensures)
-    (c .before .before .before .before .before .before .before .look .ensures) in (
+    (λ c κs. let p = c .before .before .before .before .before .before .before .before .before .before .before .before .before .before
+    .pre .1 .0 in
+    let w = step (p .forest) (p .linked) (c .before .before .before .before .before .before .before .before .before .before .if1 .left)
+    (c .before .before .before .before .before .before .before .before .before .from-record .ensures)
+    (c .before .before .before .before .before .before .before .before .look .ensures) in (
       omega (arith, w .less),
       (
         record { forest = w .after; linked = w .next },
-        c .before .before .before .before .before .before .before
-            .before .before .before .before .before .before .pre .1 .1,
-        c .before .before .before .before .before .before .before .before .before
-            .before .before .before .before .pre .1 .2,
+        c .before .before .before .before .before .before .before .before .before .before .before .before .before .before .pre .1 .1,
+        c .before .before .before .before .before .before .before .before .before .before .before .before .before .before .pre .1 .2,
       ),
     ))
     (λ c f e u h g z. let w = step f h
@@ -178,17 +186,17 @@ pub +bad-type-spec : {M : Type 1} → statement M
     .args .here) e) (scopeOf (c .before .before .before .before .before .before .before .before .before .before .before .before .before
     .before .before .before .args .after) e) _ _
     (hand-part w (c .before .before .before .before .before .before .before .before .before .before .before .before .before .before
-    .before .before .args .here) e (c .before .before .before .before .before .before .before .before .before .sort-of .ensures)
-    (c .before .before .before .before .before .before .before .before .if2 .taken)
-    (c .before .before .before .before .before .before .before .first-sort .ensures)
-    (c .before .before .before .before .before .before .rest-sort .ensures))
-    (rule-of (alone u) (scopeOf (c .before .before .before .before .before .before .before .before .before .before .before .before .before
-    .before .before .before .args .here) e) (w .label) (w .below) _ _
+    .before .before .args .here) e (sym (c .before .before .before .before .before .before .before .before .before .is-plan .ensures) ∙
+    not-true _ (c .before .before .before .before .before .before .before .before .if2 .taken))
+    (c .before .before .before .before .before .before .before .first-view .ensures)
+    (c .before .before .before .before .before .before .rest-view .ensures))
+    (rule-of (alone u) (scopeOf (c .before .before .before .before .before .before .before .before .before .before .before .before
+    .before .before .before .before .args .here) e) (w .label) (w .below) _ _
     (hand-part w (c .before .before .before .before .before .before .before .before .before .before .before .before .before .before
-    .before .before .args .here) e (c .before .before .before .before .before .before .before .before .before .sort-of .ensures)
-    (c .before .before .before .before .before .before .before .before .if2 .taken)
-    (c .before .before .before .before .before .before .before .first-sort .ensures)
-    (c .before .before .before .before .before .before .rest-sort .ensures))
+    .before .before .args .here) e (sym (c .before .before .before .before .before .before .before .before .before .is-plan .ensures) ∙
+    not-true _ (c .before .before .before .before .before .before .before .before .if2 .taken))
+    (c .before .before .before .before .before .before .before .first-view .ensures)
+    (c .before .before .before .before .before .before .rest-view .ensures))
     (c .before .before .before .before .before .type-ok .ensures (record { label = w .label; below = w .below }) u e
     (tree-at w h (c .before .before .before .before .before .before .before .before .before .before .before .from-record .ensures)) g z))
     _ (not-false _ (c .before .before .before .before .if3 .left))
@@ -203,55 +211,65 @@ pub +bad-type-spec : {M : Type 1} → statement M
     (c .before .before .before .before .before .before .before .before .before .before .before .before .before .before .before .before
     .args .after) e) _ _ (hand-part w
     (c .before .before .before .before .before .before .before .before .before .before .before .before .before .before .before .before
-    .args .here) e (c .before .before .before .before .before .before .before .before .before .sort-of .ensures)
-    (c .before .before .before .before .before .before .before .before .if2 .taken)
-    (c .before .before .before .before .before .before .before .first-sort .ensures)
-    (c .before .before .before .before .before .before .rest-sort .ensures))
-    (rule-of (alone u) (scopeOf (c .before .before .before .before .before .before .before .before .before .before .before .before .before
-    .before .before .before .args .here) e) (w .label) (w .below) _ _
+    .args .here) e (sym (c .before .before .before .before .before .before .before .before .before .is-plan .ensures) ∙ not-true _ (c
+    .before .before .before .before .before .before .before .before .if2 .taken))
+    (c .before .before .before .before .before .before .before .first-view .ensures)
+    (c .before .before .before .before .before .before .rest-view .ensures))
+    (rule-of (alone u) (scopeOf (c .before .before .before .before .before .before .before .before .before .before .before .before
+    .before .before .before .before .args .here) e) (w .label) (w .below) _ _
     (hand-part w (c .before .before .before .before .before .before .before .before .before .before .before .before .before .before
-    .before .before .args .here) e (c .before .before .before .before .before .before .before .before .before .sort-of .ensures)
-    (c .before .before .before .before .before .before .before .before .if2 .taken)
-    (c .before .before .before .before .before .before .before .first-sort .ensures)
-    (c .before .before .before .before .before .before .rest-sort .ensures))
+    .before .before .args .here) e (sym (c .before .before .before .before .before .before .before .before .before .is-plan .ensures) ∙
+    not-true _ (c .before .before .before .before .before .before .before .before .if2 .taken))
+    (c .before .before .before .before .before .before .before .first-view .ensures)
+    (c .before .before .before .before .before .before .rest-view .ensures))
     (c .before .before .before .before .before .type-ok .ensures (record { label = w .label; below = w .below }) u e
     (tree-at w h (c .before .before .before .before .before .before .before .before .before .before .before .from-record .ensures)) g z))
     (not-false _ (c .before .before .before .before .if3 .left))
     (sym (c .before .enum-told .given .1) ∙ c .before .before .before .bad-type .ensures (w .below) e u (w .first) g z))
-    (λ c f e u h g z. let w = step f h (c .before .before .before .before .before .before .before .before .before .before .if1 .left)
-    (c .before .before .before .before .before .before .before .before .before .from-record .ensures)
-    (c .before .before .before .before .before .before .before .before .look .ensures) in place-below (typeOk (alone u)) hand w
-    (scopeOf (c .before .before .before .before .before .before .before .before .before .before .before .before .before .before .args
+    (λ c f e u h g z. let w = step f h (c .before .before .before .before .before .before .before .before .before .before .before .if1
+    .left)
+    (c .before .before .before .before .before .before .before .before .before .before .from-record .ensures)
+    (c .before .before .before .before .before .before .before .before .before .look .ensures) in place-below (typeOk (alone u)) hand w
+    (scopeOf (c .before .before .before .before .before .before .before .before .before .before .before .before .before .before .before
+    .args
     .here) e) (scopeOf (c .before .before .before .before .before .before .before .before .before .before .before .before .before .before
-    .args .after) e) _ _ (hand-plan w
-    (scopeOf (c .before .before .before .before .before .before .before .before .before .before .before .before .before .before .args
-    .here) e) _ (c .before .before .before .before .before .before .before .sort-of .ensures)
-    (c .before .before .before .before .before .before .if2 .left))
-    (rule-of (alone u) (scopeOf (c .before .before .before .before .before .before .before .before .before .before .before .before .before
-    .before .args .here) e) (w .label) (w .below) _ _
+    .before .args .after) e) _ _ (hand-plan w
+    (scopeOf (c .before .before .before .before .before .before .before .before .before .before .before .before .before .before .before
+    .args
+    .here) e) _ (c .before .before .before .before .before .before .view-of .ensures) (sym (c .before .before .before .before .before
+    .before .before .before .is-plan .ensures) ∙ not-false _ (c .before .before .before .before .before .before .before .if2 .left)))
+    (rule-of (alone u) (scopeOf (c .before .before .before .before .before .before .before .before .before .before .before .before
+    .before .before .before .args .here) e) (w .label) (w .below) _ _
     (hand-plan w (scopeOf (c .before .before .before .before .before .before .before .before .before .before .before .before .before
-    .before .args .here) e) _ (c .before .before .before .before .before .before .before .sort-of .ensures)
-    (c .before .before .before .before .before .before .if2 .left))
+    .before .before .args .here) e) _ (c .before .before .before .before .before .before .view-of .ensures) (sym (c .before .before
+    .before .before .before .before .before .before .is-plan .ensures) ∙ not-false _ (c .before .before .before .before .before .before
+    .before .if2 .left)))
     (c .before .before .before .before .before .type-ok2 .ensures (record { label = w .label; below = w .below }) u (w .below)
-    (tree-at w h (c .before .before .before .before .before .before .before .before .before .from-record .ensures)) (w .first) z)) _
+    (tree-at w h (c .before .before .before .before .before .before .before .before .before .before .from-record .ensures)) (w .first)
+    z)) _
     (not-false _ (c .before .before .before .before .if4 .left))
     (sym (c .before .under .given .1) ∙ c .before .before .before .bad-type3 .ensures (w .below) (w .below) u (w .first) (w .first) z))
-    (λ c f e u h g z. let w = step f h (c .before .before .before .before .before .before .before .before .before .before .if1 .left)
-    (c .before .before .before .before .before .before .before .before .before .from-record .ensures)
-    (c .before .before .before .before .before .before .before .before .look .ensures) in c .bad-type4 .ensures (w .after) e u
+    (λ c f e u h g z. let w = step f h (c .before .before .before .before .before .before .before .before .before .before .before .if1
+    .left)
+    (c .before .before .before .before .before .before .before .before .before .before .from-record .ensures)
+    (c .before .before .before .before .before .before .before .before .before .look .ensures) in c .bad-type4 .ensures (w .after) e u
     (w .next) g z ∙ place-after (typeOk (alone u)) hand w
-    (scopeOf (c .before .before .before .before .before .before .before .before .before .before .before .before .before .before .args
+    (scopeOf (c .before .before .before .before .before .before .before .before .before .before .before .before .before .before .before
+    .args
     .here) e) (scopeOf (c .before .before .before .before .before .before .before .before .before .before .before .before .before .before
-    .args .after) e) _ _ (hand-plan w
-    (scopeOf (c .before .before .before .before .before .before .before .before .before .before .before .before .before .before .args
-    .here) e) _ (c .before .before .before .before .before .before .before .sort-of .ensures)
-    (c .before .before .before .before .before .before .if2 .left))
-    (rule-of (alone u) (scopeOf (c .before .before .before .before .before .before .before .before .before .before .before .before .before
-    .before .args .here) e) (w .label) (w .below) _ _
+    .before .args .after) e) _ _ (hand-plan w
+    (scopeOf (c .before .before .before .before .before .before .before .before .before .before .before .before .before .before .before
+    .args
+    .here) e) _ (c .before .before .before .before .before .before .view-of .ensures) (sym (c .before .before .before .before .before
+    .before .before .before .is-plan .ensures) ∙ not-false _ (c .before .before .before .before .before .before .before .if2 .left)))
+    (rule-of (alone u) (scopeOf (c .before .before .before .before .before .before .before .before .before .before .before .before
+    .before .before .before .args .here) e) (w .label) (w .below) _ _
     (hand-plan w (scopeOf (c .before .before .before .before .before .before .before .before .before .before .before .before .before
-    .before .args .here) e) _ (c .before .before .before .before .before .before .before .sort-of .ensures)
-    (c .before .before .before .before .before .before .if2 .left))
+    .before .before .args .here) e) _ (c .before .before .before .before .before .before .view-of .ensures) (sym (c .before .before
+    .before .before .before .before .before .before .is-plan .ensures) ∙ not-false _ (c .before .before .before .before .before .before
+    .before .if2 .left)))
     (c .before .before .before .before .before .type-ok2 .ensures (record { label = w .label; below = w .below }) u (w .below)
-    (tree-at w h (c .before .before .before .before .before .before .before .before .before .from-record .ensures)) (w .first) z))
+    (tree-at w h (c .before .before .before .before .before .before .before .before .before .before .from-record .ensures)) (w .first) z))
     (not-false _ (c .before .before .before .before .if4 .left))
-    (sym (c .before .enum-told2 .given .1) ∙ c .before .before .before .bad-type3 .ensures (w .below) (w .below) u (w .first) (w .first) z))
+    (sym (c .before .enum-told2 .given .1) ∙ c .before .before .before .bad-type3 .ensures (w .below) (w .below) u (w .first) (w .first)
+    z))

@@ -19,7 +19,7 @@ bad-types-spec =
       c .before .before
           .before .pre,
     ))
-    (λ c t a. let k = looked a (c .before .before .before .look .ensures) in root-bad k (c .before .before .sort-of .ensures)
+    (λ c t a. let k = looked a (c .before .before .before .look .ensures) in root-bad k (c .before .before .view-of .ensures)
     (c .before .type-ok .ensures t t (t .below) a (k .first) a) (not-true _ (c .if1 .taken)))
     (λ c κs. let k = looked (c .before .before .before .before .before .pre .at) (c .before .before .before .look .ensures) in (
       record { forest = c .before .before .before .before .before .pre .tree .below; linked = k .first },
@@ -28,5 +28,5 @@ bad-types-spec =
       c .before .before .before .before .before .pre,
     ))
     (λ c t a. let k = looked a (c .before .before .before .before .look .ensures) in c .bad-type .ensures (t .below) (t .below) t (k .first)
-    (k .first) a ∙ root-good k (c .before .before .before .sort-of .ensures)
+    (k .first) a ∙ root-good k (c .before .before .before .view-of .ensures)
     (c .before .before .type-ok .ensures t t (t .below) a (k .first) a) (not-false _ (c .before .if1 .left))))

@@ -18,7 +18,7 @@ type-ok-spec =
       c .before .before .before
           .before .before .pre .1,
     ))
-    (λ c t u e a g z. let k = looked a (c .before .before .before .look .ensures) in rule-not k _ _ (c .before .before .demand .ensures)
+    (λ c t u e a g z. let k = looked a (c .before .before .before .look .ensures) in rule-not k _ _ (c .before .before .demand-of .ensures)
     (c .before .meets .ensures (t .below) e (k .first) g) (not-true _ (c .if1 .taken)))
     (λ c κs. let k = looked (c .before .before .before .before .before .before .before .before .before .pre .0 .at)
     (c .before .before .before .before .before .look .ensures) in (
@@ -27,7 +27,7 @@ type-ok-spec =
           { forest = c .before .before .before .before .before .before .before .before .before .pre .0 .tree .below; linked = k .first },
     ))
     (λ c t u e a g z. let k = looked a (c .before .before .before .before .before .before .look .ensures) in c .as-scanned .ensures u
-    (t .below) z (k .first) ∙ rule-scan k _ _ (c .before .before .before .before .before .demand .ensures)
+    (t .below) z (k .first) ∙ rule-scan k _ _ (c .before .before .before .before .before .demand-of .ensures)
     (c .before .before .before .before .meets .ensures (t .below) e (k .first) g) (not-false _ (c .before .before .before .if1 .left))
     (c .before .if2 .taken))
     (λ c κs. let k = looked (c .before .before .before .before .before .before .before .before .before .before .before .pre .0 .at)
@@ -38,10 +38,10 @@ type-ok-spec =
     })
     (λ c t u e a g z. let k = looked a
     (c .before .before .before .before .before .before .before .before .look .ensures) in c .united .ensures (t .below) (k .first)
-    ∙ rule-union k _ _ (c .before .before .before .before .before .before .before .demand .ensures)
+    ∙ rule-union k _ _ (c .before .before .before .before .before .before .before .demand-of .ensures)
     (c .before .before .before .before .before .before .meets .ensures (t .below) e (k .first) g)
     (not-false _ (c .before .before .before .before .before .if1 .left)) (c .before .if3 .taken))
     (λ c t u e a g z. let k = looked a (c .before .before .before .before .before .before .before .look .ensures) in rule-rest k _ _
-    (c .before .before .before .before .before .before .demand .ensures)
+    (c .before .before .before .before .before .before .demand-of .ensures)
     (c .before .before .before .before .before .meets .ensures (t .below) e (k .first) g)
     (not-false _ (c .before .before .before .before .if1 .left)) (c .before .before .if2 .left) (c .if3 .left)))

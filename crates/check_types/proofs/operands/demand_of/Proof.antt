@@ -3,12 +3,12 @@ use borrow.Author.Tests.{le-leb, lt-leb}
 use borrow.Author.Needs.{needs}
 use Rattle.plan.specs.Kinds.{whatOf, among}
 use Rattle.check_types.proofs.Demanding.{demand-last}
-use Rattle.check_types.proofs.operands.demand.Statement.{statement}
-use Rattle.check_types.proofs.operands.demand.Tie as tie
+use Rattle.check_types.proofs.operands.demand_of.Statement.{statement}
+use Rattle.check_types.proofs.operands.demand_of.Tie as tie
 
-pub demand-spec : {M : Type 1} → statement M
+pub demand-of-spec : {M : Type 1} → statement M
 unfolding whatOf among
-demand-spec =
+demand-of-spec =
     tie.close
     (tie.spec
     (λ c. rw (c .before .if1 .taken, le-leb _ 2 (c .if2 .taken)) refl)
