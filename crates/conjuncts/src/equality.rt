@@ -3,10 +3,18 @@ use crate::lists::Conjuncts;
 use crate::lists::item_at;
 use image::limits::MAX_DEPTH;
 use image::records::FIRST_LINK;
+use image::records::HI;
+use image::records::KIND;
+use image::records::LO;
 use image::records::NEXT_LINK;
+use image::records::P;
+use image::records::Q;
+use image::records::R;
 use image::records::from_record;
 use image::records::record_at;
 use image::words::word_at;
+use plan::kinds::BOOLEAN_LITERAL;
+use plan::words::TRUE;
 ghost use mathlib.Core.Path.{_≡_};
 ghost use mathlib.Core.List.{List};
 ghost use Prim.Native.Nat.{_≤_};
@@ -23,12 +31,12 @@ fn same_label(a: &[u8], b: &[u8]) -> bool
     requires { ⌜ (32 ≤ length (now a)) × (32 ≤ length (now b)) ⌝ }
     ensures { λ r. ⌜ r ≡ sameLabel (labelAt (now (a .entry))) (labelAt (now (b .entry))) ⌝ }
 {
-    (word_at(a, 0) == word_at(b, 0))
-        & (word_at(a, 4) == word_at(b, 4))
-        & (word_at(a, 8) == word_at(b, 8))
-        & (word_at(a, 12) == word_at(b, 12))
-        & (word_at(a, 16) == word_at(b, 16))
-        & (word_at(a, 20) == word_at(b, 20))
+    (word_at(a, KIND) == word_at(b, KIND))
+        & (word_at(a, P) == word_at(b, P))
+        & (word_at(a, Q) == word_at(b, Q))
+        & (word_at(a, R) == word_at(b, R))
+        & (word_at(a, LO) == word_at(b, LO))
+        & (word_at(a, HI) == word_at(b, HI))
 }
 
 // Whether the trees at the start of a and of b are the same, wherever they stand.
@@ -69,7 +77,7 @@ fn is_false_item(s: &[u8], n: usize) -> bool
         return true;
     }
     let part = record_at(s, n);
-    (word_at(part, 0) == 3) & (word_at(part, 4) == 0)
+    (word_at(part, KIND) == BOOLEAN_LITERAL) & (word_at(part, P) != TRUE)
 }
 
 // Whether the items n and m are equal expressions.

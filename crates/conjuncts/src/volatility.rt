@@ -3,10 +3,15 @@ use crate::lists::Conjuncts;
 use crate::lists::item_at;
 use image::limits::MAX_DEPTH;
 use image::records::FIRST_LINK;
+use image::records::KIND;
 use image::records::NEXT_LINK;
+use image::records::Q;
 use image::records::from_record;
 use image::records::record_at;
 use image::words::word_at;
+use plan::kinds::FUNCTION;
+use plan::words::VOLATILE;
+use plan::words::VOLATILE_LEAFWARD;
 ghost use mathlib.Core.Path.{_≡_};
 ghost use mathlib.Core.List.{List};
 ghost use Prim.Native.Nat.{_<_, _≤_};
@@ -22,12 +27,12 @@ fn is_function(part: &[u8], volatile: bool) -> bool
     requires { ⌜ 32 ≤ length (now part) ⌝ }
     ensures { λ r. ⌜ r ≡ fnHere (marked volatile) (labelAt (now (part .entry))) ⌝ }
 {
-    if word_at(part, 0) != 10 {
+    if word_at(part, KIND) != FUNCTION {
         return false;
     }
     if volatile {
-        let marks = word_at(part, 8);
-        return (marks == 1) | (marks == 3);
+        let marks = word_at(part, Q);
+        return (marks == VOLATILE) | (marks == VOLATILE_LEAFWARD);
     }
     true
 }
