@@ -9,9 +9,11 @@ use lib.Dec.{eqb, leb}
 use lib.IntN.{ℤ}
 use lib.Signed.{ltZ}
 use Rattle.image.specs.Tree.{Label, At}
+use Rattle.plan.specs.Kinds as K
+use Rattle.plan.specs.Kinds.{numberE}
 use Rattle.plan.specs.Syntax as S
-use Rattle.plan.specs.Syntax.{Expr, nm}
-use Rattle.plan.specs.Trees.{exprTree}
+use Rattle.plan.specs.Syntax.{Expr, nm, cmp, eq, ne, lt, gt}
+use Rattle.plan.specs.Trees.{exprTree, opNumber}
 use Rattle.plan.specs.Integers.{FitsE}
 use Rattle.plan.specs.Values.{ValueRecord, nullOf, literalOf}
 use Rattle.plan.specs.declared.values.Literal as L
@@ -46,7 +48,7 @@ asOperand LV.Not = Neither
 
 -- what a record is to a comparison
 abbrev pub operandOf : Label → Operand
-operandOf l = cond (eqb (l .kind) 1) (Column (record { q = l .p; n = l .q })) (asOperand (literalOf l))
+operandOf l = cond (eqb (l .kind) (numberE K.Column)) (Column (record { q = l .p; n = l .q })) (asOperand (literalOf l))
 
 -- ---- comparisons
 
@@ -57,9 +59,9 @@ relOf k s = cond (eqb k 0) same-as (cond (eqb k 1) (above s) (below s))
 -- of an operator's number
 abbrev pub relNo : Bool → ℕ → Option Rel
 relNo f o =
-    cond (eqb o 3) (some same-as)
-    (cond (eqb o 4) none
-    (some (relOf (cond (not (Bool·beq (leb 7 o) f)) 1 2) (eqb o 5 || eqb o 7))))
+    cond (eqb o (opNumber (cmp eq))) (some same-as)
+    (cond (eqb o (opNumber (cmp ne))) none
+    (some (relOf (cond (not (Bool·beq (leb (opNumber (cmp gt)) o) f)) 1 2) (eqb o (opNumber (cmp lt)) || eqb o (opNumber (cmp gt))))))
 
 abbrev pub itemOf : Bound → Item
 itemOf b = record { key = named (b .column); rel = relOf (b .class) (b .strict); lit = b .value; flipped = b .flipped }

@@ -6,18 +6,27 @@ use conjuncts::lists::add_if;
 use conjuncts::lists::empty;
 use conjuncts::lists::item_at;
 use image::records::FIRST_LINK;
+use image::records::KIND;
 use image::records::Label;
 use image::records::NEXT_LINK;
+use image::records::P;
 use image::records::from_record;
 use image::records::label_at;
 use image::records::record_at;
 use image::words::word_at;
+use plan::kinds::BINARY_EXPR;
+use plan::kinds::COLUMN;
 use plan::values::Case;
 use plan::values::Literal;
 use plan::values::Value;
 use plan::values::literal_of;
 use plan::words::BOOLEAN;
+use plan::words::EQ;
+use plan::words::GT;
 use plan::words::INTEGER;
+use plan::words::LT;
+use plan::words::NOT_EQ;
+use plan::words::NO_TYPE;
 ghost use mathlib.Core.Path.{_≡_};
 ghost use mathlib.Core.Bool.{Bool};
 ghost use mathlib.Core.List.{_++_, List, map};
@@ -335,13 +344,13 @@ pub fn is_null(v: Value) -> bool
     }
 }
 
-// The kind of a value: 0 of NULL.
+// The type of a value: none of NULL.
 pub fn kind_of(v: Value) -> usize
     ensures { λ r. ⌜ r ≡ kindOf (lit-val v) ⌝ }
 {
     let case = v.case;
     match case {
-        Case::Null => 0,
+        Case::Null => NO_TYPE,
         Case::Integer(_) => INTEGER,
         Case::Truth(_) => BOOLEAN,
     }
@@ -407,7 +416,7 @@ fn first_kind(s: &[u8], c: Conjuncts) -> usize
     requires { ⌜ Known (now s) c ⌝ }
     ensures { λ r. ⌜ ((es : List Expr) → Lists (now (s .entry)) c es → r ≡ first-kind (map sideIn es)) ⌝ }
 {
-    let mut kind = 0;
+    let mut kind = NO_TYPE;
     let mut i = c.len;
     while i != 0 {
         i -= 1;
@@ -453,7 +462,7 @@ fn extract_column_from_expr(l: Label) -> Operand
     requires { ⌜ Fits32 l ⌝ }
     ensures { λ r. ⌜ r ≡ operandOf l ⌝ }
 {
-    if l.kind == 1 {
+    if l.kind == COLUMN {
         return Operand::Column(Name { q: l.p, n: l.q });
     }
     let literal = literal_of(l);
@@ -467,7 +476,7 @@ fn extract_column_from_expr(l: Label) -> Operand
 fn bound_by(op: usize, column: Name, value: Value, flipped: bool) -> Compared
     ensures { λ r. ⌜ seen r ≡ make flipped (relNo flipped op) (some (named column)) (some value) ⌝ }
 {
-    if op == 3 {
+    if op == EQ {
         return Compared::Of(Bound {
             column,
             class: EQUALITY,
@@ -476,11 +485,11 @@ fn bound_by(op: usize, column: Name, value: Value, flipped: bool) -> Compared
             value,
         });
     }
-    if op == 4 {
+    if op == NOT_EQ {
         return Compared::Not;
     }
-    let strict = (op == 5) | (op == 7);
-    if (op >= 7) != flipped {
+    let strict = (op == LT) | (op == GT);
+    if (op >= GT) != flipped {
         return Compared::Of(Bound {
             column,
             class: LOWER,
@@ -522,11 +531,11 @@ fn compared_in(part: &[u8], base: usize) -> Compared
     requires { ⌜ Reading (now part) base ⌝ }
     ensures { λ r. ⌜ ((e : Expr) → At (exprTree e) (now (part .entry)) base → FitsE e → seen r ≡ view e) ⌝ }
 {
-    let op = word_at(part, 4);
-    if word_at(part, 0) != 5 {
+    let op = word_at(part, P);
+    if word_at(part, KIND) != BINARY_EXPR {
         return Compared::Not;
     }
-    if op < 3 {
+    if op < EQ {
         return Compared::Not;
     }
     let x = word_at(part, FIRST_LINK);
@@ -564,7 +573,7 @@ pub fn side_at(s: &[u8], c: Conjuncts, i: usize) -> Bound
             strict: false,
             flipped: false,
             value: Value {
-                ty: 0,
+                ty: NO_TYPE,
                 case: Case::Null,
             },
         };
