@@ -11,13 +11,11 @@ use borrow.Author.Tests.{le-leb, lt-leb}
 use Rattle.image.specs.Limits.{workBytes, maxRecords}
 use Rattle.image.specs.Word.{word}
 use Rattle.image.specs.Tree.{labelAt}
-use Rattle.plan.specs.Kinds.{isPlan}
+use Rattle.plan.specs.Kinds.{isPlan, planW, whatOf}
 use Rattle.plan.specs.Lists.{choose}
 use Rattle.plan.specs.Measure.{sizeP}
 use Rattle.plan.specs.Syntax.{Plan}
 use Rattle.plan.specs.Trees.{bitOf}
-use Rattle.plan.proofs.KindRanges.{plan-range}
-use Rattle.utils.specs.Inputs.{isPlan as plan-number}
 use Rattle.acceptance.specs.Accepted.{WellFormed, Accepted}
 use Rattle.rewrite.specs.Pass.{pass-refused}
 use Rattle.rewrite.specs.RewriteAt.{Focus, focus, granted, refused, rewrite-in, rewriteAt}
@@ -61,11 +59,11 @@ module _ {s : List ℕ} {q : Plan} (a : Accepted s q) where
 
   -- b says whether the number read at record n is a plan's
   module _ {n : ℕ} (small : n < sizeP q) {part : List ℕ} {k : ℕ} {b : Bool} (at : part ≡ drop (32 * n) s) (is : k ≡ word part 0)
-      (told : b ≡ plan-number k) where
+      (told : b ≡ planW (whatOf k)) where
     plan-told : is-some (focus n q) ≡ b
     plan-told =
         plan-there (standing-root s q a) n small
-        ∙ ap (λ t. isPlan (labelAt t)) (sym at) ∙ plan-range (labelAt part) ∙ sym (told ∙ ap plan-number is)
+        ∙ ap (λ t. isPlan (labelAt t)) (sym at) ∙ sym (told ∙ ap (λ (n : ℕ). planW (whatOf n)) is)
 
     pub passes-by : b ≡ false → plan-from n q ≡ plan-from (n + 1) q
     passes-by e = rw (add-one n) (from-later n q (not-found (focus n q) (plan-told ∙ e)))

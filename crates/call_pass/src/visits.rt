@@ -3,9 +3,9 @@ use answers::handing_out::copy_bytes;
 use image::limits::RECORD_BYTES;
 use image::records::record_at;
 use image::words::word_at;
+use plan::kinds::is_plan;
 use push_down_rewrite::node::Outcome;
 use push_down_rewrite::node::rewrite;
-use utils::schema_columns::is_plan_kind;
 ghost use mathlib.Core.Path.{_≡_};
 ghost use mathlib.Core.Bool.{false};
 ghost use mathlib.Core.Option.{some};
@@ -38,7 +38,7 @@ fn next_plan(s: &[u8], from: usize) -> usize
     let records = s.len() / RECORD_BYTES;
     let mut i = from;
     while i < records {
-        if is_plan_kind(word_at(record_at(s, i), 0)) {
+        if is_plan(word_at(record_at(s, i), 0)) {
             return i;
         }
         i += 1;

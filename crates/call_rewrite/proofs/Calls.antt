@@ -9,10 +9,8 @@ use lib.ListN.{length, take, drop}
 use borrow.Author.Tests.{le-leb, lt-leb, eq-eqb, ne-eqb}
 use Rattle.image.specs.Word.{word}
 use Rattle.image.specs.Tree.{labelAt}
-use Rattle.plan.specs.Kinds.{isPlan}
+use Rattle.plan.specs.Kinds.{isPlan, planW, whatOf}
 use Rattle.plan.specs.Lists.{choose}
-use Rattle.plan.proofs.KindRanges.{plan-range}
-use Rattle.utils.specs.Inputs.{isPlan as plan-number}
 use Rattle.plan.specs.Measure.{sizeP}
 use Rattle.plan.specs.Syntax.{Plan}
 use Rattle.plan.specs.Trees.{bitOf}
@@ -71,11 +69,11 @@ module _ {s : List ℕ} (w : Whole s) where
 
   -- b says whether the number read there is a plan's
   module _ {n : ℕ} (small : n < length s / 32) {part : List ℕ} {k : ℕ} {b : Bool} (at : part ≡ drop (32 * n) s) (is : k ≡ word part 0)
-      (told : b ≡ plan-number k) where
+      (told : b ≡ planW (whatOf k)) where
     plan-told : is-some (focus n (planIn s)) ≡ b
     plan-told =
         plan-there (standing-root s (planIn s) (w .accepted)) n (omega (arith, records-are))
-        ∙ ap (λ t. isPlan (labelAt t)) (sym at) ∙ plan-range (labelAt part) ∙ sym (told ∙ ap plan-number is)
+        ∙ ap (λ t. isPlan (labelAt t)) (sym at) ∙ sym (told ∙ ap (λ (n : ℕ). planW (whatOf n)) is)
 
     pub no-plan : b ≡ false → focus n (planIn s) ≡ none
     no-plan e = not-found (focus n (planIn s)) (plan-told ∙ e)

@@ -9,9 +9,9 @@ use image::limits::MAX_RECORDS;
 use image::limits::RECORD_BYTES;
 use image::records::record_at;
 use image::words::word_at;
+use plan::kinds::is_plan;
 use push_down_rewrite::node::rewrite_anew;
 use push_down_rewrite::stays::stays;
-use utils::schema_columns::is_plan_kind;
 ghost use mathlib.Core.Path.{_≡_};
 ghost use mathlib.Core.List.{List};
 ghost use Prim.Native.Nat.{_*_, _≤_, ℕ};
@@ -164,7 +164,7 @@ fn rewrite_at(image: &[u8], node: usize, out: &mut [u8]) -> Answer
         clear(out);
         return Answer::NoPlan(node);
     }
-    if !is_plan_kind(word_at(record_at(image, node), 0)) {
+    if !is_plan(word_at(record_at(image, node), 0)) {
         clear(out);
         return Answer::NoPlan(node);
     }

@@ -9,10 +9,8 @@ use mathlib.Core.List.{List}
 use lib.ListN.{drop}
 use Prim.Native.Nat.{ℕ, _*_}
 use native.Mathlib.Omega.{arith}
-use lib.Dec.{eqb}
 use borrow.Author.Tests.{eqb-true, eq-eqb}
-use Rattle.image.specs.Word.{word}
-use Rattle.image.specs.Tree.{Label, Forest, none, node, Tree, At}
+use Rattle.image.specs.Tree.{Label, Forest, none, node, Tree, At, labelAt}
 use Rattle.image.proofs.Walking.{only}
 use Rattle.plan.specs.Kinds.{what}
 use Rattle.plan.specs.Syntax.{Expr, col, num, bool, nul, bin, neg, test, between, inlist, fn}
@@ -25,6 +23,7 @@ use Rattle.rewrite.proofs.Exprs.{sameE-eq}
 use Rattle.conjuncts.specs.Standing.{Standing}
 use Rattle.conjuncts.specs.Items.{FALSE}
 use Rattle.conjuncts.specs.Equality.{sameLabel, sameAny, same}
+use Rattle.conjuncts.specs.Labels.{isFalse}
 
 pub for-both : (P : Tree → Tree → Type 0) {t u : Tree} {s v : List ℕ} {b d : ℕ} → At t s b → At u v d → P t u → (t′ u′ : Tree) → At t′ s b
     → At u′ v d → P t′ u′
@@ -115,7 +114,7 @@ same-exprs a b f g =
     (λ h. is-same _ _ (ap exprTree (sameE-eq a b h)))
 
 -- an expression is FALSE if its record says so
-says-false : (e : Expr) → (eqb (labelE e .kind) 3 && eqb (labelE e .p) 0) ≡ true → FALSE ≡ e
+says-false : (e : Expr) → isFalse (labelE e) ≡ true → FALSE ≡ e
 unfolding labelE
 says-false (col x) h = cc
 says-false (num z) h = cc
@@ -129,16 +128,16 @@ says-false (between n a l u) h = cc
 says-false (inlist n a xs) h = cc
 says-false (fn p q r xs) h = cc
 
-false-says : (eqb (labelE FALSE .kind) 3 && eqb (labelE FALSE .p) 0) ≡ true
+false-says : isFalse (labelE FALSE) ≡ true
 unfolding labelE
 false-says = refl
 
-false-is : (e : Expr) → (eqb (labelE e .kind) 3 && eqb (labelE e .p) 0) ≡ sameE FALSE e
+false-is : (e : Expr) → isFalse (labelE e) ≡ sameE FALSE e
 false-is e =
-    both-ways (eqb (labelE e .kind) 3 && eqb (labelE e .p) 0) (sameE FALSE e)
+    both-ways (isFalse (labelE e)) (sameE FALSE e)
     (λ h. eq-same (says-false e h))
-    (λ h. subst (λ (f : Expr). (eqb (labelE f .kind) 3 && eqb (labelE f .p) 0) ≡ true) (sameE-eq FALSE e h) false-says)
+    (λ h. subst (λ (f : Expr). isFalse (labelE f) ≡ true) (sameE-eq FALSE e h) false-says)
 
 pub false-label : {s : List ℕ} {n : ℕ} {e : Expr} → Standing s n e
-    → (eqb (word (drop (32 * n) s) 0) 3 && eqb (word (drop (32 * n) s) 4) 0) ≡ sameE FALSE e
-false-label {e = e} h = ap (λ (l : Label). eqb (l .kind) 3 && eqb (l .p) 0) (h .here .head .label) ∙ false-is e
+    → isFalse (labelAt (drop (32 * n) s)) ≡ sameE FALSE e
+false-label {e = e} h = ap isFalse (h .here .head .label) ∙ false-is e

@@ -14,6 +14,7 @@ use native.Mathlib.Omega.{arith}
 use native.Mathlib.Numerals.{add-one}
 use lib.ListN.{length, getD, drop, set, length-append, drop-of-length-le}
 use lib.Seq.{take-all, take-append-le, take-suc-set, drop-cons}
+use Rattle.image.specs.Limits.{maxList, tooMany}
 use Rattle.plan.specs.Syntax.{Expr}
 use Rattle.plan.specs.Lists.{put, keep, any}
 use Rattle.conjuncts.specs.Items.{Conjuncts, FALSE, most, listed, Holds, Item, Items, inil, icons, Lists, Known}
@@ -22,60 +23,60 @@ use Rattle.conjuncts.specs.Items.{Conjuncts, FALSE, most, listed, Holds,
 
 module _ {c : Conjuncts} {xs : List ℕ} (h : Holds c xs) where
   -- a list that is whole has as many as it says
-  pub count-is : c .len ≤ 128 → length xs ≡ c .len
+  pub count-is : c .len ≤ maxList → length xs ≡ c .len
   unfolding most
   count-is small = omega (arith, h .count)
 
-  count-small : length xs ≤ 128 → c .len ≤ 128
+  count-small : length xs ≤ maxList → c .len ≤ maxList
   unfolding most
   count-small small = omega (arith, h .count)
 
   -- one that is full is full of what it holds
-  count-more : 128 ≤ c .len → (128 ≤ length xs) × (most (length xs + 1) ≡ 129)
+  count-more : maxList ≤ c .len → (maxList ≤ length xs) × (most (length xs + 1) ≡ tooMany)
   unfolding most
   count-more many = omega (arith, h .count)
 
-  -- one that is too long is counted as 129
-  count-over : 128 < c .len → c .len ≡ 129
+  -- one that is too long is counted as tooMany
+  count-over : maxList < c .len → c .len ≡ tooMany
   unfolding most
   count-over many = omega (arith, h .count)
 
   -- a list that is whole stands in its array
-  pub whole : c .len ≤ 128 → listed c ≡ xs
-  whole small = h .lists ∙ take-all 128 xs (omega (arith, count-is small))
+  pub whole : c .len ≤ maxList → listed c ≡ xs
+  whole small = h .lists ∙ take-all maxList xs (omega (arith, count-is small))
 
-most-is : (n : ℕ) → n ≤ 129 → most n ≡ n
+most-is : (n : ℕ) → n ≤ tooMany → most n ≡ n
 unfolding most
 most-is n h = omega arith
 
 longer : (xs : List ℕ) (x : ℕ) → length (xs ++ (x ∷ [])) ≡ length xs + 1
 longer xs x = length-append xs (x ∷ [])
 
-module _ (c : Conjuncts) (x : ℕ) (xs : List ℕ) (h : Holds c xs) (long : length (c .at) ≡ 128) where
+module _ (c : Conjuncts) (x : ℕ) (xs : List ℕ) (h : Holds c xs) (long : length (c .at) ≡ maxList) where
   -- x is appended
-  pub added : c .len < 128 → Holds (record { at = set (c .at) (c .len) x; len = c .len + 1 }) (xs ++ (x ∷ []))
+  pub added : c .len < maxList → Holds (record { at = set (c .at) (c .len) x; len = c .len + 1 }) (xs ++ (x ∷ []))
   added small =
       let n : length xs ≡ c .len = count-is h (omega arith) in
       let m : length (xs ++ (x ∷ [])) ≡ c .len + 1 = longer xs x ∙ rw n in
       record {
-        lists = rw (add-one, take-suc-set (c .at) (c .len) x (omega arith), whole h (omega arith), take-all 128 (xs ++ (x ∷ [])) (omega arith));
+        lists = rw (add-one, take-suc-set (c .at) (c .len) x (omega arith), whole h (omega arith), take-all maxList (xs ++ (x ∷ [])) (omega arith));
         count = rw m (sym (most-is (c .len + 1) (omega arith)));
       }
 
   -- there is no room for x
-  pub not-added : 128 ≤ c .len → Holds (record { at = c .at; len = 129 }) (xs ++ (x ∷ []))
+  pub not-added : maxList ≤ c .len → Holds (record { at = c .at; len = tooMany }) (xs ++ (x ∷ []))
   not-added many =
       let k = count-more h many in
       record {
-        lists = rw (take-append-le 128 xs (x ∷ []) (k .0), ← h .lists, take-all 129 (c .at) (omega arith), take-all (c .len) (c .at) (omega arith));
+        lists = rw (take-append-le maxList xs (x ∷ []) (k .0), ← h .lists, take-all tooMany (c .at) (omega arith), take-all (c .len) (c .at) (omega arith));
         count = rw (longer xs x) (sym (k .1));
       }
 
 -- a list that is too long holds one more by doing nothing
-holds-full : {c : Conjuncts} {xs : List ℕ} (x : ℕ) → Holds c xs → 128 < c .len → Holds c (xs ++ (x ∷ []))
+holds-full : {c : Conjuncts} {xs : List ℕ} (x : ℕ) → Holds c xs → maxList < c .len → Holds c (xs ++ (x ∷ []))
 holds-full {c} {xs} x h many =
     let m = count-more h (omega arith) in
-    record { lists = rw (take-append-le 128 xs (x ∷ []) (m .0)) (h .lists); count = rw (longer xs x) (count-over h many ∙ sym (m .1)) }
+    record { lists = rw (take-append-le maxList xs (x ∷ []) (m .0)) (h .lists); count = rw (longer xs x) (count-over h many ∙ sym (m .1)) }
 
 -- ---- the expressions of a list
 
@@ -108,18 +109,18 @@ module _ {s : List ℕ} where
   lists-add n h k f = record { numbers = h .numbers ++ (n ∷ []); holds = f (h .numbers) (h .holds); items = items-add (h .items) k }
 
   -- an item or none is appended to a list that is too long, by doing nothing
-  pub lists-full : {c : Conjuncts} {es : List Expr} {e : Expr} {n : ℕ} (b : Bool) → Lists s c es → Item s n e → 128 < c .len
+  pub lists-full : {c : Conjuncts} {es : List Expr} {e : Expr} {n : ℕ} (b : Bool) → Lists s c es → Item s n e → maxList < c .len
       → Lists s c (es ++ put b e [])
   unfolding put
   lists-full {n = n} true h k many = lists-add n h k (λ xs g. holds-full n g many)
   lists-full {es = es} false h k many = rw (append-nil es) h
 
   -- a list of few enough is whole
-  pub known-of : {c : Conjuncts} {es : List Expr} → Lists s c es → length es ≤ 128 → Known s c
+  pub known-of : {c : Conjuncts} {es : List Expr} → Lists s c es → length es ≤ maxList → Known s c
   known-of {c} {es} h small = record { exprs = es; lists = h; most = count-small (h .holds) (rw (← items-length (h .items)) small) }
 
   -- of a list that is whole
-  module _ {c : Conjuncts} {es : List Expr} (h : Lists s c es) (small : c .len ≤ 128) where
+  module _ {c : Conjuncts} {es : List Expr} (h : Lists s c es) (small : c .len ≤ maxList) where
     pub lists-length : length es ≡ c .len
     lists-length = items-length (h .items) ∙ count-is (h .holds) small
 

@@ -10,7 +10,7 @@ use Prim.Native.Nat.{ℕ, _+_, _-_, _*_, _≤_, _<_}
 use native.Mathlib.Omega.{arith}
 use lib.ListN.{length, drop, length-drop}
 use lib.Seq.{drop-drop}
-use Rattle.image.specs.Limits.{workBytes}
+use Rattle.image.specs.Limits.{workBytes, maxDepth}
 use Rattle.image.specs.Word.{word}
 use Rattle.image.specs.Tree.{Label, Forest, none, node, Tree, At, Deep, Readable, size, link, labelAt}
 use Rattle.image.proofs.Walking.{Turn, turn, linked-first}
@@ -22,7 +22,7 @@ use Rattle.conjuncts.specs.Standing.{Standing, ReadableE}
 use Rattle.conjuncts.specs.Items.{Item}
 use Rattle.conjuncts.specs.Labels.{isAnd}
 
-pub readable-of : {s : List ℕ} {n : ℕ} {e : Expr} → Standing s n e → Readable 256 (drop (32 * n) s) n
+pub readable-of : {s : List ℕ} {n : ℕ} {e : Expr} → Standing s n e → Readable maxDepth (drop (32 * n) s) n
 readable-of {e = e} h = record { tree = exprTree e; at = h .here; some = omega arith; deep = h .deep }
 
 -- a forest is no deeper than one more
@@ -70,7 +70,7 @@ part-of s part base x e h =
 
 -- an expression inside one that stands, at a later record of its part
 inside : {s part : List ℕ} {base x : ℕ} (a : Expr) → part ≡ drop (32 * base) s → 32 * base ≤ length s → 32 * base + length part ≤ workBytes
-    → base ≤ x → 32 * (x - base) + 32 ≤ length part → At (exprTree a) (drop (32 * (x - base)) part) x → Deep (kidsE a) 255 → FitsE a → Standing s x a
+    → base ≤ x → 32 * (x - base) + 32 ≤ length part → At (exprTree a) (drop (32 * (x - base)) part) x → Deep (kidsE a) (maxDepth - 1) → FitsE a → Standing s x a
 inside {s} {part} {base} {x} a e w room past fit h deep f =
     let n : length part ≡ length s - 32 * base = ap length e ∙ length-drop (32 * base) s in
     record {
@@ -93,12 +93,12 @@ module _ {s part : List ℕ} {base : ℕ} (o : Op) (a b : Expr) (e : part ≡ dr
 
   pub standing-left : Standing s (word part 24) a
   standing-left = let u = operands o here in
-      inside a e (h .within) room (omega (arith, u .past)) (u .fits) (u .left) (deeper (kidsE a) 255 (deep-parts 255 o a b (h .deep) .1)) (h .fits .0)
+      inside a e (h .within) room (omega (arith, u .past)) (u .fits) (u .left) (deeper (kidsE a) (maxDepth - 1) (deep-parts (maxDepth - 1) o a b (h .deep) .1)) (h .fits .0)
 
   pub standing-right : Standing s (word (drop (32 * (word part 24 - base)) part) 28) b
   standing-right = let u = operands o here in
       inside b e (h .within) room (omega (arith, u .past₂)) (u .fits₂) (u .right)
-      (deeper (kidsE b) 255 (deep-parts 255 o a b (h .deep) .2 .1)) (h .fits .1)
+      (deeper (kidsE b) (maxDepth - 1) (deep-parts (maxDepth - 1) o a b (h .deep) .2 .1)) (h .fits .1)
 
 -- the operands of a binary expression that can be read can be
 module _ {part : List ℕ} {base : ℕ} (d : ℕ) (o : Op) (a b : Expr) (h : At (exprTree (bin o a b)) part base)

@@ -3,15 +3,17 @@ use mathlib.Core.Bool.{Bool, true, false, _&&_, _||_}
 use Prim.Native.Nat.{ℕ}
 use lib.Dec.{eqb}
 use Rattle.image.specs.Tree.{Label, Forest, none, node, Tree}
+use Rattle.plan.specs.Kinds.{Function, numberE}
+use Rattle.rewrite.specs.Utils.{volatile-marks}
 
 -- which functions, by their marks: the volatile ones alone, or all
 abbrev pub marked : Bool → ℕ → Bool
-marked true = λ q. eqb q 1 || eqb q 3
+marked true = volatile-marks
 marked false = λ q. true
 
 -- the record is a function whose marks pass the test
 abbrev pub fnHere : (ℕ → Bool) → Label → Bool
-fnHere c l = eqb (l .kind) 10 && c (l .q)
+fnHere c l = eqb (l .kind) (numberE Function) && c (l .q)
 
 -- some record of a forest is
 abbrev pub fnAny : (ℕ → Bool) → Forest → Bool

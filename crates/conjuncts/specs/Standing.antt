@@ -2,7 +2,7 @@
 use mathlib.Core.List.{List}
 use Prim.Native.Nat.{ℕ, _+_, _-_, _*_, _≤_, _<_}
 use lib.ListN.{length, drop}
-use Rattle.image.specs.Limits.{workBytes}
+use Rattle.image.specs.Limits.{maxDepth, maxRecords, workBytes}
 use Rattle.image.specs.Tree.{At, Deep}
 use Rattle.plan.specs.Syntax.{Expr, Plan}
 use Rattle.plan.specs.Integers.{FitsE, FitsP}
@@ -12,17 +12,17 @@ use Rattle.plan.specs.Trees.{exprTree, kidsE, planTree, kidsP}
 pub record Standing (s : List ℕ) (n : ℕ) (e : Expr) : Type 0 where
   pub within : 32 * n ≤ length s
   pub here : At (exprTree e) (drop (32 * n) s) n
-  pub deep : Deep (kidsE e) 255
+  pub deep : Deep (kidsE e) (maxDepth - 1)
   pub fits : FitsE e
-  pub small : n < 2048
+  pub small : n < maxRecords
 
 -- p stands at record n of the image s
 pub record StandingP (s : List ℕ) (n : ℕ) (p : Plan) : Type 0 where
   pub within : 32 * n ≤ length s
   pub here : At (planTree p) (drop (32 * n) s) n
-  pub deep : Deep (kidsP p) 255
+  pub deep : Deep (kidsP p) (maxDepth - 1)
   pub fits : FitsP p
-  pub small : n < 2048
+  pub small : n < maxRecords
 
 -- some expression stands at record n
 pub record There (s : List ℕ) (n : ℕ) : Type 0 where

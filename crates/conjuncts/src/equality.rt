@@ -1,12 +1,21 @@
 // Equal expressions: `==` of the source's Expr, record by record.
+use crate::items::FALSE_ITEM;
 use crate::lists::Conjuncts;
 use crate::lists::item_at;
 use image::limits::MAX_DEPTH;
 use image::records::FIRST_LINK;
+use image::records::HI;
+use image::records::KIND;
+use image::records::LO;
 use image::records::NEXT_LINK;
+use image::records::P;
+use image::records::Q;
+use image::records::R;
 use image::records::from_record;
 use image::records::record_at;
 use image::words::word_at;
+use plan::kinds::BOOLEAN_LITERAL;
+use plan::words::TRUE;
 ghost use mathlib.Core.Path.{_≡_};
 ghost use mathlib.Core.List.{List};
 ghost use Prim.Native.Nat.{_≤_};
@@ -23,12 +32,12 @@ fn same_label(a: &[u8], b: &[u8]) -> bool
     requires { ⌜ (32 ≤ length (now a)) × (32 ≤ length (now b)) ⌝ }
     ensures { λ r. ⌜ r ≡ sameLabel (labelAt (now (a .entry))) (labelAt (now (b .entry))) ⌝ }
 {
-    (word_at(a, 0) == word_at(b, 0))
-        & (word_at(a, 4) == word_at(b, 4))
-        & (word_at(a, 8) == word_at(b, 8))
-        & (word_at(a, 12) == word_at(b, 12))
-        & (word_at(a, 16) == word_at(b, 16))
-        & (word_at(a, 20) == word_at(b, 20))
+    (word_at(a, KIND) == word_at(b, KIND))
+        & (word_at(a, P) == word_at(b, P))
+        & (word_at(a, Q) == word_at(b, Q))
+        & (word_at(a, R) == word_at(b, R))
+        & (word_at(a, LO) == word_at(b, LO))
+        & (word_at(a, HI) == word_at(b, HI))
 }
 
 // Whether the trees at the start of a and of b are the same, wherever they stand.
@@ -60,16 +69,16 @@ pub fn same_tree(a: &[u8], base: usize, depth: usize, b: &[u8], of: usize, room:
     false
 }
 
-// Whether the item n is FALSE: the number 0, or the record of that literal.
+// Whether the item n is FALSE: its own number, or the record of that literal.
 fn is_false_item(s: &[u8], n: usize) -> bool
     requires { ⌜ Present (now s) n ⌝ }
     ensures { λ r. ⌜ ((e : Expr) → Item (now (s .entry)) n e → r ≡ sameE FALSE e) ⌝ }
 {
-    if n == 0 {
+    if n == FALSE_ITEM {
         return true;
     }
     let part = record_at(s, n);
-    (word_at(part, 0) == 3) & (word_at(part, 4) == 0)
+    (word_at(part, KIND) == BOOLEAN_LITERAL) & (word_at(part, P) != TRUE)
 }
 
 // Whether the items n and m are equal expressions.
@@ -78,10 +87,10 @@ pub fn same_item(s: &[u8], n: usize, m: usize) -> bool
     requires { ⌜ Present (now s) m ⌝ }
     ensures { λ r. ⌜ ((a b : Expr) → Item (now (s .entry)) n a → Item (now (s .entry)) m b → r ≡ sameE a b) ⌝ }
 {
-    if n == 0 {
+    if n == FALSE_ITEM {
         return is_false_item(s, m);
     }
-    if m == 0 {
+    if m == FALSE_ITEM {
         return is_false_item(s, n);
     }
     same_tree(record_at(s, n), n, MAX_DEPTH, record_at(s, m), m, MAX_DEPTH)

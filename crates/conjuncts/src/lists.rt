@@ -1,10 +1,11 @@
-// Lists of at most 128 conjuncts, by their record numbers; 0 stands for FALSE. A list goes in by value and comes back.
+// Lists of at most MAX_LIST conjuncts, each an item of items.rt. A list goes in by value and comes back.
 use image::limits::MAX_LIST;
 use image::limits::TOO_MANY;
 ghost use mathlib.Core.Path.{_≡_};
 ghost use mathlib.Core.List.{_++_, _∷_, List, []};
 ghost use Prim.Native.Nat.{_<_, ℕ};
 ghost use lib.ListN.{getD, length};
+ghost use Rattle.image.specs.Limits.{maxRecords};
 ghost use Rattle.plan.specs.Lists.{put};
 ghost use Rattle.plan.specs.Syntax.{Expr};
 ghost use Rattle.conjuncts.specs.Items.{Holds, Item, Lists, listed};
@@ -41,7 +42,7 @@ pub fn add(c: Conjuncts, x: usize) -> Conjuncts
 
 // Appends x, if told: a loop that picks items needs no branch.
 pub fn add_if(c: Conjuncts, x: usize, yes: bool) -> Conjuncts
-    requires { ⌜ x < 2048 ⌝ }
+    requires { ⌜ x < maxRecords ⌝ }
     ensures { λ r. ⌜ ((s : List ℕ) (es : List Expr) (e : Expr) → Lists s c es → Item s x e → Lists s r (es ++ put yes e [])) ⌝ }
 {
     if yes {

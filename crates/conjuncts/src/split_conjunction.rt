@@ -3,10 +3,14 @@ use crate::lists::Conjuncts;
 use crate::lists::add;
 use image::limits::MAX_DEPTH;
 use image::records::FIRST_LINK;
+use image::records::KIND;
 use image::records::NEXT_LINK;
+use image::records::P;
 use image::records::from_record;
 use image::records::record_at;
 use image::words::word_at;
+use plan::kinds::BINARY_EXPR;
+use plan::words::AND;
 ghost use mathlib.Core.Path.{_≡_};
 ghost use mathlib.Core.List.{_++_, List};
 ghost use Prim.Native.Nat.{_*_, _<_, _≤_, ℕ};
@@ -26,7 +30,7 @@ fn is_and(part: &[u8]) -> bool
     requires { ⌜ 32 ≤ length (now part) ⌝ }
     ensures { λ r. ⌜ r ≡ isAnd (labelAt (now (part .entry))) ⌝ }
 {
-    (word_at(part, 0) == 5) & (word_at(part, 4) == 1)
+    (word_at(part, KIND) == BINARY_EXPR) & (word_at(part, P) == AND)
 }
 
 // Appends the conjuncts of the expression at the start of `part`, which begins at record `base`.

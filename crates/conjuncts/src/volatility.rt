@@ -1,12 +1,18 @@
 // is_volatile (datafusion-expr Expr), and the functions that make a predicate expensive: those in an expression.
+use crate::items::FALSE_ITEM;
 use crate::lists::Conjuncts;
 use crate::lists::item_at;
 use image::limits::MAX_DEPTH;
 use image::records::FIRST_LINK;
+use image::records::KIND;
 use image::records::NEXT_LINK;
+use image::records::Q;
 use image::records::from_record;
 use image::records::record_at;
 use image::words::word_at;
+use plan::kinds::FUNCTION;
+use plan::words::VOLATILE;
+use plan::words::VOLATILE_LEAFWARD;
 ghost use mathlib.Core.Path.{_≡_};
 ghost use mathlib.Core.List.{List};
 ghost use Prim.Native.Nat.{_<_, _≤_};
@@ -22,12 +28,12 @@ fn is_function(part: &[u8], volatile: bool) -> bool
     requires { ⌜ 32 ≤ length (now part) ⌝ }
     ensures { λ r. ⌜ r ≡ fnHere (marked volatile) (labelAt (now (part .entry))) ⌝ }
 {
-    if word_at(part, 0) != 10 {
+    if word_at(part, KIND) != FUNCTION {
         return false;
     }
     if volatile {
-        let marks = word_at(part, 8);
-        return (marks == 1) | (marks == 3);
+        let marks = word_at(part, Q);
+        return (marks == VOLATILE) | (marks == VOLATILE_LEAFWARD);
     }
     true
 }
@@ -58,7 +64,7 @@ pub fn function_at(s: &[u8], c: Conjuncts, i: usize, volatile: bool) -> bool
     ensures { λ r. ⌜ ((es : List Expr) → Lists (now (s .entry)) c es → r ≡ any-fn (marked volatile) (getD es i FALSE)) ⌝ }
 {
     let n = item_at(c, i);
-    if n == 0 {
+    if n == FALSE_ITEM {
         return false;
     }
     has_function(record_at(s, n), n, MAX_DEPTH, volatile)
@@ -69,7 +75,7 @@ pub fn is_volatile(s: &[u8], n: usize) -> bool
     requires { ⌜ Present (now s) n ⌝ }
     ensures { λ r. ⌜ ((e : Expr) → Item (now (s .entry)) n e → r ≡ is-volatile e) ⌝ }
 {
-    if n == 0 {
+    if n == FALSE_ITEM {
         return false;
     }
     has_function(record_at(s, n), n, MAX_DEPTH, true)

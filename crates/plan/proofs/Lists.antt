@@ -3,8 +3,7 @@
 use mathlib.Core.Path.{_≡_, refl, sym, ap, ap₂, _∙_}
 use mathlib.Core.Bool.{Bool, true, false, not}
 use mathlib.Core.List.{List, [], _∷_, _++_, map}
-use Rattle.plan.specs.Lists.{_&_, put, when, keep, all, flat}
-pub use Rattle.plan.specs.Lists.{All, anil, acons}
+use Rattle.plan.specs.Lists.{_&_, put, when, keep, all, flat, All, anil, acons}
 
 -- ---- Booleans
 

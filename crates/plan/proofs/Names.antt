@@ -6,8 +6,7 @@ use mathlib.Core.List.{List, [], _∷_, _++_}
 use lib.ListN.{length}
 use lib.Dec.{eqb}
 use borrow.Author.Tests.{eqb-true, eq-eqb}
-use Rattle.plan.specs.Schema.{has, same, lookD}
-pub use Rattle.plan.specs.Schema.{nodup}
+use Rattle.plan.specs.Schema.{has, same, nodup, lookD}
 use Rattle.plan.specs.Lists.{_&_, any}
 use Rattle.plan.proofs.Lists.{and-l, and-r}
 use Rattle.plan.specs.Syntax.{Name, nm}

@@ -11,6 +11,7 @@ use Prim.Native.Nat.{ℕ, suc, _-_, _≤_, _<_}
 use native.Mathlib.Omega.{arith}
 use lib.Signed.{ltZ}
 use lib.ListN.{length, getD, drop}
+use Rattle.image.specs.Limits.{maxList}
 use Rattle.plan.specs.Syntax.{Expr, Name, nm}
 use Rattle.plan.specs.Lists.{choose, all, keep, flat}
 use Rattle.plan.proofs.Lists.{keep-all}
@@ -57,7 +58,7 @@ eq-false x (e ∷ es) n k = rw (← k)
 -- ---- one column
 
 -- what is picked of a whole list is whole
-pub known-kept : {s : List ℕ} {r : Conjuncts} (f : Expr → Bool) (es : List Expr) → Lists s r (keep f es) → length es ≤ 128 → Known s r
+pub known-kept : {s : List ℕ} {r : Conjuncts} (f : Expr → Bool) (es : List Expr) → Lists s r (keep f es) → length es ≤ maxList → Known s r
 known-kept f es h small = known-of h (omega (arith, keep-few f es))
 
 pub regroup : (a b c d : List Expr) → a ++ (b ++ (c ++ d)) ≡ ((a ++ b) ++ c) ++ d

@@ -1,5 +1,5 @@
 -- What the code's values of comparisons stand for.
-use mathlib.Core.Bool.{Bool, true, false, not, _&&_, _||_, Bool·beq, cond}
+use mathlib.Core.Bool.{Bool, true, false, not, _||_, Bool·beq, cond}
 use mathlib.Core.List.{List}
 use mathlib.Core.Option.{Option, none, some}
 use Prim.Native.Nat.{ℕ, _<_}
@@ -9,9 +9,11 @@ use lib.Dec.{eqb, leb}
 use lib.IntN.{ℤ}
 use lib.Signed.{ltZ}
 use Rattle.image.specs.Tree.{Label, At}
+use Rattle.plan.specs.Kinds as K
+use Rattle.plan.specs.Kinds.{numberE}
 use Rattle.plan.specs.Syntax as S
-use Rattle.plan.specs.Syntax.{Expr, nm}
-use Rattle.plan.specs.Trees.{exprTree}
+use Rattle.plan.specs.Syntax.{Expr, nm, cmp, eq, ne, lt, gt}
+use Rattle.plan.specs.Trees.{exprTree, opNumber}
 use Rattle.plan.specs.Integers.{FitsE}
 use Rattle.plan.specs.Values.{ValueRecord, nullOf, literalOf}
 use Rattle.plan.specs.declared.values.Literal as L
@@ -21,6 +23,8 @@ use Rattle.rewrite.specs.SimplifyPredicates.{Rel, same-as, above, below, Side, 
 use Rattle.simplify_expressions.specs.declared.simplify_predicates.Name.{Name}
 use Rattle.simplify_expressions.specs.declared.simplify_predicates.Operand.{Operand}
 use Rattle.simplify_expressions.specs.declared.simplify_predicates.Operand.the-variants.{Column, Literal, Neither}
+use Rattle.simplify_expressions.specs.declared.simplify_predicates.Relation.{Relation}
+use Rattle.simplify_expressions.specs.declared.simplify_predicates.Relation.the-variants.{SameAs, Above, Below}
 use Rattle.simplify_expressions.specs.declared.simplify_predicates.Bound.{Bound}
 use Rattle.simplify_expressions.specs.declared.simplify_predicates.Compared.{Compared}
 use Rattle.simplify_expressions.specs.declared.simplify_predicates.Compared.the-variants.{Of, Not}
@@ -46,23 +50,24 @@ asOperand LV.Not = Neither
 
 -- what a record is to a comparison
 abbrev pub operandOf : Label → Operand
-operandOf l = cond (eqb (l .kind) 1) (Column (record { q = l .p; n = l .q })) (asOperand (literalOf l))
+operandOf l = cond (eqb (l .kind) (numberE K.Column)) (Column (record { q = l .p; n = l .q })) (asOperand (literalOf l))
 
 -- ---- comparisons
 
--- 0 is an equality, 1 a lower bound, 2 an upper one
-abbrev pub relOf : ℕ → Bool → Rel
-relOf k s = cond (eqb k 0) same-as (cond (eqb k 1) (above s) (below s))
+abbrev pub relOf : Relation → Rel
+relOf SameAs = same-as
+relOf (Above s) = above s
+relOf (Below s) = below s
 
 -- of an operator's number
 abbrev pub relNo : Bool → ℕ → Option Rel
 relNo f o =
-    cond (eqb o 3) (some same-as)
-    (cond (eqb o 4) none
-    (some (relOf (cond (not (Bool·beq (leb 7 o) f)) 1 2) (eqb o 5 || eqb o 7))))
+    cond (eqb o (opNumber (cmp eq))) (some same-as)
+    (cond (eqb o (opNumber (cmp ne))) none
+    (some (cond (not (Bool·beq (leb (opNumber (cmp gt)) o) f)) above below (eqb o (opNumber (cmp lt)) || eqb o (opNumber (cmp gt))))))
 
 abbrev pub itemOf : Bound → Item
-itemOf b = record { key = named (b .column); rel = relOf (b .class) (b .strict); lit = b .value; flipped = b .flipped }
+itemOf b = record { key = named (b .column); rel = relOf (b .relation); lit = b .value; flipped = b .flipped }
 
 abbrev pub seen : Compared → Option Item
 seen (Of b) = some (itemOf b)
@@ -73,14 +78,14 @@ matchedIn o a b = or-item (make false (relNo false o) (columnIn a) (valueIn b)) 
 
 -- ---- sides
 
--- a bound without its column
-abbrev pub sideOf : Bound → Side
-sideOf b = record { strict = b .strict && not (eqb (b .class) 0); lit = b .value; flipped = b .flipped }
-
 abbrev pub strictR : Rel → Bool
 strictR same-as = false
 strictR (above s) = s
 strictR (below s) = s
+
+-- a bound without its column
+abbrev pub sideOf : Bound → Side
+sideOf b = record { strict = strictR (relOf (b .relation)); lit = b .value; flipped = b .flipped }
 
 -- the side that an item is; anything where there is none
 unfoldable pub sideOf? : Option Item → Side

@@ -14,13 +14,14 @@ use lib.Dec.{eqb, eqb·zero-suc, eqb·suc-zero, eqb·suc-suc}
 use borrow.Author.Tests.{ne-eqb}
 use lib.ListN.{length}
 use Rattle.image.specs.Tree.{Forest, none, node, Tree}
+use Rattle.image.specs.Limits.{maxFields}
 use Rattle.plan.specs.Columns.{on-cols, on-cols-all}
 use Rattle.plan.specs.Lists.{_&_, any}
-use Rattle.plan.specs.Schema.{has, same}
+use Rattle.plan.specs.Schema.{has, same, nodup}
 use Rattle.plan.specs.Syntax.{Name, nm, Expr, col, num, bool, nul, bin, neg, test, between, inlist, fn, Exprs, enil, econs}
 use Rattle.plan.specs.Trees.{labelE, kidsE, forestE, exprTree}
 use Rattle.plan.proofs.Lists.{and-l, and-r, and-true, true-and, and-assoc}
-use Rattle.plan.proofs.Names.{nodup, same-eq, same-refl, not-true}
+use Rattle.plan.proofs.Names.{same-eq, same-refl, not-true}
 use Rattle.plan.proofs.Written.{name-back}
 use Rattle.utils.specs.Sets.{member, within}
 use Rattle.utils.specs.Masks.{nameAt, Masks, Answers}
@@ -54,7 +55,7 @@ mutual
 -- FALSE has none
 pub answers-false : (ns : List Name) (e : Expr) → e ≡ bool false → Answers 0 ns (λ c. on-cols c e)
 unfolding on-cols
-answers-false ns e is = rw is (record { says = λ m c k. within-none 64 m })
+answers-false ns e is = rw is (record { says = λ m c k. within-none maxFields m })
 
 -- the set of the columns of its tree is that of an expression
 pub answers-expr : {v : ℕ} {ns : List Name} (e : Expr) → Answers v ns (λ c. onTree c (exprTree e)) → Answers v ns (λ c. on-cols c e)
@@ -100,9 +101,9 @@ has-add (y ∷ xs) x z = rw (has-add xs x z) (turn (same y z) (same x z))
     turn true false = refl
     turn false b = refl
 
-module _ {f : Fields} (ns : List Name) (h : Names f ns) (small : f .len ≤ 64) (x : Name) (held : has ns x ≡ true) where
+module _ {f : Fields} (ns : List Name) (h : Names f ns) (small : f .len ≤ maxFields) (x : Name) (held : has ns x ≡ true) where
   -- it has a place
-  pub place-small : placeIn ns x < 64
+  pub place-small : placeIn ns x < maxFields
   place-small = omega (arith, place-has ns x held .0, names-count h small)
 
   -- the set of that place
@@ -110,8 +111,8 @@ module _ {f : Fields} (ns : List Name) (h : Names f ns) (small : f .len ≤ 64) 
   answers-one r w =
       let p = place-has ns x held in
       record {
-        says = λ m c k. within-with 64 (placeIn ns x) r 0 m w place-small
-            ∙ (rw (within-none 64 m, and-true) (k .marks (placeIn ns x) (p .0) ∙ ap c (p .1)));
+        says = λ m c k. within-with maxFields (placeIn ns x) r 0 m w place-small
+            ∙ (rw (within-none maxFields m, and-true) (k .marks (placeIn ns x) (p .0) ∙ ap c (p .1)));
       }
 
   -- one more name
@@ -129,7 +130,7 @@ module _ {f : Fields} (ns : List Name) (h : Names f ns) (small : f .len ≤ 64) 
 -- set has the columns of the children of t, apart from those that are left
 pub record So (set : ℕ) (ns : List Name) (t : Tree) (rest : Forest) : Type 0 where
   pub held : onAny (has ns) rest ≡ true
-  pub says : (m : ℕ) (c : Name → Bool) → Masks m ns c → within 64 set m & onAny c rest ≡ onTree c t
+  pub says : (m : ℕ) (c : Name → Bool) → Masks m ns c → within maxFields set m & onAny c rest ≡ onTree c t
 
 module _ (ns : List Name) (t : Tree) where
   plain : (c : Name → Bool) → eqb (t .label .kind) 1 ≡ false → onAny c (t .below) ≡ onTree c t
@@ -139,7 +140,7 @@ module _ (ns : List Name) (t : Tree) where
   pub so-start : eqb (t .label .kind) 1 ≡ false → onTree (has ns) t ≡ true → So 0 ns t (t .below)
   so-start k h = record {
     held = plain (has ns) k ∙ h;
-    says = λ m c g. rw (within-none 64 m, true-and) (plain c k);
+    says = λ m c g. rw (within-none maxFields m, true-and) (plain c k);
   }
 
   -- the columns of a child
@@ -153,7 +154,7 @@ module _ (ns : List Name) (t : Tree) where
   unfolding onAny onTree
   so-next {set} v u {after} h k = record {
     held = and-r _ _ (h .held);
-    says = λ m c g. rw (within-or 64 set v m, and-assoc, k .says m c g) (h .says m c g);
+    says = λ m c g. rw (within-or maxFields set v m, and-assoc, k .says m c g) (h .says m c g);
   }
 
   -- of all children

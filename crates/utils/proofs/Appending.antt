@@ -12,12 +12,14 @@ use lib.Dec.{eqb, leb}
 use borrow.Author.Tests.{eqb-true}
 use lib.ListN.{length, getD, drop}
 use Rattle.image.specs.Tree.{Label, Deep, Readable}
+use Rattle.image.specs.Limits.{maxDepth}
 use Rattle.plan.specs.Schema.{schema, requalify}
-use Rattle.plan.specs.Syntax.{Name, nm, Plan}
-use Rattle.plan.specs.Trees.{labelP, kidsP, planTree}
+use Rattle.plan.specs.Syntax.{Name, nm, Plan, full}
+use Rattle.plan.specs.Trees.{labelP, kidsP, planTree, joinNumber}
+use Rattle.plan.specs.Kinds.{numberP, Join, SubqueryAlias, Window}
 use Rattle.conjuncts.specs.Standing.{StandingP}
 use Rattle.utils.specs.Fields.{Fields, Names}
-use Rattle.utils.specs.Inputs.{makesAll, own, below, called, made, plansIn, Below, nothing, Input, PlanHere}
+use Rattle.utils.specs.Inputs.{makesAll, own, below, called, made, plansIn, Below, nothing, Input, PlanHere, isAlias, isWindow, joinsBoth}
 use Rattle.utils.proofs.Making.{called-append}
 use Rattle.utils.proofs.Shapes.{Rest, nothing-more, parts, second, Shape, own-parts, no-input, over, shape, deep-plan}
 
@@ -25,7 +27,7 @@ pub readable-plan : {s : List ℕ} {b d : ℕ} → PlanHere s b d → Readable d
 readable-plan h = record { tree = planTree (h .plan); at = h .at; some = h .some; deep = h .deep }
 
 -- a plan that stands in an image
-pub standing-plan : {s : List ℕ} {n : ℕ} {p : Plan} → StandingP s n p → PlanHere (drop (32 * n) s) n 256
+pub standing-plan : {s : List ℕ} {n : ℕ} {p : Plan} → StandingP s n p → PlanHere (drop (32 * n) s) n maxDepth
 standing-plan {p = p} h = record { plan = p; at = h .here; some = omega arith; deep = h .deep }
 
 never : {A : Type 0} {b : Bool} → b ≡ true → b ≡ false → A
@@ -61,19 +63,19 @@ module _ (p : Plan) {s : List ℕ} {b n : ℕ} (d : ℕ) where
       go m h (over k i le is r) = found (own (labelP p .kind) (labelP p .p)) i h le is (Rest p) r
 
   -- the second input of a join that gives the fields of both
-  pub second-of : (l : Label) → l ≡ labelP p → (i : Plan) → Rest p i → (eqb (l .kind) 35 && leb (l .p) 4) ≡ true → Input s b (kidsP p) 1 n
-      → Found p s b n d (λ j. (eqb (labelP p .kind) 36 ≡ false) × (schema p ≡ schema i ++ schema j))
+  pub second-of : (l : Label) → l ≡ labelP p → (i : Plan) → Rest p i → joinsBoth l ≡ true → Input s b (kidsP p) 1 n
+      → Found p s b n d (λ j. (isAlias (labelP p) ≡ false) × (schema p ≡ schema i ++ schema j))
   second-of l e i r both h = go (rw e at both) r
     where
-      window-no-join : (k w : ℕ) → eqb k 43 ≡ true → (eqb k 35 && leb w 4) ≡ true
-          → Found p s b n d (λ j. (eqb (labelP p .kind) 36 ≡ false) × (schema p ≡ schema i ++ schema j))
-      window-no-join k w x y = let z : (eqb 43 35 && leb w 4) ≡ true = rw (eqb-true k 43 x) at y in never z refl
+      window-no-join : (k w : ℕ) → eqb k (numberP Window) ≡ true → (eqb k (numberP Join) && leb w (joinNumber full)) ≡ true
+          → Found p s b n d (λ j. (isAlias (labelP p) ≡ false) × (schema p ≡ schema i ++ schema j))
+      window-no-join k w x y = let z : (eqb (numberP Window) (numberP Join) && leb w (joinNumber full)) ≡ true = rw (eqb-true k (numberP Window) x) at y in never z refl
 
-      go : (eqb (labelP p .kind) 35 && leb (labelP p .p) 4) ≡ true → Rest p i
-          → Found p s b n d (λ j. (eqb (labelP p .kind) 36 ≡ false) × (schema p ≡ schema i ++ schema j))
+      go : joinsBoth (labelP p) ≡ true → Rest p i
+          → Found p s b n d (λ j. (isAlias (labelP p) ≡ false) × (schema p ≡ schema i ++ schema j))
       go both (nothing-more x y is) = never both y
       go both (parts x y is) = window-no-join (labelP p .kind) (labelP p .p) x both
-      go both (second x y z j le at is) = found 1 j h le at (λ j. (eqb (labelP p .kind) 36 ≡ false) × (schema p ≡ schema i ++ schema j))
+      go both (second x y z j le at is) = found 1 j h le at (λ j. (isAlias (labelP p) ≡ false) × (schema p ≡ schema i ++ schema j))
           (y, is)
 
 -- what `add_schema` asks of an input
@@ -97,7 +99,7 @@ called-again false false q w ns = refl
 
 -- the qualifier is a word
 pub below-small : (k w q : ℕ) (set : Bool) → w < 4294967296 → q < 4294967296 → below k w set q < 4294967296
-below-small k w q set h g = go (eqb k 36 && not set)
+below-small k w q set h g = go (eqb k (numberP SubqueryAlias) && not set)
   where
     go : (b : Bool) → cond b w q < 4294967296
     go true = h
@@ -127,37 +129,37 @@ module _ (p : Plan) (l : Label) (e : l ≡ labelP p) where
       go m h (over k i le is r) = absurd (omega (arith, h .found le .past))
 
   module _ (set : Bool) (q : ℕ) {f : Fields} (ns : List Name) (i : Plan)
-      (first : Names f (ns ++ called (set || eqb (l .kind) 36) (below (l .kind) (l .p) set q) (schema i))) where
-    again : Names f (ns ++ called set q (called (eqb (labelP p .kind) 36) (labelP p .p) (schema i)))
-    again = rw (e, called-again set (eqb (labelP p .kind) 36) q (labelP p .p) (schema i)) at first
+      (first : Names f (ns ++ called (set || isAlias l) (below (l .kind) (l .p) set q) (schema i))) where
+    again : Names f (ns ++ called set q (called (isAlias (labelP p)) (labelP p .p) (schema i)))
+    again = rw (e, called-again set (isAlias (labelP p)) q (labelP p .p) (schema i)) at first
 
     -- without an alias
-    plain : eqb (labelP p .kind) 36 ≡ false → Names f (ns ++ called set q (schema i))
+    plain : isAlias (labelP p) ≡ false → Names f (ns ++ called set q (schema i))
     plain k = rw k at again
 
     -- the fields of an input, and more behind them
-    pub ends-more : {g : Fields} (xs : List Name) → eqb (labelP p .kind) 36 ≡ false → schema p ≡ schema i ++ xs
+    pub ends-more : {g : Fields} (xs : List Name) → isAlias (labelP p) ≡ false → schema p ≡ schema i ++ xs
         → ((ms : List Name) → Names f ms → Names g (ms ++ called set q xs)) → Names g (ns ++ called set q (schema p))
     ends-more {g} xs k is step =
         rw (is, called-append set q (schema i) xs, ← append-assoc ns (called set q (schema i)) (called set q xs))
         (step (ns ++ called set q (schema i)) (plain k))
 
     -- the fields that the parts make behind them
-    pub ends-parts : {g : Fields} → Rest p i → eqb (l .kind) 43 ≡ true
+    pub ends-parts : {g : Fields} → Rest p i → isWindow l ≡ true
         → ((ms : List Name) → Names f ms → Names g (ms ++ called set q (made (kidsP p)))) → Names g (ns ++ called set q (schema p))
     ends-parts {g} r k step = go (rw e at k) r
       where
-        go : eqb (labelP p .kind) 43 ≡ true → Rest p i → Names g (ns ++ called set q (schema p))
+        go : isWindow (labelP p) ≡ true → Rest p i → Names g (ns ++ called set q (schema p))
         go k (nothing-more x y is) = never k x
         go k (parts x y is) = ends-more (made (kidsP p)) y is step
         go k (second x y z j le at is) = never k x
 
     -- nothing behind them
-    pub ends-first : Rest p i → eqb (l .kind) 43 ≡ false → (eqb (l .kind) 35 && leb (l .p) 4) ≡ false
+    pub ends-first : Rest p i → isWindow l ≡ false → joinsBoth l ≡ false
         → Names f (ns ++ called set q (schema p))
     ends-first r k both = go (rw e at k) (rw e at both) r
       where
-        go : eqb (labelP p .kind) 43 ≡ false → (eqb (labelP p .kind) 35 && leb (labelP p .p) 4) ≡ false → Rest p i
+        go : isWindow (labelP p) ≡ false → joinsBoth (labelP p) ≡ false → Rest p i
             → Names f (ns ++ called set q (schema p))
         go k both (nothing-more x y is) = rw is again
         go k both (parts x y is) = never x k

@@ -13,7 +13,8 @@ use Rattle.image.specs.Tree.{Label, Forest, none, node, Tree}
 use Rattle.image.specs.Word.{word}
 use Rattle.image.proofs.Walking.{Turn}
 use Rattle.plan.specs.Lists.{put}
-use Rattle.utils.specs.Inputs.{isPlan, plansIn, nothing, Input}
+use Rattle.plan.specs.Kinds.{isPlan}
+use Rattle.utils.specs.Inputs.{plansIn, nothing, Input}
 
 pub less-some : (n : ℕ) (b : Bool) → (b && ltb 0 n) ≡ true → 1 ≤ n
 less-some n true h = ltb-true 0 n h
@@ -28,7 +29,7 @@ less-left n true h = omega (arith, ltb-false 0 n h)
 less-left n false h = refl
 
 -- the plans of a forest, the first tree being one or not
-pub plans-node : (t : Tree) (after : Forest) (b : Bool) → b ≡ isPlan (t .label .kind)
+pub plans-node : (t : Tree) (after : Forest) (b : Bool) → b ≡ isPlan (t .label)
     → plansIn (node (t .label) (t .below) after) ≡ put b t (plansIn after)
 unfolding plansIn
 plans-node t after b e = rw e
@@ -71,7 +72,7 @@ kind-here u e r = r ∙ rw e (ap (λ (l : Label). l .kind) (u .here .head .label
 
 -- it stands at the record that was found
 pub input-here : {s : List ℕ} {b at : ℕ} {f rest : Forest} (place to : ℕ) (u : Turn rest s b at) (p : Bool)
-    → p ≡ isPlan (u .child .label .kind)
+    → p ≡ isPlan (u .child .label)
     → Seek (plansIn f) place (plansIn (node (u .child .label) (u .child .below) (u .after))) to → (p && eqb to 0) ≡ true
     → Input s b f place at
 input-here {s} {b} {at} {f} place to u p e h k =

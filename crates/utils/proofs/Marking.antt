@@ -16,10 +16,11 @@ use lib.ListN.{length, length-append, List·getD-append}
 use lib.Bits.{bitXor, xor-lt}
 use lib.Seq.{getD-append-add, getD-append-seam}
 use borrow.Author.Tests.{ltb-true, ltb-false, lt-ltb, le-ltb, eqb-true, eqb-false, eq-eqb, ne-eqb}
+use Rattle.image.specs.Limits.{maxFields}
 use Rattle.plan.specs.Lists.{any}
-use Rattle.plan.specs.Schema.{has, same}
+use Rattle.plan.specs.Schema.{has, same, nodup}
 use Rattle.plan.specs.Syntax.{Name, nm}
-use Rattle.plan.proofs.Names.{nodup, apart, same-refl}
+use Rattle.plan.proofs.Names.{apart, same-refl}
 use Rattle.utils.specs.Sets.{member}
 use Rattle.utils.specs.Masks.{nameAt, Masks}
 use Rattle.utils.proofs.Members.{member-none, member-xor}
@@ -96,7 +97,7 @@ module _ (s t : List Name) (single : nodup (s ++ t) ≡ true) where
   masks-right h = masks-same right-test h
 
 -- the places that are not in a set
-pub masks-not : (m low k : ℕ) (ns : List Name) (c : Name → Bool) → k ≤ 64 → k ≡ length ns → low < 18446744073709551616
+pub masks-not : (m low k : ℕ) (ns : List Name) (c : Name → Bool) → k ≤ maxFields → k ≡ length ns → low < 18446744073709551616
     → ((j : ℕ) → member low j ≡ ltb j k) → Masks m ns c → Masks (bitXor low m) ns (λ x. not (c x))
 masks-not m low k ns c le is small l h =
     record {

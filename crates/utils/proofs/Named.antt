@@ -13,6 +13,7 @@ use lib.Dec.{eqb}
 use lib.ListN.{length, getD, set, drop, length-append, List·getD-append, drop-of-length-le}
 use lib.Seq.{getD-append-seam, getD-set-same, getD-set-other, drop-cons}
 use borrow.Author.Tests.{eqb-true, eqb-false}
+use Rattle.image.specs.Limits.{maxFields}
 use Rattle.plan.specs.Lists.{_&_, any}
 use Rattle.plan.specs.Schema.{has, same}
 use Rattle.plan.specs.Syntax.{Name, nm}
@@ -22,15 +23,15 @@ use Rattle.utils.specs.Fields.{Fields, most, Names, placeIn}
 
 module _ {f : Fields} {ns : List Name} (h : Names f ns) where
   -- how many names there are
-  pub names-count : f .len ≤ 64 → length ns ≡ f .len
+  pub names-count : f .len ≤ maxFields → length ns ≡ f .len
   unfolding most
   names-count le = omega (arith, h .count)
 
-  pub names-fit : length ns ≤ 64 → f .len ≤ 64
+  pub names-fit : length ns ≤ maxFields → f .len ≤ maxFields
   unfolding most
   names-fit le = omega (arith, h .count)
 
-  names-many : 64 ≤ f .len → (64 ≤ length ns) × (most (length ns + 1) ≡ 65)
+  names-many : maxFields ≤ f .len → (maxFields ≤ length ns) × (most (length ns + 1) ≡ (maxFields + 1))
   unfolding most
   names-many le = omega (arith, h .count)
 
@@ -38,7 +39,7 @@ pub names-none : (qs ns : List ℕ) → Names (record { q = qs; n = ns; len = 0 
 unfolding most
 names-none qs ns = record { count = refl; names = λ i l k. absurd (omega arith) }
 
-most-is : (n : ℕ) → n ≤ 65 → most n ≡ n
+most-is : (n : ℕ) → n ≤ (maxFields + 1) → most n ≡ n
 unfolding most
 most-is n h = omega arith
 
@@ -49,8 +50,8 @@ stored : (l : List ℕ) (i j v : ℕ) → j ≡ i → i < length l → getD (set
 stored l i j v e h = rw e (getD-set-same l i v 0 h)
 
 -- a name is appended
-module _ (f : Fields) (q n : ℕ) (ns : List Name) (h : Names f ns) (long : length (f .q) ≡ 64) (long′ : length (f .n) ≡ 64) where
-  pub added : f .len < 64 → Names (record { q = set (f .q) (f .len) q; n = set (f .n) (f .len) n; len = f .len + 1 })
+module _ (f : Fields) (q n : ℕ) (ns : List Name) (h : Names f ns) (long : length (f .q) ≡ maxFields) (long′ : length (f .n) ≡ maxFields) where
+  pub added : f .len < maxFields → Names (record { q = set (f .q) (f .len) q; n = set (f .n) (f .len) n; len = f .len + 1 })
       (ns ++ (nm q n ∷ []))
   added small =
       let c : length ns ≡ f .len = names-count h (omega arith) in
@@ -59,7 +60,7 @@ module _ (f : Fields) (q n : ℕ) (ns : List Name) (h : Names f ns) (long : leng
         names = λ i l k. at i l k (eqb i (f .len)) refl c;
       }
     where
-      at : (i : ℕ) → i < 64 → i < length (ns ++ (nm q n ∷ [])) → (b : Bool) → eqb i (f .len) ≡ b → length ns ≡ f .len
+      at : (i : ℕ) → i < maxFields → i < length (ns ++ (nm q n ∷ [])) → (b : Bool) → eqb i (f .len) ≡ b → length ns ≡ f .len
           → nm (getD (set (f .q) (f .len) q) i 0) (getD (set (f .n) (f .len) n) i 0) ≡ nameAt (ns ++ (nm q n ∷ [])) i
       at i l k true e c =
           let z : i ≡ f .len = eqb-true i (f .len) e in
@@ -71,7 +72,7 @@ module _ (f : Fields) (q n : ℕ) (ns : List Name) (h : Names f ns) (long : leng
           ap₂ nm (getD-set-other (f .q) (f .len) i q 0 z) (getD-set-other (f .n) (f .len) i n 0 z)
           ∙ (h .names i l less ∙ sym (List·getD-append ns (nm q n ∷ []) (nm 0 0) i less))
 
-  pub not-added : 64 ≤ f .len → Names (record { q = f .q; n = f .n; len = 65 }) (ns ++ (nm q n ∷ []))
+  pub not-added : maxFields ≤ f .len → Names (record { q = f .q; n = f .n; len = (maxFields + 1) }) (ns ++ (nm q n ∷ []))
   not-added many =
       let k = names-many h many in
       record {
@@ -82,7 +83,7 @@ module _ (f : Fields) (q n : ℕ) (ns : List Name) (h : Names f ns) (long : leng
 
 -- ---- the place of a name
 
-module _ (f : Fields) (ns : List Name) (h : Names f ns) (small : f .len ≤ 64) (q n i : ℕ) (l : i < f .len) where
+module _ (f : Fields) (ns : List Name) (h : Names f ns) (small : f .len ≤ maxFields) (q n i : ℕ) (l : i < f .len) where
   -- the field i has the name or not
   pub field-is : (eqb (getD (f .q) i 0) q && eqb (getD (f .n) i 0) n) ≡ same (nameAt ns i) (nm q n)
   unfolding _&_

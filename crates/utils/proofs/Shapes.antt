@@ -3,13 +3,12 @@
 --     deep-input      an input is one level less deep
 -- Assumes nothing.
 use mathlib.Core.Path.{_≡_, refl, sym, ap, _∙_}
-use mathlib.Core.Bool.{Bool, true, false, _&&_}
+use mathlib.Core.Bool.{Bool, true, false}
 use mathlib.Core.List.{List, [], _∷_, _++_, map, append-nil}
 use mathlib.Core.Option as O
 use mathlib.Core.Option.{Option, some}
 use Prim.Native.Nat.{ℕ, zero, suc, _-_, _≤_, _<_}
 use native.Mathlib.Omega.{arith}
-use lib.Dec.{eqb, leb}
 use lib.ListN.{length, getD}
 use Rattle.image.specs.Tree.{Label, Forest, none, node, Tree, Deep}
 use Rattle.plan.specs.Lists.{put}
@@ -19,13 +18,14 @@ use Rattle.plan.specs.Syntax.{WinEntry, Kind, inner, left, right, full, leftSem
 use Rattle.plan.specs.Syntax.{project, join, alias, union, distinct, sort, repartition, limit, aggregate, window, pnil, pcons}
 use Rattle.plan.specs.Trees.{labelE, kidsE, before, each, nothingBelow, fieldLabel, entryLabel, entryKids, pairLabel, pairKids, keyLabel}
 use Rattle.plan.specs.Trees.{keyKids, aggLabel, aggKids, winLabel, winKids, filterKids, labelP, kidsP, forestP, planTree}
+use Rattle.plan.specs.Kinds.{whatOf, among, isPlan}
 use Rattle.plan.proofs.Written.{name-back}
-use Rattle.utils.specs.Inputs.{makesField, makesAll, isPlan, own, called, made, plansIn, nothing}
+use Rattle.utils.specs.Inputs.{makesField, makesAll, isAlias, isWindow, joinsBoth, own, called, made, plansIn, nothing}
 
 -- ---- expressions and parts are no inputs, and only parts make fields
 
-expr-kind : (e : Expr) → (isPlan (labelE e .kind) ≡ false) × (makesField (labelE e .kind) ≡ false)
-unfolding labelE
+expr-kind : (e : Expr) → (isPlan (labelE e) ≡ false) × (makesField (labelE e .kind) ≡ false)
+unfolding labelE whatOf among
 expr-kind (col x) = (refl, refl)
 expr-kind (num z) = (refl, refl)
 expr-kind (bool b) = (refl, refl)
@@ -37,8 +37,8 @@ expr-kind (between n a l h) = (refl, refl)
 expr-kind (inlist n a xs) = (refl, refl)
 expr-kind (fn p q r xs) = (refl, refl)
 
-plan-kind : (p : Plan) → (isPlan (labelP p .kind) ≡ true) × (makesField (labelP p .kind) ≡ false)
-unfolding labelP
+plan-kind : (p : Plan) → (isPlan (labelP p) ≡ true) × (makesField (labelP p .kind) ≡ false)
+unfolding labelP whatOf among
 plan-kind (scan t fs es) = (refl, refl)
 plan-kind (filter e p) = (refl, refl)
 plan-kind (project es p) = (refl, refl)
@@ -75,7 +75,7 @@ made-exprs (e ∷ es) = rw (expr-kind e .1) (made-exprs es)
 
 -- a run of parts
 module _ {A : Type 0} (l : A → Label) (k : A → Forest) where
-  plans-each : ((x : A) → isPlan (l x .kind) ≡ false) → (xs : List A) (ns : Forest) → plansIn (each l k xs ns) ≡ plansIn ns
+  plans-each : ((x : A) → isPlan (l x) ≡ false) → (xs : List A) (ns : Forest) → plansIn (each l k xs ns) ≡ plansIn ns
   unfolding each plansIn put
   plans-each is [] ns = refl
   plans-each is (x ∷ xs) ns = rw (is x) (plans-each is xs ns)
@@ -90,10 +90,10 @@ module _ {A : Type 0} (l : A → Label) (k : A → Forest) where
 
 -- what comes behind the fields of the input i
 pub data Rest (p i : Plan) : Type 0 where
-  nothing-more : eqb (labelP p .kind) 43 ≡ false → (eqb (labelP p .kind) 35 && leb (labelP p .p) 4) ≡ false
-      → schema p ≡ called (eqb (labelP p .kind) 36) (labelP p .p) (schema i) → Rest p i
-  parts : eqb (labelP p .kind) 43 ≡ true → eqb (labelP p .kind) 36 ≡ false → schema p ≡ schema i ++ made (kidsP p) → Rest p i
-  second : eqb (labelP p .kind) 43 ≡ false → eqb (labelP p .kind) 36 ≡ false → (eqb (labelP p .kind) 35 && leb (labelP p .p) 4) ≡ true
+  nothing-more : isWindow (labelP p) ≡ false → joinsBoth (labelP p) ≡ false
+      → schema p ≡ called (isAlias (labelP p)) (labelP p .p) (schema i) → Rest p i
+  parts : isWindow (labelP p) ≡ true → isAlias (labelP p) ≡ false → schema p ≡ schema i ++ made (kidsP p) → Rest p i
+  second : isWindow (labelP p) ≡ false → isAlias (labelP p) ≡ false → joinsBoth (labelP p) ≡ true
       → (j : Plan) → 1 < length (plansIn (kidsP p)) → getD (plansIn (kidsP p)) 1 nothing ≡ planTree j → schema p ≡ schema i ++ schema j
       → Rest p i
 
@@ -123,7 +123,7 @@ plans-filter (some e) = plans-expr e none ∙ plans-none
 
 -- the inputs of a join
 plans-join : (k : Kind) (l r : Plan) (on : List Pair) (f : Option Expr) → plansIn (kidsP (join k l r on f)) ≡ planTree l ∷ planTree r ∷ []
-unfolding kidsP
+unfolding kidsP whatOf among
 plans-join k l r on f =
     plans-plan l _
     ∙ ap (planTree l ∷_) (plans-plan r _ ∙ ap (planTree r ∷_)
@@ -156,7 +156,7 @@ join-shape k l r on f = go k (there (plans-join k l r on f)) (there-second (plan
     go rightAnti h g = over refl r (g .0) (g .1) (nothing-more refl refl refl)
 
 pub shape : (p : Plan) → Shape p
-unfolding labelP kidsP forestP schema schema-first
+unfolding labelP kidsP forestP schema schema-first whatOf among
 shape (scan t fs es) =
     own-parts refl
     (sym (made-each fieldLabel nothingBelow (λ (f : Field). f .name) (λ x. refl) (λ x. name-back (x .name)) fs _
@@ -190,7 +190,7 @@ shape (window ws p) =
 pub deep-plan : (f : Forest) (i d : ℕ) → i < length (plansIn f) → Deep f d → (0 < d) × Deep (getD (plansIn f) i nothing .below) (d - 1)
 unfolding plansIn put
 deep-plan none i d l h = absurd (omega arith)
-deep-plan (node m cs ns) i d l h = go (isPlan (m .kind)) i l (λ j k. deep-plan ns j d k (h .2))
+deep-plan (node m cs ns) i d l h = go (isPlan m) i l (λ j k. deep-plan ns j d k (h .2))
   where
     go : (b : Bool) (i : ℕ) → i < length (put b (record { label = m; below = cs }) (plansIn ns))
         → ((j : ℕ) → j < length (plansIn ns) → (0 < d) × Deep (getD (plansIn ns) j nothing .below) (d - 1))

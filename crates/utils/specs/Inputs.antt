@@ -8,28 +8,39 @@ use lib.ListN.{length, getD, drop}
 use Rattle.image.specs.Tree.{Label, Forest, none, node, Tree, At, Deep}
 use Rattle.plan.specs.Lists.{put}
 use Rattle.plan.specs.Schema.{requalify}
-use Rattle.plan.specs.Syntax.{Name, nm, Plan}
-use Rattle.plan.specs.Trees.{planTree, kidsP}
+use Rattle.plan.specs.Syntax.{Name, nm, Plan, full, rightSemi, rightAnti}
+use Rattle.plan.specs.Trees.{joinNumber, planTree, kidsP}
+use Rattle.plan.specs.Kinds as K
+use Rattle.plan.specs.Kinds.{isKind, isPlan, numberP, TableScan, Projection, Join, SubqueryAlias, Aggregate, Window}
+use Rattle.plan.specs.Kinds.{numberQ, FieldPart, EntryPart, AggPart, WinPart}
 
 -- a part of this kind makes a field
 abbrev pub makesField : ℕ → Bool
-makesField k = ((eqb k 48 || eqb k 49) || eqb k 52) || eqb k 53
+makesField k = ((eqb k (numberQ FieldPart) || eqb k (numberQ EntryPart)) || eqb k (numberQ AggPart)) || eqb k (numberQ WinPart)
 
 -- a plan of this kind has just the fields that its parts make
 abbrev pub makesAll : ℕ → Bool
-makesAll k = (eqb k 32 || eqb k 34) || eqb k 42
-
--- a record of this kind is a plan's
-abbrev pub isPlan : ℕ → Bool
-isPlan k = leb 32 k && leb k 43
+makesAll k = (eqb k (numberP TableScan) || eqb k (numberP Projection)) || eqb k (numberP Aggregate)
 
 -- the input whose fields come first, of a plan of the kind k with the word p
 abbrev pub own : ℕ → ℕ → ℕ
-own k p = cond (eqb k 35 && (eqb p 6 || eqb p 8)) 1 0
+own k p = cond (eqb k (numberP Join) && (eqb p (joinNumber rightSemi) || eqb p (joinNumber rightAnti))) 1 0
 
 -- the qualifier that its fields get, if they get one
 abbrev pub below : ℕ → ℕ → Bool → ℕ → ℕ
-below k p set q = cond (eqb k 36 && not set) p q
+below k p set q = cond (eqb k (numberP SubqueryAlias) && not set) p q
+
+-- the fields of its input get its qualifier
+abbrev pub isAlias : Label → Bool
+isAlias = isKind (K.plan SubqueryAlias)
+
+-- behind the fields of its input come those of its parts
+abbrev pub isWindow : Label → Bool
+isWindow = isKind (K.plan Window)
+
+-- behind the fields of its first input come those of its second: a join that is no semi or anti join
+abbrev pub joinsBoth : Label → Bool
+joinsBoth l = isKind (K.plan Join) l && leb (l .p) (joinNumber full)
 
 -- names with the qualifier q, or as they are
 abbrev pub called : Bool → ℕ → List Name → List Name
@@ -48,7 +59,7 @@ made (node l cs ns) = put (makesField (l .kind)) (nm (l .p) (l .q)) (made ns)
 -- the plans of a forest
 unfoldable pub plansIn : Forest → List Tree
 plansIn none = []
-plansIn (node l cs ns) = put (isPlan (l .kind)) (record { label = l; below = cs }) (plansIn ns)
+plansIn (node l cs ns) = put (isPlan l) (record { label = l; below = cs }) (plansIn ns)
 
 -- t stands at record r of bytes that begin at record b, before it
 pub record Below (s : List ℕ) (b r : ℕ) (t : Tree) : Type 0 where

@@ -4,6 +4,7 @@ use mathlib.Core.Bool.{Bool, false}
 use mathlib.Core.List.{List}
 use Prim.Native.Nat.{ℕ, _≤_, _<_}
 use lib.ListN.{length, getD}
+use Rattle.image.specs.Limits.{maxFields}
 use Rattle.plan.specs.Syntax.{Name, nm, Expr}
 use Rattle.plan.specs.Columns.{on-cols}
 use Rattle.utils.specs.Sets.{member, within}
@@ -20,7 +21,7 @@ pub record Masks (m : ℕ) (ns : List Name) (c : Name → Bool) : Type 0 where
 
 -- v is a set of places: it is within the set of any test exactly if what `on` asks of that test holds
 pub record Answers (v : ℕ) (ns : List Name) (on : (Name → Bool) → Bool) : Type 0 where
-  pub says : (m : ℕ) (c : Name → Bool) → Masks m ns c → within 64 v m ≡ on c
+  pub says : (m : ℕ) (c : Name → Bool) → Masks m ns c → within maxFields v m ≡ on c
 
 -- v is the set of the places of the columns of e: every column passes a test exactly if v is within the set of that test
 abbrev pub Refers : ℕ → List Name → Expr → Type 0

@@ -3,28 +3,45 @@ use image::limits::MAX_DEPTH;
 use image::limits::MAX_FIELDS;
 use image::limits::TOO_MANY_FIELDS;
 use image::records::FIRST_LINK;
+use image::records::KIND;
 use image::records::NEXT_LINK;
 use image::records::from_record;
 use image::records::label_at;
 use image::records::record_at;
+use image::words::wide;
 use image::words::word_at;
+use plan::kinds::AGGREGATE;
+use plan::kinds::AGGREGATE_ENTRY;
+use plan::kinds::ENTRY;
+use plan::kinds::FIELD;
+use plan::kinds::JOIN;
+use plan::kinds::PROJECTION;
+use plan::kinds::SUBQUERY_ALIAS;
+use plan::kinds::TABLE_SCAN;
+use plan::kinds::WINDOW;
+use plan::kinds::WINDOW_ENTRY;
+use plan::kinds::is_plan;
+use plan::words::FULL;
+use plan::words::RIGHT_ANTI;
+use plan::words::RIGHT_SEMI;
 ghost use mathlib.Core.Path.{_≡_};
 ghost use mathlib.Core.Bool.{cond};
 ghost use mathlib.Core.List.{_++_, _∷_, List, []};
 ghost use Prim.Native.Nat.{_-_, _<_, _≤_, ℕ};
 ghost use lib.ListN.{getD, length};
+ghost use Rattle.image.specs.Limits.{maxFields};
 ghost use Rattle.image.specs.Tree.{At, Readable, Tree, labelAt};
 ghost use Rattle.plan.specs.Schema.{schema};
 ghost use Rattle.plan.specs.Syntax.{Name, Plan, nm};
 ghost use Rattle.plan.specs.Trees.{planTree};
 ghost use Rattle.conjuncts.specs.Standing.{StandingP};
 ghost use Rattle.utils.specs.Fields.{Names, placeIn};
-ghost use Rattle.utils.specs.Inputs.{Input, PlanHere, below, called, calledLabel, isPlan, made, makesAll, makesField, own};
+ghost use Rattle.utils.specs.Inputs.{Input, PlanHere, below, called, calledLabel, made, makesAll, makesField, own};
 
-// A schema of at most 64 fields: the qualifiers and the names of its fields.
+// A schema of at most MAX_FIELDS fields: the qualifiers and the names of its fields.
 pub struct Fields {
-    pub q: [u32; 64],
-    pub n: [u32; 64],
+    pub q: [u32; MAX_FIELDS],
+    pub n: [u32; MAX_FIELDS],
     pub len: usize,
 }
 
@@ -32,8 +49,8 @@ pub fn no_fields() -> Fields
     ensures { λ r. ⌜ Names r [] ⌝ }
 {
     Fields {
-        q: [0u32; 64],
-        n: [0u32; 64],
+        q: [0u32; MAX_FIELDS],
+        n: [0u32; MAX_FIELDS],
         len: 0,
     }
 }
@@ -55,16 +72,9 @@ pub fn add_field(f: Fields, q: usize, n: usize) -> Fields
     r
 }
 
-// A word as a number: the index is then all that a read of it asks for.
-fn wide(x: u32) -> usize
-    ensures { λ r. ⌜ (r ≡ x) × (r < 4294967296) ⌝ }
-{
-    x as usize
-}
-
 // The qualifier of the field i.
 pub fn q_at(f: Fields, i: usize) -> usize
-    requires { ⌜ i < 64 ⌝ }
+    requires { ⌜ i < maxFields ⌝ }
     ensures { λ r. ⌜ (r ≡ getD (f .q) i 0) × (r < 4294967296) ⌝ }
 {
     let qs = f.q;
@@ -73,7 +83,7 @@ pub fn q_at(f: Fields, i: usize) -> usize
 
 // Its name.
 pub fn n_at(f: Fields, i: usize) -> usize
-    requires { ⌜ i < 64 ⌝ }
+    requires { ⌜ i < maxFields ⌝ }
     ensures { λ r. ⌜ (r ≡ getD (f .n) i 0) × (r < 4294967296) ⌝ }
 {
     let ns = f.n;
@@ -82,7 +92,7 @@ pub fn n_at(f: Fields, i: usize) -> usize
 
 // The first field with this name, or as many as there are.
 pub fn place_in(f: Fields, q: usize, n: usize) -> usize
-    requires { ⌜ f .len ≤ 64 ⌝ }
+    requires { ⌜ f .len ≤ maxFields ⌝ }
     ensures { λ r. ⌜ ((ns : List Name) → Names f ns → r ≡ placeIn ns (nm q n)) ⌝ }
 {
     let len = f.len;
@@ -100,28 +110,21 @@ pub fn place_in(f: Fields, q: usize, n: usize) -> usize
 fn makes_field(kind: usize) -> bool
     ensures { λ b. ⌜ b ≡ makesField kind ⌝ }
 {
-    (kind == 48) | (kind == 49) | (kind == 52) | (kind == 53)
+    (kind == FIELD) | (kind == ENTRY) | (kind == AGGREGATE_ENTRY) | (kind == WINDOW_ENTRY)
 }
 
 // Whether the schema of a plan is what its parts make: of a TableScan, a Projection, an Aggregate.
 fn makes_all(kind: usize) -> bool
     ensures { λ b. ⌜ b ≡ makesAll kind ⌝ }
 {
-    (kind == 32) | (kind == 34) | (kind == 42)
-}
-
-// Whether a record is a plan's.
-pub fn is_plan_kind(kind: usize) -> bool
-    ensures { λ b. ⌜ b ≡ isPlan kind ⌝ }
-{
-    (32 <= kind) & (kind <= 43)
+    (kind == TABLE_SCAN) | (kind == PROJECTION) | (kind == AGGREGATE)
 }
 
 // The input whose fields come first: of a semi or anti join its own side.
 fn own_input(kind: usize, p: usize) -> usize
     ensures { λ r. ⌜ r ≡ own kind p ⌝ }
 {
-    if (kind == 35) & ((p == 6) | (p == 8)) {
+    if (kind == JOIN) & ((p == RIGHT_SEMI) | (p == RIGHT_ANTI)) {
         return 1;
     }
     0
@@ -131,7 +134,7 @@ fn own_input(kind: usize, p: usize) -> usize
 fn below_alias(kind: usize, p: usize, set: bool, q: usize) -> usize
     ensures { λ r. ⌜ r ≡ below kind p set q ⌝ }
 {
-    if (kind == 36) & !set {
+    if (kind == SUBQUERY_ALIAS) & !set {
         return p;
     }
     q
@@ -156,7 +159,7 @@ pub fn input_at(part: &[u8], base: usize, place: usize) -> usize
     let mut at = word_at(part, FIRST_LINK);
     while at != 0 {
         let child = from_record(part, base, at);
-        let here = is_plan_kind(word_at(child, 0));
+        let here = is_plan(word_at(child, KIND));
         if here & (left == 0) {
             return at;
         }
@@ -224,13 +227,13 @@ pub fn add_schema(
         n,
         depth - 1,
         into,
-        set | (l.kind == 36),
+        set | (l.kind == SUBQUERY_ALIAS),
         below_alias(l.kind, l.p, set, q),
     );
-    if l.kind == 43 {
+    if l.kind == WINDOW {
         return add_parts(part, base, r, set, q);
     }
-    if (l.kind == 35) & (l.p <= 4) {
+    if (l.kind == JOIN) & (l.p <= FULL) {
         let m = input_at(part, base, 1);
         let right = from_record(part, base, m);
         return add_schema(right, m, depth - 1, r, set, q);

@@ -30,11 +30,11 @@ next-plan-spec =
     (λ c q a. let b = c .before .before .before in
     searched (b .before .before .loop .inv q a)
     (stops-here a (omega (arith, records-are a, b .before .loop-test .taken)) (b .record-at .ensures) (c .before .before .word-at .ensures .0)
-    (c .before .is-plan-kind .ensures) (c .if1 .taken)))
+    (c .before .is-plan .ensures) (c .if1 .taken)))
     (λ c. omega arith)
     (λ c. omega arith)
     (λ c q a. let b = c .before .before .before in
     b .before .before .loop .inv q a
     ∙ passes-by a (omega (arith, records-are a, b .before .loop-test .taken)) (b .record-at .ensures) (c .before .before .word-at .ensures .0)
-    (c .before .is-plan-kind .ensures) (c .if1 .left))
+    (c .before .is-plan .ensures) (c .if1 .left))
     (λ c q a. searched (c .before .loop .inv q a) (no-more q (omega (arith, records-are a, c .loop-test .left)) (records-are a))))

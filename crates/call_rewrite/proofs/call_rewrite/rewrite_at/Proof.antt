@@ -25,11 +25,11 @@ rewrite-at-spec =
     (λ c. refused-8 _ _ _
     (no-plan (c .before .before .before .before .before .before .before .before .before .before .before .pre) (c .before .before .before .before
     .before .before .before .before .if1 .left) (c .before .before .before .before .before .before .before .record-at .ensures) (c .before
-    .before .before .before .before .before .word-at .ensures .0) (c .before .before .before .before .before .is-plan-kind .ensures)
+    .before .before .before .before .before .word-at .ensures .0) (c .before .before .before .before .before .is-plan .ensures)
     (untold (c .before .before .before .before .if2 .taken))) (c .before .before .clear2 .ensures))
     (λ c κs. let h = a-plan (c .before .before .before .before .before .before .before .pre) (c .before .before .before .before .if1 .left)
     (c .before .before .before .record-at .ensures)
-    (c .before .before .word-at .ensures .0) (c .before .is-plan-kind .ensures) (told (c .if2 .left)) in
+    (c .before .before .word-at .ensures .0) (c .before .is-plan .ensures) (told (c .if2 .left)) in
     record { whole = _; spot = h .spot; inside = h .inside })
     (λ c κs. search needs)
     (λ c. search needs)
@@ -37,13 +37,13 @@ rewrite-at-spec =
     (c .before .before .before .before .before .before .before .before .before .before .if1 .left)
     (c .before .before .before .before .before .before .before .before .before .record-at .ensures)
     (c .before .before .before .before .before .before .before .before .word-at .ensures .0)
-    (c .before .before .before .before .before .before .before .is-plan-kind .ensures) (told (c .before .before .before .before .before .before .if2
+    (c .before .before .before .before .before .before .before .is-plan .ensures) (told (c .before .before .before .before .before .before .if2
     .left)) in
     c .before .before .hand-over .ensures _ (whole-image (h .whole) refl)
     ∙ stayed _ h (c .before .before .before .before .before .stays .ensures _ (h .spot) (h .inside)) (c .before .before .before .before .if3 .taken))
     (λ c κs. a-plan (c .before .before .before .before .before .before .before .before .before .before .pre) (c .before .before .before .before
     .before .before .before .if1 .left) (c .before .before .before .before .before .before .record-at .ensures) (c .before .before .before
-    .before .before .word-at .ensures .0) (c .before .before .before .before .is-plan-kind .ensures)
+    .before .before .word-at .ensures .0) (c .before .before .before .before .is-plan .ensures)
     (told (c .before .before .before .if2 .left)))
     (λ c. search needs)
     (λ c. search needs))

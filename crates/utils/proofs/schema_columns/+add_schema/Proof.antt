@@ -4,6 +4,7 @@ use mathlib.Core.List.{append-nil}
 use Prim.Native.Nat.{ℕ, _-_, _<_}
 use native.Mathlib.Omega.{arith}
 use borrow.Author.Tests.{eq-eqb, ne-eqb}
+use Rattle.image.specs.Limits.{maxDepth}
 use Rattle.plan.specs.Schema.{schema}
 use Rattle.plan.specs.Trees.{planTree}
 use Rattle.utils.proofs.Making.{called-nil}
@@ -106,7 +107,7 @@ pub +add-schema-spec : {M : Type 1} → statement M
     ))
     (λ c p ns h g. let e = c .before .before .before .before .before .before .before .before .before .before .before .before .label-at .ensures .0 ∙
     h .head .label in
-    let i = input-of p 255 _ e (sym (c .before .before .before .before .before .before .before .before .before .before .before .makes-all .ensures) ∙
+    let i = input-of p (maxDepth - 1) _ e (sym (c .before .before .before .before .before .before .before .before .before .before .before .makes-all .ensures) ∙
     c .before .before .before .before .before .before .before .before .before .before .if1 .left)
     (c .before .before .before .before .before .before .before .before .before .own-input .ensures)
     (c .before .before .before .before .before .before .before .before .input-at .ensures (planTree p) h)
@@ -171,7 +172,7 @@ pub +add-schema-spec : {M : Type 1} → statement M
     ))
     (λ c p ns h g. let e = c .before .before .before .before .before .before .before .before .before .before .before .before .before .before .before
     .before .before .label-at .ensures .0 ∙ h .head .label in
-    let i = input-of p 255 _ e (sym (c .before .before .before .before .before .before .before .before .before .before .before .before .before
+    let i = input-of p (maxDepth - 1) _ e (sym (c .before .before .before .before .before .before .before .before .before .before .before .before .before
     .before .before .before .makes-all .ensures) ∙
     c .before .before .before .before .before .before .before .before .before .before .before .before .before .before .before .if1 .left)
     (c .before .before .before .before .before .before .before .before .before .before .before .before .before .before .own-input .ensures)
@@ -183,13 +184,13 @@ pub +add-schema-spec : {M : Type 1} → statement M
     (c .before .before .before .before .before .before .before .before .add-schema .ensures (i .input) ns
     (rw (c .before .before .before .before .before .before .before .before .before .before .before .from-record .ensures)
     (i .stands .here)) g) in
-    let j = second-of p 255 _ e (i .input) (i .rest) (c .before .before .before .if4 .taken)
+    let j = second-of p (maxDepth - 1) _ e (i .input) (i .rest) (c .before .before .before .if4 .taken)
     (c .before .before .input-at2 .ensures (planTree p) h) in
     ends-more p _ e (a .set) (a .q) ns (i .input) n (schema (j .input)) (j .rest .0) (j .rest .1)
     (λ ms k. c .add-schema2 .ensures (j .input) ms (rw (c .before .from-record2 .ensures) (j .stands .here)) k))
     (λ c p ns h g. let e = c .before .before .before .before .before .before .before .before .before .before .before .before .before
     .before .label-at .ensures .0 ∙ h .head .label in
-    let i = input-of p 255 _ e (sym (c .before .before .before .before .before .before .before .before .before .before .before .before
+    let i = input-of p (maxDepth - 1) _ e (sym (c .before .before .before .before .before .before .before .before .before .before .before .before
     .before .makes-all .ensures) ∙ c .before .before .before .before .before .before .before .before .before .before .before .before .if1 .left)
     (c .before .before .before .before .before .before .before .before .before .before .before .own-input .ensures)
     (c .before .before .before .before .before .before .before .before .before .before .input-at .ensures (planTree p) h)

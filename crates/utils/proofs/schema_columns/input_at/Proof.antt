@@ -4,7 +4,8 @@ use Prim.Native.Nat.{ℕ}
 use native.Mathlib.Omega.{arith}
 use lib.ListN.{length-drop}
 use Rattle.image.proofs.Walking.{Chain, chain, round, again, done, left, for-all}
-use Rattle.utils.specs.Inputs.{isPlan, plansIn}
+use Rattle.plan.specs.Kinds.{planW, whatOf}
+use Rattle.utils.specs.Inputs.{plansIn}
 use Rattle.utils.proofs.Inputting.{Seek, seek-start, seek-next, plans-node, kind-here, input-here, input-none}
 use Rattle.utils.proofs.schema_columns.input_at.Statement.{statement}
 use Rattle.utils.proofs.schema_columns.input_at.Tie as tie
@@ -31,7 +32,7 @@ input-at-spec =
     (λ c. let k = c .before .before .before .before .before .loop .inv .1 in
     let u = round _ k (c .before .before .before .before .loop-test .taken) in
     let kind = kind-here (u .turn) (c .before .before .before .from-record .ensures) (c .before .before .word-at2 .ensures .0) in
-    for-all _ (k .stands) (input-here _ _ (u .turn) _ (c .before .is-plan-kind .ensures ∙ ap isPlan kind) (u .so-far) (c .if1 .taken)))
+    for-all _ (k .stands) (input-here _ _ (u .turn) _ (c .before .is-plan .ensures ∙ ap (λ (k : ℕ). planW (whatOf k)) kind) (u .so-far) (c .if1 .taken)))
     (λ c κs. tt)
     (λ c κs. let u = round _ (c .before .before .before .before .before .before .loop .inv .1)
     (c .before .before .before .before .before .loop-test .taken) in
@@ -43,7 +44,7 @@ input-at-spec =
     let u = round _ k (c .before .before .before .before .before .before .loop-test .taken) in
     let kind = kind-here (u .turn) (c .before .before .before .before .before .from-record .ensures)
     (c .before .before .before .before .word-at2 .ensures .0) in
-    let e = plans-node (u .turn .child) (u .turn .after) _ (c .before .before .before .is-plan-kind .ensures ∙ ap isPlan kind) in (
+    let e = plans-node (u .turn .child) (u .turn .after) _ (c .before .before .before .is-plan .ensures ∙ ap (λ (k : ℕ). planW (whatOf k)) kind) in (
       c .before .before .before .before .before .before .before .loop .inv .0,
       rw (c .word-at3 .ensures .0, c .before .before .before .before .before .from-record .ensures)
           (again _ k u (rw (c .before .less-if .ensures) (seek-next _ _ (u .turn .child) _ (rw e at (u .so-far))
