@@ -27,6 +27,7 @@ use plan::values::literal_of;
 use plan::words::EQ;
 use plan::words::GT;
 use plan::words::LT;
+use plan::words::NO_TYPE;
 use plan::words::NOT_EQ;
 ghost use mathlib.Core.Path.{_≡_};
 ghost use mathlib.Core.List.{_++_, List, map};

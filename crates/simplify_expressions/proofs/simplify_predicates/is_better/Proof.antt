@@ -14,31 +14,34 @@ is-better-spec =
     (λ c κs. search needs)
     (λ c κs. search needs)
     (λ c κs. search needs)
-    (λ c. rw (
+    (λ c. let a = c .before .before .before .before .before .before .args in
+    rw (
       c .before .before .before .before .before .is-strict .ensures,
       c .before .before .before .is-strict2 .ensures,
-      ← c .before .is-null2 .ensures ∙ null-case _,
-      ← c .before .before .is-null .ensures ∙ null-case _,
+      ← c .before .is-null2 .ensures ∙ null-case (a .held .value .case),
+      ← c .before .before .is-null .ensures ∙ null-case (a .d .value .case),
       c .if1 .taken,
       and-is,
       and-is,
     ))
-    (λ c. rw (← c .before .before .is-null2 .ensures ∙ null-case _, ← c .before .before .before .is-null .ensures ∙ null-case _, c .before .if1 .left, c .if2 .taken))
+    (λ c. let a = c .before .before .before .before .before .before .before .args in
+    rw (← c .before .before .is-null2 .ensures ∙ null-case (a .held .value .case), ← c .before .before .before .is-null .ensures ∙ null-case (a .d .value .case), c .before .if1 .left, c .if2 .taken))
     (λ c κs. search needs)
     (λ c κs. search needs)
     (λ c κs. search needs)
     (λ c κs. search needs)
-    (λ c. rw (
+    (λ c. let a = c .before .before .before .before .before .before .before .before .before .before .before .args in
+    rw (
       c .lies-past2 .ensures,
       c .before .lies-past .ensures,
       c .before .before .before .before .before .before .before .before .before .before .is-strict .ensures,
       c .before .before .before .before .before .before .before .before .is-strict2 .ensures,
-      ← c .before .before .before .before .before .before .is-null2 .ensures ∙ null-case _,
-      ← c .before .before .before .before .before .before .before .is-null .ensures ∙ null-case _,
+      ← c .before .before .before .before .before .before .is-null2 .ensures ∙ null-case (a .held .value .case),
+      ← c .before .before .before .before .before .before .before .is-null .ensures ∙ null-case (a .d .value .case),
       c .before .before .before .before .before .if1 .left,
       c .before .before .before .before .if2 .left,
-      ← c .before .before .code-of2 .ensures ∙ code-case _,
-      ← c .before .before .before .code-of .ensures ∙ code-case _,
+      ← c .before .before .code-of2 .ensures ∙ code-case (a .d .value .case),
+      ← c .before .before .before .code-of .ensures ∙ code-case (a .held .value .case),
       and-is,
       and-is,
     ) (search needs)))
