@@ -11,9 +11,9 @@ use Rattle.plan.specs.Lists.{all, any}
 use Rattle.plan.proofs.Lists.{and-l, and-r, and-intro, and-assoc, and-true, true-and, all-append, all-flat, all-map, all-true}
 use Rattle.plan.specs.Syntax.{Name, Expr, col, num, bool, nul, bin, neg, test, between, inlist, fn, Exprs, enil, econs, Plan, scan, filter}
 use Rattle.plan.specs.Syntax.{project, join, alias, union, distinct, sort, repartition, limit, aggregate, window, Plans, pnil, pcons}
-use Rattle.plan.specs.Schema.{same, has, schema}
+use Rattle.plan.specs.Schema.{same, has, schema, nodup}
 use Rattle.plan.specs.Columns.{on-cols, on-cols-all}
-use Rattle.plan.proofs.Names.{nodup, same-eq, not-true}
+use Rattle.plan.proofs.Names.{same-eq, not-true}
 use Rattle.acceptance.specs.Marks.{marks-in, marks-in-all, marks-in?, marks-of, marks-of-all}
 use Rattle.acceptance.specs.Names.{holders, one-field, sound, sound-inputs, sound-plan, name-rules, names-in, names-of, badName}
 use Rattle.acceptance.proofs.Marks.{kept, none-false, all-kept}

@@ -13,8 +13,7 @@ use Rattle.plan.proofs.Lists.{and-l, and-r, and-intro}
 use Rattle.plan.specs.Syntax.{Name, nm, Expr, Field, Entry, Pair, Key, AggEntry, WinEntry, Kind, inner, left, right, full, leftSemi}
 use Rattle.plan.specs.Syntax.{rightSemi, leftAnti, rightAnti, Plan, scan, filter, project, join, alias, union, distinct, sort, repartition}
 use Rattle.plan.specs.Syntax.{limit, aggregate, window, Plans, pnil, pcons}
-use Rattle.plan.specs.Schema.{same, schema, schema-first, requalify, sides, has}
-use Rattle.plan.proofs.Names.{nodup}
+use Rattle.plan.specs.Schema.{same, schema, schema-first, requalify, sides, has, nodup}
 use Rattle.plan.specs.Columns.{on-cols}
 use Rattle.acceptance.specs.Names.{clash, distinct-names, sound}
 

@@ -6,6 +6,7 @@ use crate::levels::note_levels;
 use image::copying::put_label;
 use image::ends::tree_end;
 use image::records::record_at;
+use image::words::wide;
 ghost use mathlib.Core.Path.{_≡_};
 ghost use mathlib.Core.Option.{some};
 ghost use Prim.Native.Nat.{_*_, _-_, _<_, _≤_};
@@ -25,13 +26,6 @@ pub struct Spot {
     pub level: usize,
     pub end: usize,
     pub records: usize,
-}
-
-// A level as a number: the index is then all that a read of it asks for.
-fn wide(x: u32) -> usize
-    ensures { λ r. ⌜ (r ≡ x) × (r < 4294967296) ⌝ }
-{
-    x as usize
 }
 
 // Writes the records from `from` up to n, with their depths.

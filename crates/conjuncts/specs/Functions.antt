@@ -4,10 +4,11 @@ use Prim.Native.Nat.{ℕ}
 use lib.Dec.{eqb}
 use Rattle.image.specs.Tree.{Label, Forest, none, node, Tree}
 use Rattle.plan.specs.Kinds.{Function, numberE}
+use Rattle.rewrite.specs.Utils.{volatile-marks}
 
 -- which functions, by their marks: the volatile ones alone, or all
 abbrev pub marked : Bool → ℕ → Bool
-marked true = λ q. eqb q 1 || eqb q 3
+marked true = volatile-marks
 marked false = λ q. true
 
 -- the record is a function whose marks pass the test

@@ -1,8 +1,8 @@
--- A list of conjuncts as a list of expressions: each number stands for the expression at that record, and 0 for FALSE.
+-- A list of conjuncts as a list of expressions: what each item stands for.
 use mathlib.Core.Path.{_≡_}
 use mathlib.Core.Bool.{false}
 use mathlib.Core.List.{List, [], _∷_}
-use Prim.Native.Nat.{ℕ, _-_, _≤_, _<_}
+use Prim.Native.Nat.{ℕ, _*_, _-_, _≤_, _<_}
 use lib.ListN.{length, take}
 use Rattle.image.specs.Limits.{maxList, maxRecords, tooMany}
 use Rattle.plan.specs.Syntax.{Expr, bool}
@@ -15,6 +15,20 @@ Conjuncts = declared.Conjuncts
 
 abbrev pub FALSE : Expr
 FALSE = bool false
+
+-- ---- the numbers of items: those of the code's module `items`
+
+-- FALSE, which has no record; each other number below maxRecords is an expression's, by its record
+abbrev pub falseItem : ℕ
+falseItem = 0
+
+-- so much more for the expression with its columns replaced
+abbrev pub replacedBy : ℕ
+replacedBy = maxRecords
+
+-- so much more for the clause out of an OR
+abbrev pub clauseBy : ℕ
+clauseBy = 2 * maxRecords
 
 -- ---- the numbers of a list
 
@@ -35,8 +49,8 @@ pub record Holds (c : Conjuncts) (xs : List ℕ) : Type 0 where
 
 -- the number n stands for e
 pub record Item (s : List ℕ) (n : ℕ) (e : Expr) : Type 0 where
-  pub none : n ≡ 0 → e ≡ FALSE
-  pub some : (n ≡ 0 → ⊥) → Standing s n e
+  pub none : n ≡ falseItem → e ≡ FALSE
+  pub some : (n ≡ falseItem → ⊥) → Standing s n e
   pub small : n < maxRecords
 
 pub data Items (s : List ℕ) : List ℕ → List Expr → Type 0 where

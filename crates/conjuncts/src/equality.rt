@@ -1,4 +1,5 @@
 // Equal expressions: `==` of the source's Expr, record by record.
+use crate::items::FALSE_ITEM;
 use crate::lists::Conjuncts;
 use crate::lists::item_at;
 use image::limits::MAX_DEPTH;
@@ -68,12 +69,12 @@ pub fn same_tree(a: &[u8], base: usize, depth: usize, b: &[u8], of: usize, room:
     false
 }
 
-// Whether the item n is FALSE: the number 0, or the record of that literal.
+// Whether the item n is FALSE: its own number, or the record of that literal.
 fn is_false_item(s: &[u8], n: usize) -> bool
     requires { ⌜ Present (now s) n ⌝ }
     ensures { λ r. ⌜ ((e : Expr) → Item (now (s .entry)) n e → r ≡ sameE FALSE e) ⌝ }
 {
-    if n == 0 {
+    if n == FALSE_ITEM {
         return true;
     }
     let part = record_at(s, n);
@@ -86,10 +87,10 @@ pub fn same_item(s: &[u8], n: usize, m: usize) -> bool
     requires { ⌜ Present (now s) m ⌝ }
     ensures { λ r. ⌜ ((a b : Expr) → Item (now (s .entry)) n a → Item (now (s .entry)) m b → r ≡ sameE a b) ⌝ }
 {
-    if n == 0 {
+    if n == FALSE_ITEM {
         return is_false_item(s, m);
     }
-    if m == 0 {
+    if m == FALSE_ITEM {
         return is_false_item(s, n);
     }
     same_tree(record_at(s, n), n, MAX_DEPTH, record_at(s, m), m, MAX_DEPTH)

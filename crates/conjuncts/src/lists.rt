@@ -1,4 +1,4 @@
-// Lists of at most MAX_LIST conjuncts, by their record numbers; 0 stands for FALSE. A list goes in by value and comes back.
+// Lists of at most MAX_LIST conjuncts, each an item of items.rt. A list goes in by value and comes back.
 use image::limits::MAX_LIST;
 use image::limits::TOO_MANY;
 ghost use mathlib.Core.Path.{_≡_};

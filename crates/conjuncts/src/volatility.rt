@@ -1,4 +1,5 @@
 // is_volatile (datafusion-expr Expr), and the functions that make a predicate expensive: those in an expression.
+use crate::items::FALSE_ITEM;
 use crate::lists::Conjuncts;
 use crate::lists::item_at;
 use image::limits::MAX_DEPTH;
@@ -63,7 +64,7 @@ pub fn function_at(s: &[u8], c: Conjuncts, i: usize, volatile: bool) -> bool
     ensures { λ r. ⌜ ((es : List Expr) → Lists (now (s .entry)) c es → r ≡ any-fn (marked volatile) (getD es i FALSE)) ⌝ }
 {
     let n = item_at(c, i);
-    if n == 0 {
+    if n == FALSE_ITEM {
         return false;
     }
     has_function(record_at(s, n), n, MAX_DEPTH, volatile)
@@ -74,7 +75,7 @@ pub fn is_volatile(s: &[u8], n: usize) -> bool
     requires { ⌜ Present (now s) n ⌝ }
     ensures { λ r. ⌜ ((e : Expr) → Item (now (s .entry)) n e → r ≡ is-volatile e) ⌝ }
 {
-    if n == 0 {
+    if n == FALSE_ITEM {
         return false;
     }
     has_function(record_at(s, n), n, MAX_DEPTH, true)

@@ -7,8 +7,15 @@ ghost use lib.Seq.{sets};
 ghost use Rattle.image.specs.Word.{le, word};
 
 // A byte as a number: the index is then all that a read of it asks for.
-fn wide(x: u8) -> usize
+fn wide_byte(x: u8) -> usize
     ensures { λ r. ⌜ (r ≡ x) × (r < 256) ⌝ }
+{
+    x as usize
+}
+
+// A word as a number, likewise.
+pub fn wide(x: u32) -> usize
+    ensures { λ r. ⌜ (r ≡ x) × (r < 4294967296) ⌝ }
 {
     x as usize
 }
@@ -18,7 +25,10 @@ pub fn word_at(s: &[u8], at: usize) -> usize
     requires { ⌜ at + 4 ≤ length (now s) ⌝ }
     ensures { λ r. ⌜ (r ≡ word (now (s .entry)) at) × (r < 4294967296) ⌝ }
 {
-    wide(s[at]) + wide(s[at + 1]) * 256 + wide(s[at + 2]) * 65536 + wide(s[at + 3]) * 16777216
+    wide_byte(s[at])
+        + wide_byte(s[at + 1]) * 256
+        + wide_byte(s[at + 2]) * 65536
+        + wide_byte(s[at + 3]) * 16777216
 }
 
 // Stores the word v at byte `at`.

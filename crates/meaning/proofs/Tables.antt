@@ -4,7 +4,7 @@ use mathlib.Core.Path.{_≡_, refl, ap}
 use mathlib.Core.List.{List, [], _∷_, _++_}
 use lib.ListN.{length}
 use Rattle.plan.specs.Types.{Scanned}
-use Rattle.plan.proofs.Lists.{All, anil, acons}
+use Rattle.plan.specs.Lists.{All, anil, acons}
 use Rattle.meaning.specs.Meaning.{World, Row}
 use Rattle.meaning.specs.Tables.{RowFits, no-fields, field-fits, TableFits, ScansFit}
 

@@ -3,7 +3,7 @@
 use mathlib.Core.Path.{_≡_, refl, sym, ap, ap₂, _∙_}
 use mathlib.Core.Bool.{Bool, true, false, not}
 use mathlib.Core.List.{List, [], _∷_, _++_, map}
-use Rattle.plan.specs.Lists.{_&_, put, when, keep, all, flat}
+use Rattle.plan.specs.Lists.{_&_, put, when, keep, all, flat, All, anil, acons}
 
 -- ---- Booleans
 
@@ -54,10 +54,6 @@ and-left-comm false b c = sym (and-false b)
 pub ruleset and-sort = (and-assoc, and-comm, and-left-comm, and-true)
 
 -- ---- what holds of every element
-
-pub data All {A : Type 0} (P : A → Type 0) : List A → Type 0 where
-  anil : All P []
-  acons : {x : A} {xs : List A} → P x → All P xs → All P (x ∷ xs)
 
 module _ {A : Type 0} where
   pub All-map : {P Q : A → Type 0} {xs : List A} → ((x : A) → P x → Q x) → All P xs → All Q xs

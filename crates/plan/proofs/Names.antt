@@ -6,15 +6,10 @@ use mathlib.Core.List.{List, [], _∷_, _++_}
 use lib.ListN.{length}
 use lib.Dec.{eqb}
 use borrow.Author.Tests.{eqb-true, eq-eqb}
-use Rattle.plan.specs.Schema.{has, same, lookD}
+use Rattle.plan.specs.Schema.{has, same, nodup, lookD}
 use Rattle.plan.specs.Lists.{_&_, any}
 use Rattle.plan.proofs.Lists.{and-l, and-r}
 use Rattle.plan.specs.Syntax.{Name, nm}
-
--- no name stands twice
-abbrev pub nodup : List Name → Bool
-nodup [] = true
-nodup (y ∷ s) = not (has s y) & nodup s
 
 pub same-eq : (x y : Name) → same x y ≡ true → x ≡ y
 same-eq (nm q n) (nm r m) h = ap₂ nm (eqb-true q r (and-l _ _ h)) (eqb-true n m (and-r (eqb q r) _ h))

@@ -43,3 +43,8 @@ module _ {A : Type 0} where
 unfoldable pub flat : {A B : Type 0} → (A → List B) → List A → List B
 flat f [] = []
 flat f (x ∷ xs) = f x ++ flat f xs
+
+-- what holds of every element
+pub data All {A : Type 0} (P : A → Type 0) : List A → Type 0 where
+  anil : All P []
+  acons : {x : A} {xs : List A} → P x → All P xs → All P (x ∷ xs)

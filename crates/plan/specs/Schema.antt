@@ -1,6 +1,6 @@
 -- The schema of a plan: the names of its fields, in order.
 use Prim.Native.Nat.{ℕ}
-use mathlib.Core.Bool.{Bool, cond}
+use mathlib.Core.Bool.{Bool, true, not, cond}
 use mathlib.Core.List.{List, [], _∷_, _++_, map}
 use lib.Dec.{eqb}
 use Rattle.plan.specs.Lists.{_&_, any}
@@ -16,6 +16,11 @@ same (nm q n) (nm r m) = eqb q r & eqb n m
 -- the schema has the name
 abbrev pub has : List Name → Name → Bool
 has s x = any (λ y. same y x) s
+
+-- no name stands twice
+abbrev pub nodup : List Name → Bool
+nodup [] = true
+nodup (y ∷ s) = not (has s y) & nodup s
 
 -- what a list has at the place where a schema has a name; `d` where there is none
 abbrev pub lookD : {A : Type 0} → A → List Name → List A → Name → A

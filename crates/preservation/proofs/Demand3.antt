@@ -8,8 +8,7 @@ use mathlib.Core.Option.{Option, none, some}
 use lib.Dec.{leb}
 use borrow.Author.Tests.{ne-eqb}
 use Rattle.image.specs.Limits.{recordBytes}
-use Rattle.plan.specs.Lists.{choose}
-use Rattle.plan.proofs.Lists.{All, anil, acons}
+use Rattle.plan.specs.Lists.{choose, All, anil, acons}
 use Rattle.plan.specs.Syntax.{Plan}
 use Rattle.plan.specs.Measure.{sizeP}
 use Rattle.meaning.specs.Meaning.{World, rows}

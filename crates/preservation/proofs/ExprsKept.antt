@@ -6,8 +6,8 @@ use mathlib.Core.List.{List, [], _∷_, map}
 use mathlib.Core.Option.{Option, none, some}
 use lib.ListN.{length}
 use lib.Dec.{eqb}
-use Rattle.plan.specs.Lists.{choose, all}
-use Rattle.plan.proofs.Lists.{and-l, and-r, and-intro, All, anil, acons, All-map, All-append, All-keep, All-mapped, All-flat}
+use Rattle.plan.specs.Lists.{choose, all, All, anil, acons}
+use Rattle.plan.proofs.Lists.{and-l, and-r, and-intro, All-map, All-append, All-keep, All-mapped, All-flat}
 use Rattle.plan.specs.Values.{ValueRecord, literalIs}
 use Rattle.plan.specs.Syntax.{Name, Op, and, or, cmp, Expr, col, num, bool, nul, bin, neg, test, between, inlist, fn, Exprs, enil, econs}
 use Rattle.plan.specs.Syntax.{Entry, Pair}

@@ -4,8 +4,8 @@ use mathlib.Core.Path.{_≡_, refl, ap, _∙_}
 use mathlib.Core.Bool.{Bool, true, false, not}
 use mathlib.Core.List.{List, [], _++_, map}
 use mathlib.Core.Option.{Option, none, some}
-use Rattle.plan.specs.Lists.{choose, all}
-use Rattle.plan.proofs.Lists.{and-l, and-r, and-intro, All, anil, acons, All-map, All-append, All-keep, All-mapped}
+use Rattle.plan.specs.Lists.{choose, all, All, anil, acons}
+use Rattle.plan.proofs.Lists.{and-l, and-r, and-intro, All-map, All-append, All-keep, All-mapped}
 use Rattle.plan.specs.Syntax.{Name, Expr, Field, Entry, Pair, AggEntry, WinEntry, Kind, inner, left, right, full, leftSemi, rightSemi}
 use Rattle.plan.specs.Syntax.{leftAnti, rightAnti, Plan, scan, filter, project, join, alias, union, distinct, sort, repartition, limit}
 use Rattle.plan.specs.Syntax.{aggregate, window, Plans, pnil, pcons}

@@ -12,9 +12,8 @@ use lib.Dec.{eqb}
 use lib.ListN.{length}
 use borrow.Author.Tests.{ne-eqb}
 use Rattle.image.specs.Limits.{maxList}
-use Rattle.plan.specs.Lists.{flat}
+use Rattle.plan.specs.Lists.{flat, anil, acons}
 use Rattle.plan.specs.Syntax.{Name, Expr, bin, and, Plan}
-use Rattle.plan.proofs.Lists.{anil, acons}
 use Rattle.rewrite.specs.Limits.{listP}
 use Rattle.rewrite.specs.Utils.{replace-cols, split-conjunction, conjoin, conjunction, with-filters, is-empty}
 use Rattle.conjuncts.specs.Items.{Conjuncts, Lists}

@@ -13,13 +13,13 @@ use lib.ListN.{length}
 use borrow.Author.Tests.{leb-true}
 use Rattle.image.specs.Limits.{workBytes}
 use Rattle.plan.specs.Columns.{on-cols, on-cols-all}
-use Rattle.plan.specs.Lists.{_&_, all, choose, put, keep}
+use Rattle.plan.specs.Lists.{_&_, all, choose, put, keep, anil}
 use Rattle.plan.specs.Measure.{sizes}
 use Rattle.plan.specs.Schema.{has, schema}
 use Rattle.plan.specs.Syntax.{Name, Expr, col, num, bool, nul, bin, neg, test, between, inlist, fn, Exprs, enil, econs, Entry, AggEntry, WinEntry}
 use Rattle.plan.specs.Syntax.{Plan, filter, project, aggregate, window}
 use Rattle.plan.specs.Trees.{planTree, kidsP, each, entryKids, aggKids, winKids}
-use Rattle.plan.proofs.Lists.{all-and, all-true, and-r, keep-all, All-map, All-keep, anil}
+use Rattle.plan.proofs.Lists.{all-and, all-true, and-r, keep-all, All-map, All-keep}
 use Rattle.acceptance.specs.Names.{sound}
 use Rattle.acceptance.proofs.NamesRule.{rule-sound}
 use Rattle.rewrite.specs.Limits.{listP}

@@ -13,10 +13,10 @@ use native.Mathlib.Nat.{le-trans, le-of-eq, max-le, le-max-right}
 use lib.ListN.{length, length-append}
 use Rattle.image.specs.Limits.{maxList}
 use Rattle.plan.specs.Columns.{on-cols}
-use Rattle.plan.specs.Lists.{put, keep, choose}
+use Rattle.plan.specs.Lists.{put, keep, choose, All}
 use Rattle.plan.specs.Schema.{has, schema}
 use Rattle.plan.specs.Syntax.{Expr, Field, Plan, scan, filter}
-use Rattle.plan.proofs.Lists.{All, All-append, All-keep}
+use Rattle.plan.proofs.Lists.{All-append, All-keep}
 use Rattle.rewrite.specs.Utils.{split-conjunction, conjoin, with-filters, unique, is-volatile, is-empty}
 use Rattle.rewrite.specs.Limits.{listP}
 use Rattle.rewrite.specs.PushDownFilter.{Transformed, Transformed·no, Transformed·yes, supports-pushdown, supported-filters, unsupported-filters}

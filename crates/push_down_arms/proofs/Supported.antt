@@ -18,11 +18,11 @@ use Rattle.image.specs.Tree.{Forest, none}
 use Rattle.image.specs.Word.{word}
 use Rattle.plan.specs.Columns.{on-cols}
 use Rattle.plan.specs.Lists.{_&_, any}
-use Rattle.plan.specs.Schema.{same, has, schema}
+use Rattle.plan.specs.Schema.{same, has, schema, nodup}
 use Rattle.plan.specs.Syntax.{Name, Expr, Field, scan}
 use Rattle.plan.specs.Trees.{labelE, kidsE, kidsP, each, fieldLabel, nothingBelow, bitOf}
 use Rattle.plan.proofs.Lists.{and-l, and-r}
-use Rattle.plan.proofs.Names.{nodup, apart, same-refl}
+use Rattle.plan.proofs.Names.{apart, same-refl}
 use Rattle.acceptance.specs.Names.{sound}
 use Rattle.acceptance.proofs.NamesRule.{rule-sound, names-nodup}
 use Rattle.rewrite.specs.PushDownFilter.{marked}

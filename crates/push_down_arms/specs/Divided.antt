@@ -4,9 +4,8 @@ use mathlib.Core.Bool.{not}
 use mathlib.Core.List.{List, [], _∷_, map}
 use Prim.Native.Nat.{ℕ, _≤_}
 use lib.ListN.{length}
-use Rattle.plan.specs.Lists.{flat}
+use Rattle.plan.specs.Lists.{flat, All}
 use Rattle.plan.specs.Syntax.{Name, Expr, Entry, AggEntry, WinEntry, Plan, project, aggregate, window}
-use Rattle.plan.proofs.Lists.{All}
 use Rattle.rewrite.specs.Utils.{replace-cols, split-conjunction, with-filters, is-empty}
 use Rattle.rewrite.specs.PushDownFilter.{Transformed}
 use Rattle.conjuncts.specs.Items.{Conjuncts, Lists}

@@ -1,9 +1,9 @@
-// Predicates whose columns are to be replaced when they are written: 2,048 is added to each item.
+// Predicates whose columns are to be replaced when they are written: each item says so.
+use conjuncts::items::REPLACED;
 use conjuncts::lists::Conjuncts;
 use conjuncts::lists::add;
 use conjuncts::lists::empty;
 use conjuncts::lists::item_at;
-use image::limits::MAX_RECORDS;
 use push_down_base::predicates::Predicate;
 ghost use mathlib.Core.List.{List, map};
 ghost use mathlib.Core.Option.{some};
@@ -24,7 +24,7 @@ pub fn changed(c: Conjuncts) -> Conjuncts
     let mut r = empty();
     let mut i = 0;
     while i < n {
-        r = add(r, item_at(c, i) + MAX_RECORDS);
+        r = add(r, item_at(c, i) + REPLACED);
         i += 1;
     }
     r
@@ -43,7 +43,7 @@ pub fn changed_predicate(p: Predicate) -> Predicate
         };
     }
     Predicate {
-        written: p.written + MAX_RECORDS,
+        written: p.written + REPLACED,
         list,
     }
 }

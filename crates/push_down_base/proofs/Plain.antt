@@ -9,7 +9,8 @@ use native.Mathlib.Omega.{arith}
 use lib.ListN.{length, length-append}
 use Rattle.plan.specs.Syntax.{Name, Expr, col, num, bool, nul, bin, and, or, cmp, neg, test, between, inlist, fn}
 use Rattle.plan.specs.Values.{ValueRecord}
-use Rattle.plan.proofs.Lists.{anil, acons, All-append}
+use Rattle.plan.specs.Lists.{anil, acons}
+use Rattle.plan.proofs.Lists.{All-append}
 use Rattle.rewrite.specs.Utils.{replace-cols, split-conjunction, conjoin, conjunction}
 use Rattle.rewrite.specs.SimplifyPredicates.{Rel, bound-of, simplify-predicates}
 use Rattle.rewrite.specs.ReorderPredicates.{reorder-predicates}

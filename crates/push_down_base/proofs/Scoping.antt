@@ -10,9 +10,9 @@ use Prim.Native.Nat.{ℕ, suc, _≤_}
 use native.Mathlib.Omega.{arith}
 use native.Mathlib.Nat.{le-refl}
 use lib.ListN.{length}
-use Rattle.plan.specs.Lists.{put, keep}
+use Rattle.plan.specs.Lists.{put, keep, anil}
 use Rattle.plan.specs.Syntax.{Name, Expr}
-use Rattle.plan.proofs.Lists.{anil, All-keep}
+use Rattle.plan.proofs.Lists.{All-keep}
 use Rattle.conjuncts.specs.Items.{Conjuncts, listed, Lists, Known}
 use Rattle.conjuncts.proofs.Listed.{lists-none, lists-length, known-of}
 use Rattle.push_down_base.specs.Parting.{Reads}

@@ -7,9 +7,9 @@ use mathlib.Core.List.{List, [], _∷_, _++_}
 use lib.ListN.{length, getD, drop}
 use Rattle.plan.specs.Syntax.{Name, Expr}
 use Rattle.plan.specs.Columns.{on-cols}
-use Rattle.plan.specs.Lists.{put, keep}
+use Rattle.plan.specs.Lists.{put, keep, All, anil, acons}
 use Rattle.plan.specs.Schema.{has}
-use Rattle.plan.proofs.Lists.{All, anil, acons, keep-all}
+use Rattle.plan.proofs.Lists.{keep-all}
 use Rattle.rewrite.specs.PushDownFilter.{push-to, push-not}
 use Rattle.conjuncts.specs.Items.{FALSE, Conjuncts, Lists}
 use Rattle.push_down_base.specs.Parting.{agrees}

@@ -6,7 +6,7 @@ use Prim.Native.Nat.{ℕ, _≤_}
 use Rattle.plan.specs.Syntax.{Name, Expr}
 use Rattle.plan.specs.Columns.{on-cols}
 use Rattle.plan.specs.Schema.{has}
-use Rattle.plan.proofs.Lists.{All}
+use Rattle.plan.specs.Lists.{All}
 use Rattle.conjuncts.specs.Items.{Conjuncts, Lists}
 
 -- every column passes the test, or not every one

@@ -2,7 +2,7 @@
 use mathlib.Core.Path.{_≡_}
 use mathlib.Core.List.{List, [], _∷_}
 use Rattle.plan.specs.Syntax.{Expr}
-use Rattle.plan.proofs.Lists.{All}
+use Rattle.plan.specs.Lists.{All}
 use Rattle.rewrite.specs.Utils.{split-conjunction}
 
 -- it does not split

@@ -16,7 +16,8 @@ use lib.ListN.{length, length-append}
 use borrow.Author.Tests.{leb-true, le-leb}
 use Rattle.plan.specs.Schema.{has, schema}
 use Rattle.plan.specs.Syntax.{Name, Expr, col, num, bool, nul, bin, and, or, cmp, neg, test, between, inlist, fn, Pair, Kind, Plan, join}
-use Rattle.plan.proofs.Lists.{anil, acons, All-map, All-append, All-keep, All-mapped, All-flat, all-of}
+use Rattle.plan.specs.Lists.{anil, acons}
+use Rattle.plan.proofs.Lists.{All-map, All-append, All-keep, All-mapped, All-flat, all-of}
 use Rattle.rewrite.specs.Limits.{listP}
 use Rattle.rewrite.specs.Utils.{replace-cols, split-conjunction, split-conjunction?, conjoin, conjunction, with-filters}
 use Rattle.rewrite.specs.PushDownFilter.{both-or, extract-or-clause, is-or, extract-or-clauses-for-join, partner, to-partner, swap-keys}

@@ -11,10 +11,9 @@ use lib.ListN.{length, drop}
 use borrow.Author.Tests.{leb-true}
 use Rattle.plan.specs.Columns.{on-cols}
 use Rattle.plan.specs.Lists.{_&_, all, any}
-use Rattle.plan.specs.Schema.{has, same, schema}
+use Rattle.plan.specs.Schema.{has, same, schema, nodup}
 use Rattle.plan.specs.Syntax.{Name, Expr, col, num, bool, nul, bin, neg, test, between, inlist, fn, Pair, Kind, Plan, join}
 use Rattle.plan.proofs.Lists.{and-l, and-r}
-use Rattle.plan.proofs.Names.{nodup}
 use Rattle.acceptance.specs.Names.{sound}
 use Rattle.acceptance.proofs.NamesRule.{rule, ok, names-nodup}
 use Rattle.conjuncts.specs.Standing.{StandingP}

@@ -10,7 +10,7 @@ use Prim.Native.Nat.{ℕ}
 use Rattle.plan.specs.Columns.{on-cols}
 use Rattle.plan.specs.Schema.{has, schema, sides}
 use Rattle.plan.specs.Syntax.{Name, Expr, Pair, Kind, inner, left, right, full, leftSemi, rightSemi, leftAnti, rightAnti, Plan, join}
-use Rattle.plan.proofs.Lists.{anil}
+use Rattle.plan.specs.Lists.{anil}
 use Rattle.rewrite.specs.Utils.{split-conjunction}
 use Rattle.rewrite.proofs.Exprs.{on-cols-mono}
 use Rattle.rewrite.proofs.Project.{split-cols}

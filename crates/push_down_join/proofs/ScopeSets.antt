@@ -16,12 +16,12 @@ use lib.ListN.{length, length-map}
 use borrow.Author.Tests.{ltb-true, ltb-false, lt-ltb, le-ltb}
 use Rattle.image.specs.Tree.{none}
 use Rattle.plan.specs.Lists.{any}
-use Rattle.plan.specs.Schema.{has, same}
+use Rattle.plan.specs.Schema.{has, same, nodup}
 use Rattle.plan.specs.Syntax.{Name, nm, Expr, col, num, bool, nul, bin, neg, test, between, inlist, fn, Pair, Kind, Plan, scan, filter, project, join}
 use Rattle.plan.specs.Syntax.{alias}
 use Rattle.plan.specs.Syntax.{union, distinct, sort, repartition, limit, aggregate, window}
 use Rattle.plan.specs.Trees.{labelE, kidsE, labelP, kidsP, each, pairLabel, pairKids, filterKids}
-use Rattle.plan.proofs.Names.{nodup, apart}
+use Rattle.plan.proofs.Names.{apart}
 use Rattle.rewrite.specs.SimplifyPredicates.{as-column}
 use Rattle.rewrite.specs.PushDownFilter.{pair-of, partner}
 use Rattle.utils.specs.Fields.{placeIn}

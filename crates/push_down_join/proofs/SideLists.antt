@@ -11,11 +11,11 @@ use mathlib.Core.Option as O
 use mathlib.Core.Option.{Option, some}
 use Prim.Native.Nat.{ℕ}
 use Rattle.plan.specs.Columns.{on-cols, on-cols-all}
-use Rattle.plan.specs.Lists.{_&_, keep, any}
+use Rattle.plan.specs.Lists.{_&_, keep, any, All, anil, acons}
 use Rattle.plan.specs.Schema.{has, same}
 use Rattle.plan.proofs.Names.{same-eq}
 use Rattle.plan.specs.Syntax.{Name, Expr, col, num, bool, nul, bin, neg, test, between, inlist, fn, Exprs, enil, econs, Pair, Kind}
-use Rattle.plan.proofs.Lists.{and-l, and-r, All, anil, acons, all-of, keep-cong, keep-map, keep-append}
+use Rattle.plan.proofs.Lists.{and-l, and-r, all-of, keep-cong, keep-map, keep-append}
 use Rattle.rewrite.specs.Utils.{replace-cols, replace-cols-all}
 use Rattle.rewrite.specs.PushDownFilter.{left-preserved, right-preserved, on-left-preserved, on-right-preserved, is-inner, partner, to-partner}
 use Rattle.rewrite.specs.PushDownFilter.{swap-keys, nothing, infer-join-predicates, push-to, push-not, rest, if-list, left-push, right-push}

@@ -20,7 +20,7 @@ use Rattle.plan.specs.Syntax.{Name, Expr}
 use Rattle.rewrite.specs.Utils.{replace-cols}
 use Rattle.rewrite.specs.PushDownFilter.{is-or, extract-or-clause, extract-or-clauses-for-join}
 use Rattle.rewrite.specs.PushDownFilter as P
-use Rattle.conjuncts.specs.Items.{Conjuncts, FALSE, listed, Holds, Item, Items, inil, icons, Lists, Known}
+use Rattle.conjuncts.specs.Items.{Conjuncts, FALSE, listed, Holds, Item, Items, inil, icons, Lists, Known, replacedBy, clauseBy}
 use Rattle.conjuncts.specs.Standing.{Standing}
 use Rattle.conjuncts.proofs.Listed.{count-is, whole, lists-room, lists-at, next, at-end}
 use Rattle.push_down_join.specs.Clauses.{clauseOf, or-clause}
@@ -59,9 +59,9 @@ module _ {s : List ℕ} {σ : Name → Expr} {ns : List Name} {t : Name → Bool
   sided-pushed : {n : ℕ} {e : Expr} → Pushed s σ n e → Sided s σ ns t n e
   sided-pushed h = record { written = λ lt. h; clause = λ le. absurd (omega (arith, h .small)); small = omega (arith, h .small) }
 
-  sided-clause : {n : ℕ} {e from : Expr} → Item s n from → on-cols (has ns) from ≡ true → or-clause t from ≡ some e → Sided s σ ns t (n + 4096) e
+  sided-clause : {n : ℕ} {e from : Expr} → Item s n from → on-cols (has ns) from ≡ true → or-clause t from ≡ some e → Sided s σ ns t (n + clauseBy) e
   sided-clause {n} {from = from} h r e =
-      let z : n + 4096 - 4096 ≡ n = omega arith in
+      let z : n + clauseBy - clauseBy ≡ n = omega arith in
       record {
         written = λ lt. absurd (omega arith);
         clause = λ le. record { from = from; item = rw z h; reads = r; is = e };
@@ -72,7 +72,7 @@ module _ {s : List ℕ} {σ : Name → Expr} {ns : List Name} {t : Name → Bool
   each-plain inil = nil
   each-plain (icons {n = n} {e} h hs) = let z : n ≡ n + 0 = omega arith in cons {n = n + 0} {e = e} (rw (← z) (sided-pushed (pushed-plain h))) (each-plain hs)
 
-  each-swapped : {xs : List ℕ} {es : List Expr} → Items s xs es → Each (Sided s σ ns t) (map (λ y. y + 2048) xs) (map (replace-cols σ) es)
+  each-swapped : {xs : List ℕ} {es : List Expr} → Items s xs es → Each (Sided s σ ns t) (map (λ y. y + replacedBy) xs) (map (replace-cols σ) es)
   each-swapped inil = nil
   each-swapped (icons h hs) = cons (sided-pushed (pushed-changed h)) (each-swapped hs)
 
@@ -93,10 +93,10 @@ module _ {s : List ℕ} {σ : Name → Expr} {ns : List Name} {t : Name → Bool
     }
 
     -- a list with its columns replaced is
-    pub sides-swapped : ((xs ys : List ℕ) → Holds to xs → Holds c ys → Holds r (xs ++ map (λ y. y + 2048) ys))
+    pub sides-swapped : ((xs ys : List ℕ) → Holds to xs → Holds c ys → Holds r (xs ++ map (λ y. y + replacedBy) ys))
         → Sides s σ ns t r (es ++ map (replace-cols σ) fs)
     sides-swapped f = record {
-      numbers = h .numbers ++ map (λ y. y + 2048) (k .numbers);
+      numbers = h .numbers ++ map (λ y. y + replacedBy) (k .numbers);
       holds = f (h .numbers) (k .numbers) (h .holds) (k .holds);
       items = each-append (h .items) (each-swapped (k .items));
     }
@@ -112,14 +112,14 @@ module _ {s : List ℕ} {σ : Name → Expr} {ns : List Name} {t : Name → Bool
         go (some a) z = let w : _≡_ {A = ℕ} 0 1 = cc in absurd (omega arith)
 
     pub sides-made : {r : Conjuncts} {m n : ℕ} → o ≡ Made m → Item s n e → on-cols (has ns) e ≡ true
-        → ((xs : List ℕ) → Holds to xs → Holds r (xs ++ ((n + 4096) ∷ []))) → Sides s σ ns t r (es ++ P.listed (or-clause t e))
+        → ((xs : List ℕ) → Holds to xs → Holds r (xs ++ ((n + clauseBy) ∷ []))) → Sides s σ ns t r (es ++ P.listed (or-clause t e))
     unfolding P.listed
     sides-made {r} {m} {n} k i held f = go (or-clause t e) refl (sym is ∙ k)
       where
         go : (x : Option Expr) → or-clause t e ≡ x → clauseOf x ≡ Made m → Sides s σ ns t r (es ++ P.listed x)
         go O.none p z = let w : _≡_ {A = ℕ} 0 1 = cc in absurd (omega arith)
         go (some a) p z = record {
-          numbers = h .numbers ++ ((n + 4096) ∷ []);
+          numbers = h .numbers ++ ((n + clauseBy) ∷ []);
           holds = f (h .numbers) (h .holds);
           items = each-append (h .items) (cons (sided-clause i held p) nil);
         }

@@ -1,14 +1,14 @@
--- What is written for the items of a list that moves to one side of a join: as `Pushed` says, and 4,096 more for the clause out of an OR.
+-- What is written for the items of a list that moves to one side of a join: as `Pushed` says, or the clause out of an OR.
 use mathlib.Core.Path.{_≡_}
 use mathlib.Core.Bool.{Bool, true}
 use mathlib.Core.List.{List}
 use mathlib.Core.Option.{some}
-use Prim.Native.Nat.{ℕ, _-_, _≤_, _<_}
+use Prim.Native.Nat.{ℕ, _*_, _-_, _≤_, _<_}
 use lib.ListN.{length, getD}
 use Rattle.plan.specs.Columns.{on-cols}
 use Rattle.plan.specs.Schema.{has}
 use Rattle.plan.specs.Syntax.{Name, Expr}
-use Rattle.conjuncts.specs.Items.{Conjuncts, listed, Holds, Item}
+use Rattle.conjuncts.specs.Items.{Conjuncts, listed, Holds, Item, clauseBy, replacedBy}
 use Rattle.push_down_join.specs.Clauses.{or-clause}
 use Rattle.utils.specs.Fields.{Fields, Names}
 use Rattle.utils.specs.Masks.{Masks}
@@ -24,9 +24,9 @@ pub record ClauseOf (s : List ℕ) (ns : List Name) (t : Name → Bool) (n : ℕ
 
 -- e is written for the number n
 pub record Sided (s : List ℕ) (σ : Name → Expr) (ns : List Name) (t : Name → Bool) (n : ℕ) (e : Expr) : Type 0 where
-  pub written : n < 4096 → Pushed s σ n e
-  pub clause : 4096 ≤ n → ClauseOf s ns t (n - 4096) e
-  pub small : n < 8192
+  pub written : n < clauseBy → Pushed s σ n e
+  pub clause : clauseBy ≤ n → ClauseOf s ns t (n - clauseBy) e
+  pub small : n < 2 * clauseBy
 
 -- es is written for the list c
 pub record Sides (s : List ℕ) (σ : Name → Expr) (ns : List Name) (t : Name → Bool) (c : Conjuncts) (es : List Expr) : Type 0 where
@@ -38,7 +38,7 @@ pub record Sides (s : List ℕ) (σ : Name → Expr) (ns : List Name) (t : Name 
 pub record Smalls (c : Conjuncts) : Type 0 where
   pub most : c .len ≤ 128
   pub room : length (listed c) ≡ c .len
-  pub each : (i : ℕ) → i < c .len → getD (listed c) i 0 < 2048
+  pub each : (i : ℕ) → i < c .len → getD (listed c) i 0 < replacedBy
 
 -- something is written for the number n
 pub record OneSided (s : List ℕ) (n : ℕ) : Type 0 where

@@ -1,4 +1,5 @@
 // extract_or_clauses_for_join (313 to 346), extract_or_clause (348 to 399): of an OR, the clause that reads columns of one side only.
+use conjuncts::items::CLAUSE;
 use conjuncts::lists::Conjuncts;
 use conjuncts::lists::add;
 use conjuncts::lists::item_at;
@@ -24,7 +25,7 @@ ghost use Rattle.image.specs.Flat.{sizeT};
 ghost use Rattle.image.specs.Limits.{workBytes};
 ghost use Rattle.image.specs.Room.{Wrote};
 ghost use Rattle.image.specs.Tree.{At, Readable, Tree, labelAt};
-ghost use Rattle.plan.proofs.Lists.{All};
+ghost use Rattle.plan.specs.Lists.{All};
 ghost use Rattle.plan.specs.Columns.{on-cols};
 ghost use Rattle.plan.specs.Measure.{sizeE};
 ghost use Rattle.plan.specs.Schema.{has};
@@ -37,9 +38,6 @@ ghost use Rattle.utils.specs.Fields.{Names};
 ghost use Rattle.utils.specs.Masks.{Masks};
 ghost use Rattle.push_down_join.specs.Clauses.{clauseOf, eitherAnd, kept, operatorOf, or-clause, recordsOf};
 ghost use Rattle.push_down_join.specs.Sides.{Sides};
-
-// An item with so much more is the clause out of it.
-pub const CLAUSE: usize = 4096;
 
 // Appends the clause of the conjunct n for a side, if it yields one.
 fn add_clause(s: &[u8], to: Conjuncts, n: usize, fields: Fields, side: u64) -> Conjuncts

@@ -13,6 +13,7 @@ use crate::lr_is_preserved::lr_is_preserved;
 use crate::lr_is_preserved::on_lr_is_preserved;
 use crate::write_sides::Moves;
 use crate::write_sides::write_kept;
+use conjuncts::items::REPLACED;
 use conjuncts::lists::Conjuncts;
 use conjuncts::lists::add;
 use conjuncts::lists::empty;
@@ -45,7 +46,7 @@ ghost use Rattle.rewrite.specs.PushDownFilter.{extract-or-clauses-for-join, if-
 ghost use Rattle.rewrite.specs.PushDownFilter.{on-filter-join-conditions, push-down-all-join, push-down-join, push-not, push-to, rest};
 ghost use Rattle.rewrite.specs.PushDownFilter.{rewrite-filter, right-push};
 ghost use Rattle.rewrite.specs.Utils.{replace-cols, split-conjunction?};
-ghost use Rattle.conjuncts.specs.Items.{Holds};
+ghost use Rattle.conjuncts.specs.Items.{Holds, clauseBy};
 ghost use Rattle.conjuncts.specs.Standing.{StandingP};
 ghost use Rattle.utils.specs.Fields.{Names};
 ghost use Rattle.utils.specs.Masks.{Masks};
@@ -59,7 +60,7 @@ ghost use Rattle.push_down_join.specs.Sides.{Sides, Smalls};
 
 // Appends the items of c, each with so much more.
 pub fn append(to: Conjuncts, c: Conjuncts, more: usize) -> Conjuncts
-    requires { ⌜ Smalls c × (more ≤ 4096) ⌝ }
+    requires { ⌜ Smalls c × (more ≤ clauseBy) ⌝ }
     ensures { λ r. ⌜ ((xs ys : List ℕ) → Holds to xs → Holds c ys → Holds r (xs ++ map (λ y. y + more) ys)) ⌝ }
 {
     let n = c.len;
@@ -89,8 +90,8 @@ pub fn side_push(s: &[u8], above: Part, own: Part, fields: Fields, side: u64) ->
         Sides (now (s .entry)) σ ns t z (a ++ (map (replace-cols σ) (i ++ j) ++ (b ++ extract-or-clauses-for-join t (u ++ v))))) ⌝ }
 {
     let moved = append(empty(), above.moved, 0);
-    let inferred = append(moved, above.keyed, SWAPPED);
-    let keyed = append(inferred, own.keyed, SWAPPED);
+    let inferred = append(moved, above.keyed, REPLACED);
+    let keyed = append(inferred, own.keyed, REPLACED);
     let all = append(keyed, own.moved, 0);
     let clauses = extract_or_clauses_for_join(s, all, above.rest, fields, side);
     extract_or_clauses_for_join(s, clauses, own.rest, fields, side)
@@ -322,6 +323,3 @@ pub fn rewrite_join(
     let list = p.list;
     push_down_join(s, x, list, m, out, at, level)
 }
-
-// An item with so much more has its columns replaced.
-const SWAPPED: usize = 2048;

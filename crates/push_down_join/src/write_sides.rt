@@ -1,7 +1,7 @@
 // What push_down_all_join builds (480 to 525), written: each input under its list, the keys, the filter, and a Filter of what stays above.
 use crate::column_checker::Scope;
-use crate::extract_or_clause::CLAUSE;
 use crate::extract_or_clause::copy_or_clause;
+use conjuncts::items::CLAUSE;
 use conjuncts::lists::Conjuncts;
 use conjuncts::lists::item_at;
 use image::copying::copy_tree;

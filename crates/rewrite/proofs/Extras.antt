@@ -10,8 +10,8 @@ use lib.Dec.{leb}
 use lib.IntN.{ℤ, pos, negsuc}
 use lib.Signed.{leZ}
 use borrow.Author.Tests.{leb-true}
-use Rattle.plan.specs.Lists.{_&_, keep, all, flat}
-use Rattle.plan.proofs.Lists.{and-l, and-r, All, anil, acons, All-append, all-cong, all-parts, all-append, all-map, all-of, and-intro}
+use Rattle.plan.specs.Lists.{_&_, keep, all, flat, All, anil, acons}
+use Rattle.plan.proofs.Lists.{and-l, and-r, All-append, all-cong, all-parts, all-append, all-map, all-of, and-intro}
 use Rattle.plan.specs.Syntax.{Value, null, int, truth, eq, Name, Expr, col, num, bool, nul, bin, and, or, cmp, neg, test, between, inlist}
 use Rattle.plan.specs.Syntax.{fn, Pair}
 use Rattle.meaning.specs.Meaning.{World, Env, isT, compare, eval}

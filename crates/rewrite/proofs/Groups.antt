@@ -4,14 +4,14 @@ use mathlib.Core.Path.{_≡_, refl, sym, ap, ap₂, _∙_}
 use mathlib.Core.Bool.{Bool, true, false, not, _||_}
 use mathlib.Core.List.{List, [], _∷_, _++_, map}
 use lib.ListN.{length-map}
-use Rattle.plan.specs.Lists.{_&_, any, put, keep}
-use Rattle.plan.proofs.Lists.{and-l, and-r, and-comm, All, anil, acons, All-map, All-mapped, All-keep, all-of, keep-cong, keep-keep}
+use Rattle.plan.specs.Lists.{_&_, any, put, keep, All, anil, acons}
+use Rattle.plan.proofs.Lists.{and-l, and-r, and-comm, All-map, All-mapped, All-keep, all-of, keep-cong, keep-keep}
 use Rattle.plan.proofs.Lists.{keep-map, all-cong}
 use Rattle.plan.specs.Syntax.{Value, null, int, truth, Name, Expr, Entry, AggEntry, WinEntry, Plan, filter, distinct}
 use Rattle.meaning.specs.Meaning.{World, Env, Row, isT, sameV, sameRow, first-occurrences, look, eval, sat, sats, entries, agg-entries}
 use Rattle.meaning.specs.Meaning.{win-entry, windowed, aggregated, rows}
-use Rattle.plan.specs.Schema.{same, schema, has}
-use Rattle.plan.proofs.Names.{nodup, same-eq}
+use Rattle.plan.specs.Schema.{same, schema, has, nodup}
+use Rattle.plan.proofs.Names.{same-eq}
 use Rattle.rewrite.specs.Utils.{replace-cols}
 use Rattle.rewrite.specs.PushDownFilter.{pick, names}
 use Rattle.rewrite.proofs.Exprs.{eval-cong}

@@ -4,12 +4,12 @@ use mathlib.Core.Path.{_≡_, refl, sym, ap, ap₂, _∙_}
 use mathlib.Core.Bool.{Bool, true}
 use mathlib.Core.List.{List, [], _∷_, _++_}
 use lib.ListN.{length, length-replicate}
-use Rattle.plan.specs.Lists.{_&_, all}
-use Rattle.plan.proofs.Lists.{and-left-comm, and-sort, All, All-map, all-cong}
+use Rattle.plan.specs.Lists.{_&_, all, All}
+use Rattle.plan.proofs.Lists.{and-left-comm, and-sort, All-map, all-cong}
 use Rattle.plan.specs.Syntax.{null, eq, Name, Expr, Pair, Kind, inner, left, right, leftSemi, rightSemi, leftAnti, rightAnti, Plan, join}
 use Rattle.meaning.specs.Meaning.{World, Env, Row, isT, compare, look, eval, sats, sat?, keys-match, matching, nulls, rows}
-use Rattle.plan.specs.Schema.{schema, has}
-use Rattle.plan.proofs.Names.{nodup, apart}
+use Rattle.plan.specs.Schema.{schema, has, nodup}
+use Rattle.plan.proofs.Names.{apart}
 use Rattle.meaning.proofs.Names.{look-left, look-right}
 use Rattle.plan.specs.Columns.{on-cols}
 use Rattle.rewrite.specs.Utils.{with-filters, conjunction}

@@ -3,8 +3,8 @@
 use mathlib.Core.Path.{_≡_, refl, sym, ap, ap₂, _∙_}
 use mathlib.Core.Bool.{Bool, true, false, not, _||_}
 use mathlib.Core.List.{List, [], _∷_, map}
-use Rattle.plan.specs.Lists.{_&_, put, when, keep, any, flat}
-use Rattle.plan.proofs.Lists.{and-comm, and-sort, All, anil, acons, All-map, All-mapped, All-keep, keep-keep, keep-map, keep-flat}
+use Rattle.plan.specs.Lists.{_&_, put, when, keep, any, flat, All, anil, acons}
+use Rattle.plan.proofs.Lists.{and-comm, and-sort, All-map, All-mapped, All-keep, keep-keep, keep-map, keep-flat}
 use Rattle.plan.proofs.Lists.{keep-cong, keep-when, flat-cong, flat-keep}
 use Rattle.meaning.specs.Meaning.{outer, or-else}
 

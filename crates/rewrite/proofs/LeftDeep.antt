@@ -6,7 +6,8 @@ use Prim.Native.Nat.{_≤_}
 use native.Mathlib.Omega.{arith}
 use lib.ListN.{length, length-append}
 use Rattle.plan.specs.Syntax.{Expr, col, num, bool, nul, bin, and, or, cmp, neg, test, between, inlist, fn}
-use Rattle.plan.proofs.Lists.{All, anil, acons, All-append}
+use Rattle.plan.specs.Lists.{All, anil, acons}
+use Rattle.plan.proofs.Lists.{All-append}
 use Rattle.rewrite.specs.Utils.{split-conjunction, conjoin, conjunction}
 
 -- ---- conjuncts

@@ -6,8 +6,8 @@ use mathlib.Core.List.{List, [], _∷_, _++_, map}
 use mathlib.Core.Option.{Option, none, some}
 use lib.ListN.{length, take, drop, length-map, length-append, length-replicate}
 use borrow.Author.Tests.{eqb-true}
-use Rattle.plan.specs.Lists.{keep}
-use Rattle.plan.proofs.Lists.{and-l, and-r, All, anil, acons, All-map, All-mapped, All-append, All-keep, All-flat, all-of}
+use Rattle.plan.specs.Lists.{keep, All, anil, acons}
+use Rattle.plan.proofs.Lists.{and-l, and-r, All-map, All-mapped, All-append, All-keep, All-flat, all-of}
 use Rattle.plan.specs.Syntax.{null, Name, Field, Entry, Kind, inner, left, right, full, leftSemi, rightSemi, leftAnti, rightAnti, Plan}
 use Rattle.plan.specs.Syntax.{scan, filter, project, join, alias, union, distinct, sort, repartition, limit, aggregate, window, Plans, pnil}
 use Rattle.plan.specs.Syntax.{pcons}

@@ -14,8 +14,8 @@ use Rattle.plan.proofs.Lists.{and-l, and-r, all-of, keep-cong, keep-append}
 use Rattle.plan.specs.Lists.{any, keep}
 use Rattle.plan.specs.Syntax.{null, Name, Expr, col, Plan, filter, alias, union, Plans, pnil, pcons}
 use Rattle.meaning.specs.Meaning.{World, Row, isT, look, eval, sat, rows, rows-all}
-use Rattle.plan.specs.Schema.{same, lookD, schema, schema-first, requalify, has}
-use Rattle.plan.proofs.Names.{nodup, same-refl, same-eq, not-true}
+use Rattle.plan.specs.Schema.{same, lookD, schema, schema-first, requalify, has, nodup}
+use Rattle.plan.proofs.Names.{same-refl, same-eq, not-true}
 use Rattle.plan.specs.Columns.{on-cols}
 use Rattle.rewrite.specs.PushDownFilter.{ren, renamed, filter-each}
 use Rattle.rewrite.proofs.Exprs.{eval-cong, eval-sub}

@@ -4,12 +4,11 @@ use mathlib.Core.Bool.{Bool, true, false, cond}
 use mathlib.Core.List.{List, [], _∷_, _++_}
 use lib.ListN.{length}
 use mathlib.Core.Option.{Option, none, some}
-use Rattle.plan.specs.Lists.{_&_, put, keep, all, flat}
-use Rattle.plan.proofs.Lists.{and-left-comm, and-l, and-r, and-intro, All, All-map, All-append, All-keep, all-parts, all-append}
+use Rattle.plan.specs.Lists.{_&_, put, keep, all, flat, All}
+use Rattle.plan.proofs.Lists.{and-left-comm, and-l, and-r, and-intro, All-map, All-append, All-keep, all-parts, all-append}
 use Rattle.plan.specs.Syntax.{Name, Expr, Pair, Kind, inner, left, right, full, leftSemi, rightSemi, leftAnti, rightAnti, Plan, join}
 use Rattle.meaning.specs.Meaning.{World, Env, Row, isT, eval, look, sat?, matching, joined, keys-match, rows}
-use Rattle.plan.specs.Schema.{schema, sides, has}
-use Rattle.plan.proofs.Names.{nodup}
+use Rattle.plan.specs.Schema.{schema, sides, has, nodup}
 use Rattle.plan.specs.Columns.{on-cols}
 use Rattle.rewrite.specs.Utils.{split-conjunction, with-filters, conjunction, split-conjunction?}
 use Rattle.rewrite.specs.PushDownFilter.{extract-or-clauses-for-join, infer-join-predicates, left-preserved, right-preserved}

@@ -7,8 +7,8 @@ use mathlib.Core.List.{List, [], _∷_, _++_, map}
 use mathlib.Core.Option.{Option, none, some}
 use lib.ListN.{length}
 use borrow.Author.Tests.{eqb-true}
-use Rattle.plan.proofs.Lists.{and-l, and-r, and-intro, All, anil, acons, All-map, All-keep, All-mapped}
-use Rattle.plan.specs.Lists.{any, all}
+use Rattle.plan.proofs.Lists.{and-l, and-r, and-intro, All-map, All-keep, All-mapped}
+use Rattle.plan.specs.Lists.{any, all, All, anil, acons}
 use Rattle.plan.specs.Syntax.{Name, Expr, col, num, bool, nul, bin, neg, test, between, inlist, fn, Exprs, enil, econs, Entry, Pair, Kind}
 use Rattle.plan.specs.Syntax.{inner, left, right, full, leftSemi, rightSemi, leftAnti, rightAnti, Plan, Plans, pnil, pcons}
 use Rattle.plan.specs.Schema.{same, schema, sides, has}

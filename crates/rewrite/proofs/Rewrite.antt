@@ -5,8 +5,8 @@ use mathlib.Core.Bool.{Bool, true, false, _||_}
 use mathlib.Core.List.{List, [], _∷_, _++_, map, append-nil}
 use mathlib.Core.Option.{Option, none, some}
 use lib.ListN.{length, length-map}
-use Rattle.plan.specs.Lists.{_&_, choose, any, put, keep, all}
-use Rattle.plan.proofs.Lists.{and-assoc, and-comm, and-l, and-r, and-intro, All, anil, acons, All-map, All-append, All-keep, all-of}
+use Rattle.plan.specs.Lists.{_&_, choose, any, put, keep, all, All, anil, acons}
+use Rattle.plan.proofs.Lists.{and-assoc, and-comm, and-l, and-r, and-intro, All-map, All-append, All-keep, all-of}
 use Rattle.plan.proofs.Lists.{keep-all, keep-cong, keep-keep, all-parts, all-append}
 use Rattle.plan.specs.Syntax.{Name, Expr, Field, Entry, Pair, AggEntry, WinEntry, Kind, Plan, scan, filter, project, join, alias, union}
 use Rattle.plan.specs.Syntax.{distinct, sort, repartition, limit, aggregate, window, Plans}

@@ -10,10 +10,10 @@ use lib.Dec.{eqb, ltb, leb}
 use borrow.Author.Tests.{ltb-true, ltb-false, le-leb, lt-leb, eqb-true, eq-eqb}
 use lib.IntN.{ℤ, pos, negsuc}
 use lib.Signed.{ltZ, leZ}
-use Rattle.plan.specs.Lists.{_&_, choose, all, flat}
+use Rattle.plan.specs.Lists.{_&_, choose, all, flat, All, anil, acons}
 use Rattle.plan.proofs.Literals.{literal-cases}
 use Rattle.plan.specs.Values.{ValueRecord, literalIs, literalIn, literal?}
-use Rattle.plan.proofs.Lists.{and-l, and-r, and-intro, and-assoc, and-comm, and-left-comm, and-true, All, anil, acons, All-append}
+use Rattle.plan.proofs.Lists.{and-l, and-r, and-intro, and-assoc, and-comm, and-left-comm, and-true, All-append}
 use Rattle.plan.proofs.Lists.{All-mapped, All-flat, all-of, all-append, all-map, all-cong, All-map}
 use Rattle.plan.specs.Syntax.{Value, null, int, truth, Name, Cmp, eq, ne, lt, le, gt, ge, Expr, col, num, bool, nul, bin, and, or, cmp, neg}
 use Rattle.plan.specs.Syntax.{test, between, inlist, fn}

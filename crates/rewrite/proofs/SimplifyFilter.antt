@@ -5,8 +5,8 @@ use mathlib.Core.List.{List, [], _∷_}
 use mathlib.Core.Option.{some}
 use lib.ListN.{length}
 use lib.Dec.{eqb}
-use Rattle.plan.specs.Lists.{choose, keep, all, any}
-use Rattle.plan.proofs.Lists.{and-intro, All, anil, acons, All-append, All-keep, all-append, all-parts}
+use Rattle.plan.specs.Lists.{choose, keep, all, any, All, anil, acons}
+use Rattle.plan.proofs.Lists.{and-intro, All-append, All-keep, all-append, all-parts}
 use Rattle.plan.specs.Syntax.{Name, Expr, bin, and}
 use Rattle.meaning.specs.Meaning.{World, Row, look, sat, sat?}
 use Rattle.plan.specs.Schema.{has}

@@ -11,8 +11,8 @@ use mathlib.Core.Option.{none}
 use lib.IntN.{ℤ, pos, negsuc}
 use lib.Signed.{ltZ}
 use borrow.Author.Tests.{ltb-true, ltb-false, le-ltb}
-use Rattle.plan.specs.Lists.{_&_, put, keep}
-use Rattle.plan.proofs.Lists.{All, anil, acons, All-map, All-keep}
+use Rattle.plan.specs.Lists.{_&_, put, keep, All, anil, acons}
+use Rattle.plan.proofs.Lists.{All-map, All-keep}
 use Rattle.plan.specs.Syntax.{Value, Name, Expr, Key, Plan, filter, sort}
 use Rattle.meaning.specs.Meaning.{World, isN, code, before, lex, insert, sorted, sorts-before, rows}
 use Rattle.plan.specs.Schema.{schema}

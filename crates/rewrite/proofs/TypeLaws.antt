@@ -7,10 +7,10 @@ use mathlib.Core.Option.{Option, none, some}
 use lib.ListN.{length}
 use lib.Dec.{eqb}
 use borrow.Author.Tests.{eqb-true, eq-eqb}
-use Rattle.plan.specs.Lists.{_&_, choose, any, all, flat}
+use Rattle.plan.specs.Lists.{_&_, choose, any, all, flat, All, anil, acons}
 use Rattle.plan.proofs.Literals.{literal-cases}
 use Rattle.plan.specs.Values.{ValueRecord, literalIs}
-use Rattle.plan.proofs.Lists.{and-l, and-r, and-intro, All, anil, acons, All-both, All-append, All-keep, All-mapped}
+use Rattle.plan.proofs.Lists.{and-l, and-r, and-intro, All-both, All-append, All-keep, All-mapped}
 use Rattle.plan.specs.Syntax.{Name, and, or, cmp, Expr, col, num, bool, nul, bin, neg, test, between, inlist, fn, Exprs, enil, econs, Entry}
 use Rattle.plan.specs.Syntax.{Pair}
 use Rattle.plan.specs.Schema.{lookD, same, has}

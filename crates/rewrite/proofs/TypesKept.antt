@@ -7,12 +7,13 @@ use mathlib.Core.Option.{Option, none, some}
 use lib.ListN.{length, length-map}
 use lib.Dec.{eqb}
 use borrow.Author.Tests.{eqb-true}
-use Rattle.plan.proofs.Lists.{and-l, and-r, and-intro, All, anil, acons, All-append, All-keep, All-both}
+use Rattle.plan.specs.Lists.{All, anil, acons}
+use Rattle.plan.proofs.Lists.{and-l, and-r, and-intro, All-append, All-keep, All-both}
 use Rattle.plan.specs.Syntax.{Name, Expr, col, num, bool, nul, bin, neg, test, between, inlist, fn, Field, Entry, Pair, Key, AggEntry}
 use Rattle.plan.specs.Syntax.{WinEntry, Kind, inner, left, right, full, leftSemi, rightSemi, leftAnti, rightAnti, Plan, scan, filter}
 use Rattle.plan.specs.Syntax.{project, join, alias, union, sort, aggregate, window, Plans, pnil, pcons}
-use Rattle.plan.specs.Schema.{lookD, schema, schema-first, sides, requalify, has}
-use Rattle.plan.proofs.Names.{nodup, apart, lookD-left, lookD-right}
+use Rattle.plan.specs.Schema.{lookD, schema, schema-first, sides, requalify, has, nodup}
+use Rattle.plan.proofs.Names.{apart, lookD-left, lookD-right}
 use Rattle.plan.specs.Columns.{on-cols}
 use Rattle.rewrite.specs.Utils.{replace-cols, split-conjunction, split-conjunction?, conjunction, with-filters, unique}
 use Rattle.rewrite.specs.SimplifyPredicates.{as-column}

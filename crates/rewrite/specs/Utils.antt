@@ -43,9 +43,13 @@ unfoldable mutual
   any-fn-all c enil = false
   any-fn-all c (econs x xs) = any-fn c x || any-fn-all c xs
 
--- a function is volatile if its marks are 1 or 3
+-- the marks of a volatile function: 1 or 3
+abbrev pub volatile-marks : ℕ → Bool
+volatile-marks = λ q. eqb q 1 || eqb q 3
+
+-- is_volatile: some function is
 abbrev pub is-volatile : Expr → Bool
-is-volatile e = any-fn (λ q. eqb q 1 || eqb q 3) e
+is-volatile e = any-fn volatile-marks e
 
 -- placement() == MoveTowardsLeafNodes: the topmost expression is a function so marked
 unfoldable pub is-leafward : Expr → Bool

@@ -13,8 +13,8 @@ use native.Mathlib.Omega.{arith}
 use lib.ListN.{length}
 use Rattle.plan.specs.Syntax.{Expr, Name}
 use Rattle.plan.specs.Schema.{same}
-use Rattle.plan.specs.Lists.{choose, put, keep}
-use Rattle.plan.proofs.Lists.{All, anil, acons, All-map, All-keep, All-both, keep-cong}
+use Rattle.plan.specs.Lists.{choose, put, keep, All, anil, acons}
+use Rattle.plan.proofs.Lists.{All-map, All-keep, All-both, keep-cong}
 use Rattle.plan.proofs.Names.{same-eq, same-refl}
 use Rattle.rewrite.specs.SimplifyPredicates.{Side, Item, Group, name-under, put-in, fresh, enter, view, add, sort-out}
 use Rattle.simplify_expressions.specs.Classes.{after, before, lesser, least}

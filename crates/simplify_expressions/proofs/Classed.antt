@@ -13,8 +13,7 @@ use lib.Dec.{eqb}
 use lib.ListN.{length, getD, drop}
 use borrow.Author.Tests.{eqb-true}
 use Rattle.plan.specs.Syntax.{Expr, Name, nm}
-use Rattle.plan.specs.Lists.{choose, put, keep}
-use Rattle.plan.proofs.Lists.{All, anil, acons}
+use Rattle.plan.specs.Lists.{choose, put, keep, All, anil, acons}
 use Rattle.rewrite.specs.SimplifyPredicates.{Rel, same-as, above, below, Side, Item, Sorted, bound-of, eq-expr, up-expr, down-expr, view}
 use Rattle.rewrite.specs.SimplifyPredicates.{add, sort-out}
 use Rattle.rewrite.proofs.Simplify.{view-back}

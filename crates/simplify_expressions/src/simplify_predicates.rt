@@ -1,6 +1,7 @@
 // simplify_predicates.rs, in its order: simplify_predicates (44 to 102), simplify_column_predicates (105 to 171),
 // find_most_restrictive_predicate (187 to 242), extract_column_from_expr (245 to 252); with the differences D1, D2 and D3.
 // The source's map from columns to predicates is a search for the next column.
+use conjuncts::items::FALSE_ITEM;
 use conjuncts::lists::Conjuncts;
 use conjuncts::lists::add_if;
 use conjuncts::lists::empty;
@@ -25,8 +26,8 @@ use plan::words::EQ;
 use plan::words::GT;
 use plan::words::INTEGER;
 use plan::words::LT;
-use plan::words::NOT_EQ;
 use plan::words::NO_TYPE;
+use plan::words::NOT_EQ;
 ghost use mathlib.Core.Path.{_≡_};
 ghost use mathlib.Core.Bool.{Bool};
 ghost use mathlib.Core.List.{_++_, List, map};
@@ -269,7 +270,7 @@ fn equal_part(s: &[u8], c: Conjuncts, into: Conjuncts) -> Conjuncts
     if all_agree(s, c) {
         return add_if(into, item_at(c, n - 1), true);
     }
-    add_if(into, 0, true)
+    add_if(into, FALSE_ITEM, true)
 }
 
 // Whether the literals of the equalities c agree with the first.
@@ -554,7 +555,7 @@ pub fn compared_at(s: &[u8], c: Conjuncts, i: usize) -> Compared
     ensures { λ r. ⌜ ((es : List Expr) → Lists (now (s .entry)) c es → seen r ≡ view (getD es i FALSE)) ⌝ }
 {
     let n = item_at(c, i);
-    if n == 0 {
+    if n == FALSE_ITEM {
         return Compared::Not;
     }
     compared_in(record_at(s, n), n)

@@ -17,11 +17,11 @@ use Rattle.image.specs.Tree.{Forest, none, node, Tree}
 use Rattle.image.specs.Limits.{maxFields}
 use Rattle.plan.specs.Columns.{on-cols, on-cols-all}
 use Rattle.plan.specs.Lists.{_&_, any}
-use Rattle.plan.specs.Schema.{has, same}
+use Rattle.plan.specs.Schema.{has, same, nodup}
 use Rattle.plan.specs.Syntax.{Name, nm, Expr, col, num, bool, nul, bin, neg, test, between, inlist, fn, Exprs, enil, econs}
 use Rattle.plan.specs.Trees.{labelE, kidsE, forestE, exprTree}
 use Rattle.plan.proofs.Lists.{and-l, and-r, and-true, true-and, and-assoc}
-use Rattle.plan.proofs.Names.{nodup, same-eq, same-refl, not-true}
+use Rattle.plan.proofs.Names.{same-eq, same-refl, not-true}
 use Rattle.plan.proofs.Written.{name-back}
 use Rattle.utils.specs.Sets.{member, within}
 use Rattle.utils.specs.Masks.{nameAt, Masks, Answers}

@@ -18,9 +18,9 @@ use lib.Seq.{getD-append-add, getD-append-seam}
 use borrow.Author.Tests.{ltb-true, ltb-false, lt-ltb, le-ltb, eqb-true, eqb-false, eq-eqb, ne-eqb}
 use Rattle.image.specs.Limits.{maxFields}
 use Rattle.plan.specs.Lists.{any}
-use Rattle.plan.specs.Schema.{has, same}
+use Rattle.plan.specs.Schema.{has, same, nodup}
 use Rattle.plan.specs.Syntax.{Name, nm}
-use Rattle.plan.proofs.Names.{nodup, apart, same-refl}
+use Rattle.plan.proofs.Names.{apart, same-refl}
 use Rattle.utils.specs.Sets.{member}
 use Rattle.utils.specs.Masks.{nameAt, Masks}
 use Rattle.utils.proofs.Members.{member-none, member-xor}

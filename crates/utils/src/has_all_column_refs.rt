@@ -3,6 +3,7 @@ use crate::schema_columns::Fields;
 use crate::schema_columns::place_in;
 use crate::sets::is_within;
 use crate::sets::with;
+use conjuncts::items::FALSE_ITEM;
 use image::limits::MAX_DEPTH;
 use image::limits::MAX_FIELDS;
 use image::records::FIRST_LINK;
@@ -74,13 +75,13 @@ pub fn has_all_column_refs(part: &[u8], base: usize, depth: usize, f: Fields, si
     is_within(columns(part, base, depth, f), side)
 }
 
-// The set of the fields that the expression at record n refers to; 0 stands for FALSE.
+// The set of the fields that the item n refers to.
 pub fn columns_at(s: &[u8], n: usize, f: Fields) -> u64
     requires { ⌜ Present (now s) n ⌝ }
     requires { ⌜ f .len ≤ maxFields ⌝ }
     ensures { λ r. ⌜ ((e : Expr) (ns : List Name) → Item (now (s .entry)) n e → Names f ns → on-cols (has ns) e ≡ true → Refers r ns e) ⌝ }
 {
-    if n == 0 {
+    if n == FALSE_ITEM {
         return 0;
     }
     columns(record_at(s, n), n, MAX_DEPTH, f)

@@ -8,6 +8,7 @@ use image::records::NEXT_LINK;
 use image::records::from_record;
 use image::records::label_at;
 use image::records::record_at;
+use image::words::wide;
 use image::words::word_at;
 use plan::kinds::AGGREGATE;
 use plan::kinds::AGGREGATE_ENTRY;
@@ -69,13 +70,6 @@ pub fn add_field(f: Fields, q: usize, n: usize) -> Fields
     }
     r.len = TOO_MANY_FIELDS;
     r
-}
-
-// A word as a number: the index is then all that a read of it asks for.
-fn wide(x: u32) -> usize
-    ensures { λ r. ⌜ (r ≡ x) × (r < 4294967296) ⌝ }
-{
-    x as usize
 }
 
 // The qualifier of the field i.

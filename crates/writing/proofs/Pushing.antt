@@ -15,7 +15,7 @@ use Rattle.plan.specs.Syntax.{Name, Expr, bin, and, Plan}
 use Rattle.plan.specs.Trees.{exprTree, planTree}
 use Rattle.rewrite.specs.Utils.{replace-cols, conjoin, with-filters}
 use Rattle.conjuncts.specs.Standing.{Standing, StandingP}
-use Rattle.conjuncts.specs.Items.{Conjuncts, FALSE, most, listed, Holds, Item, Items, inil, icons, Lists}
+use Rattle.conjuncts.specs.Items.{Conjuncts, FALSE, most, listed, Holds, Item, Items, inil, icons, Lists, replacedBy}
 use Rattle.conjuncts.proofs.Listed.{count-is, whole}
 use Rattle.writing.specs.Maps.{Maps}
 use Rattle.writing.specs.Pushed.{Pushed, Each, nil, cons, Pushes, One, Some}
@@ -47,9 +47,9 @@ module _ {s : List ℕ} {σ : Name → Expr} where
   pushed-plain h = record { plain = λ lt. h; changed = λ le. absurd (omega (arith, h .small)); small = omega (arith, h .small) }
 
   -- an item with its columns replaced
-  pub pushed-changed : {n : ℕ} {e : Expr} → Item s n e → Pushed s σ (n + 2048) (replace-cols σ e)
+  pub pushed-changed : {n : ℕ} {e : Expr} → Item s n e → Pushed s σ (n + replacedBy) (replace-cols σ e)
   pushed-changed {n} {e} h =
-      let z : n + 2048 - 2048 ≡ n = omega arith in
+      let z : n + replacedBy - replacedBy ≡ n = omega arith in
       record {
         plain = λ lt. absurd (omega arith);
         changed = λ le. record { from = e; item = rw z h; is = refl };

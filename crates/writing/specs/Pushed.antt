@@ -1,11 +1,10 @@
--- What is written for the items of a list: 0 is FALSE, another number below 2,048 the expression at that record, and 2,048 more the same with
--- its columns replaced.
+-- What is written for the items of a list: an expression as it stands, or with its columns replaced.
 use mathlib.Core.Path.{_≡_}
 use mathlib.Core.List.{List, [], _∷_}
 use Prim.Native.Nat.{ℕ, _-_, _≤_, _<_}
 use Rattle.plan.specs.Syntax.{Name, Expr}
 use Rattle.rewrite.specs.Utils.{replace-cols, conjoin}
-use Rattle.conjuncts.specs.Items.{Conjuncts, Holds, Item}
+use Rattle.conjuncts.specs.Items.{Conjuncts, Holds, Item, clauseBy, replacedBy}
 
 -- e is the expression of the item n, its columns replaced by σ
 pub record Changed (s : List ℕ) (σ : Name → Expr) (n : ℕ) (e : Expr) : Type 0 where
@@ -15,9 +14,9 @@ pub record Changed (s : List ℕ) (σ : Name → Expr) (n : ℕ) (e : Expr) : Ty
 
 -- e is written for the number n, where columns are replaced by σ
 pub record Pushed (s : List ℕ) (σ : Name → Expr) (n : ℕ) (e : Expr) : Type 0 where
-  pub plain : n < 2048 → Item s n e
-  pub changed : 2048 ≤ n → Changed s σ (n - 2048) e
-  pub small : n < 4096
+  pub plain : n < replacedBy → Item s n e
+  pub changed : replacedBy ≤ n → Changed s σ (n - replacedBy) e
+  pub small : n < clauseBy
 
 -- the numbers stand for the expressions, one by one
 pub data Each (R : ℕ → Expr → Type 0) : List ℕ → List Expr → Type 0 where

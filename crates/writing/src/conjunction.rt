@@ -1,12 +1,12 @@
 // conjunction (datafusion-expr utils): the items of a list written as one predicate, left-deep.
 // An item is 0 for FALSE, or the record of an expression; 2,048 more for the same with its columns replaced.
 use crate::replace_cols_by_name::replace_cols_by_name;
+use conjuncts::items::REPLACED;
 use conjuncts::lists::Conjuncts;
 use conjuncts::lists::item_at;
 use image::copying::copy_tree;
 use image::copying::put_kind;
 use image::limits::MAX_DEPTH;
-use image::limits::MAX_RECORDS;
 use image::records::record_at;
 use plan::kinds::BINARY_EXPR;
 use plan::kinds::BOOLEAN_LITERAL;
@@ -79,10 +79,10 @@ pub fn copy_item(
     ensures { λ r. ⌜ ((σ : Name → Expr) → Maps (now (m .entry)) of room σ → (e : Expr) → Pushed (now (s .entry)) σ n e →
         Wrote (now (out .entry)) (now (out .exit)) at level r (exprTree e)) ⌝ }
 {
-    if n < MAX_RECORDS {
+    if n < REPLACED {
         return copy_plain(s, n, out, at, level);
     }
-    copy_changed(s, m, of, room, n - MAX_RECORDS, out, at, level)
+    copy_changed(s, m, of, room, n - REPLACED, out, at, level)
 }
 
 // Writes the first k items of a list, joined left-deep.

@@ -9,7 +9,7 @@ use lib.ListN.{getD, length}
 use Rattle.plan.specs.Columns.{on-cols}
 use Rattle.plan.specs.Schema.{has}
 use Rattle.plan.specs.Syntax.{Name, Expr}
-use Rattle.plan.proofs.Lists.{All}
+use Rattle.plan.specs.Lists.{All}
 use Rattle.conjuncts.specs.Items.{FALSE, Lists}
 use Rattle.conjuncts.proofs.Listed.{lists-none, lists-at, lists-length, lists-room}
 use Rattle.conjuncts.proofs.Kept.{Kept, kept-start, kept-next, kept-end}

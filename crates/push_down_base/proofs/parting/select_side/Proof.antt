@@ -9,8 +9,7 @@ use lib.ListN.{getD, length}
 use Rattle.plan.specs.Syntax.{Name, Expr}
 use Rattle.plan.specs.Columns.{on-cols}
 use Rattle.plan.specs.Schema.{has}
-use Rattle.plan.specs.Lists.{put, keep}
-use Rattle.plan.proofs.Lists.{All}
+use Rattle.plan.specs.Lists.{put, keep, All}
 use Rattle.conjuncts.specs.Items.{FALSE, Lists}
 use Rattle.conjuncts.proofs.Listed.{lists-none, lists-at, lists-length, lists-room, keep-next, put-then, at-end}
 use Rattle.utils.specs.Fields.{Names}

@@ -8,7 +8,7 @@ use lib.ListN.{length, getD}
 use Rattle.plan.specs.Columns.{on-cols}
 use Rattle.plan.specs.Schema.{has}
 use Rattle.plan.specs.Syntax.{Name, Expr}
-use Rattle.plan.proofs.Lists.{All}
+use Rattle.plan.specs.Lists.{All}
 use Rattle.conjuncts.specs.Items.{FALSE, Lists}
 use Rattle.conjuncts.proofs.Listed.{lists-at, lists-length, lists-room}
 use Rattle.utils.specs.Fields.{Names}

@@ -5,7 +5,7 @@ use native.Mathlib.Omega.{arith}
 use borrow.Author.Needs.{needs}
 use Rattle.plan.specs.Measure.{sizeP}
 use Rattle.rewrite.specs.PushDownFilter.{push-down-join}
-use Rattle.plan.proofs.Lists.{anil}
+use Rattle.plan.specs.Lists.{anil}
 use Rattle.push_down_base.proofs.Scoping.{reads-none}
 use Rattle.push_down_join.proofs.JoinsUnder.{none-under}
 use Rattle.push_down_rewrite.proofs.Tested.{few-records, sized, stands-inside, end-within, level-small}
