@@ -9,9 +9,7 @@ use mathlib.Core.List.{List}
 use lib.ListN.{drop}
 use Prim.Native.Nat.{ℕ, _*_}
 use native.Mathlib.Omega.{arith}
-use lib.Dec.{eqb}
 use borrow.Author.Tests.{eqb-true, eq-eqb}
-use Rattle.image.specs.Word.{word}
 use Rattle.image.specs.Tree.{Label, Forest, none, node, Tree, At, labelAt}
 use Rattle.image.proofs.Walking.{only}
 use Rattle.plan.specs.Kinds.{what}

@@ -18,7 +18,7 @@ FALSE = bool false
 
 -- ---- the numbers of items: those of the code's module `items`
 
--- FALSE, which has no record; each other number below maxRecords is an expression's, by its record
+-- FALSE, which needs no record; each other number below maxRecords is an expression's, by its record
 abbrev pub falseItem : ℕ
 falseItem = 0
 

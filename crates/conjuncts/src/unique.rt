@@ -48,7 +48,8 @@ fn add_new(s: &[u8], c: Conjuncts, x: usize) -> Conjuncts
 fn unique_onto(s: &[u8], into: Conjuncts, c: Conjuncts) -> Conjuncts
     requires { ⌜ Some (now s) into ⌝ }
     requires { ⌜ Known (now s) c ⌝ }
-    ensures { λ r. ⌜ ((fs es : List Expr) → Lists (now (s .entry)) into fs → Lists (now (s .entry)) c es → Lists (now (s .entry)) r (onto fs es)) ⌝ }
+    ensures { λ r. ⌜ ((fs es : List Expr) → Lists (now (s .entry)) into fs → Lists (now (s .entry)) c es →
+        Lists (now (s .entry)) r (onto fs es)) ⌝ }
 {
     let n = c.len;
     let mut r = into;

@@ -24,35 +24,37 @@ use Rattle.simplify_expressions.specs.declared.simplify_predicates.Compa
 use Rattle.simplify_expressions.specs.declared.simplify_predicates.Compared.the-variants.{Of, Not}
 use Rattle.simplify_expressions.specs.declared.simplify_predicates.Bound.{Bound}
 use Rattle.simplify_expressions.specs.Seen.{named, relOf, seen, strictR, sideOf?, sideIn, Spelled}
-use Rattle.simplify_expressions.specs.Classes.{classOf, isName, inClass, ofClass, after, before, lesser, least}
+use Rattle.simplify_expressions.specs.Classes.{isOf, isOther, isName, inClass, ofClass, after, before, lesser, least}
+use Rattle.simplify_expressions.specs.declared.simplify_predicates.Class.{Class}
+use Rattle.simplify_expressions.specs.declared.simplify_predicates.Class.the-variants.{Equality, Lower, Upper, Other}
 
 -- ---- as the code computes them
 
-pub same-class : {x : Compared} {b : Bound} (k q n : ℕ) {r : ℕ} → x ≡ Of b → ((s : Bool) → r ≡ classOf (relOf (b .class) s))
-    → (eqb r k && (eqb (b .column .q) q && eqb (b .column .n) n)) ≡ inClass k q n (seen x)
+pub same-class : {x : Compared} {b : Bound} (k : Class) (q n : ℕ) {r : Bool} → x ≡ Of b → r ≡ isOf k (relOf (b .relation))
+    → (r && (eqb (b .column .q) q && eqb (b .column .n) n)) ≡ inClass k q n (seen x)
 unfolding inClass
-same-class {b = b} k q n e h = rw (e, h (b .strict))
+same-class k q n e h = rw (e, h)
 
-pub no-class : {x : Compared} (k q n : ℕ) → x ≡ Not → eqb k 3 ≡ inClass k q n (seen x)
+pub no-class : {x : Compared} (k : Class) (q n : ℕ) {r : Bool} → x ≡ Not → r ≡ isOther k → r ≡ inClass k q n (seen x)
 unfolding inClass
-no-class k q n e = rw e
+no-class k q n e h = rw e h
 
 -- ---- the others
 
-add-others : (e : Expr) (o : Option Item) (s : Sorted) → add e o s .others ≡ put (inClass 3 0 0 o) e (s .others)
+add-others : (e : Expr) (o : Option Item) (s : Sorted) → add e o s .others ≡ put (inClass Other 0 0 o) e (s .others)
 unfolding put inClass
 add-others e none s = refl
 add-others e (some i) s = go (i .rel)
   where
-    go : (r : Rel) → s .others ≡ put (inClass 3 0 0 (some (record { key = i .key; rel = r; lit = i .lit; flipped = i .flipped }))) e (s .others)
+    go : (r : Rel) → s .others ≡ put (inClass Other 0 0 (some (record { key = i .key; rel = r; lit = i .lit; flipped = i .flipped }))) e (s .others)
     go same-as = refl
     go (above b) = refl
     go (below b) = refl
 
-pub others-are : (es : List Expr) → keep (ofClass 3 0 0) es ≡ sort-out es .others
+pub others-are : (es : List Expr) → keep (ofClass Other 0 0) es ≡ sort-out es .others
 unfolding keep sort-out
 others-are [] = refl
-others-are (e ∷ es) = sym (add-others e (view e) (sort-out es) ∙ ap (put (ofClass 3 0 0 e) e) (sym (others-are es)))
+others-are (e ∷ es) = sym (add-others e (view e) (sort-out es) ∙ ap (put (ofClass Other 0 0 e) e) (sym (others-are es)))
 
 -- ---- what is kept
 
@@ -87,7 +89,7 @@ name-eq : (x : Name) (q n : ℕ) → isName x q n ≡ true → x ≡ nm q n
 name-eq (nm p m) q n h = let a = and-both _ _ h in ap₂ nm (eqb-true p q (a .0)) (eqb-true m n (a .1))
 
 -- the class k is the relation `rel` by strictness
-module _ (k : ℕ) (rel : Bool → Rel) (other : eqb k 3 ≡ false) (is : (r : Rel) → eqb (classOf r) k ≡ true → r ≡ rel (strictR r)) (q n : ℕ) where
+module _ (k : Class) (rel : Bool → Rel) (other : isOther k ≡ false) (is : (r : Rel) → isOf k r ≡ true → r ≡ rel (strictR r)) (q n : ℕ) where
   abbrev spell : Side → Expr
   spell d = bound-of (d .flipped) (rel (d .strict)) (nm q n) (d .lit)
 
@@ -103,29 +105,29 @@ module _ (k : ℕ) (rel : Bool → Rel) (other : eqb k 3 ≡ false) (is : (r : R
   spelled : (es : List Expr) → Spelled spell (keep (ofClass k q n) es)
   spelled es = all-at {P = λ e. spell (sideIn e) ≡ e} (keep-passes (ofClass k q n) (λ e h. said e (view e) refl h) es)
 
-is-equal : (r : Rel) → eqb (classOf r) 0 ≡ true → r ≡ same-as
+is-equal : (r : Rel) → isOf Equality r ≡ true → r ≡ same-as
 is-equal same-as h = refl
 is-equal (above s) h = cc
 is-equal (below s) h = cc
 
-is-lower : (r : Rel) → eqb (classOf r) 1 ≡ true → r ≡ above (strictR r)
+is-lower : (r : Rel) → isOf Lower r ≡ true → r ≡ above (strictR r)
 is-lower same-as h = cc
 is-lower (above s) h = refl
 is-lower (below s) h = cc
 
-is-upper : (r : Rel) → eqb (classOf r) 2 ≡ true → r ≡ below (strictR r)
+is-upper : (r : Rel) → isOf Upper r ≡ true → r ≡ below (strictR r)
 is-upper same-as h = cc
 is-upper (above s) h = cc
 is-upper (below s) h = refl
 
-pub eqs-spelled : (q n : ℕ) (es : List Expr) → Spelled (eq-expr (nm q n)) (keep (ofClass 0 q n) es)
-eqs-spelled q n = spelled 0 (λ s. same-as) refl is-equal q n
+pub eqs-spelled : (q n : ℕ) (es : List Expr) → Spelled (eq-expr (nm q n)) (keep (ofClass Equality q n) es)
+eqs-spelled q n = spelled Equality (λ s. same-as) refl is-equal q n
 
-pub ups-spelled : (q n : ℕ) (es : List Expr) → Spelled (up-expr (nm q n)) (keep (ofClass 1 q n) es)
-ups-spelled q n = spelled 1 above refl is-lower q n
+pub ups-spelled : (q n : ℕ) (es : List Expr) → Spelled (up-expr (nm q n)) (keep (ofClass Lower q n) es)
+ups-spelled q n = spelled Lower above refl is-lower q n
 
-pub downs-spelled : (q n : ℕ) (es : List Expr) → Spelled (down-expr (nm q n)) (keep (ofClass 2 q n) es)
-downs-spelled q n = spelled 2 below refl is-upper q n
+pub downs-spelled : (q n : ℕ) (es : List Expr) → Spelled (down-expr (nm q n)) (keep (ofClass Upper q n) es)
+downs-spelled q n = spelled Upper below refl is-upper q n
 
 -- ---- columns in order, as the code finds them
 

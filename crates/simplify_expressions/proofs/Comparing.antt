@@ -4,7 +4,7 @@
 --     two-columns .. neither   the cases of `matchedIn`
 -- Assumes nothing.
 use mathlib.Core.Path.{_≡_, refl, sym, ap₂, subst, _∙_}
-use mathlib.Core.Bool.{Bool, true, false, not, _&&_, cond}
+use mathlib.Core.Bool.{Bool, true, false}
 use mathlib.Core.List.{List}
 use mathlib.Core.Option.{Option, none, some}
 use Prim.Native.Nat.{ℕ, _+_, _-_, _*_, _≤_, _<_}
@@ -19,24 +19,15 @@ use Rattle.plan.specs.Integers.{FitsE}
 use Rattle.plan.specs.Values.{ValueRecord, literalOf, literalIn, literal?}
 use Rattle.plan.specs.declared.values.Literal as L
 use Rattle.plan.specs.declared.values.Literal.the-variants as LV
+use Rattle.plan.specs.Kinds as Kinds
+use Rattle.plan.specs.Kinds.{numberE}
 use Rattle.plan.proofs.Literals.{literal-read}
-use Rattle.rewrite.specs.SimplifyPredicates.{Rel, same-as, above, below, Item, rel-of, as-column, as-literal, make, or-item, view}
+use Rattle.rewrite.specs.SimplifyPredicates.{Rel, Item, rel-of, as-column, as-literal, make, or-item, view}
 use Rattle.conjuncts.proofs.Operands as K
 use Rattle.simplify_expressions.specs.declared.simplify_predicates.Name as DeclName
 use Rattle.simplify_expressions.specs.declared.simplify_predicates.Operand.{Operand}
 use Rattle.simplify_expressions.specs.declared.simplify_predicates.Operand.the-variants.{Column, Literal, Neither}
-use Rattle.simplify_expressions.specs.Seen.{named, columnIn, valueIn, asOperand, operandOf, relOf, relNo, strictR, matchedIn}
-
-strict-of : (a b s : Bool) → strictR (cond a same-as (cond b (above s) (below s))) ≡ (s && not a)
-strict-of true b true = refl
-strict-of true b false = refl
-strict-of false true true = refl
-strict-of false true false = refl
-strict-of false false true = refl
-strict-of false false false = refl
-
-pub strict-is : (k : ℕ) (s : Bool) → strictR (relOf k s) ≡ (s && not (eqb k 0))
-strict-is k s = strict-of (eqb k 0) (eqb k 1) s
+use Rattle.simplify_expressions.specs.Seen.{named, columnIn, valueIn, asOperand, operandOf, relNo, matchedIn}
 
 -- ---- operators and operands
 
@@ -57,7 +48,7 @@ no-column : (l : L.Literal) → columnIn (asOperand l) ≡ none
 no-column (LV.Of v) = refl
 no-column LV.Not = refl
 
-other-column : (e : Expr) → eqb (labelE e .kind) 1 ≡ false → columnIn (operandOf (labelE e)) ≡ none
+other-column : (e : Expr) → eqb (labelE e .kind) (numberE Kinds.Column) ≡ false → columnIn (operandOf (labelE e)) ≡ none
 other-column e h = rw h (no-column (literalOf (labelE e)))
 
 column-is : (e : Expr) → columnIn (operandOf (labelE e)) ≡ as-column e
@@ -78,7 +69,7 @@ unfolding literal?
 literal-value (LV.Of v) = refl
 literal-value LV.Not = refl
 
-not-column : (e : Expr) → FitsE e → eqb (labelE e .kind) 1 ≡ false → valueIn (operandOf (labelE e)) ≡ as-literal e
+not-column : (e : Expr) → FitsE e → eqb (labelE e .kind) (numberE Kinds.Column) ≡ false → valueIn (operandOf (labelE e)) ≡ as-literal e
 unfolding as-literal
 not-column e f h = rw (h, literal-read e f) (literal-value (literalIn e))
 
@@ -97,7 +88,7 @@ value-is (fn p q r xs) f = not-column (fn p q r xs) f refl
 
 -- ---- which expressions are comparisons
 
-pub not-binary : (e : Expr) → (labelE e .kind ≡ 5 → ⊥) → view e ≡ none
+pub not-binary : (e : Expr) → (labelE e .kind ≡ numberE Kinds.Binary → ⊥) → view e ≡ none
 unfolding labelE view
 not-binary (col x) h = refl
 not-binary (num z) h = refl
@@ -116,7 +107,7 @@ record Binary (e : Expr) : Type 0 where
   rhs : Expr
   is : e ≡ bin (cmp op) lhs rhs
 
-low-number : (c : Cmp) → 3 ≤ opNumber (cmp c)
+low-number : (c : Cmp) → opNumber (cmp eq) ≤ opNumber (cmp c)
 low-number eq = omega arith
 low-number ne = omega arith
 low-number lt = omega arith
@@ -124,7 +115,7 @@ low-number le = omega arith
 low-number gt = omega arith
 low-number ge = omega arith
 
-pub not-compared : (e : Expr) → labelE e .kind ≡ 5 → labelE e .p < 3 → view e ≡ none
+pub not-compared : (e : Expr) → labelE e .kind ≡ numberE Kinds.Binary → labelE e .p < opNumber (cmp eq) → view e ≡ none
 unfolding labelE view
 not-compared (bin and a b) h k = refl
 not-compared (bin or a b) h k = refl
@@ -139,7 +130,7 @@ not-compared (between n a l u) h k = absurd (omega arith)
 not-compared (inlist n a xs) h k = absurd (omega arith)
 not-compared (fn p q r xs) h k = absurd (omega arith)
 
-binary : (e : Expr) → labelE e .kind ≡ 5 → 3 ≤ labelE e .p → Binary e
+binary : (e : Expr) → labelE e .kind ≡ numberE Kinds.Binary → opNumber (cmp eq) ≤ labelE e .p → Binary e
 unfolding labelE
 binary (bin and a b) h k = absurd (omega arith)
 binary (bin or a b) h k = absurd (omega arith)
@@ -181,7 +172,7 @@ operands-of s base c x y h =
           (u .right .head .label) ∙ come-to c x y f;
     }
 
-pub operands : {s : List ℕ} {base : ℕ} (e : Expr) → At (exprTree e) s base → word s 0 ≡ 5 → 3 ≤ word s 4 → Operands s base e
+pub operands : {s : List ℕ} {base : ℕ} (e : Expr) → At (exprTree e) s base → word s 0 ≡ numberE Kinds.Binary → opNumber (cmp eq) ≤ word s 4 → Operands s base e
 operands {s} {base} e h k p =
     let u : Binary e = binary e (rw (← h .head .label) k) (rw (← h .head .label) p) in
     subst (λ (f : Expr). Operands s base f) (sym (u .is))

@@ -15,7 +15,9 @@ use Rattle.plan.proofs.Names.{same-eq}
 use Rattle.rewrite.specs.SimplifyPredicates.{Rel, same-as, above, below, Side, Item, Group, name-under, put-in, fresh, enter, view, add, sort-out}
 use Rattle.conjuncts.proofs.Listed.{put-then}
 use Rattle.simplify_expressions.specs.Seen.{sideOf?, sideIn}
-use Rattle.simplify_expressions.specs.Classes.{classOf, isName, inClass, ofClass, groupOf}
+use Rattle.simplify_expressions.specs.Classes.{isOf, isOther, isName, inClass, ofClass, groupOf}
+use Rattle.simplify_expressions.specs.declared.simplify_predicates.Class.{Class}
+use Rattle.simplify_expressions.specs.declared.simplify_predicates.Class.the-variants.{Equality, Lower, Upper}
 use Rattle.simplify_expressions.proofs.Sides.{and-is}
 
 -- what the part f of the groups holds of the column x
@@ -30,8 +32,8 @@ whole x gs = record { key = x; eqs = collect (λ g. g .eqs) x gs; ups = collect 
 side : Item → Side
 side i = sideOf? (some i)
 
-is : ℕ → Item → Bool
-is k i = eqb (classOf (i .rel)) k
+is : Class → Item → Bool
+is k i = isOf k (i .rel)
 
 pub key-put : (i : Item) (g : Group) → put-in i g .key ≡ g .key
 key-put i g = go (i .rel)
@@ -65,7 +67,7 @@ name-is : (x : Name) (q n : ℕ) → isName x q n ≡ same x (nm q n)
 name-is (nm p m) q n = sym (and-is (eqb p q) (eqb m n))
 
 -- a part f of a group, which a comparison of class k goes to
-module _ (k : ℕ) (f : Group → List Side)
+module _ (k : Class) (f : Group → List Side)
     (f-put : (i : Item) (g : Group) → f (put-in i g) ≡ put (is k i) (side i) (f g))
     (f-none : (x : Name) → f (record { key = x; eqs = []; ups = []; downs = [] }) ≡ []) where
   fresh-is : (x : Name) (i : Item) (l : List Side)
@@ -109,47 +111,47 @@ module _ (k : ℕ) (f : Group → List Side)
       go false e false h = ap (λ (m : List Side). choose (same (g .key) x) (f g) [] ++ m) h ∙ later (same (i .key) x) refl e
 
   -- of the column q, n
-  collected : (three : eqb k 3 ≡ false) (q n : ℕ) (es : List Expr) → map sideIn (keep (ofClass k q n) es) ≡ collect f (nm q n) (sort-out es .groups)
+  collected : (other : isOther k ≡ false) (q n : ℕ) (es : List Expr) → map sideIn (keep (ofClass k q n) es) ≡ collect f (nm q n) (sort-out es .groups)
   unfolding keep sort-out inClass put is side
-  collected three q n [] = refl
-  collected three q n (e ∷ es) =
-      map-put (ofClass k q n e) e (keep (ofClass k q n) es) ∙ (ap (put (ofClass k q n e) (sideIn e)) (collected three q n es) ∙ go (view e))
+  collected other q n [] = refl
+  collected other q n (e ∷ es) =
+      map-put (ofClass k q n e) e (keep (ofClass k q n) es) ∙ (ap (put (ofClass k q n e) (sideIn e)) (collected other q n es) ∙ go (view e))
     where
       go : (o : Option Item) → put (inClass k q n o) (sideOf? o) (collect f (nm q n) (sort-out es .groups)) ≡ collect f (nm q n)
           (add e o (sort-out es) .groups)
-      go none = rw three
+      go none = rw other
       go (some i) =
           put-both (is k i) (isName (i .key) q n) (side i) (collect f (nm q n) (sort-out es .groups))
           ∙ (ap (λ (v : Bool). choose v (put (is k i) (side i) (collect f (nm q n) (sort-out es .groups)))
           (collect f (nm q n) (sort-out es .groups))) (name-is (i .key) q n)
           ∙ sym (collect-enter (nm q n) i (sort-out es .groups)))
 
-eqs-put : (i : Item) (g : Group) → put-in i g .eqs ≡ put (is 0 i) (side i) (g .eqs)
+eqs-put : (i : Item) (g : Group) → put-in i g .eqs ≡ put (is Equality i) (side i) (g .eqs)
 unfolding put sideOf? is side
 eqs-put i g = go (i .rel)
   where
     go : (r : Rel) → let j : Item = record { key = i .key; rel = r; lit = i .lit; flipped = i .flipped } in
-        put-in j g .eqs ≡ put (is 0 j) (side j) (g .eqs)
+        put-in j g .eqs ≡ put (is Equality j) (side j) (g .eqs)
     go same-as = refl
     go (above s) = refl
     go (below s) = refl
 
-ups-put : (i : Item) (g : Group) → put-in i g .ups ≡ put (is 1 i) (side i) (g .ups)
+ups-put : (i : Item) (g : Group) → put-in i g .ups ≡ put (is Lower i) (side i) (g .ups)
 unfolding put sideOf? is side
 ups-put i g = go (i .rel)
   where
     go : (r : Rel) → let j : Item = record { key = i .key; rel = r; lit = i .lit; flipped = i .flipped } in
-        put-in j g .ups ≡ put (is 1 j) (side j) (g .ups)
+        put-in j g .ups ≡ put (is Lower j) (side j) (g .ups)
     go same-as = refl
     go (above s) = refl
     go (below s) = refl
 
-downs-put : (i : Item) (g : Group) → put-in i g .downs ≡ put (is 2 i) (side i) (g .downs)
+downs-put : (i : Item) (g : Group) → put-in i g .downs ≡ put (is Upper i) (side i) (g .downs)
 unfolding put sideOf? is side
 downs-put i g = go (i .rel)
   where
     go : (r : Rel) → let j : Item = record { key = i .key; rel = r; lit = i .lit; flipped = i .flipped } in
-        put-in j g .downs ≡ put (is 2 j) (side j) (g .downs)
+        put-in j g .downs ≡ put (is Upper j) (side j) (g .downs)
     go same-as = refl
     go (above s) = refl
     go (below s) = refl
@@ -157,7 +159,7 @@ downs-put i g = go (i .rel)
 pub group-is : (q n : ℕ) (es : List Expr) → groupOf q n es ≡ whole (nm q n) (sort-out es .groups)
 group-is q n es =
     rw (
-      collected 0 (λ g. g .eqs) eqs-put (λ x. refl) refl q n es,
-      collected 1 (λ g. g .ups) ups-put (λ x. refl) refl q n es,
-      collected 2 (λ g. g .downs) downs-put (λ x. refl) refl q n es,
+      collected Equality (λ g. g .eqs) eqs-put (λ x. refl) refl q n es,
+      collected Lower (λ g. g .ups) ups-put (λ x. refl) refl q n es,
+      collected Upper (λ g. g .downs) downs-put (λ x. refl) refl q n es,
     )

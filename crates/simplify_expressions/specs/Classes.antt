@@ -1,5 +1,5 @@
--- Which predicates are of one class: the equalities (0), lower bounds (1) and upper bounds (2) of a column, and the others (3). The columns in order.
-use mathlib.Core.Bool.{Bool, true, false, _&&_, cond}
+-- Which predicates are of one class: the equalities, lower bounds and upper bounds of a column, and the others. The columns in order.
+use mathlib.Core.Bool.{Bool, true, false, _&&_}
 use mathlib.Core.List.{List, [], _∷_, map}
 use mathlib.Core.Option.{Option, none, some}
 use Prim.Native.Nat.{ℕ}
@@ -7,24 +7,43 @@ use lib.Dec.{eqb}
 use Rattle.plan.specs.Syntax.{Expr, Name, nm}
 use Rattle.plan.specs.Lists.{choose, keep}
 use Rattle.rewrite.specs.SimplifyPredicates.{Rel, same-as, above, below, Item, Group, view, name-under}
-use Rattle.simplify_expressions.specs.Seen.{sideIn}
+use Rattle.simplify_expressions.specs.Seen.{named, sideIn}
+use Rattle.simplify_expressions.specs.declared.simplify_predicates.Class.{Class}
+use Rattle.simplify_expressions.specs.declared.simplify_predicates.Class.the-variants.{Equality, Lower, Upper, Other}
 use Rattle.simplify_expressions.specs.declared.simplify_predicates.Key.{Key}
+use Rattle.simplify_expressions.specs.declared.simplify_predicates.Key.the-variants.{At, None}
 
 -- ---- classes
 
-abbrev pub classOf : Rel → ℕ
-classOf same-as = 0
-classOf (above s) = 1
-classOf (below s) = 2
+-- comparisons of the class say this of their column
+abbrev pub isOf : Class → Rel → Bool
+isOf Equality same-as = true
+isOf Equality (above s) = false
+isOf Equality (below s) = false
+isOf Lower same-as = false
+isOf Lower (above s) = true
+isOf Lower (below s) = false
+isOf Upper same-as = false
+isOf Upper (above s) = false
+isOf Upper (below s) = true
+isOf Other same-as = false
+isOf Other (above s) = false
+isOf Other (below s) = false
+
+abbrev pub isOther : Class → Bool
+isOther Equality = false
+isOther Lower = false
+isOther Upper = false
+isOther Other = true
 
 abbrev pub isName : Name → ℕ → ℕ → Bool
 isName (nm q n) p m = eqb q p && eqb n m
 
-unfoldable pub inClass : ℕ → ℕ → ℕ → Option Item → Bool
-inClass k q n none = eqb k 3
-inClass k q n (some i) = eqb (classOf (i .rel)) k && isName (i .key) q n
+unfoldable pub inClass : Class → ℕ → ℕ → Option Item → Bool
+inClass k q n none = isOther k
+inClass k q n (some i) = isOf k (i .rel) && isName (i .key) q n
 
-abbrev pub ofClass : ℕ → ℕ → ℕ → Expr → Bool
+abbrev pub ofClass : Class → ℕ → ℕ → Expr → Bool
 ofClass k q n e = inClass k q n (view e)
 
 -- the predicates of one column
@@ -32,15 +51,16 @@ abbrev pub groupOf : ℕ → ℕ → List Expr → Group
 groupOf q n es =
     record {
       key = nm q n;
-      eqs = map sideIn (keep (ofClass 0 q n) es);
-      ups = map sideIn (keep (ofClass 1 q n) es);
-      downs = map sideIn (keep (ofClass 2 q n) es);
+      eqs = map sideIn (keep (ofClass Equality q n) es);
+      ups = map sideIn (keep (ofClass Lower q n) es);
+      downs = map sideIn (keep (ofClass Upper q n) es);
     }
 
 -- ---- columns in order
 
 abbrev pub keyOf : Key → Option Name
-keyOf k = cond (k .some) (some (nm (k .q) (k .n))) none
+keyOf (At x) = some (named x)
+keyOf None = none
 
 -- a column comes after the last one; any does after none
 abbrev pub after : Option Name → Name → Bool

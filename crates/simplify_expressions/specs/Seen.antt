@@ -1,5 +1,5 @@
 -- What the code's values of comparisons stand for.
-use mathlib.Core.Bool.{Bool, true, false, not, _&&_, _||_, Bool·beq, cond}
+use mathlib.Core.Bool.{Bool, true, false, not, _||_, Bool·beq, cond}
 use mathlib.Core.List.{List}
 use mathlib.Core.Option.{Option, none, some}
 use Prim.Native.Nat.{ℕ, _<_}
@@ -23,6 +23,8 @@ use Rattle.rewrite.specs.SimplifyPredicates.{Rel, same-as, above, below, Side, 
 use Rattle.simplify_expressions.specs.declared.simplify_predicates.Name.{Name}
 use Rattle.simplify_expressions.specs.declared.simplify_predicates.Operand.{Operand}
 use Rattle.simplify_expressions.specs.declared.simplify_predicates.Operand.the-variants.{Column, Literal, Neither}
+use Rattle.simplify_expressions.specs.declared.simplify_predicates.Relation.{Relation}
+use Rattle.simplify_expressions.specs.declared.simplify_predicates.Relation.the-variants.{SameAs, Above, Below}
 use Rattle.simplify_expressions.specs.declared.simplify_predicates.Bound.{Bound}
 use Rattle.simplify_expressions.specs.declared.simplify_predicates.Compared.{Compared}
 use Rattle.simplify_expressions.specs.declared.simplify_predicates.Compared.the-variants.{Of, Not}
@@ -52,19 +54,20 @@ operandOf l = cond (eqb (l .kind) (numberE K.Column)) (Column (record { q = l .p
 
 -- ---- comparisons
 
--- 0 is an equality, 1 a lower bound, 2 an upper one
-abbrev pub relOf : ℕ → Bool → Rel
-relOf k s = cond (eqb k 0) same-as (cond (eqb k 1) (above s) (below s))
+abbrev pub relOf : Relation → Rel
+relOf SameAs = same-as
+relOf (Above s) = above s
+relOf (Below s) = below s
 
 -- of an operator's number
 abbrev pub relNo : Bool → ℕ → Option Rel
 relNo f o =
     cond (eqb o (opNumber (cmp eq))) (some same-as)
     (cond (eqb o (opNumber (cmp ne))) none
-    (some (relOf (cond (not (Bool·beq (leb (opNumber (cmp gt)) o) f)) 1 2) (eqb o (opNumber (cmp lt)) || eqb o (opNumber (cmp gt))))))
+    (some (cond (not (Bool·beq (leb (opNumber (cmp gt)) o) f)) above below (eqb o (opNumber (cmp lt)) || eqb o (opNumber (cmp gt))))))
 
 abbrev pub itemOf : Bound → Item
-itemOf b = record { key = named (b .column); rel = relOf (b .class) (b .strict); lit = b .value; flipped = b .flipped }
+itemOf b = record { key = named (b .column); rel = relOf (b .relation); lit = b .value; flipped = b .flipped }
 
 abbrev pub seen : Compared → Option Item
 seen (Of b) = some (itemOf b)
@@ -75,14 +78,14 @@ matchedIn o a b = or-item (make false (relNo false o) (columnIn a) (valueIn b)) 
 
 -- ---- sides
 
--- a bound without its column
-abbrev pub sideOf : Bound → Side
-sideOf b = record { strict = b .strict && not (eqb (b .class) 0); lit = b .value; flipped = b .flipped }
-
 abbrev pub strictR : Rel → Bool
 strictR same-as = false
 strictR (above s) = s
 strictR (below s) = s
+
+-- a bound without its column
+abbrev pub sideOf : Bound → Side
+sideOf b = record { strict = strictR (relOf (b .relation)); lit = b .value; flipped = b .flipped }
 
 -- the side that an item is; anything where there is none
 unfoldable pub sideOf? : Option Item → Side

@@ -29,35 +29,39 @@ use plan::words::LT;
 use plan::words::NO_TYPE;
 use plan::words::NOT_EQ;
 ghost use mathlib.Core.Path.{_≡_};
-ghost use mathlib.Core.Bool.{Bool};
 ghost use mathlib.Core.List.{_++_, List, map};
 ghost use mathlib.Core.Option.{some};
-ghost use Prim.Native.Nat.{_<_};
+ghost use Prim.Native.Nat.{_<_, ℕ};
 ghost use lib.ListN.{drop, getD};
 ghost use Rattle.image.specs.Tree.{At, Fits32};
 ghost use Rattle.plan.specs.Integers.{FitsE};
 ghost use Rattle.plan.specs.Lists.{all, choose, keep};
-ghost use Rattle.plan.specs.Syntax.{Expr, nm};
+ghost use Rattle.plan.specs.Syntax.{Expr};
 ghost use Rattle.plan.specs.Trees.{exprTree};
 ghost use Rattle.meaning.specs.Meaning.{code, isN, kindOf, sameV};
 ghost use Rattle.rewrite.specs.SimplifyPredicates.{Side, eq-expr, eq-part, find-most-restrictive-predicate, first-kind, is-better};
 ghost use Rattle.rewrite.specs.SimplifyPredicates.{lit-val, make, most-restrictive, name-under, of-kind, simplify-column-predicates};
 ghost use Rattle.rewrite.specs.SimplifyPredicates.{simplify-predicates, sort-out, val, view};
 ghost use Rattle.conjuncts.specs.Items.{FALSE, Known, Lists};
-ghost use Rattle.simplify_expressions.specs.Classes.{after, classOf, groupOf, inClass, keyOf, least, lesser, ofClass};
+ghost use Rattle.simplify_expressions.specs.Classes.{after, before, groupOf, inClass, isOf, isOther, keyOf, least, lesser, ofClass};
 ghost use Rattle.simplify_expressions.specs.Seen.{Reading, Spelled, matchedIn, named, operandOf, pastOf, relNo, relOf, seen};
-ghost use Rattle.simplify_expressions.specs.Seen.{sideIn, sideOf};
+ghost use Rattle.simplify_expressions.specs.Seen.{sideIn, sideOf, strictR};
 ghost use Rattle.plan.specs.Syntax as S;
 
-// What a comparison is to its column.
-pub const EQUALITY: usize = 0;
+// Which predicates: the equalities, the lower bounds or the upper bounds of a column; or what is no comparison of a column with a literal.
+pub enum Class {
+    Equality,
+    Lower,
+    Upper,
+    Other,
+}
 
-pub const LOWER: usize = 1;
-
-pub const UPPER: usize = 2;
-
-// The class of what is no comparison of a column with a literal.
-pub const OTHER: usize = 3;
+// What a comparison says of its column: that it is the literal, lies above it or below it; strictly, or not.
+pub enum Relation {
+    SameAs,
+    Above(bool),
+    Below(bool),
+}
 
 // The name of a column.
 pub struct Name {
@@ -71,11 +75,10 @@ pub enum Operand {
     Neither,
 }
 
-// A comparison: its column, what it is to it, and its literal, which stands on the right or, flipped, on the left.
+// A comparison: its column, what it says of it, and its literal, which stands on the right or, flipped, on the left.
 pub struct Bound {
     pub column: Name,
-    pub class: usize,
-    pub strict: bool,
+    pub relation: Relation,
     pub flipped: bool,
     pub value: Value,
 }
@@ -86,10 +89,9 @@ pub enum Compared {
 }
 
 // A column, or none.
-pub struct Key {
-    pub some: bool,
-    pub q: usize,
-    pub n: usize,
+pub enum Key {
+    At(Name),
+    None,
 }
 
 // All other predicates first, in order; then the columns' in the order of the columns.
@@ -102,22 +104,14 @@ pub fn simplify_predicates(s: &[u8], c: Conjuncts) -> Conjuncts
         return c;
     }
     let mut r = other_predicates(s, c);
-    let mut key = next_column(
-        s,
-        c,
-        Key {
-            some: false,
-            q: 0,
-            n: 0,
-        },
-    );
+    let mut key = next_column(s, c, Key::None);
     // There are no more columns than predicates.
     let mut left = c.len;
     while left != 0 {
-        if !key.some {
+        let Key::At(column) = key else {
             return r;
-        }
-        r = simplify_column_predicates(s, c, r, key.q, key.n);
+        };
+        r = simplify_column_predicates(s, c, r, column.q, column.n);
         key = next_column(s, c, key);
         left -= 1;
     }
@@ -129,39 +123,65 @@ fn other_predicates(s: &[u8], c: Conjuncts) -> Conjuncts
     requires { ⌜ Known (now s) c ⌝ }
     ensures { λ r. ⌜ ((es : List Expr) → Lists (now (s .entry)) c es → Lists (now (s .entry)) r (sort-out es .others)) ⌝ }
 {
-    select_class(s, c, empty(), OTHER, 0, 0)
+    select_class(s, c, empty(), Class::Other, 0, 0)
 }
 
-fn class_of(k: usize) -> usize
-    ensures { λ r. ⌜ ((s : Bool) → r ≡ classOf (relOf k s)) ⌝ }
+// Whether a class is that of what is no comparison.
+fn is_other(k: Class) -> bool
+    ensures { λ r. ⌜ r ≡ isOther k ⌝ }
 {
-    if k == EQUALITY {
-        return EQUALITY;
+    match k {
+        Class::Equality => false,
+        Class::Lower => false,
+        Class::Upper => false,
+        Class::Other => true,
     }
-    if k == LOWER {
-        return LOWER;
-    }
-    UPPER
 }
 
-// Whether x is of class k, and for k below 3 of the column q, n.
-fn belongs(x: Compared, k: usize, q: usize, n: usize) -> bool
+// Whether comparisons of the class say this of their column.
+fn is_of(k: Class, relation: Relation) -> bool
+    ensures { λ r. ⌜ r ≡ isOf k (relOf relation) ⌝ }
+{
+    match relation {
+        Relation::SameAs => match k {
+            Class::Equality => true,
+            Class::Lower => false,
+            Class::Upper => false,
+            Class::Other => false,
+        },
+        Relation::Above(_) => match k {
+            Class::Equality => false,
+            Class::Lower => true,
+            Class::Upper => false,
+            Class::Other => false,
+        },
+        Relation::Below(_) => match k {
+            Class::Equality => false,
+            Class::Lower => false,
+            Class::Upper => true,
+            Class::Other => false,
+        },
+    }
+}
+
+// Whether x is of class k; if it is a comparison, of the column q, n.
+fn belongs(x: Compared, k: Class, q: usize, n: usize) -> bool
     ensures { λ r. ⌜ r ≡ inClass k q n (seen x) ⌝ }
 {
     let Compared::Of(b) = x else {
-        return k == OTHER;
+        return is_other(k);
     };
-    let class = class_of(b.class);
     let name = b.column;
-    (class == k) & ((name.q == q) & (name.n == n))
+    let relation = b.relation;
+    is_of(k, relation) & ((name.q == q) & (name.n == n))
 }
 
-// Appends to `into` the predicates of c that are of class k, for k below 3 of the column q, n.
+// Appends to `into` the predicates of c that are of class k; if they are comparisons, of the column q, n.
 pub fn select_class(
     s: &[u8],
     c: Conjuncts,
     into: Conjuncts,
-    k: usize,
+    k: Class,
     q: usize,
     n: usize,
 ) -> Conjuncts
@@ -181,21 +201,31 @@ pub fn select_class(
     r
 }
 
-// Whether the column q, n comes before r, m: by qualifier, then by name.
-fn name_under(q: usize, n: usize, r: usize, m: usize) -> bool
-    ensures { λ u. ⌜ u ≡ name-under (nm q n) (nm r m) ⌝ }
+// Whether the column x comes before y: by qualifier, then by name.
+fn name_under(x: Name, y: Name) -> bool
+    ensures { λ r. ⌜ r ≡ name-under (named x) (named y) ⌝ }
 {
-    (q < r) | ((q == r) & (n < m))
+    (x.q < y.q) | ((x.q == y.q) & (x.n < y.n))
 }
 
-// Whether the column q, n comes after `last`, as every one does where `last` is none.
-fn comes_after(last: Key, q: usize, n: usize) -> bool
-    ensures { λ r. ⌜ r ≡ after (keyOf last) (nm q n) ⌝ }
+// Whether the column x comes after `last`, as every one does where `last` is none.
+fn comes_after(last: Key, x: Name) -> bool
+    ensures { λ r. ⌜ r ≡ after (keyOf last) (named x) ⌝ }
 {
-    if last.some {
-        return name_under(last.q, last.n, q, n);
-    }
-    true
+    let Key::At(column) = last else {
+        return true;
+    };
+    name_under(column, x)
+}
+
+// Whether `best` comes before the column x, as none does.
+fn comes_before(best: Key, x: Name) -> bool
+    ensures { λ r. ⌜ r ≡ before (keyOf best) (named x) ⌝ }
+{
+    let Key::At(column) = best else {
+        return false;
+    };
+    name_under(column, x)
 }
 
 // The first of `best` and the column of x, if that comes after `last`.
@@ -205,18 +235,14 @@ fn first_of(x: Compared, last: Key, best: Key) -> Key
     let Compared::Of(b) = x else {
         return best;
     };
-    let name = b.column;
-    let q = name.q;
-    let n = name.n;
-    if !comes_after(last, q, n) {
+    let column = b.column;
+    if !comes_after(last, column) {
         return best;
     }
-    if best.some {
-        if name_under(best.q, best.n, q, n) {
-            return best;
-        }
+    if comes_before(best, column) {
+        return best;
     }
-    Key { some: true, q, n }
+    Key::At(column)
 }
 
 // The first column of the predicates of c that comes after `last`.
@@ -224,11 +250,7 @@ pub fn next_column(s: &[u8], c: Conjuncts, last: Key) -> Key
     requires { ⌜ Known (now s) c ⌝ }
     ensures { λ r. ⌜ ((es : List Expr) → Lists (now (s .entry)) c es → keyOf r ≡ least (keyOf last) es) ⌝ }
 {
-    let mut best = Key {
-        some: false,
-        q: 0,
-        n: 0,
-    };
+    let mut best = Key::None;
     let mut i = c.len;
     while i != 0 {
         i -= 1;
@@ -249,9 +271,9 @@ fn simplify_column_predicates(
     ensures { λ r. ⌜ ((es fs : List Expr) → Lists (now (s .entry)) c es → Lists (now (s .entry)) into fs →
         Lists (now (s .entry)) r (fs ++ simplify-column-predicates (groupOf q n es))) ⌝ }
 {
-    let eq_predicates = select_class(s, c, empty(), EQUALITY, q, n);
-    let greater_predicates = select_class(s, c, empty(), LOWER, q, n);
-    let less_predicates = select_class(s, c, empty(), UPPER, q, n);
+    let eq_predicates = select_class(s, c, empty(), Class::Equality, q, n);
+    let greater_predicates = select_class(s, c, empty(), Class::Lower, q, n);
+    let less_predicates = select_class(s, c, empty(), Class::Upper, q, n);
     let equal = equal_part(s, eq_predicates, into);
     let greater = most_restrictive(s, greater_predicates, equal, true);
     most_restrictive(s, less_predicates, greater, false)
@@ -260,8 +282,8 @@ fn simplify_column_predicates(
 // Appends the last of the equalities c, if they agree, and else FALSE.
 fn equal_part(s: &[u8], c: Conjuncts, into: Conjuncts) -> Conjuncts
     requires { ⌜ Known (now s) c ⌝ }
-    ensures { λ r. ⌜ ((es fs : List Expr) (x : S.Name) → Lists (now (s .entry)) c es → Lists (now (s .entry)) into fs → Spelled (eq-expr x) es →
-        Lists (now (s .entry)) r (fs ++ eq-part x (map sideIn es))) ⌝ }
+    ensures { λ r. ⌜ ((es fs : List Expr) (x : S.Name) → Lists (now (s .entry)) c es → Lists (now (s .entry)) into fs →
+        Spelled (eq-expr x) es → Lists (now (s .entry)) r (fs ++ eq-part x (map sideIn es))) ⌝ }
 {
     let n = c.len;
     if n == 0 {
@@ -321,8 +343,8 @@ fn find_most_restrictive_predicate(s: &[u8], c: Conjuncts, lower: bool) -> usize
 // Appends the most restrictive of the bounds c; all of them, where their literals are not of one kind.
 pub fn most_restrictive(s: &[u8], c: Conjuncts, into: Conjuncts, lower: bool) -> Conjuncts
     requires { ⌜ Known (now s) c ⌝ }
-    ensures { λ r. ⌜ ((es fs : List Expr) (spell : Side → Expr) → Lists (now (s .entry)) c es → Lists (now (s .entry)) into fs → Spelled spell es →
-        Lists (now (s .entry)) r (fs ++ map spell (most-restrictive (pastOf lower) (map sideIn es)))) ⌝ }
+    ensures { λ r. ⌜ ((es fs : List Expr) (spell : Side → Expr) → Lists (now (s .entry)) c es → Lists (now (s .entry)) into fs →
+        Spelled spell es → Lists (now (s .entry)) r (fs ++ map spell (most-restrictive (pastOf lower) (map sideIn es)))) ⌝ }
 {
     if c.len == 0 {
         return into;
@@ -331,7 +353,7 @@ pub fn most_restrictive(s: &[u8], c: Conjuncts, into: Conjuncts, lower: bool) ->
         let best = find_most_restrictive_predicate(s, c, lower);
         return add_if(into, item_at(c, best), true);
     }
-    extend(s, into, c)
+    extend(into, c)
 }
 
 pub fn is_null(v: Value) -> bool
@@ -384,13 +406,23 @@ fn lies_past(a: i64, b: i64, lower: bool) -> bool
     b < a
 }
 
+fn is_strict(relation: Relation) -> bool
+    ensures { λ r. ⌜ r ≡ strictR (relOf relation) ⌝ }
+{
+    match relation {
+        Relation::SameAs => false,
+        Relation::Above(strict) => strict,
+        Relation::Below(strict) => strict,
+    }
+}
+
 // Whether d replaces the bound held.
 fn is_better(held: Bound, d: Bound, lower: bool) -> bool
     ensures { λ r. ⌜ r ≡ is-better (pastOf lower) (sideOf held) (sideOf d) ⌝ }
 {
-    let strict = d.strict & (d.class != EQUALITY);
-    let held_strict = held.strict & (held.class != EQUALITY);
-    let at_equal = strict & (!d.flipped | !held_strict);
+    let relation = d.relation;
+    let held_relation = held.relation;
+    let at_equal = is_strict(relation) & (!d.flipped | !is_strict(held_relation));
     let none = is_null(d.value);
     if is_null(held.value) {
         return none & at_equal;
@@ -443,9 +475,9 @@ fn all_of_kind(s: &[u8], c: Conjuncts, kind: usize) -> bool
 }
 
 // Appends all predicates of c.
-fn extend(s: &[u8], into: Conjuncts, c: Conjuncts) -> Conjuncts
-    requires { ⌜ Known (now s) c ⌝ }
-    ensures { λ r. ⌜ ((es fs : List Expr) → Lists (now (s .entry)) c es → Lists (now (s .entry)) into fs → Lists (now (s .entry)) r (fs ++ es)) ⌝ }
+fn extend(into: Conjuncts, c: Conjuncts) -> Conjuncts
+    requires { ⌜ ((s : List ℕ) × Known s c) ⌝ }
+    ensures { λ r. ⌜ ((s : List ℕ) (es fs : List Expr) → Lists s c es → Lists s into fs → Lists s r (fs ++ es)) ⌝ }
 {
     let n = c.len;
     let mut r = into;
@@ -480,8 +512,7 @@ fn bound_by(op: usize, column: Name, value: Value, flipped: bool) -> Compared
     if op == EQ {
         return Compared::Of(Bound {
             column,
-            class: EQUALITY,
-            strict: false,
+            relation: Relation::SameAs,
             flipped,
             value,
         });
@@ -493,16 +524,14 @@ fn bound_by(op: usize, column: Name, value: Value, flipped: bool) -> Compared
     if (op >= GT) != flipped {
         return Compared::Of(Bound {
             column,
-            class: LOWER,
-            strict,
+            relation: Relation::Above(strict),
             flipped,
             value,
         });
     }
     Compared::Of(Bound {
         column,
-        class: UPPER,
-        strict,
+        relation: Relation::Below(strict),
         flipped,
         value,
     })
@@ -570,8 +599,7 @@ pub fn side_at(s: &[u8], c: Conjuncts, i: usize) -> Bound
     let Compared::Of(b) = compared_at(s, c, i) else {
         return Bound {
             column: Name { q: 0, n: 0 },
-            class: EQUALITY,
-            strict: false,
+            relation: Relation::SameAs,
             flipped: false,
             value: Value {
                 ty: NO_TYPE,

@@ -11,7 +11,8 @@ use Rattle.plan.specs.Schema.{requalify}
 use Rattle.plan.specs.Syntax.{Name, nm, Plan, full, rightSemi, rightAnti}
 use Rattle.plan.specs.Trees.{joinNumber, planTree, kidsP}
 use Rattle.plan.specs.Kinds as K
-use Rattle.plan.specs.Kinds.{numberP, numberQ, isKind, isPlan, TableScan, Projection, Join, SubqueryAlias, Aggregate, Window, FieldPart, EntryPart, AggPart, WinPart}
+use Rattle.plan.specs.Kinds.{isKind, isPlan, numberP, TableScan, Projection, Join, SubqueryAlias, Aggregate, Window}
+use Rattle.plan.specs.Kinds.{numberQ, FieldPart, EntryPart, AggPart, WinPart}
 
 -- a part of this kind makes a field
 abbrev pub makesField : ℕ → Bool

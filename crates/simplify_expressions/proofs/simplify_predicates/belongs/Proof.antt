@@ -10,9 +10,7 @@ belongs-spec =
     (tie.spec
     (λ c. search needs)
     (λ c. search needs)
-    (λ c. no-class _ (c .before .before .args .q) (c .before .before .args .n) (c .enum-told .given .1))
     (λ c κs. search needs)
-    (λ c. same-class (c .before .before .before .before .before .before .before .args .k)
-    (c .before .before .before .before .before .before .before .args .q)
-    (c .before .before .before .before .before .before .before .args .n) (c .before .before .before .before .before .x .given .1)
-    (c .before .before .before .class-of .ensures)))
+    (λ c. no-class _ (c .before .before .before .args .q) (c .before .before .before .args .n) (c .before .enum-told .given .1) (c .is-other .ensures))
+    (λ c κs. search needs)
+    (λ c. same-class _ _ _ (c .before .before .before .before .before .x .given .1) (c .before .before .is-of .ensures)))

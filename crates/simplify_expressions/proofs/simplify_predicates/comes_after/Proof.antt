@@ -7,6 +7,8 @@ pub comes-after-spec : {M : Type 1} → statement M
 comes-after-spec =
     tie.close
     (tie.spec
+    (λ c. search needs)
+    (λ c. search needs)
+    (λ c. rw (c .enum-told .given .1))
     (λ c κs. search needs)
-    (λ c. rw (c .before .if1 .taken) (c .name-under .ensures))
-    (λ c. rw (c .if1 .left)))
+    (λ c. rw (c .before .before .last .given .1) (c .name-under .ensures)))

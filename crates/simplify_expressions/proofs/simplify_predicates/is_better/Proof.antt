@@ -10,7 +10,17 @@ is-better-spec =
     (tie.spec
     (λ c κs. search needs)
     (λ c κs. search needs)
-    (λ c. rw (← c .before .is-null2 .ensures, ← c .before .before .is-null .ensures, c .if1 .taken, and-is, and-is))
+    (λ c κs. search needs)
+    (λ c κs. search needs)
+    (λ c. rw (
+      c .before .before .before .before .before .is-strict .ensures,
+      c .before .before .before .is-strict2 .ensures,
+      ← c .before .is-null2 .ensures,
+      ← c .before .before .is-null .ensures,
+      c .if1 .taken,
+      and-is,
+      and-is,
+    ))
     (λ c. rw (← c .before .before .is-null2 .ensures, ← c .before .before .before .is-null .ensures, c .before .if1 .left, c .if2 .taken))
     (λ c κs. search needs)
     (λ c κs. search needs)
@@ -19,6 +29,8 @@ is-better-spec =
     (λ c. rw (
       c .lies-past2 .ensures,
       c .before .lies-past .ensures,
+      c .before .before .before .before .before .before .before .before .before .before .is-strict .ensures,
+      c .before .before .before .before .before .before .before .before .is-strict2 .ensures,
       ← c .before .before .before .before .before .before .is-null2 .ensures,
       ← c .before .before .before .before .before .before .before .is-null .ensures,
       c .before .before .before .before .before .if1 .left,

@@ -35,4 +35,4 @@ most-restrictive-spec =
     (λ c es fs spell h k sp. let p = c .before .before .before .before .before .before .before .pre in
     rw (restrict-all _ spell es (omega (arith, lists-length h (p .most), c .before .before .before .before .if1 .left)) sp
     (rw (← c .before .before .before .first-kind .ensures es h) (sym (c .before .if2 .left) ∙ c .before .before .all-of-kind .ensures es h)))
-    (c .extend .ensures es fs h k)))
+    (c .extend .ensures _ es fs h k)))

@@ -1,7 +1,6 @@
 -- `simplify_predicates::side_at` meets its contract.
 use borrow.Author.Needs.{needs}
 use Rattle.simplify_expressions.specs.Seen.{sideOf?}
-use Rattle.simplify_expressions.proofs.Comparing.{strict-is}
 use Rattle.simplify_expressions.proofs.simplify_predicates.side_at.Statement.{statement}
 use Rattle.simplify_expressions.proofs.simplify_predicates.side_at.Tie as tie
 
@@ -14,4 +13,4 @@ side-at-spec =
     (λ c. search needs)
     (λ c. search needs)
     (λ c es h. rw (← c .before .before .compared-at .ensures es h, c .enum-told .given .1))
-    (λ c es h. rw (← c .before .before .before .compared-at .ensures es h, c .before .b .given .1, strict-is)))
+    (λ c es h. rw (← c .before .before .before .compared-at .ensures es h, c .before .b .given .1)))

@@ -5,6 +5,7 @@ use Rattle.plan.specs.Syntax.{nm}
 use Rattle.rewrite.specs.SimplifyPredicates.{up-expr, down-expr}
 use Rattle.conjuncts.proofs.Listed.{lists-none, lists-length}
 use Rattle.simplify_expressions.specs.Classes.{ofClass}
+use Rattle.simplify_expressions.specs.declared.simplify_predicates.Class.the-variants.{Equality, Lower, Upper}
 use Rattle.simplify_expressions.proofs.Classed.{eqs-spelled, ups-spelled, downs-spelled}
 use Rattle.simplify_expressions.proofs.Simplified.{known-kept, regroup}
 use Rattle.simplify_expressions.proofs.simplify_predicates.simplify_column_predicates.Statement.{statement}
@@ -22,17 +23,17 @@ simplify-column-predicates-spec =
     (λ c κs. search needs)
     (λ c κs. let p = c .before .before .before .before .before .before .before .pre in
     let a = c .before .before .before .before .before .before .before .args in
-    known-kept (ofClass 0 (a .q) (a .n)) (p .exprs)
+    known-kept (ofClass Equality (a .q) (a .n)) (p .exprs)
     (c .before .before .before .before .select-class .ensures _ _ (p .lists)
     (lists-none (c .before .before .before .before .before .empty .ensures))) (omega (arith, lists-length (p .lists) (p .most))))
     (λ c κs. let p = c .before .before .before .before .before .before .before .before .pre in
     let a = c .before .before .before .before .before .before .before .before .args in
-    known-kept (ofClass 1 (a .q) (a .n)) (p .exprs)
+    known-kept (ofClass Lower (a .q) (a .n)) (p .exprs)
     (c .before .before .before .select-class2 .ensures _ _ (p .lists) (lists-none (c .before .before .before .before .empty2 .ensures)))
     (omega (arith, lists-length (p .lists) (p .most))))
     (λ c κs. let p = c .before .before .before .before .before .before .before .before .before .pre in
     let a = c .before .before .before .before .before .before .before .before .before .args in
-    known-kept (ofClass 2 (a .q) (a .n)) (p .exprs)
+    known-kept (ofClass Upper (a .q) (a .n)) (p .exprs)
     (c .before .before .select-class3 .ensures _ _ (p .lists) (lists-none (c .before .before .before .empty3 .ensures)))
     (omega (arith, lists-length (p .lists) (p .most))))
     (λ c es fs h k. let a = c .before .before .before .before .before .before .before .before .before .before .args in

@@ -4,11 +4,12 @@ use mathlib.Core.Path.{_≡_}
 use mathlib.Core.List.{List}
 use mathlib.Core.Option.{some}
 use native.Mathlib.Omega.{arith}
-use borrow.Author.Tests.{not-true, not-false}
-use Rattle.plan.specs.Syntax.{Expr, nm}
+use borrow.Author.Needs.{needs}
+use Rattle.plan.specs.Syntax.{Expr}
 use Rattle.conjuncts.specs.Items.{Lists}
 use Rattle.conjuncts.proofs.Listed.{lists-length}
 use Rattle.simplify_expressions.specs.Classes.{keyOf}
+use Rattle.simplify_expressions.specs.Seen.{named}
 use Rattle.simplify_expressions.proofs.Simplified.{one-simplified, Going, going-start, going-next, going-end, going-zero}
 use Rattle.simplify_expressions.proofs.simplify_predicates.simplify_predicates.Statement.{statement}
 use Rattle.simplify_expressions.proofs.simplify_predicates.simplify_predicates.Tie as tie
@@ -30,13 +31,15 @@ simplify-predicates-spec =
     (λ c κs. c .before .before .before .before .pre)
     (λ c es h. going-start es (c .before .other-predicates .ensures es h) (c .next-column .ensures es h)
     (omega (arith, lists-length h (c .before .before .before .before .before .pre .most))))
-    (λ c es h. going-end es (c .before .before .before .loop .inv es h) (rw (not-true (c .before .before .before .loop .key .some) (c .if2 .taken))))
-    (λ c κs. c .before .before .before .before .before .before .before .before .before .pre)
+    (λ c. search needs)
+    (λ c. search needs)
+    (λ c es h. going-end es (c .before .before .before .loop .inv es h) (rw (c .enum-told .given .1)))
     (λ c κs. c .before .before .before .before .before .before .before .before .before .before .pre)
-    (λ c. omega (arith, c .before .before .before .before .loop-test .taken))
-    (λ c. omega (arith, c .before .before .before .before .loop-test .taken))
-    (λ c es h. let k = c .before .before .before .before .before .loop .inv es h in
-    let key = c .before .before .before .before .before .loop .key in
-    let t : keyOf key ≡ some (nm (key .q) (key .n)) = rw (not-false (key .some) (c .before .before .if2 .left)) in
-    going-next es (key .q) (key .n) k t (c .before .simplify-column-predicates .ensures es _ h (k .lists)) (rw t at (c .next-column2 .ensures es h)))
+    (λ c κs. c .before .before .before .before .before .before .before .before .before .before .before .pre)
+    (λ c. omega (arith, c .before .before .before .before .before .loop-test .taken))
+    (λ c. omega (arith, c .before .before .before .before .before .loop-test .taken))
+    (λ c es h. let k = c .before .before .before .before .before .before .loop .inv es h in
+    let x = c .before .before .before .key .given .0 .0 in
+    let t : keyOf (c .before .before .before .before .before .before .loop .key) ≡ some (named x) = rw (c .before .before .before .key .given .1) in
+    going-next es (x .q) (x .n) k t (c .before .simplify-column-predicates .ensures es _ h (k .lists)) (c .next-column2 .ensures es h))
     (λ c es h. going-zero es (c .before .loop .inv es h) (c .loop-test .left)))
