@@ -11,8 +11,8 @@ use native.Mathlib.Numerals.{add-one}
 use native.Mathlib.Omega.{arith}
 use lib.Dec.{eqb, leb}
 use lib.IntN.{ℤ, pos, negsuc}
-use lib.ListN.{length, getD, take, drop, set, length-take}
-use lib.Seq.{drop-cons, ext-getD, getD-take, getD-set-same, getD-set-other}
+use lib.ListN.{length, getD, drop}
+use lib.Seq.{drop-cons}
 use lib.Signed.{ltZ, leZ}
 use borrow.Author.Tests.{lt-ltb, lt-leb, ne-eqb, eq-eqb, eqb-true, leb-true, leb-false}
 use Rattle.plan.specs.Lists.{_&_}
@@ -21,10 +21,6 @@ use Rattle.plan.specs.Schema.{same, lookD}
 use Rattle.plan.specs.Syntax.{Name, Value, null}
 use Rattle.rewrite.specs.RowTest.{cell, lent, cell-ok, row-ok}
 use Rattle.utils.specs.Fields.{placeIn}
-use Rattle.check_fields.specs.Fields.{Schema}
-use Rattle.check_fields.specs.Rules.{typesIn}
-use Rattle.check_types.specs.ByPlace.{tyAt}
-use Rattle.check_types.proofs.ByPlacing.{one-more}
 
 -- a number is above 0 exactly if it is not 0 or below
 pub above-zero : (z : ℤ) → ltZ (pos 0) z ≡ not (leZ z (pos 0))
@@ -165,28 +161,3 @@ pub row-end : (ts : List ℕ) (zs : List ℤ) (ms : List ℕ) (i : ℕ) → leng
     → row-ok (drop i ts) (drop i zs) (drop i ms) ≡ true
 unfolding row-ok
 row-end ts zs ms i a b c = rw (drop-all i ts a, drop-all i zs (omega arith), drop-all i ms (omega arith))
-
--- ---- types by place
-
-type-get : (k : ℕ) (s : Schema) → tyAt k s ≡ getD (typesIn s) k 0
-unfolding tyAt typesIn
-type-get k [] = refl
-type-get zero (f ∷ s) = refl
-type-get (suc k) (f ∷ s) = type-get k s
-
-pub types-length : (s : Schema) → length (typesIn s) ≡ length s
-unfolding typesIn
-types-length [] = refl
-types-length (f ∷ s) = ap suc (types-length s)
-
--- what holds the type of each field by its place holds the types
-pub by-place : (s : Schema) (xs : List ℕ) (n : ℕ) → length s ≡ n → n ≤ length xs → ((k : ℕ) → k < n → getD xs k 0 ≡ tyAt k s)
-    → take n xs ≡ typesIn s
-by-place s xs n e l h =
-    ext-getD 0 (take n xs) (typesIn s) (rw length-take (omega (arith, types-length s)))
-    (λ i j. let k : i < n = omega (arith, length-take n xs) in getD-take n xs i 0 k ∙ h i k ∙ type-get i s)
-
-pub placed : (s : Schema) (xs : List ℕ) (n : ℕ) {v : ℕ} → n < length xs → ((k : ℕ) → k < n → getD xs k 0 ≡ tyAt k s) → v ≡ tyAt n s
-    → (k : ℕ) → k < n + 1 → getD (set xs n v) k 0 ≡ tyAt k s
-placed s xs n {v} l h e = one-more (λ k. getD (set xs n v) k 0 ≡ tyAt k s) n
-    (λ k m. getD-set-other xs n k v 0 (λ q. absurd (omega arith)) ∙ h k m) (getD-set-same xs n v 0 l ∙ e)

@@ -1,4 +1,4 @@
--- Laws of truth in three values and of comparisons.
+-- Laws of truth in three values and of operators by number.
 --     as-truth            a truth is TRUE, FALSE or neither
 --     of-value, of-value-f    a value's truth is TRUE or FALSE where the value is
 --     same-word           two signed numbers are equal exactly if neither is the less
@@ -19,12 +19,11 @@ use mir.ValLaws.{toZ-ofZ}
 use borrow.Author.Tests.{eqb-true, eqb-false, leb-true, le-leb}
 use Rattle.plan.specs.Lists.{_&_}
 use Rattle.plan.specs.Read.{nth, ops, tests}
-use Rattle.plan.specs.Syntax.{Value, null, int, truth, Cmp, and, cmp, isNull}
-use Rattle.plan.specs.Trees.{bitOf}
+use Rattle.plan.specs.Syntax.{Value, null, int, truth, and, cmp, isNull}
 use Rattle.plan.specs.Values.{caseOf}
 use Rattle.plan.specs.declared.values.Case.{Case}
-use Rattle.plan.specs.declared.values.Case.the-variants.{Integer as integerCase, Truth as truthCase}
-use Rattle.meaning.specs.Meaning.{tri, isT, isF, holds, compare}
+use Rattle.plan.specs.declared.values.Case.the-variants.{Truth as truthCase}
+use Rattle.meaning.specs.Meaning.{tri, isT, isF}
 use Rattle.evaluate.specs.Truths.{valueOf}
 use Rattle.evaluate.specs.Operators.{cmpOf}
 use Rattle.evaluate.specs.declared.logic.Truth.{Truth}
@@ -54,19 +53,6 @@ tri-truth false = refl
 -- a case that is a truth has it
 pub truth-case : {k : Case} {b : Bool} → k ≡ truthCase b → truth b ≡ tri (isT (caseOf k)) (isF (caseOf k))
 truth-case {b = b} e = rw e (sym (tri-truth b))
-
--- two integers, two truths
-module _ (c : Cmp) {x y : Case} where
-  pub both-integers : {i j : ℤ} → x ≡ integerCase i → y ≡ integerCase j → truth (holds c i j) ≡ compare c (caseOf x) (caseOf y)
-  unfolding _&_
-  both-integers e f = rw (e, f)
-
-  pub both-truths : (i j : Bool) → x ≡ truthCase i → y ≡ truthCase j → truth (holds c (pos (bitOf i)) (pos (bitOf j))) ≡ compare c (caseOf x) (caseOf y)
-  unfolding _&_
-  both-truths true true e f = rw (e, f)
-  both-truths true false e f = rw (e, f)
-  both-truths false true e f = rw (e, f)
-  both-truths false false e f = rw (e, f)
 
 pub and-is : (a b : Bool) → a & b ≡ (a && b)
 unfolding _&_

@@ -1,4 +1,2 @@
 pub mod Truths
 pub mod Operators
-pub mod Standing
-pub mod Answer

@@ -1,6 +1,6 @@
 -- What an operator makes of the values of its operands, by the numbers in its record.
 use mathlib.Core.Path.{_≡_}
-use mathlib.Core.Bool.{cond}
+use mathlib.Core.Bool.{true, cond}
 use mathlib.Core.List.{List, [], _∷_}
 use Prim.Native.Nat.{ℕ, _-_}
 use lib.Dec.{eqb}
@@ -10,14 +10,20 @@ use Rattle.plan.specs.Kinds as K
 use Rattle.plan.specs.Kinds.{what}
 use Rattle.plan.specs.Lists.{any}
 use Rattle.plan.specs.Read.{nth, ops, tests, exprBy, exprsOf}
-use Rattle.plan.specs.Syntax.{Value, Expr, null, truth, Cmp, eq, ne, lt, le, gt, ge, and, isNull}
+use Rattle.plan.specs.Syntax.{Value, Expr, null, truth, Cmp, eq, ne, lt, le, gt, ge, and, cmp, isNull}
+use Rattle.plan.specs.Trees.{bitOf, opNumber}
 use Rattle.plan.specs.Values.{caseOf}
 use Rattle.meaning.specs.Meaning.{isT, compare, binary, not3, negate, tested, within, in-list}
 use Rattle.evaluate.specs.declared.operands.Seen.{Seen}
 
 -- the comparison with this number; Eq for the number of none
 abbrev pub cmpOf : ℕ → Cmp
-cmpOf p = cond (eqb p 4) ne (cond (eqb p 5) lt (cond (eqb p 6) le (cond (eqb p 7) gt (cond (eqb p 8) ge eq))))
+cmpOf p =
+    cond (eqb p (opNumber (cmp ne))) ne
+    (cond (eqb p (opNumber (cmp lt))) lt
+    (cond (eqb p (opNumber (cmp le))) le
+    (cond (eqb p (opNumber (cmp gt))) gt
+    (cond (eqb p (opNumber (cmp ge))) ge eq))))
 
 -- the value of an operand; NULL where there is none
 abbrev pub operand : ℕ → List Value → Value
@@ -29,8 +35,8 @@ operated k p vs =
     cond (eqb k (K.numberE K.Binary)) (binary (nth and ops (p - 1)) (operand 0 vs) (operand 1 vs))
     (cond (eqb k (K.numberE K.Not)) (not3 (operand 0 vs))
     (cond (eqb k (K.numberE K.Test)) (truth (tested (nth isNull tests (p - 1)) (operand 0 vs)))
-    (cond (eqb k (K.numberE K.Between)) (negate (eqb p 1) (within (operand 0 vs) (operand 1 vs) (operand 2 vs)))
-    (cond (eqb k (K.numberE K.InList)) (negate (eqb p 1) (in-list (operand 0 vs) (drop 1 vs))) null))))
+    (cond (eqb k (K.numberE K.Between)) (negate (eqb p (bitOf true)) (within (operand 0 vs) (operand 1 vs) (operand 2 vs)))
+    (cond (eqb k (K.numberE K.InList)) (negate (eqb p (bitOf true)) (in-list (operand 0 vs) (drop 1 vs))) null))))
 
 -- ---- operands, as the code sees them
 

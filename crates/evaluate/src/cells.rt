@@ -1,6 +1,7 @@
 // The cells of a row: values lent as 64-bit numbers beside their marks, 1 for NULL.
 use plan::values::Case;
 use plan::values::Value;
+use plan::values::no_value;
 use plan::words::BOOLEAN;
 use plan::words::INTEGER;
 use utils::schema_columns::Fields;
@@ -10,6 +11,7 @@ ghost use mathlib.Core.List.{List};
 ghost use Prim.Native.Nat.{_<_, _≤_};
 ghost use lib.IntN.{pos};
 ghost use lib.ListN.{getD, length};
+ghost use Rattle.image.specs.Limits.{maxFields};
 ghost use Rattle.plan.specs.Syntax.{Name, nm, null};
 ghost use Rattle.plan.specs.Values.{caseOf};
 ghost use Rattle.rewrite.specs.RowTest.{lent};
@@ -17,11 +19,16 @@ ghost use Rattle.utils.specs.Fields.{Names};
 ghost use Rattle.meaning.specs.Meaning as M;
 ghost use Rattle.rewrite.specs.RowTest as R;
 
+// The marks of a cell: it holds a value, or NULL.
+const HELD: u8 = 0;
+
+const NULL: u8 = 1;
+
 // A value that is not NULL, of a field of this type.
 fn cell_of(ty: usize, z: i64) -> Value
     ensures { λ r. ⌜ caseOf (r .case) ≡ R.cell ty z 0 ⌝ }
 {
-    if ty == 2 {
+    if ty == BOOLEAN {
         return Value {
             ty: BOOLEAN,
             case: Case::Truth(0 < z),
@@ -38,10 +45,7 @@ pub fn cell_at(types: &[usize], values: &[i64], marks: &[u8], i: usize) -> Value
     ensures { λ r. ⌜ caseOf (r .case) ≡ getD (lent (now (types .entry)) (now (values .entry)) (now (marks .entry))) i null ⌝ }
 {
     if types.len() <= i {
-        return Value {
-            ty: 0,
-            case: Case::Null,
-        };
+        return no_value();
     }
     let ty = types[i];
     if (values.len() <= i) | (marks.len() <= i) {
@@ -50,7 +54,7 @@ pub fn cell_at(types: &[usize], values: &[i64], marks: &[u8], i: usize) -> Value
             case: Case::Null,
         };
     }
-    if marks[i] == 1 {
+    if marks[i] == NULL {
         return Value {
             ty,
             case: Case::Null,
@@ -62,16 +66,17 @@ pub fn cell_at(types: &[usize], values: &[i64], marks: &[u8], i: usize) -> Value
 // Whether the values lent for the field with the place i are one: a boolean that is not NULL is 0 or 1.
 fn cell_ok(types: &[usize], values: &[i64], marks: &[u8], i: usize) -> bool
     requires { ⌜ (i < length (now types)) × (i < length (now values)) × (i < length (now marks)) ⌝ }
-    ensures { λ r. ⌜ r ≡ R.cell-ok (getD (now (types .entry)) i 0) (getD (now (values .entry)) i (pos 0)) (getD (now (marks .entry)) i 0) ⌝ }
+    ensures { λ r. ⌜ r
+        ≡ R.cell-ok (getD (now (types .entry)) i 0) (getD (now (values .entry)) i (pos 0)) (getD (now (marks .entry)) i 0) ⌝ }
 {
     let mark = marks[i];
-    if mark == 1 {
+    if mark == NULL {
         return true;
     }
-    if mark != 0 {
+    if mark != HELD {
         return false;
     }
-    if types[i] == 2 {
+    if types[i] == BOOLEAN {
         let z = values[i];
         return (0 <= z) & (z <= 1);
     }
@@ -105,7 +110,7 @@ pub fn column(
     q: usize,
     n: usize,
 ) -> Value
-    requires { ⌜ fields .len ≤ 64 ⌝ }
+    requires { ⌜ fields .len ≤ maxFields ⌝ }
     ensures { λ r. ⌜ ((ns : List Name) → Names fields ns → length (now (types .entry)) ≤ length ns
         → caseOf (r .case) ≡ M.look ns (lent (now (types .entry)) (now (values .entry)) (now (marks .entry))) (nm q n)) ⌝ }
 {

@@ -4,74 +4,62 @@ use crate::logic::and;
 use crate::logic::known;
 use plan::values::Case;
 use plan::values::Value;
+use plan::values::code_of;
+use plan::values::is_null;
+use plan::values::kind_of;
+use plan::words::EQ;
+use plan::words::GT;
+use plan::words::GT_EQ;
+use plan::words::IS_FALSE;
+use plan::words::IS_NOT_FALSE;
+use plan::words::IS_NOT_NULL;
+use plan::words::IS_NOT_TRUE;
+use plan::words::IS_NOT_UNKNOWN;
+use plan::words::IS_TRUE;
+use plan::words::IS_UNKNOWN;
+use plan::words::LT;
+use plan::words::LT_EQ;
+use plan::words::NOT_EQ;
 ghost use mathlib.Core.Path.{_≡_};
 ghost use Prim.Native.Nat.{_-_};
-ghost use lib.IntN.{pos};
 ghost use Rattle.plan.specs.Read.{nth, tests};
 ghost use Rattle.plan.specs.Syntax.{eq, isNull};
-ghost use Rattle.plan.specs.Trees.{bitOf};
 ghost use Rattle.plan.specs.Values.{caseOf};
-ghost use Rattle.meaning.specs.Meaning.{isF, isN, isT};
+ghost use Rattle.meaning.specs.Meaning.{isF, isT};
 ghost use Rattle.evaluate.specs.Operators.{cmpOf};
 ghost use Rattle.evaluate.specs.Truths.{valueOf};
 ghost use Rattle.meaning.specs.Meaning as M;
-
-// The numbers of two comparisons.
-const EQ: usize = 3;
-
-const LT_EQ: usize = 6;
 
 // Whether the comparison with this number holds; Eq where it is the number of none.
 fn holds(p: usize, a: i64, b: i64) -> bool
     ensures { λ r. ⌜ r ≡ M.holds (cmpOf p) a b ⌝ }
 {
-    if p == 4 {
+    if p == NOT_EQ {
         return a != b;
     }
-    if p == 5 {
+    if p == LT {
         return a < b;
     }
-    if p == 6 {
+    if p == LT_EQ {
         return a <= b;
     }
-    if p == 7 {
+    if p == GT {
         return b < a;
     }
-    if p == 8 {
+    if p == GT_EQ {
         return b <= a;
     }
     a == b
-}
-
-// FALSE stands below TRUE.
-fn code(b: bool) -> i64
-    ensures { λ r. ⌜ r ≡ pos (bitOf b) ⌝ }
-{
-    if b {
-        return 1;
-    }
-    0
 }
 
 // Two values of one type are compared; with NULL a comparison is UNKNOWN.
 pub fn compare(p: usize, a: Value, b: Value) -> Truth
     ensures { λ r. ⌜ valueOf r ≡ M.compare (cmpOf p) (caseOf (a .case)) (caseOf (b .case)) ⌝ }
 {
-    let x = a.case;
-    let y = b.case;
-    match x {
-        Case::Null => Truth::Unknown,
-        Case::Integer(i) => match y {
-            Case::Null => Truth::Unknown,
-            Case::Integer(j) => known(holds(p, i, j)),
-            Case::Truth(_) => Truth::Unknown,
-        },
-        Case::Truth(i) => match y {
-            Case::Null => Truth::Unknown,
-            Case::Integer(_) => Truth::Unknown,
-            Case::Truth(j) => known(holds(p, code(i), code(j))),
-        },
+    if is_null(a) | (kind_of(a) != kind_of(b)) {
+        return Truth::Unknown;
     }
+    known(holds(p, code_of(a), code_of(b)))
 }
 
 // low <= operand AND operand <= high.
@@ -90,17 +78,6 @@ pub fn equals(operand: Value, item: Value) -> bool
         Truth::False => false,
         Truth::True => true,
         Truth::Unknown => false,
-    }
-}
-
-pub fn is_null(v: Value) -> bool
-    ensures { λ r. ⌜ r ≡ isN (caseOf (v .case)) ⌝ }
-{
-    let case = v.case;
-    match case {
-        Case::Null => true,
-        Case::Integer(_) => false,
-        Case::Truth(_) => false,
     }
 }
 
@@ -130,25 +107,25 @@ fn is_false(v: Value) -> bool
 pub fn tested(p: usize, v: Value) -> bool
     ensures { λ r. ⌜ r ≡ M.tested (nth isNull tests (p - 1)) (caseOf (v .case)) ⌝ }
 {
-    if p == 2 {
+    if p == IS_NOT_NULL {
         return !is_null(v);
     }
-    if p == 3 {
+    if p == IS_TRUE {
         return is_true(v);
     }
-    if p == 4 {
+    if p == IS_FALSE {
         return is_false(v);
     }
-    if p == 5 {
+    if p == IS_UNKNOWN {
         return !is_true(v) & !is_false(v);
     }
-    if p == 6 {
+    if p == IS_NOT_TRUE {
         return !is_true(v);
     }
-    if p == 7 {
+    if p == IS_NOT_FALSE {
         return !is_false(v);
     }
-    if p == 8 {
+    if p == IS_NOT_UNKNOWN {
         return is_true(v) | is_false(v);
     }
     is_null(v)

@@ -8,6 +8,7 @@ use image::records::NEXT_LINK;
 use image::records::from_record;
 use image::records::label_at;
 use image::words::word_at;
+use plan::kinds::COLUMN;
 use plan::values::Literal;
 use plan::values::Value;
 use plan::values::literal_of;
@@ -16,6 +17,7 @@ ghost use mathlib.Core.Path.{_≡_};
 ghost use mathlib.Core.List.{List};
 ghost use Prim.Native.Nat.{_≤_};
 ghost use lib.ListN.{length};
+ghost use Rattle.image.specs.Limits.{maxFields};
 ghost use Rattle.image.specs.Tree.{At, Readable, Tree};
 ghost use Rattle.plan.specs.Syntax.{Name};
 ghost use Rattle.plan.specs.Values.{caseOf};
@@ -35,12 +37,13 @@ pub fn evaluate(
     marks: &[u8],
 ) -> Value
     requires { ⌜ Readable depth (now part) base ⌝ }
-    requires { ⌜ fields .len ≤ 64 ⌝ }
-    ensures { λ r. ⌜ ((t : Tree) (ns : List Name) → At t (now (part .entry)) base → Names fields ns → length (now (types .entry)) ≤ length ns
-        → caseOf (r .case) ≡ eval no-functions (look ns (lent (now (types .entry)) (now (values .entry)) (now (marks .entry)))) (exprIn t)) ⌝ }
+    requires { ⌜ fields .len ≤ maxFields ⌝ }
+    ensures { λ r. ⌜ ((t : Tree) (ns : List Name) → At t (now (part .entry)) base → Names fields ns
+        → length (now (types .entry)) ≤ length ns → caseOf (r .case)
+        ≡ eval no-functions (look ns (lent (now (types .entry)) (now (values .entry)) (now (marks .entry)))) (exprIn t)) ⌝ }
 {
     let l = label_at(part);
-    if l.kind == 1 {
+    if l.kind == COLUMN {
         return column(fields, types, values, marks, l.p, l.q);
     }
     let literal = literal_of(l);

@@ -1,8 +1,6 @@
-// The row test: the meaning of a Filter's predicate on one row over its input's schema.
+// The value of an expression on a row, in three-valued logic.
 pub mod cells;
 pub mod comparing;
 pub mod expressions;
 pub mod logic;
 pub mod operands;
-pub mod schemas;
-pub mod testing;

@@ -3,9 +3,10 @@ use plan::values::Case;
 use plan::values::Value;
 use plan::words::BOOLEAN;
 ghost use mathlib.Core.Path.{_≡_};
+ghost use mathlib.Core.Bool.{true};
 ghost use Rattle.plan.specs.Syntax.{truth};
 ghost use Rattle.plan.specs.Values.{caseOf};
-ghost use Rattle.meaning.specs.Meaning.{and3, isF, isT, negate, not3, or3, tri};
+ghost use Rattle.meaning.specs.Meaning.{and3, isF, isT, kindOf, negate, not3, or3, tri};
 ghost use Rattle.evaluate.specs.Truths.{valueOf};
 
 pub enum Truth {
@@ -38,7 +39,7 @@ pub fn truth_of(v: Value) -> Truth
 
 // A truth as a value: UNKNOWN is NULL.
 pub fn value_of(t: Truth) -> Value
-    ensures { λ r. ⌜ (r .ty ≡ 2) × (caseOf (r .case) ≡ valueOf t) ⌝ }
+    ensures { λ r. ⌜ (r .ty ≡ kindOf (truth true)) × (caseOf (r .case) ≡ valueOf t) ⌝ }
 {
     match t {
         Truth::False => Value {

@@ -1,7 +1,6 @@
 // What is seen of an operator's operands, one after another, and what the operator makes of them.
 use crate::comparing::compare;
 use crate::comparing::equals;
-use crate::comparing::is_null;
 use crate::comparing::tested;
 use crate::comparing::within;
 use crate::logic::Truth;
@@ -12,8 +11,18 @@ use crate::logic::not;
 use crate::logic::or;
 use crate::logic::truth_of;
 use crate::logic::value_of;
-use plan::values::Case;
+use plan::kinds::BETWEEN;
+use plan::kinds::BINARY_EXPR;
+use plan::kinds::IN_LIST;
+use plan::kinds::NOT;
+use plan::kinds::TEST;
 use plan::values::Value;
+use plan::values::is_null;
+use plan::values::no_value;
+use plan::words::EQ;
+use plan::words::GT_EQ;
+use plan::words::NEGATED;
+use plan::words::OR;
 ghost use mathlib.Core.Path.{_≡_};
 ghost use mathlib.Core.Bool.{cond};
 ghost use mathlib.Core.List.{_++_, _∷_, List, []};
@@ -35,24 +44,14 @@ pub struct Seen {
     pub equal: bool,
 }
 
-// What stands where there is no operand.
-fn nothing() -> Value
-    ensures { λ r. ⌜ caseOf (r .case) ≡ null ⌝ }
-{
-    Value {
-        ty: 0,
-        case: Case::Null,
-    }
-}
-
 pub fn no_operands() -> Seen
     ensures { λ r. ⌜ Sees r [] ⌝ }
 {
     Seen {
         count: 0,
-        first: nothing(),
-        second: nothing(),
-        third: nothing(),
+        first: no_value(),
+        second: no_value(),
+        third: no_value(),
         equal: false,
     }
 }
@@ -106,10 +105,10 @@ pub fn with_operand(seen: Seen, v: Value) -> Seen
 fn binary(p: usize, a: Value, b: Value) -> Truth
     ensures { λ r. ⌜ valueOf r ≡ M.binary (nth And ops (p - 1)) (caseOf (a .case)) (caseOf (b .case)) ⌝ }
 {
-    if p == 2 {
+    if p == OR {
         return or(truth_of(a), truth_of(b));
     }
-    if (3 <= p) & (p <= 8) {
+    if (EQ <= p) & (p <= GT_EQ) {
         return compare(p, a, b);
     }
     and(truth_of(a), truth_of(b))
@@ -132,20 +131,20 @@ pub fn operate(kind: usize, p: usize, seen: Seen) -> Value
     let first = seen.first;
     let second = seen.second;
     let third = seen.third;
-    if kind == 5 {
+    if kind == BINARY_EXPR {
         return value_of(binary(p, first, second));
     }
-    if kind == 6 {
+    if kind == NOT {
         return value_of(not(truth_of(first)));
     }
-    if kind == 7 {
+    if kind == TEST {
         return value_of(known(tested(p, first)));
     }
-    if kind == 8 {
-        return value_of(negated(p == 1, within(first, second, third)));
+    if kind == BETWEEN {
+        return value_of(negated(p == NEGATED, within(first, second, third)));
     }
-    if kind == 9 {
-        return value_of(negated(p == 1, in_list(first, seen.equal)));
+    if kind == IN_LIST {
+        return value_of(negated(p == NEGATED, in_list(first, seen.equal)));
     }
-    nothing()
+    no_value()
 }

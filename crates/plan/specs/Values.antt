@@ -1,13 +1,14 @@
 -- What the code's value records stand for.
 use Prim.Native.Nat.{ℕ}
-use mathlib.Core.Bool.{Bool, cond}
+use mathlib.Core.Bool.{Bool, true, false, cond}
 use mathlib.Core.Option.{Option, none, some}
 use lib.Dec.{eqb}
-use lib.IntN.{ℤ}
+use lib.IntN.{ℤ, pos}
 use Rattle.image.specs.Tree.{Label}
 use Rattle.plan.specs.Kinds as K
 use Rattle.plan.specs.Syntax as S
 use Rattle.plan.specs.Read.{signed}
+use Rattle.plan.specs.Trees.{bitOf}
 use Rattle.plan.specs.declared.values.Case.{Case}
 use Rattle.plan.specs.declared.values.Case.the-variants.{Null, Integer, Truth}
 use Rattle.plan.specs.declared.values.Value.{Value}
@@ -33,6 +34,24 @@ abbrev pub caseOf : Case → S.Value
 caseOf Null = S.null
 caseOf (Integer z) = S.int z
 caseOf (Truth b) = S.truth b
+
+-- whether it is NULL
+abbrev pub caseNull : Case → Bool
+caseNull Null = true
+caseNull (Integer z) = false
+caseNull (Truth b) = false
+
+-- the number of its type: 0 of NULL
+abbrev pub caseKind : Case → ℕ
+caseKind Null = 0
+caseKind (Integer z) = 1
+caseKind (Truth b) = 2
+
+-- where it stands in the order of its type: FALSE below TRUE
+abbrev pub caseCode : Case → ℤ
+caseCode Null = pos 0
+caseCode (Integer z) = z
+caseCode (Truth b) = pos (bitOf b)
 
 -- the literal expression of a type and a case
 abbrev pub literalBy : ℕ → Case → S.Expr

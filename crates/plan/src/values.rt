@@ -4,13 +4,15 @@ use crate::kinds::INTEGER_LITERAL;
 use crate::kinds::NULL_LITERAL;
 use crate::words::BOOLEAN;
 use crate::words::INTEGER;
+use crate::words::NO_TYPE;
 use crate::words::TRUE;
 use image::records::Label;
 ghost use mathlib.Core.Path.{_≡_};
 ghost use Prim.Native.Nat.{_<_};
 ghost use Rattle.image.specs.Tree.{Fits32};
 ghost use Rattle.plan.specs.Read.{signed};
-ghost use Rattle.plan.specs.Values.{literalOf};
+ghost use Rattle.plan.specs.Syntax.{null};
+ghost use Rattle.plan.specs.Values.{caseCode, caseKind, caseNull, caseOf, literalOf};
 
 pub enum Case {
     Null,
@@ -21,6 +23,56 @@ pub enum Case {
 pub struct Value {
     pub ty: usize,
     pub case: Case,
+}
+
+// What stands where there is no value: a NULL of no type.
+pub fn no_value() -> Value
+    ensures { λ r. ⌜ caseOf (r .case) ≡ null ⌝ }
+{
+    Value {
+        ty: NO_TYPE,
+        case: Case::Null,
+    }
+}
+
+pub fn is_null(v: Value) -> bool
+    ensures { λ r. ⌜ r ≡ caseNull (v .case) ⌝ }
+{
+    let case = v.case;
+    match case {
+        Case::Null => true,
+        Case::Integer(_) => false,
+        Case::Truth(_) => false,
+    }
+}
+
+// The type of what a value holds: none for a NULL, whatever its own type.
+pub fn kind_of(v: Value) -> usize
+    ensures { λ r. ⌜ r ≡ caseKind (v .case) ⌝ }
+{
+    let case = v.case;
+    match case {
+        Case::Null => NO_TYPE,
+        Case::Integer(_) => INTEGER,
+        Case::Truth(_) => BOOLEAN,
+    }
+}
+
+// Where a value stands in the order of its type: FALSE below TRUE.
+pub fn code_of(v: Value) -> i64
+    ensures { λ r. ⌜ r ≡ caseCode (v .case) ⌝ }
+{
+    let case = v.case;
+    match case {
+        Case::Null => 0,
+        Case::Integer(z) => z,
+        Case::Truth(b) => {
+            if b {
+                return 1;
+            }
+            0
+        }
+    }
 }
 
 // A literal, or a record that is none.

@@ -1,10 +1,10 @@
 // What C and Rust call: functions on byte slices and numbers.
 use call_pass::call_pass::pass_bytes;
 use call_rewrite::call_rewrite::rewrite_bytes;
+use call_row_test::testing::row_test;
 use check_image::check;
 use check_image::number_of;
 use check_image::place_of;
-use evaluate::testing::row_test;
 ghost use mathlib.Core.Path.{_≡_};
 ghost use lib.ListN.{length};
 ghost use Rattle.rewrite.specs.OnBytes.{pass-bytes, rewrite-bytes};
@@ -105,10 +105,10 @@ pub extern "C" fn push_down_filter_row_test(
     ensures { λ r. ⌜ testedIs r ≡ row-test-bytes (now (image .entry)) node (now (values .entry)) (now (marks .entry)) ⌝ }
 {
     let answer = row_test(image, node, values, marks);
-    let place = evaluate::testing::place_of(answer);
+    let place = call_row_test::testing::place_of(answer);
     Tested {
-        number: evaluate::testing::number_of(answer),
+        number: call_row_test::testing::number_of(answer),
         record: place as u32,
-        truth: evaluate::testing::truth_number(answer),
+        truth: call_row_test::testing::truth_number(answer),
     }
 }

@@ -20,11 +20,12 @@ use plan::kinds::COLUMN;
 use plan::values::Case;
 use plan::values::Literal;
 use plan::values::Value;
+use plan::values::code_of;
+use plan::values::is_null;
+use plan::values::kind_of;
 use plan::values::literal_of;
-use plan::words::BOOLEAN;
 use plan::words::EQ;
 use plan::words::GT;
-use plan::words::INTEGER;
 use plan::words::LT;
 use plan::words::NO_TYPE;
 use plan::words::NOT_EQ;
@@ -38,7 +39,7 @@ ghost use Rattle.plan.specs.Integers.{FitsE};
 ghost use Rattle.plan.specs.Lists.{all, choose, keep};
 ghost use Rattle.plan.specs.Syntax.{Expr};
 ghost use Rattle.plan.specs.Trees.{exprTree};
-ghost use Rattle.meaning.specs.Meaning.{code, isN, kindOf, sameV};
+ghost use Rattle.meaning.specs.Meaning.{sameV};
 ghost use Rattle.rewrite.specs.SimplifyPredicates.{Side, eq-expr, eq-part, find-most-restrictive-predicate, first-kind, is-better};
 ghost use Rattle.rewrite.specs.SimplifyPredicates.{lit-val, make, most-restrictive, name-under, of-kind, simplify-column-predicates};
 ghost use Rattle.rewrite.specs.SimplifyPredicates.{simplify-predicates, sort-out, val, view};
@@ -354,46 +355,6 @@ pub fn most_restrictive(s: &[u8], c: Conjuncts, into: Conjuncts, lower: bool) ->
         return add_if(into, item_at(c, best), true);
     }
     extend(into, c)
-}
-
-pub fn is_null(v: Value) -> bool
-    ensures { λ r. ⌜ r ≡ isN (lit-val v) ⌝ }
-{
-    let case = v.case;
-    match case {
-        Case::Null => true,
-        Case::Integer(_) => false,
-        Case::Truth(_) => false,
-    }
-}
-
-// The type of a value: none of NULL.
-pub fn kind_of(v: Value) -> usize
-    ensures { λ r. ⌜ r ≡ kindOf (lit-val v) ⌝ }
-{
-    let case = v.case;
-    match case {
-        Case::Null => NO_TYPE,
-        Case::Integer(_) => INTEGER,
-        Case::Truth(_) => BOOLEAN,
-    }
-}
-
-// Where a value stands in the order of its type.
-pub fn code_of(v: Value) -> i64
-    ensures { λ r. ⌜ r ≡ code (lit-val v) ⌝ }
-{
-    let case = v.case;
-    match case {
-        Case::Null => 0,
-        Case::Integer(z) => z,
-        Case::Truth(b) => {
-            if b {
-                return 1;
-            }
-            0
-        }
-    }
 }
 
 // Whether the literal b lies further than a.

@@ -11,7 +11,8 @@ pub cell-at-spec : {M : Type 1} → statement M
 cell-at-spec =
     tie.close
     (tie.spec
-    (λ c. lent-short _ _ _ _ (first (c .if1 .taken)))
+    (λ c κs. search needs)
+    (λ c. c .no-value .ensures ∙ lent-short _ _ _ _ (first (c .before .if1 .taken)))
     (λ c. search needs)
     (λ c. search needs)
     (λ c. lent-short _ _ _ _ (short-by (c .if2 .taken)))

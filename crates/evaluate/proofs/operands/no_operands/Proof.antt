@@ -11,9 +11,9 @@ no-operands-spec =
     tie.close (tie.spec (λ c κs. search needs) (λ c κs. search needs) (λ c κs. search needs)
     (λ c. record {
       count = refl;
-      first = c .before .before .nothing .ensures;
-      second = c .before .nothing2 .ensures;
+      first = c .before .before .no-value .ensures;
+      second = c .before .no-value2 .ensures;
       third =
-          c .nothing3 .ensures;
+          c .no-value3 .ensures;
       equal = refl;
     }))

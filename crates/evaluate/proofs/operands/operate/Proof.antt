@@ -38,5 +38,5 @@ operate-spec =
     (negate (eqb (c .before .before .before .before .before .before .before .before .before .before .before .args .p) 1))
     (c .before .before .in-list .ensures) ∙ by-list h _ _ (c .before .before .before .if5 .taken))
     (λ c κs. search needs)
-    (λ c. λ vs h. c .nothing .ensures ∙ by-none h _ _ (c .before .before .before .before .before .if1 .left)
+    (λ c. λ vs h. c .no-value .ensures ∙ by-none h _ _ (c .before .before .before .before .before .if1 .left)
     (c .before .before .before .before .if2 .left) (c .before .before .before .if3 .left) (c .before .before .if4 .left) (c .before .if5 .left)))

@@ -9,6 +9,7 @@ use Rattle.plan.specs.Lists.{all}
 use Rattle.rewrite.specs.SimplifyPredicates.{of-kind}
 use Rattle.conjuncts.specs.Items.{Lists}
 use Rattle.conjuncts.proofs.Listed.{lists-length, at-end}
+use Rattle.meaning.proofs.Cases.{null-case, kind-case}
 use Rattle.simplify_expressions.specs.Seen.{sideIn}
 use Rattle.simplify_expressions.proofs.Sides.{of-kind-next}
 use Rattle.simplify_expressions.proofs.simplify_predicates.all_of_kind.Statement.{statement}
@@ -40,7 +41,7 @@ all-of-kind-spec =
             arith,
             lists-length h (c .before .before .before .before .before .before .pre .most),
             c .before .before .before .before .loop .inv .0,
-          )) _ (c .before .before .side-at .ensures es h) _ (c .before .is-null .ensures) _
-          (c .kind-of .ensures) _ _ (c .before .before .before .before .loop .inv .1 es h),
+          )) _ (c .before .before .side-at .ensures es h) _ (c .before .is-null .ensures ∙ null-case (c .before .before .side-at .result .value .case)) _
+          (c .kind-of .ensures ∙ kind-case (c .before .before .side-at .result .value .case)) _ _ (c .before .before .before .before .loop .inv .1 es h),
     ))
     (λ c es h. c .before .loop .inv .1 es h ∙ rw (c .loop-test .left)))

@@ -8,6 +8,7 @@ use Rattle.plan.specs.Syntax.{Expr}
 use Rattle.rewrite.specs.SimplifyPredicates.{first-kind}
 use Rattle.conjuncts.specs.Items.{Lists}
 use Rattle.conjuncts.proofs.Listed.{lists-length, at-end}
+use Rattle.meaning.proofs.Cases.{null-case, kind-case}
 use Rattle.simplify_expressions.specs.Seen.{sideIn}
 use Rattle.simplify_expressions.proofs.Sides.{kind-next}
 use Rattle.simplify_expressions.proofs.simplify_predicates.first_kind.Statement.{statement}
@@ -41,6 +42,6 @@ first-kind-spec =
             lists-length h (c .before .before .before .before .before .before .before .pre .most),
             c .before .before .before .before .before .loop .inv .0,
           )) _ (c .before .before .before .side-at .ensures es h) _
-          (c .before .before .is-null .ensures) _ (c .before .kind-of .ensures) _ (c .before .before .before .before .before .loop .inv .1 es h),
+          (c .before .before .is-null .ensures ∙ null-case (c .before .before .before .side-at .result .value .case)) _ (c .before .kind-of .ensures ∙ kind-case (c .before .before .before .side-at .result .value .case)) _ (c .before .before .before .before .before .loop .inv .1 es h),
     ))
     (λ c es h. c .before .loop .inv .1 es h ∙ rw (c .loop-test .left)))

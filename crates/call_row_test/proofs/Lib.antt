@@ -1,0 +1,4 @@
+pub mod FieldTypes
+pub mod Quiet
+pub mod Locating
+pub mod RowTesting
