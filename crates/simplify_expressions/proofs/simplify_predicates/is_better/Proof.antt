@@ -25,7 +25,12 @@ is-better-spec =
       and-is,
     ))
     (λ c. let a = c .before .before .before .before .before .before .before .args in
-    rw (← c .before .before .is-null2 .ensures ∙ null-case (a .held .value .case), ← c .before .before .before .is-null .ensures ∙ null-case (a .d .value .case), c .before .if1 .left, c .if2 .taken))
+    rw (
+      ← c .before .before .is-null2 .ensures ∙ null-case (a .held .value .case),
+      ← c .before .before .before .is-null .ensures ∙ null-case (a .d .value .case),
+      c .before .if1 .left,
+      c .if2 .taken,
+    ))
     (λ c κs. search needs)
     (λ c κs. search needs)
     (λ c κs. search needs)
