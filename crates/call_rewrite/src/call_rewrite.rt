@@ -4,6 +4,7 @@ use answers::handing_out::clear_from;
 use answers::handing_out::hand_out;
 use check_image::Checked;
 use check_image::check;
+use image::limits::MAP_BYTES;
 use image::limits::MAX_BYTES;
 use image::limits::MAX_RECORDS;
 use image::limits::RECORD_BYTES;
@@ -16,7 +17,8 @@ ghost use mathlib.Core.Path.{_≡_};
 ghost use mathlib.Core.List.{List};
 ghost use Prim.Native.Nat.{_*_, _≤_, ℕ};
 ghost use lib.ListN.{length};
-ghost use Rattle.image.specs.Limits.{maxRecords, workBytes};
+ghost use Rattle.image.specs.Buffers.{ScratchMap};
+ghost use Rattle.image.specs.Limits.{mapBytes, maxRecords, workBytes};
 ghost use Rattle.plan.specs.Syntax.{Plan};
 ghost use Rattle.rewrite.specs.OnBytes.{planIn, rewrite-bytes, rewritten};
 ghost use Rattle.rewrite.specs.RewriteAt.{granted, rewrite-call, with-room};
@@ -68,7 +70,7 @@ fn rewrite_apart(
     out: &mut [u8],
 ) -> Answer
     requires { ⌜ Here (now image) node ⌝ }
-    requires { ⌜ (4128 ≤ length (now m)) × (length (now work) ≡ workBytes) × (length (now levels) ≡ maxRecords) ⌝ }
+    requires { ⌜ ScratchMap (now m) (now work) (now levels) ⌝ }
     ensures { λ r. ⌜ rewrittenOf r (now (out .exit))
         ≡ rewritten (length (now (out .entry))) (rewrite-call node (length (now (out .entry))) (planIn (now (image .entry)))) ⌝ }
 {
@@ -92,7 +94,7 @@ fn rewrite_short(
     out: &mut [u8],
 ) -> Answer
     requires { ⌜ Here (now image) node ⌝ }
-    requires { ⌜ (4128 ≤ length (now m)) × (length (now levels) ≡ maxRecords) ⌝ }
+    requires { ⌜ (mapBytes ≤ length (now m)) × (length (now levels) ≡ maxRecords) ⌝ }
     ensures { λ r. ⌜ rewrittenOf r (now (out .exit))
         ≡ rewritten (length (now (out .entry))) (rewrite-call node (length (now (out .entry))) (planIn (now (image .entry)))) ⌝ }
 {
@@ -109,7 +111,7 @@ fn rewrite_in_output(
     out: &mut [u8],
 ) -> Answer
     requires { ⌜ Here (now image) node ⌝ }
-    requires { ⌜ (4128 ≤ length (now m)) × (length (now levels) ≡ maxRecords) × (workBytes ≤ length (now out)) ⌝ }
+    requires { ⌜ (mapBytes ≤ length (now m)) × (length (now levels) ≡ maxRecords) × (workBytes ≤ length (now out)) ⌝ }
     ensures { λ r. ⌜ rewrittenOf r (now (out .exit))
         ≡ rewritten (length (now (out .entry))) (rewrite-call node (length (now (out .entry))) (planIn (now (image .entry)))) ⌝ }
 {
@@ -133,7 +135,7 @@ fn rewrite_within(
     out: &mut [u8],
 ) -> Answer
     requires { ⌜ Here (now image) node ⌝ }
-    requires { ⌜ (4128 ≤ length (now m)) × (length (now levels) ≡ maxRecords) ⌝ }
+    requires { ⌜ (mapBytes ≤ length (now m)) × (length (now levels) ≡ maxRecords) ⌝ }
     ensures { λ r. ⌜ rewrittenOf r (now (out .exit))
         ≡ rewritten (length (now (out .entry))) (rewrite-call node (length (now (out .entry))) (planIn (now (image .entry)))) ⌝ }
 {
@@ -149,7 +151,7 @@ fn rewrite_here(image: &[u8], node: usize, out: &mut [u8]) -> Answer
     ensures { λ r. ⌜ rewrittenOf r (now (out .exit))
         ≡ rewritten (length (now (out .entry))) (rewrite-call node (length (now (out .entry))) (planIn (now (image .entry)))) ⌝ }
 {
-    let mut m = [0u8; 4128];
+    let mut m = [0u8; MAP_BYTES];
     let mut levels = [0u32; MAX_RECORDS];
     rewrite_within(image, node, &mut m, &mut levels, out)
 }

@@ -1,4 +1,5 @@
 pub mod Limits
+pub mod Buffers
 pub mod Word
 pub mod Tree
 pub mod Flat

@@ -11,7 +11,7 @@ use crate::words::word_at;
 ghost use mathlib.Core.Path.{_≡_};
 ghost use Prim.Native.Nat.{_+_, _<_, _≤_};
 ghost use lib.ListN.{length};
-ghost use Rattle.image.specs.Limits.{workBytes};
+ghost use Rattle.image.specs.Limits.{maxLevel, workBytes};
 ghost use Rattle.image.specs.Room.{Put, Wrote};
 ghost use Rattle.image.specs.Tree.{At, Readable, Tree, labelAt};
 
@@ -45,7 +45,7 @@ pub fn copy_tree(
     level: usize,
 ) -> usize
     requires { ⌜ Readable depth (now s) base ⌝ }
-    requires { ⌜ level + depth < 4096 ⌝ }
+    requires { ⌜ level + depth < maxLevel ⌝ }
     requires { ⌜ length (now out) ≡ workBytes ⌝ }
     ensures { λ r. ⌜ ((t : Tree) → At t (now (s .entry)) base → Wrote (now (out .entry)) (now (out .exit)) at level r t) ⌝ }
 {

@@ -12,13 +12,11 @@ use push_down_base::predicates::Predicate;
 use push_down_base::predicates::Written;
 ghost use mathlib.Core.Path.{_≡_};
 ghost use mathlib.Core.List.{List};
-ghost use Prim.Native.Nat.{_<_, _≤_, ℕ};
-ghost use lib.ListN.{length};
-ghost use Rattle.image.specs.Limits.{workBytes};
+ghost use Prim.Native.Nat.{ℕ};
 ghost use Rattle.image.specs.Tree.{At, Readable, Tree};
 ghost use Rattle.plan.specs.Syntax.{AggEntry, Entry, Expr, Plan, aggregate};
 ghost use Rattle.rewrite.specs.PushDownFilter.{in-groups, move, rewrite-filter, stay};
-ghost use Rattle.push_down_base.specs.Arms.{Answers, Rests};
+ghost use Rattle.push_down_base.specs.Arms.{Answers, Arm, Rests};
 ghost use Rattle.push_down_arms.specs.Divided.{Divides, OverAggregate};
 ghost use Rattle.push_down_arms.specs.Movable.{entryFirst};
 
@@ -60,7 +58,7 @@ pub fn rewrite_aggregate(
     level: usize,
 ) -> Written
     requires { ⌜ OverAggregate (now s) x p ⌝ }
-    requires { ⌜ (level < 3000) × (length (now out) ≡ workBytes) × (at ≤ 2049) ⌝ }
+    requires { ⌜ Arm (now out) at level ⌝ }
     ensures { λ r. ⌜ ((e : Expr) (gs : List Entry) (ags : List AggEntry) (q : Plan) → Rests (now (s .entry)) x p e (aggregate gs ags q) →
         Answers (now (out .entry)) (now (out .exit)) at level r (rewrite-filter e (aggregate gs ags q))) ⌝ }
 {

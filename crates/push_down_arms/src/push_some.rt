@@ -20,7 +20,7 @@ use utils::schema_columns::schema_at;
 use writing::replace_cols_by_name::value_for;
 ghost use mathlib.Core.Path.{_≡_};
 ghost use mathlib.Core.List.{_∷_, List, []};
-ghost use Prim.Native.Nat.{_+_, _<_, _≤_, ℕ};
+ghost use Prim.Native.Nat.{_+_, _≤_, ℕ};
 ghost use lib.Dec.{ltb};
 ghost use lib.ListN.{length};
 ghost use Rattle.image.specs.Limits.{workBytes};
@@ -33,7 +33,7 @@ ghost use Rattle.conjuncts.specs.Items.{Item, Known, Lists, Present};
 ghost use Rattle.conjuncts.specs.Standing.{StandingP};
 ghost use Rattle.writing.proofs.Maps.{mapOf};
 ghost use Rattle.writing.specs.Plans.{ThereP};
-ghost use Rattle.push_down_base.specs.Arms.{Answers, Placed, Resting, Rests, Takes};
+ghost use Rattle.push_down_base.specs.Arms.{Answers, Arm, Placed, Resting, Rests, Takes};
 ghost use Rattle.push_down_arms.specs.Divided.{Counts, Divides, Dividing, Singles, parts, pushed};
 ghost use Rattle.push_down_arms.specs.Movable.{mayMove};
 
@@ -96,7 +96,7 @@ pub fn divide(s: &[u8], x: usize, p: Predicate) -> Divided
 // A Filter over a plan with one input: what moves goes below, over the expressions that the plan's entries name, and what stays is joined anew.
 pub fn push_some(s: &[u8], x: usize, d: Divided, out: &mut [u8], at: usize, level: usize) -> Written
     requires { ⌜ Dividing (now s) x d ⌝ }
-    requires { ⌜ (level < 3000) × (length (now out) ≡ workBytes) × (at ≤ 2049) ⌝ }
+    requires { ⌜ Arm (now out) at level ⌝ }
     ensures { λ r. ⌜ ((f : Plan → Plan) (q : Plan) (us ds : List Expr) → Placed (now (s .entry)) x (f q) → Takes (now (s .entry)) x f q →
         Divides (now (s .entry)) d us ds → Answers (now (out .entry)) (now (out .exit)) at level r (pushed f q us ds)) ⌝ }
 {

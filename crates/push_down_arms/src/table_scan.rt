@@ -34,8 +34,8 @@ ghost use mathlib.Core.Bool.{Bool, true};
 ghost use mathlib.Core.List.{_++_, List};
 ghost use Prim.Native.Nat.{_<_, _≤_, ℕ};
 ghost use lib.ListN.{length};
+ghost use Rattle.image.specs.Buffers.{BufferAt};
 ghost use Rattle.image.proofs.Relinking.{recsAny};
-ghost use Rattle.image.specs.Limits.{workBytes};
 ghost use Rattle.image.specs.Room.{Wrote};
 ghost use Rattle.image.specs.Tree.{labelAt, none};
 ghost use Rattle.plan.proofs.Lists.{All};
@@ -50,7 +50,7 @@ ghost use Rattle.conjuncts.specs.Items.{Item, Known, Lists, Present};
 ghost use Rattle.utils.specs.Fields.{Names};
 ghost use Rattle.utils.specs.Masks.{Masks};
 ghost use Rattle.writing.specs.Plans.{ThereP};
-ghost use Rattle.push_down_base.specs.Arms.{Answers, Placed, Rests};
+ghost use Rattle.push_down_base.specs.Arms.{Answers, Arm, Placed, Rests};
 ghost use Rattle.push_down_base.specs.Around.{WroteAll};
 ghost use Rattle.push_down_arms.specs.Scans.{Adds, OverScan, Shares, SomeScan, supports, told};
 
@@ -179,7 +179,7 @@ fn scan_filters(s: &[u8], x: usize) -> Conjuncts
 // Writes the items of a list, one after another. None has its columns replaced: the plan at record x serves as the map.
 fn copy_items(s: &[u8], x: usize, c: Conjuncts, out: &mut [u8], at: usize, level: usize) -> usize
     requires { ⌜ Known (now s) c × ThereP (now s) x ⌝ }
-    requires { ⌜ (level < 3500) × (length (now out) ≡ workBytes) × (at ≤ 2049) ⌝ }
+    requires { ⌜ BufferAt 2 level (now out) at ⌝ }
     ensures { λ r. ⌜ ((es : List Expr) → Lists (now (s .entry)) c es →
         WroteAll (now (out .entry)) (now (out .exit)) at r (recsAny level (each labelE kidsE es none))) ⌝ }
 {
@@ -205,7 +205,7 @@ fn write_scan(
     level: usize,
 ) -> usize
     requires { ⌜ SomeScan (now s) x k × Known (now s) filters ⌝ }
-    requires { ⌜ (level < 3400) × (length (now out) ≡ workBytes) × (at ≤ 2049) ⌝ }
+    requires { ⌜ BufferAt 3 level (now out) at ⌝ }
     ensures { λ r. ⌜ ((t : ℕ) (fs : List Field) (es ys : List Expr) → Placed (now (s .entry)) x (scan t fs es) → k ≡ length fs →
         Lists (now (s .entry)) filters ys → Wrote (now (out .entry)) (now (out .exit)) at level r (planTree (scan t fs ys))) ⌝ }
 {
@@ -226,7 +226,7 @@ fn write_filtered(
     level: usize,
 ) -> usize
     requires { ⌜ SomeScan (now s) x k × Known (now s) above × Known (now s) filters ⌝ }
-    requires { ⌜ (level < 3200) × (length (now out) ≡ workBytes) × (at ≤ 2049) ⌝ }
+    requires { ⌜ BufferAt 4 level (now out) at ⌝ }
     ensures { λ r. ⌜ ((t : ℕ) (fs : List Field) (es xs ys : List Expr) → Placed (now (s .entry)) x (scan t fs es) → k ≡ length fs →
         Lists (now (s .entry)) above xs → Lists (now (s .entry)) filters ys →
         Wrote (now (out .entry)) (now (out .exit)) at level r (planTree (with-filters xs (scan t fs ys)))) ⌝ }
@@ -250,7 +250,7 @@ pub fn rewrite_table_scan(
     level: usize,
 ) -> Written
     requires { ⌜ OverScan (now s) x p ⌝ }
-    requires { ⌜ (level < 3000) × (length (now out) ≡ workBytes) × (at ≤ 2049) ⌝ }
+    requires { ⌜ Arm (now out) at level ⌝ }
     ensures { λ r. ⌜ ((e : Expr) (t : ℕ) (fs : List Field) (es : List Expr) → Rests (now (s .entry)) x p e (scan t fs es) →
         Answers (now (out .entry)) (now (out .exit)) at level r (rewrite-filter e (scan t fs es))) ⌝ }
 {

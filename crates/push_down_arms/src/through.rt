@@ -11,13 +11,12 @@ use push_down_base::predicates::Written;
 use writing::make_filter::make_filter;
 ghost use mathlib.Core.Path.{_≡_};
 ghost use mathlib.Core.Bool.{true};
-ghost use Prim.Native.Nat.{_<_, _≤_};
+ghost use Prim.Native.Nat.{_≤_};
 ghost use lib.ListN.{length};
-ghost use Rattle.image.specs.Limits.{workBytes};
 ghost use Rattle.image.specs.Tree.{labelAt};
 ghost use Rattle.plan.specs.Syntax.{Expr, Plan, filter};
 ghost use Rattle.rewrite.specs.PushDownFilter.{Transformed·no, Transformed·yes, rewrite-filter};
-ghost use Rattle.push_down_base.specs.Arms.{Answers, Resting, Rests, Taken, Takes};
+ghost use Rattle.push_down_base.specs.Arms.{Answers, Arm, Resting, Rests, Taken, Takes};
 ghost use Rattle.push_down_arms.specs.Through.{OverThrough, takesNone, through};
 
 // Filter over a plan that takes nothing: both stay as they are.
@@ -30,7 +29,7 @@ pub fn keep_filter(
     level: usize,
 ) -> Written
     requires { ⌜ Resting (now s) x p ⌝ }
-    requires { ⌜ (level < 3000) × (length (now out) ≡ workBytes) × (at ≤ 2049) ⌝ }
+    requires { ⌜ Arm (now out) at level ⌝ }
     ensures { λ r. ⌜ ((e : Expr) (q : Plan) → Rests (now (s .entry)) x p e q →
         Answers (now (out .entry)) (now (out .exit)) at level r (Transformed·no (filter e q))) ⌝ }
 {
@@ -50,7 +49,7 @@ pub fn push_filter(
     level: usize,
 ) -> Written
     requires { ⌜ Taken (now s) x p ⌝ }
-    requires { ⌜ (level < 3000) × (length (now out) ≡ workBytes) × (at ≤ 2049) ⌝ }
+    requires { ⌜ Arm (now out) at level ⌝ }
     ensures { λ r. ⌜ ((e : Expr) (q : Plan) (f : Plan → Plan) → Rests (now (s .entry)) x p e (f q) → Takes (now (s .entry)) x f q →
         Answers (now (out .entry)) (now (out .exit)) at level r (Transformed·yes (f (filter e q)))) ⌝ }
 {
@@ -83,7 +82,7 @@ pub fn rewrite_through(
     level: usize,
 ) -> Written
     requires { ⌜ OverThrough (now s) x p ⌝ }
-    requires { ⌜ (level < 3000) × (length (now out) ≡ workBytes) × (at ≤ 2049) ⌝ }
+    requires { ⌜ Arm (now out) at level ⌝ }
     ensures { λ r. ⌜ ((e : Expr) (q : Plan) → Rests (now (s .entry)) x p e q → through q ≡ true →
         Answers (now (out .entry)) (now (out .exit)) at level r (rewrite-filter e q)) ⌝ }
 {

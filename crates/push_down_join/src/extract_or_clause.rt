@@ -21,7 +21,7 @@ ghost use mathlib.Core.Option.{some};
 ghost use Prim.Native.Nat.{_+_, _<_, _≤_};
 ghost use lib.ListN.{length};
 ghost use Rattle.image.specs.Flat.{sizeT};
-ghost use Rattle.image.specs.Limits.{workBytes};
+ghost use Rattle.image.specs.Limits.{Shallow, maxLevel, workBytes};
 ghost use Rattle.image.specs.Room.{Wrote};
 ghost use Rattle.image.specs.Tree.{At, Readable, Tree, labelAt};
 ghost use Rattle.plan.proofs.Lists.{All};
@@ -192,7 +192,7 @@ pub fn copy_clause(
 ) -> usize
     requires { ⌜ ReadableE depth (now part) base ⌝ }
     requires { ⌜ f .len ≤ 64 ⌝ }
-    requires { ⌜ level + depth < 4096 ⌝ }
+    requires { ⌜ level + depth < maxLevel ⌝ }
     requires { ⌜ length (now out) ≡ workBytes ⌝ }
     ensures { λ r. ⌜ ((e clause : Expr) (ns : List Name) (c : Name → Bool) → At (exprTree e) (now (part .entry)) base → Names f ns
         → on-cols (has ns) e ≡ true → Masks side ns c → extract-or-clause c e ≡ some clause
@@ -252,7 +252,7 @@ pub fn copy_or_clause(
     requires { ⌜ There (now s) n ⌝ }
     requires { ⌜ length (now s) ≤ workBytes ⌝ }
     requires { ⌜ f .len ≤ 64 ⌝ }
-    requires { ⌜ level < 3840 ⌝ }
+    requires { ⌜ Shallow 1 level ⌝ }
     requires { ⌜ length (now out) ≡ workBytes ⌝ }
     ensures { λ r. ⌜ ((e clause : Expr) (ns : List Name) (c : Name → Bool) → Standing (now (s .entry)) n e → Names f ns
         → on-cols (has ns) e ≡ true → Masks side ns c → or-clause c e ≡ some clause

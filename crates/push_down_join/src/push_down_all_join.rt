@@ -34,7 +34,7 @@ ghost use mathlib.Core.Path.{_≡_};
 ghost use mathlib.Core.Bool.{_&&_, Bool};
 ghost use mathlib.Core.List.{_++_, List, map};
 ghost use mathlib.Core.Option.{Option};
-ghost use Prim.Native.Nat.{_+_, _<_, _≤_, ℕ};
+ghost use Prim.Native.Nat.{_+_, _≤_, ℕ};
 ghost use lib.Dec.{leb};
 ghost use lib.ListN.{length};
 ghost use Rattle.image.specs.Limits.{workBytes};
@@ -49,7 +49,7 @@ ghost use Rattle.conjuncts.specs.Items.{Holds};
 ghost use Rattle.conjuncts.specs.Standing.{StandingP};
 ghost use Rattle.utils.specs.Fields.{Names};
 ghost use Rattle.utils.specs.Masks.{Masks};
-ghost use Rattle.push_down_base.specs.Arms.{Answers, Placed, Rests};
+ghost use Rattle.push_down_base.specs.Arms.{Answers, ArmOver, Placed, Rests};
 ghost use Rattle.push_down_base.specs.Parting.{Reads};
 ghost use Rattle.push_down_base.specs.Plain.{Plain};
 ghost use Rattle.push_down_join.specs.JoinPlans.{JoinBetween, JoinHere, JoinUnder, Moved, OverJoin};
@@ -259,7 +259,7 @@ fn push_down_all_join(
     level: usize,
 ) -> Written
     requires { ⌜ JoinBetween (now s) x c g ⌝ }
-    requires { ⌜ (4128 ≤ length (now m)) × (level < 3000) × (length (now out) ≡ workBytes) × (at ≤ 2049) ⌝ }
+    requires { ⌜ ArmOver (now m) (now out) at level ⌝ }
     ensures { λ n. ⌜ ((k : Kind) (l r : Plan) (on : List Pair) (f : Option Expr) (P G : List Expr) →
         Placed (now (s .entry)) x (join k l r on f) → Reads (now (s .entry)) (schema l ++ schema r) c P →
         Reads (now (s .entry)) (schema l ++ schema r) g G → Plain P → Plain G →
@@ -294,7 +294,7 @@ pub fn push_down_join(
     level: usize,
 ) -> Written
     requires { ⌜ JoinUnder (now s) x c ⌝ }
-    requires { ⌜ (4128 ≤ length (now m)) × (level < 3000) × (length (now out) ≡ workBytes) × (at ≤ 2049) ⌝ }
+    requires { ⌜ ArmOver (now m) (now out) at level ⌝ }
     ensures { λ r. ⌜ ((k : Kind) (l q : Plan) (on : List Pair) (f : Option Expr) (P : List Expr) →
         Placed (now (s .entry)) x (join k l q on f) → Reads (now (s .entry)) (schema l ++ schema q) c P → Plain P →
         Answers (now (out .entry)) (now (out .exit)) at level r (push-down-join k l q on f P)) ⌝ }
@@ -314,7 +314,7 @@ pub fn rewrite_join(
     level: usize,
 ) -> Written
     requires { ⌜ OverJoin (now s) x p ⌝ }
-    requires { ⌜ (4128 ≤ length (now m)) × (level < 3000) × (length (now out) ≡ workBytes) × (at ≤ 2049) ⌝ }
+    requires { ⌜ ArmOver (now m) (now out) at level ⌝ }
     ensures { λ r. ⌜ ((e : Expr) (k : Kind) (l q : Plan) (on : List Pair) (f : Option Expr) →
         Rests (now (s .entry)) x p e (join k l q on f) →
         Answers (now (out .entry)) (now (out .exit)) at level r (rewrite-filter e (join k l q on f))) ⌝ }

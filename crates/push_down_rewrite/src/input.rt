@@ -23,12 +23,9 @@ use push_down_join::push_down_all_join::rewrite_join;
 use writing::make_filter::copy_plan;
 ghost use mathlib.Core.Path.{_≡_};
 ghost use mathlib.Core.Bool.{false};
-ghost use Prim.Native.Nat.{_<_, _≤_};
-ghost use lib.ListN.{length};
-ghost use Rattle.image.specs.Limits.{workBytes};
 ghost use Rattle.plan.specs.Syntax.{Expr, Plan};
 ghost use Rattle.rewrite.specs.PushDownFilter.{rewrite-filter};
-ghost use Rattle.push_down_base.specs.Arms.{Answers, Rests};
+ghost use Rattle.push_down_base.specs.Arms.{Answers, ArmOver, Rests};
 ghost use Rattle.push_down_rewrite.specs.Found.{OnInput, SomeComes};
 ghost use Rattle.push_down_rewrite.specs.Merging.{Comes, is-filter};
 ghost use Rattle.push_down_rewrite.specs.Settled.{rewrite-settled};
@@ -45,7 +42,7 @@ fn rewrite_input(
     level: usize,
 ) -> Written
     requires { ⌜ OnInput (now s) x p ⌝ }
-    requires { ⌜ (4128 ≤ length (now m)) × (level < 3000) × (length (now out) ≡ workBytes) × (at ≤ 2049) ⌝ }
+    requires { ⌜ ArmOver (now m) (now out) at level ⌝ }
     ensures { λ r. ⌜ ((e : Expr) (q : Plan) → Rests (now (s .entry)) x p e q → is-filter q ≡ false →
         Answers (now (out .entry)) (now (out .exit)) at level r (rewrite-filter e q)) ⌝ }
 {
@@ -84,7 +81,7 @@ pub fn rewrite_settled(
     level: usize,
 ) -> Written
     requires { ⌜ SomeComes (now s) rest ⌝ }
-    requires { ⌜ (4128 ≤ length (now m)) × (level < 3000) × (length (now out) ≡ workBytes) × (at ≤ 2049) ⌝ }
+    requires { ⌜ ArmOver (now m) (now out) at level ⌝ }
     ensures { λ r. ⌜ ((t : S.Settled) → Comes (now (s .entry)) rest t →
         Answers (now (out .entry)) (now (out .exit)) at level r (rewrite-settled t)) ⌝ }
 {

@@ -13,7 +13,7 @@ use plan::kinds::ENTRY;
 ghost use mathlib.Core.Path.{_≡_};
 ghost use Prim.Native.Nat.{_+_, _<_, _≤_};
 ghost use lib.ListN.{length};
-ghost use Rattle.image.specs.Limits.{workBytes};
+ghost use Rattle.image.specs.Limits.{maxLevel, workBytes};
 ghost use Rattle.image.specs.Room.{Wrote};
 ghost use Rattle.image.specs.Tree.{At, Readable, Tree, labelAt};
 ghost use Rattle.writing.specs.Replaced.{Leads, isEntry, lookup, replaced, valueFor};
@@ -68,7 +68,7 @@ pub fn replace_cols_by_name(
 ) -> usize
     requires { ⌜ Readable depth (now s) base ⌝ }
     requires { ⌜ Readable room (now m) of ⌝ }
-    requires { ⌜ level + depth + room < 4096 ⌝ }
+    requires { ⌜ level + depth + room < maxLevel ⌝ }
     requires { ⌜ length (now out) ≡ workBytes ⌝ }
     ensures { λ r. ⌜ ((e : Tree) → At e (now (m .entry)) of → (t : Tree) → At t (now (s .entry)) base →
         Wrote (now (out .entry)) (now (out .exit)) at level r (replaced e t)) ⌝ }
