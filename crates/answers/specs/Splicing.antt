@@ -4,7 +4,7 @@ use mathlib.Core.List.{List}
 use Prim.Native.Nat.{ℕ, _+_, _*_, _≤_, _<_}
 use lib.ListN.{length, getD, take}
 use lib.Seq.{sets}
-use Rattle.image.specs.Limits.{maxRecords, workBytes}
+use Rattle.image.specs.Limits.{maxRecords, workBytes, maxBelow}
 use Rattle.image.specs.Word.{word}
 use Rattle.image.specs.Tree.{Tree, At, Deep}
 use Rattle.image.specs.Flat.{sizeT, flat}
@@ -18,7 +18,7 @@ use Rattle.answers.specs.declared.splicing.Spot.{Spot}
 pub record Sized (s : List ℕ) : Type 0 where
   pub tree : Tree
   pub at : At tree s 0
-  pub deep : Deep (tree .below) 255
+  pub deep : Deep (tree .below) maxBelow
   pub few : sizeT tree ≤ maxRecords
   pub short : length s ≤ workBytes
 

@@ -1,6 +1,7 @@
 // The walk of a pass: from each record that holds a plan to the next one, with the rewrite there, while the budget lasts.
 use answers::handing_out::copy_bytes;
 use image::limits::RECORD_BYTES;
+use image::records::KIND;
 use image::records::record_at;
 use image::words::word_at;
 use push_down_rewrite::node::Outcome;
@@ -38,7 +39,7 @@ fn next_plan(s: &[u8], from: usize) -> usize
     let records = s.len() / RECORD_BYTES;
     let mut i = from;
     while i < records {
-        if is_plan_kind(word_at(record_at(s, i), 0)) {
+        if is_plan_kind(word_at(record_at(s, i), KIND)) {
             return i;
         }
         i += 1;

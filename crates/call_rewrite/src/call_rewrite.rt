@@ -8,6 +8,7 @@ use image::limits::MAP_BYTES;
 use image::limits::MAX_BYTES;
 use image::limits::MAX_RECORDS;
 use image::limits::RECORD_BYTES;
+use image::records::KIND;
 use image::records::record_at;
 use image::words::word_at;
 use push_down_rewrite::node::rewrite_anew;
@@ -166,7 +167,7 @@ fn rewrite_at(image: &[u8], node: usize, out: &mut [u8]) -> Answer
         clear(out);
         return Answer::NoPlan(node);
     }
-    if !is_plan_kind(word_at(record_at(image, node), 0)) {
+    if !is_plan_kind(word_at(record_at(image, node), KIND)) {
         clear(out);
         return Answer::NoPlan(node);
     }

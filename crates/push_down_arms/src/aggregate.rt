@@ -4,6 +4,7 @@ use crate::push_some::divide;
 use crate::push_some::push_some;
 use conjuncts::lists::empty;
 use image::records::FIRST_LINK;
+use image::records::KIND;
 use image::records::from_record;
 use image::records::record_at;
 use image::words::word_at;
@@ -29,7 +30,7 @@ fn has_groups(part: &[u8], base: usize) -> bool
     if first == 0 {
         return false;
     }
-    word_at(from_record(part, base, first), 0) == ENTRY
+    word_at(from_record(part, base, first), KIND) == ENTRY
 }
 
 // Parts them over an Aggregate: without group entries nothing moves, not even a conjunct without columns.

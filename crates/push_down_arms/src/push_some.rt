@@ -23,7 +23,7 @@ ghost use mathlib.Core.List.{_∷_, List, []};
 ghost use Prim.Native.Nat.{_+_, _≤_, ℕ};
 ghost use lib.Dec.{ltb};
 ghost use lib.ListN.{length};
-ghost use Rattle.image.specs.Limits.{workBytes};
+ghost use Rattle.image.specs.Limits.{maxList, workBytes};
 ghost use Rattle.plan.specs.Columns.{on-cols};
 ghost use Rattle.plan.specs.Syntax.{Expr, Plan};
 ghost use Rattle.plan.specs.Trees.{planTree};
@@ -31,7 +31,7 @@ ghost use Rattle.rewrite.specs.PushDownFilter.{move, stay};
 ghost use Rattle.rewrite.specs.Utils.{replace-cols, split-conjunction};
 ghost use Rattle.conjuncts.specs.Items.{Item, Known, Lists, Present};
 ghost use Rattle.conjuncts.specs.Standing.{StandingP};
-ghost use Rattle.writing.proofs.Maps.{mapOf};
+ghost use Rattle.writing.specs.Maps.{mapOf};
 ghost use Rattle.writing.specs.Plans.{ThereP};
 ghost use Rattle.push_down_base.specs.Arms.{Answers, Arm, Placed, Resting, Rests, Takes};
 ghost use Rattle.push_down_arms.specs.Divided.{Counts, Divides, Dividing, Singles, parts, pushed};
@@ -65,7 +65,7 @@ fn is_over(s: &[u8], x: usize, c: Conjuncts) -> bool
     requires { ⌜ Known (now s) c × ThereP (now s) x ⌝ }
     requires { ⌜ length (now s) ≤ workBytes ⌝ }
     ensures { λ r. ⌜ ((es : List Expr) (p : Plan) → Lists (now (s .entry)) c es → Singles es → StandingP (now (s .entry)) x p →
-        r ≡ ltb 128 (parts (mapOf p) es)) ⌝ }
+        r ≡ ltb maxList (parts (mapOf p) es)) ⌝ }
 {
     let n = c.len;
     let mut r = empty();

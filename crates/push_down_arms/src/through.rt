@@ -3,8 +3,13 @@
 use crate::with_filters::write_over;
 use conjuncts::lists::empty;
 use image::limits::MAX_DEPTH;
+use image::records::KIND;
+use image::records::P;
 use image::records::record_at;
 use image::words::word_at;
+use plan::kinds::LIMIT;
+use plan::kinds::SORT;
+use plan::words::FETCHES;
 use push_down_base::inputs::last_child;
 use push_down_base::predicates::Predicate;
 use push_down_base::predicates::Written;
@@ -68,8 +73,8 @@ pub fn takes_none(part: &[u8]) -> bool
     requires { ⌜ 32 ≤ length (now part) ⌝ }
     ensures { λ r. ⌜ r ≡ takesNone (labelAt (now (part .entry))) ⌝ }
 {
-    let kind = word_at(part, 0);
-    (kind == 41) | ((kind == 39) & (word_at(part, 4) == 1))
+    let kind = word_at(part, KIND);
+    (kind == LIMIT) | ((kind == SORT) & (word_at(part, P) == FETCHES))
 }
 
 // Filter over Distinct, Sort, Repartition or Limit.

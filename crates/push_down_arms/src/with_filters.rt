@@ -20,8 +20,8 @@ ghost use mathlib.Core.Option.{Option};
 ghost use Prim.Native.Nat.{_+_, _≤_, ℕ};
 ghost use lib.ListN.{length};
 ghost use Rattle.image.specs.Buffers.{Buffer, BufferAt, BufferTo};
-ghost use Rattle.image.proofs.Relinking.{recs};
-ghost use Rattle.image.specs.Limits.{workBytes};
+ghost use Rattle.image.specs.Records.{recs};
+ghost use Rattle.image.specs.Limits.{noRoom, workBytes};
 ghost use Rattle.image.specs.Room.{Wrote};
 ghost use Rattle.image.specs.Tree.{At, Readable, Tree, labelAt};
 ghost use Rattle.plan.specs.Lists.{put};
@@ -37,7 +37,7 @@ ghost use Rattle.push_down_arms.specs.Over.{under};
 
 // Writes the label of the record at the start of `part`, if told.
 fn put_if(part: &[u8], out: &mut [u8], at: usize, level: usize, yes: bool) -> usize
-    requires { ⌜ (32 ≤ length (now part)) × (length (now out) ≡ workBytes) × (at ≤ 2049) ⌝ }
+    requires { ⌜ (32 ≤ length (now part)) × (length (now out) ≡ workBytes) × (at ≤ noRoom) ⌝ }
     ensures { λ r. ⌜ WroteAll (now (out .entry)) (now (out .exit)) at r (put yes (labelAt (now (part .entry)), level) []) ⌝ }
 {
     if yes {

@@ -62,7 +62,7 @@ Written = declared.Written
 pub record Answers (before after : List ℕ) (at level : ℕ) (r : Written) (t : Transformed) : Type 0 where
   pub flag : r .flag ≡ t .transformed
   pub fits : listP (t .plan) ≤ maxList → Wrote before after at level (r .next) (planTree (t .plan))
-  pub over : maxList < listP (t .plan) → (r .next ≡ 2049) × (after ≡ before)
+  pub over : maxList < listP (t .plan) → (r .next ≡ noRoom) × (after ≡ before)
 
 -- the plan at record x is f q: a frame around its input q, which is its last child, and with no list of its own
 pub record Takes (s : List ℕ) (x : ℕ) (f : Plan → Plan) (q : Plan) : Type 0 where

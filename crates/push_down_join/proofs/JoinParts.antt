@@ -16,11 +16,11 @@ use lib.Dec.{eqb}
 use borrow.Author.Tests.{ne-eqb}
 use lib.ListN.{length, drop, length-drop}
 use lib.Seq.{length-sets}
-use Rattle.image.specs.Limits.{workBytes}
+use Rattle.image.specs.Limits.{workBytes, noRoom, maxBelow}
 use Rattle.image.specs.Room.{Wrote}
 use Rattle.image.specs.Tree.{Label, Forest, none, node, Tree, At, size}
 use Rattle.image.specs.Word.{word}
-use Rattle.image.proofs.Relinking.{Rec, recs, recsAny}
+use Rattle.image.specs.Records.{Rec, recs, recsAny}
 use Rattle.image.proofs.Room.{cap-le}
 use Rattle.plan.specs.Integers.{Fits?}
 use Rattle.plan.specs.Lists.{when}
@@ -92,7 +92,7 @@ pub data Last (s : List ℕ) (n : ℕ) : Option Expr → Type 0 where
 
 module _ {s : List ℕ} (short : length s ≤ workBytes) where
   -- past the pairs of keys, of which the last so far is at record b
-  past-keys : (on : List Pair) (f : Option Expr) {m : ℕ} (b : ℕ) → On s m 255 (each pairLabel pairKids on (filterKids f)) → Fits? f → 0 < m
+  past-keys : (on : List Pair) (f : Option Expr) {m : ℕ} (b : ℕ) → On s m maxBelow (each pairLabel pairKids on (filterKids f)) → Fits? f → 0 < m
       → 32 * b + 32 ≤ length s → 32 ≤ word (drop (32 * b) s) 0 → Last s (lastOf b m (each pairLabel pairKids on (filterKids f))) f
   unfolding each
   past-keys [] O.none b h fits pos room kind = no-filter room kind
@@ -158,7 +158,7 @@ pub wrote-when : {out out₁ : List ℕ} {at r : ℕ} {xs : List Rec} (b : Bool)
 unfolding when
 wrote-when b e h = rw e h
 
-pub wrote-unless : {out : List ℕ} {at : ℕ} (b : Bool) (xs : List Rec) → b ≡ false → at ≤ 2049 → WroteAll out out at at (when b xs)
+pub wrote-unless : {out : List ℕ} {at : ℕ} (b : Bool) (xs : List Rec) → b ≡ false → at ≤ noRoom → WroteAll out out at at (when b xs)
 unfolding when
 wrote-unless {out} {at} b xs e h = rw e (wrote-none out at h)
 
@@ -169,9 +169,9 @@ pub record PairsLeft (d : ℕ) (out₀ : List ℕ) (at₀ : ℕ) (all : Forest) 
   pub is : done ++ pairRecs d rest ≡ pairRecs d all
   pub long₀ : length out₀ ≡ workBytes
   pub long : length out ≡ workBytes
-  pub small : to ≤ 2049
+  pub small : to ≤ noRoom
 
-pub pairs-all : {out : List ℕ} {at : ℕ} (d : ℕ) (all : Forest) → length out ≡ workBytes → at ≤ 2049 → PairsLeft d out at all out at all
+pub pairs-all : {out : List ℕ} {at : ℕ} (d : ℕ) (all : Forest) → length out ≡ workBytes → at ≤ noRoom → PairsLeft d out at all out at all
 pairs-all {out} {at} d all long small =
     record { done = []; wrote = wrote-none out at small; is = refl; long₀ = long; long = long; small = small }
 
@@ -218,7 +218,7 @@ pairs-join d k l r on f = none-when _ _ _ (no-plan l) ∙ none-when _ _ _ (no-pl
 
 -- ---- a join's new filter
 
-pub conditions-none : {out : List ℕ} {at : ℕ} (level : ℕ) (es : List Expr) → length es ≡ 0 → at ≤ 2049
+pub conditions-none : {out : List ℕ} {at : ℕ} (level : ℕ) (es : List Expr) → length es ≡ 0 → at ≤ noRoom
     → WroteAll out out at at (recsAny level (filterKids (conjunction es)))
 unfolding conjunction
 conditions-none {out} {at} level [] z small = wrote-none out at small

@@ -8,11 +8,12 @@ use mathlib.Core.Bool.{Bool, true, false, cond}
 use mathlib.Core.List.{List, [], _∷_, _++_, map, map-append, append-assoc, append-nil}
 use mathlib.Core.Option as O
 use mathlib.Core.Option.{Option, some}
-use Prim.Native.Nat.{ℕ, _+_, _-_, _≤_, _<_}
+use Prim.Native.Nat.{ℕ, _+_, _-_, _≤_, _<_, _*_}
 use native.Mathlib.Omega.{arith}
 use native.Mathlib.Numerals.{add-one}
 use lib.ListN.{length, take, drop, getD}
 use lib.Seq.{take-suc, take-all}
+use Rattle.image.specs.Limits.{maxRecords, maxList}
 use Rattle.plan.specs.Columns.{on-cols}
 use Rattle.plan.specs.Lists.{put, keep, flat}
 use Rattle.plan.specs.Schema.{has}
@@ -36,7 +37,7 @@ pub smalls-of : {s : List ℕ} {c : Conjuncts} → Known s c → Smalls c
 smalls-of h = record { most = h .most; room = lists-room (h .lists) (h .most); each = λ i lt. lists-at (h .lists) (h .most) i _ lt refl .small }
 
 -- so many are appended
-pub append-step : (m i x : ℕ) (xs ys : List ℕ) {c : Conjuncts} → Holds c ys → c .len ≤ 128 → i < c .len → x ≡ getD (listed c) i 0
+pub append-step : (m i x : ℕ) (xs ys : List ℕ) {c : Conjuncts} → Holds c ys → c .len ≤ maxList → i < c .len → x ≡ getD (listed c) i 0
     → (xs ++ map (λ y. y + m) (take i ys)) ++ ((x + m) ∷ []) ≡ xs ++ map (λ y. y + m) (take (i + 1) ys)
 append-step m i x xs ys h small lt e =
     let n = count-is h small in
@@ -45,7 +46,7 @@ append-step m i x xs ys h small lt e =
     rw (add-one, take-suc ys i 0 l, map-append, k) (append-assoc xs (map (λ y. y + m) (take i ys)) ((getD ys i 0 + m) ∷ []))
 
 -- all are
-pub append-end : (i : ℕ) (ys : List ℕ) {c : Conjuncts} → Holds c ys → c .len ≤ 128 → c .len ≤ i → take i ys ≡ ys
+pub append-end : (i : ℕ) (ys : List ℕ) {c : Conjuncts} → Holds c ys → c .len ≤ maxList → c .len ≤ i → take i ys ≡ ys
 append-end i ys h small le = let n = count-is h small in take-all i ys (omega arith)
 
 -- ---- what is written
@@ -59,9 +60,9 @@ module _ {s : List ℕ} {σ : Name → Expr} {ns : List Name} {t : Name → Bool
   sided-pushed : {n : ℕ} {e : Expr} → Pushed s σ n e → Sided s σ ns t n e
   sided-pushed h = record { written = λ lt. h; clause = λ le. absurd (omega (arith, h .small)); small = omega (arith, h .small) }
 
-  sided-clause : {n : ℕ} {e from : Expr} → Item s n from → on-cols (has ns) from ≡ true → or-clause t from ≡ some e → Sided s σ ns t (n + 4096) e
+  sided-clause : {n : ℕ} {e from : Expr} → Item s n from → on-cols (has ns) from ≡ true → or-clause t from ≡ some e → Sided s σ ns t (n + (2 * maxRecords)) e
   sided-clause {n} {from = from} h r e =
-      let z : n + 4096 - 4096 ≡ n = omega arith in
+      let z : n + (2 * maxRecords) - (2 * maxRecords) ≡ n = omega arith in
       record {
         written = λ lt. absurd (omega arith);
         clause = λ le. record { from = from; item = rw z h; reads = r; is = e };
@@ -72,7 +73,7 @@ module _ {s : List ℕ} {σ : Name → Expr} {ns : List Name} {t : Name → Bool
   each-plain inil = nil
   each-plain (icons {n = n} {e} h hs) = let z : n ≡ n + 0 = omega arith in cons {n = n + 0} {e = e} (rw (← z) (sided-pushed (pushed-plain h))) (each-plain hs)
 
-  each-swapped : {xs : List ℕ} {es : List Expr} → Items s xs es → Each (Sided s σ ns t) (map (λ y. y + 2048) xs) (map (replace-cols σ) es)
+  each-swapped : {xs : List ℕ} {es : List Expr} → Items s xs es → Each (Sided s σ ns t) (map (λ y. y + maxRecords) xs) (map (replace-cols σ) es)
   each-swapped inil = nil
   each-swapped (icons h hs) = cons (sided-pushed (pushed-changed h)) (each-swapped hs)
 
@@ -93,10 +94,10 @@ module _ {s : List ℕ} {σ : Name → Expr} {ns : List Name} {t : Name → Bool
     }
 
     -- a list with its columns replaced is
-    pub sides-swapped : ((xs ys : List ℕ) → Holds to xs → Holds c ys → Holds r (xs ++ map (λ y. y + 2048) ys))
+    pub sides-swapped : ((xs ys : List ℕ) → Holds to xs → Holds c ys → Holds r (xs ++ map (λ y. y + maxRecords) ys))
         → Sides s σ ns t r (es ++ map (replace-cols σ) fs)
     sides-swapped f = record {
-      numbers = h .numbers ++ map (λ y. y + 2048) (k .numbers);
+      numbers = h .numbers ++ map (λ y. y + maxRecords) (k .numbers);
       holds = f (h .numbers) (k .numbers) (h .holds) (k .holds);
       items = each-append (h .items) (each-swapped (k .items));
     }
@@ -112,14 +113,14 @@ module _ {s : List ℕ} {σ : Name → Expr} {ns : List Name} {t : Name → Bool
         go (some a) z = let w : _≡_ {A = ℕ} 0 1 = cc in absurd (omega arith)
 
     pub sides-made : {r : Conjuncts} {m n : ℕ} → o ≡ Made m → Item s n e → on-cols (has ns) e ≡ true
-        → ((xs : List ℕ) → Holds to xs → Holds r (xs ++ ((n + 4096) ∷ []))) → Sides s σ ns t r (es ++ P.listed (or-clause t e))
+        → ((xs : List ℕ) → Holds to xs → Holds r (xs ++ ((n + (2 * maxRecords)) ∷ []))) → Sides s σ ns t r (es ++ P.listed (or-clause t e))
     unfolding P.listed
     sides-made {r} {m} {n} k i held f = go (or-clause t e) refl (sym is ∙ k)
       where
         go : (x : Option Expr) → or-clause t e ≡ x → clauseOf x ≡ Made m → Sides s σ ns t r (es ++ P.listed x)
         go O.none p z = let w : _≡_ {A = ℕ} 0 1 = cc in absurd (omega arith)
         go (some a) p z = record {
-          numbers = h .numbers ++ ((n + 4096) ∷ []);
+          numbers = h .numbers ++ ((n + (2 * maxRecords)) ∷ []);
           holds = f (h .numbers) (h .holds);
           items = each-append (h .items) (cons (sided-clause i held p) nil);
         }

@@ -6,9 +6,10 @@ use mathlib.Core.Option.{Option}
 use Prim.Native.Nat.{ℕ, _+_, _≤_}
 use lib.Dec.{eqb}
 use lib.ListN.{length}
-use Rattle.image.specs.Limits.{workBytes}
+use Rattle.image.specs.Limits.{workBytes, maxList}
 use Rattle.image.specs.Tree.{Forest, none, node}
-use Rattle.image.proofs.Relinking.{Rec, recs}
+use Rattle.image.specs.Records.{Rec, recs}
+use Rattle.plan.specs.Kinds.{numberQ, PairPart}
 use Rattle.plan.specs.Schema.{has, schema}
 use Rattle.plan.specs.Syntax.{Name, Expr, Pair, Kind, Plan, join}
 use Rattle.plan.specs.Lists.{when}
@@ -90,7 +91,7 @@ pub record Moved (s : List ℕ) (σ : Name → Expr) (v : Moves) (k : Kind) (l r
 -- the records of the pairs of keys in a forest, its first trees at depth d
 unfoldable pub pairRecs : ℕ → Forest → List Rec
 pairRecs d none = []
-pairRecs d (node l cs ns) = when (eqb (l .kind) 50) (recs d (record { label = l; below = cs })) ++ pairRecs d ns
+pairRecs d (node l cs ns) = when (eqb (l .kind) (numberQ PairPart)) (recs d (record { label = l; below = cs })) ++ pairRecs d ns
 
 -- ---- the join over them
 
@@ -112,9 +113,9 @@ pub record Carries (s m : List ℕ) (x z : ℕ) (sc : Scope) (v : Moves) (k : Ki
   pub maps : Maps m 0 3 σ
   pub scopes : Scopes sc (schema l) (schema r) on
   pub moved : Moved s σ v k (schema l) (schema r) on P G
-  pub left-most : v .left .len ≤ 128
-  pub right-most : v .right .len ≤ 128
-  pub conditions-most : v .conditions .len ≤ 128
+  pub left-most : v .left .len ≤ maxList
+  pub right-most : v .right .len ≤ maxList
+  pub conditions-most : v .conditions .len ≤ maxList
 
 -- some join does
 pub record Carried (s m : List ℕ) (x z : ℕ) (sc : Scope) (v : Moves) : Type 0 where

@@ -3,8 +3,9 @@ use mathlib.Core.Path.{_≡_}
 use mathlib.Core.Bool.{Bool, true}
 use mathlib.Core.List.{List}
 use mathlib.Core.Option.{some}
-use Prim.Native.Nat.{ℕ, _-_, _≤_, _<_}
+use Prim.Native.Nat.{ℕ, _-_, _≤_, _<_, _*_}
 use lib.ListN.{length, getD}
+use Rattle.image.specs.Limits.{maxRecords, maxList}
 use Rattle.plan.specs.Columns.{on-cols}
 use Rattle.plan.specs.Schema.{has}
 use Rattle.plan.specs.Syntax.{Name, Expr}
@@ -24,8 +25,8 @@ pub record ClauseOf (s : List ℕ) (ns : List Name) (t : Name → Bool) (n : ℕ
 
 -- e is written for the number n
 pub record Sided (s : List ℕ) (σ : Name → Expr) (ns : List Name) (t : Name → Bool) (n : ℕ) (e : Expr) : Type 0 where
-  pub written : n < 4096 → Pushed s σ n e
-  pub clause : 4096 ≤ n → ClauseOf s ns t (n - 4096) e
+  pub written : n < (2 * maxRecords) → Pushed s σ n e
+  pub clause : (2 * maxRecords) ≤ n → ClauseOf s ns t (n - (2 * maxRecords)) e
   pub small : n < 8192
 
 -- es is written for the list c
@@ -36,9 +37,9 @@ pub record Sides (s : List ℕ) (σ : Name → Expr) (ns : List Name) (t : Name 
 
 -- c is whole, and its items are plain
 pub record Smalls (c : Conjuncts) : Type 0 where
-  pub most : c .len ≤ 128
+  pub most : c .len ≤ maxList
   pub room : length (listed c) ≡ c .len
-  pub each : (i : ℕ) → i < c .len → getD (listed c) i 0 < 2048
+  pub each : (i : ℕ) → i < c .len → getD (listed c) i 0 < maxRecords
 
 -- something is written for the number n
 pub record OneSided (s : List ℕ) (n : ℕ) : Type 0 where
@@ -55,7 +56,7 @@ pub record SomeSided (s : List ℕ) (c : Conjuncts) : Type 0 where
   pub test : Name → Bool
   pub exprs : List Expr
   pub sides : Sides s map names test c exprs
-  pub most : c .len ≤ 128
+  pub most : c .len ≤ maxList
 
 -- the map at m is σ, and `side` has those of the names ns, which `fields` holds, that pass t
 pub record Side (m : List ℕ) (fields : Fields) (side : ℕ) (σ : Name → Expr) (ns : List Name) (t : Name → Bool) : Type 0 where

@@ -20,8 +20,11 @@ use conjuncts::lists::item_at;
 use conjuncts::split_conjunction::split_at;
 use image::limits::MAX_DEPTH;
 use image::limits::MAX_LIST;
+use image::limits::MAX_RECORDS;
 use image::limits::NO_ROOM;
+use image::records::KIND;
 use image::records::NEXT_LINK;
+use image::records::P;
 use image::records::record_at;
 use image::words::word_at;
 use plan::kinds::FIRST_PLAN;
@@ -34,10 +37,10 @@ ghost use mathlib.Core.Path.{_≡_};
 ghost use mathlib.Core.Bool.{_&&_, Bool};
 ghost use mathlib.Core.List.{_++_, List, map};
 ghost use mathlib.Core.Option.{Option};
-ghost use Prim.Native.Nat.{_+_, _≤_, ℕ};
+ghost use Prim.Native.Nat.{_*_, _+_, _≤_, ℕ};
 ghost use lib.Dec.{leb};
 ghost use lib.ListN.{length};
-ghost use Rattle.image.specs.Limits.{workBytes};
+ghost use Rattle.image.specs.Limits.{maxFields, maxList, maxRecords, workBytes};
 ghost use Rattle.plan.specs.Schema.{has, schema};
 ghost use Rattle.plan.specs.Syntax.{Expr, Kind, Name, Pair, Plan, join};
 ghost use Rattle.plan.specs.Trees.{joinNumber};
@@ -59,7 +62,7 @@ ghost use Rattle.push_down_join.specs.Sides.{Sides, Smalls};
 
 // Appends the items of c, each with so much more.
 pub fn append(to: Conjuncts, c: Conjuncts, more: usize) -> Conjuncts
-    requires { ⌜ Smalls c × (more ≤ 4096) ⌝ }
+    requires { ⌜ Smalls c × (more ≤ (2 * maxRecords)) ⌝ }
     ensures { λ r. ⌜ ((xs ys : List ℕ) → Holds to xs → Holds c ys → Holds r (xs ++ map (λ y. y + more) ys)) ⌝ }
 {
     let n = c.len;
@@ -83,7 +86,7 @@ pub struct Part {
 // The list of a side, in the source's order.
 pub fn side_push(s: &[u8], above: Part, own: Part, fields: Fields, side: u64) -> Conjuncts
     requires { ⌜ Wholes (now s) above × Wholes (now s) own ⌝ }
-    requires { ⌜ (length (now s) ≤ workBytes) × (fields .len ≤ 64) ⌝ }
+    requires { ⌜ (length (now s) ≤ workBytes) × (fields .len ≤ maxFields) ⌝ }
     ensures { λ z. ⌜ ((σ : Name → Expr) (ns : List Name) (t : Name → Bool) (a i u b j v : List Expr) → Parted (now (s .entry)) ns above a i u →
         Parted (now (s .entry)) ns own b j v → Names fields ns → Masks side ns t →
         Sides (now (s .entry)) σ ns t z (a ++ (map (replace-cols σ) (i ++ j) ++ (b ++ extract-or-clauses-for-join t (u ++ v))))) ⌝ }
@@ -217,7 +220,7 @@ pub fn moves_of(s: &[u8], p: Conjuncts, g: Conjuncts, sc: Scope, kind: usize) ->
 
 // Whether none of the lists that are written is too long.
 fn fits(v: Moves) -> bool
-    ensures { λ r. ⌜ r ≡ ((leb (v .left .len) 128 && leb (v .right .len) 128) && leb (v .conditions .len) 128) ⌝ }
+    ensures { λ r. ⌜ r ≡ ((leb (v .left .len) maxList && leb (v .right .len) maxList) && leb (v .conditions .len) maxList) ⌝ }
 {
     let left = v.left;
     let right = v.right;
@@ -241,7 +244,7 @@ pub fn own_filter(s: &[u8], x: usize) -> Conjuncts
         Reads (now (s .entry)) (schema l ++ schema r) z (split-conjunction? f)) ⌝ }
 {
     let y = last_child(record_at(s, x), x, MAX_DEPTH);
-    if word_at(record_at(s, y), 0) < FIRST_PLAN {
+    if word_at(record_at(s, y), KIND) < FIRST_PLAN {
         return split_at(s, y, empty());
     }
     empty()
@@ -267,7 +270,7 @@ fn push_down_all_join(
 {
     let z = right_input(s, x);
     let sc = join_scope(s, x, x + 1, z);
-    let kind = word_at(record_at(s, x), 4);
+    let kind = word_at(record_at(s, x), P);
     let v = moves_of(s, c, g, sc, kind);
     // A list that is too long is written nowhere.
     if !fits(v) {
@@ -324,4 +327,4 @@ pub fn rewrite_join(
 }
 
 // An item with so much more has its columns replaced.
-const SWAPPED: usize = 2048;
+const SWAPPED: usize = MAX_RECORDS;

@@ -9,6 +9,7 @@ use image::copying::put_kind;
 use image::copying::put_label;
 use image::limits::MAX_DEPTH;
 use image::records::FIRST_LINK;
+use image::records::KIND;
 use image::records::NEXT_LINK;
 use image::records::from_record;
 use image::records::record_at;
@@ -28,10 +29,11 @@ ghost use Prim.Native.Nat.{_+_, _-_, _<_, _≤_};
 ghost use lib.Dec.{eqb};
 ghost use lib.ListN.{length, take};
 ghost use Rattle.image.specs.Buffers.{Buffer, BufferAt, BufferTo};
-ghost use Rattle.image.proofs.Relinking.{recs, recsAny};
-ghost use Rattle.image.specs.Limits.{workBytes};
+ghost use Rattle.image.specs.Records.{recs, recsAny};
+ghost use Rattle.image.specs.Limits.{maxFields, workBytes};
 ghost use Rattle.image.specs.Room.{Wrote};
 ghost use Rattle.image.specs.Tree.{At, Readable, Tree};
+ghost use Rattle.plan.specs.Kinds.{PairPart, numberQ};
 ghost use Rattle.plan.specs.Lists.{when};
 ghost use Rattle.plan.specs.Schema.{schema};
 ghost use Rattle.plan.specs.Syntax.{Expr, Kind, Name, Pair, Plan};
@@ -71,7 +73,7 @@ pub fn copy_sided(
     level: usize,
 ) -> usize
     requires { ⌜ OneSided (now s) n ⌝ }
-    requires { ⌜ (length (now s) ≤ workBytes) × (fields .len ≤ 64) ⌝ }
+    requires { ⌜ (length (now s) ≤ workBytes) × (fields .len ≤ maxFields) ⌝ }
     requires { ⌜ Readable room (now m) of ⌝ }
     requires { ⌜ Buffer 1 (level + room) (now out) ⌝ }
     ensures { λ r. ⌜ ((σ : Name → Expr) → Maps (now (m .entry)) of room σ → (ns : List Name) (t : Name → Bool) → Names fields ns →
@@ -96,7 +98,7 @@ fn copy_sided_first(
     level: usize,
 ) -> usize
     requires { ⌜ SomeSided (now s) c ⌝ }
-    requires { ⌜ (length (now s) ≤ workBytes) × (fields .len ≤ 64) ⌝ }
+    requires { ⌜ (length (now s) ≤ workBytes) × (fields .len ≤ maxFields) ⌝ }
     requires { ⌜ Readable 3 (now m) 0 ⌝ }
     requires { ⌜ (0 < k) × (k ≤ c .len) ⌝ }
     requires { ⌜ Buffer 2 (level + k) (now out) ⌝ }
@@ -126,7 +128,7 @@ fn copy_sided_joined(
     level: usize,
 ) -> usize
     requires { ⌜ SomeSided (now s) c ⌝ }
-    requires { ⌜ (length (now s) ≤ workBytes) × (fields .len ≤ 64) ⌝ }
+    requires { ⌜ (length (now s) ≤ workBytes) × (fields .len ≤ maxFields) ⌝ }
     requires { ⌜ Readable 3 (now m) 0 ⌝ }
     requires { ⌜ 0 < c .len ⌝ }
     requires { ⌜ Buffer 3 level (now out) ⌝ }
@@ -151,7 +153,7 @@ pub fn copy_sided_filtered(
     level: usize,
 ) -> usize
     requires { ⌜ SomeSided (now s) c ⌝ }
-    requires { ⌜ (length (now s) ≤ workBytes) × (fields .len ≤ 64) ⌝ }
+    requires { ⌜ (length (now s) ≤ workBytes) × (fields .len ≤ maxFields) ⌝ }
     requires { ⌜ Readable 3 (now m) 0 ⌝ }
     requires { ⌜ ThereP (now s) x ⌝ }
     requires { ⌜ Buffer 4 level (now out) ⌝ }
@@ -180,9 +182,9 @@ fn copy_pair(
     requires { ⌜ Readable depth (now part) base ⌝ }
     requires { ⌜ BufferTo depth level (now out) at ⌝ }
     ensures { λ r. ⌜ ((t : Tree) → At t (now (part .entry)) base →
-        WroteAll (now (out .entry)) (now (out .exit)) at r (when (eqb (t .label .kind) 50) (recs level t))) ⌝ }
+        WroteAll (now (out .entry)) (now (out .exit)) at r (when (eqb (t .label .kind) (numberQ PairPart)) (recs level t))) ⌝ }
 {
-    if word_at(part, 0) == PAIR {
+    if word_at(part, KIND) == PAIR {
         return copy_tree(part, base, depth, out, at, level);
     }
     at

@@ -10,6 +10,7 @@ use conjuncts::unique::unique;
 use image::limits::MAX_DEPTH;
 use image::limits::MAX_LIST;
 use image::limits::MAX_RECORDS;
+use image::records::KIND;
 use image::records::NEXT_LINK;
 use image::records::record_at;
 use image::words::word_at;
@@ -149,7 +150,7 @@ fn rewrite_filter(
         Settles (now (s .entry)) r c (merges-under e q) (settle e q)) ⌝ }
 {
     let part = record_at(s, x);
-    if word_at(part, 0) == FILTER {
+    if word_at(part, KIND) == FILTER {
         return merge_filter(s, node, p, x, work, levels);
     }
     Settled {

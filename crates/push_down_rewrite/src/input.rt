@@ -1,5 +1,6 @@
 // The match on a Filter's input (834 to 1262), once the Filters below are merged into it.
 use crate::filter::Settled;
+use image::records::KIND;
 use image::records::record_at;
 use image::words::word_at;
 use plan::kinds::AGGREGATE;
@@ -46,7 +47,7 @@ fn rewrite_input(
     ensures { λ r. ⌜ ((e : Expr) (q : Plan) → Rests (now (s .entry)) x p e q → is-filter q ≡ false →
         Answers (now (out .entry)) (now (out .exit)) at level r (rewrite-filter e q)) ⌝ }
 {
-    let kind = word_at(record_at(s, x), 0);
+    let kind = word_at(record_at(s, x), KIND);
     if kind == TABLE_SCAN {
         return rewrite_table_scan(s, x, p, out, at, level);
     }

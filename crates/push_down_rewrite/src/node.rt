@@ -8,6 +8,7 @@ use answers::splicing::write_before;
 use answers::splicing::write_records;
 use conjuncts::lists::empty;
 use image::limits::MAX_RECORDS;
+use image::records::KIND;
 use image::records::record_at;
 use image::relink::relink;
 use image::words::word_at;
@@ -124,7 +125,7 @@ pub fn rewrite_anew(
     requires { ⌜ ScratchMap (now m) (now work) (now levels) ⌝ }
     ensures { λ r. ⌜ ((w : Plan) (c : Focus) → Inside (now (s .entry)) node w c → Outcomes (now (work .exit)) r w c) ⌝ }
 {
-    let kind = word_at(record_at(s, node), 0);
+    let kind = word_at(record_at(s, node), KIND);
     if kind == FILTER {
         return rewrite_filter_node(s, node, m, work, levels);
     }

@@ -8,6 +8,8 @@ use conjuncts::lists::empty;
 use conjuncts::split_conjunction::left_deep_at;
 use conjuncts::split_conjunction::split_at;
 use image::limits::MAX_DEPTH;
+use image::records::KIND;
+use image::records::P;
 use image::records::record_at;
 use image::words::word_at;
 use plan::kinds::AGGREGATE;
@@ -17,6 +19,7 @@ use plan::kinds::JOIN;
 use plan::kinds::PROJECTION;
 use plan::kinds::TABLE_SCAN;
 use plan::kinds::WINDOW;
+use plan::words::INNER;
 use push_down_arms::aggregate::divide_groups;
 use push_down_arms::push_some::divide;
 use push_down_arms::table_scan::share_of;
@@ -61,7 +64,7 @@ fn own_left_deep(s: &[u8], x: usize) -> bool
         Says n (conjunction (split-conjunction? f) ≡ f)) ⌝ }
 {
     let y = last_child(record_at(s, x), x, MAX_DEPTH);
-    if word_at(record_at(s, y), 0) < FIRST_PLAN {
+    if word_at(record_at(s, y), KIND) < FIRST_PLAN {
         return left_deep_at(s, y);
     }
     true
@@ -76,7 +79,7 @@ fn nothing_moves(s: &[u8], x: usize, c: Conjuncts, g: Conjuncts) -> bool
 {
     let z = right_input(s, x);
     let sc = join_scope(s, x, x + 1, z);
-    let kind = word_at(record_at(s, x), 4);
+    let kind = word_at(record_at(s, x), P);
     let left = left_push(s, c, g, sc, kind);
     if left.len != 0 {
         return false;
@@ -177,7 +180,7 @@ fn over_stays(s: &[u8], x: usize, p: Predicate) -> bool
     ensures { λ n. ⌜ ((e : Expr) (q : Plan) → Rests (now (s .entry)) x p e q → is-filter q ≡ false →
         Kept n (rewrite-filter e q) (filter e q)) ⌝ }
 {
-    let kind = word_at(record_at(s, x), 0);
+    let kind = word_at(record_at(s, x), KIND);
     if kind == TABLE_SCAN {
         return over_scan_stays(s, x, p);
     }
@@ -201,11 +204,11 @@ fn may_stay(part: &[u8]) -> bool
     requires { ⌜ 32 ≤ length (now part) ⌝ }
     ensures { λ r. ⌜ r ≡ mayStay (labelAt (now (part .entry))) ⌝ }
 {
-    let kind = word_at(part, 0);
+    let kind = word_at(part, KIND);
     (kind == TABLE_SCAN)
         | (kind == PROJECTION)
         | ((kind == AGGREGATE) | (kind == WINDOW))
-        | ((kind == JOIN) & (word_at(part, 4) != 1))
+        | ((kind == JOIN) & (word_at(part, P) != INNER))
         | takes_none(part)
 }
 
@@ -255,7 +258,7 @@ pub fn stays(s: &[u8], node: usize) -> bool
     requires { ⌜ Found (now s) node ⌝ }
     ensures { λ r. ⌜ ((w : Plan) (c : Focus) → Inside (now (s .entry)) node w c → Stays r (c .plan)) ⌝ }
 {
-    let kind = word_at(record_at(s, node), 0);
+    let kind = word_at(record_at(s, node), KIND);
     if kind == FILTER {
         return filter_stays(s, node);
     }

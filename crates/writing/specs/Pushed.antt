@@ -2,7 +2,8 @@
 -- its columns replaced.
 use mathlib.Core.Path.{_≡_}
 use mathlib.Core.List.{List, [], _∷_}
-use Prim.Native.Nat.{ℕ, _-_, _≤_, _<_}
+use Prim.Native.Nat.{ℕ, _-_, _≤_, _<_, _*_}
+use Rattle.image.specs.Limits.{maxRecords, maxList}
 use Rattle.plan.specs.Syntax.{Name, Expr}
 use Rattle.rewrite.specs.Utils.{replace-cols, conjoin}
 use Rattle.conjuncts.specs.Items.{Conjuncts, Holds, Item}
@@ -15,9 +16,9 @@ pub record Changed (s : List ℕ) (σ : Name → Expr) (n : ℕ) (e : Expr) : Ty
 
 -- e is written for the number n, where columns are replaced by σ
 pub record Pushed (s : List ℕ) (σ : Name → Expr) (n : ℕ) (e : Expr) : Type 0 where
-  pub plain : n < 2048 → Item s n e
-  pub changed : 2048 ≤ n → Changed s σ (n - 2048) e
-  pub small : n < 4096
+  pub plain : n < maxRecords → Item s n e
+  pub changed : maxRecords ≤ n → Changed s σ (n - maxRecords) e
+  pub small : n < (2 * maxRecords)
 
 -- the numbers stand for the expressions, one by one
 pub data Each (R : ℕ → Expr → Type 0) : List ℕ → List Expr → Type 0 where
@@ -55,11 +56,11 @@ pub record Some (s : List ℕ) (c : Conjuncts) : Type 0 where
   pub map : Name → Expr
   pub exprs : List Expr
   pub pushes : Pushes s map c exprs
-  pub most : c .len ≤ 128
+  pub most : c .len ≤ maxList
 
 -- a predicate is written
 pub record Predicated (s : List ℕ) (written : ℕ) (c : Conjuncts) : Type 0 where
   pub map : Name → Expr
   pub expr : Expr
   pub predicate : Predicate s map written c expr
-  pub most : c .len ≤ 128
+  pub most : c .len ≤ maxList

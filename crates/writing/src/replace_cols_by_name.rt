@@ -5,7 +5,10 @@ use image::copying::put_label;
 use image::limits::MAX_RECORDS;
 use image::limits::NO_ROOM;
 use image::records::FIRST_LINK;
+use image::records::KIND;
 use image::records::NEXT_LINK;
+use image::records::P;
+use image::records::Q;
 use image::records::from_record;
 use image::words::word_at;
 use plan::kinds::COLUMN;
@@ -23,7 +26,7 @@ pub fn is_entry(s: &[u8], p: usize, q: usize) -> bool
     requires { ⌜ 32 ≤ length (now s) ⌝ }
     ensures { λ r. ⌜ r ≡ isEntry (labelAt (now (s .entry))) p q ⌝ }
 {
-    (word_at(s, 0) == ENTRY) & (word_at(s, 4) == p) & (word_at(s, 8) == q)
+    (word_at(s, KIND) == ENTRY) & (word_at(s, P) == p) & (word_at(s, Q) == q)
 }
 
 // The record of the expression that an entry below the record at the start of m gives this name, or 0.
@@ -48,10 +51,10 @@ pub fn value_for(s: &[u8], m: &[u8], of: usize, room: usize) -> usize
     requires { ⌜ Readable room (now m) of ⌝ }
     ensures { λ r. ⌜ ((t : Tree) → At t (now (m .entry)) of → Leads (valueFor t (labelAt (now (s .entry)))) (now (m .entry)) of r) ⌝ }
 {
-    if word_at(s, 0) != COLUMN {
+    if word_at(s, KIND) != COLUMN {
         return 0;
     }
-    find(m, of, room, word_at(s, 4), word_at(s, 8))
+    find(m, of, room, word_at(s, P), word_at(s, Q))
 }
 
 // Writes the tree at the start of s, with each column that an entry below the record at the start of m names replaced by its expression.

@@ -1,7 +1,7 @@
 use native.Mathlib.Omega.{arith}
 use borrow.Author.Needs.{needs}
 use Rattle.rewrite.specs.Utils.{replace-cols, split-conjunction}
-use Rattle.writing.proofs.Maps.{mapOf}
+use Rattle.writing.specs.Maps.{mapOf}
 use Rattle.writing.proofs.Pushing.{plan-readable}
 use Rattle.push_down_arms.proofs.Counting.{false-parts, value-leads, value-single, value-standing, value-past, counts-one, counts-more}
 use Rattle.push_down_arms.proofs.push_some.add_replaced.Statement.{statement}

@@ -4,9 +4,11 @@ use native.Mathlib.Omega.{arith}
 use mathlib.Core.List.{map}
 use borrow.Author.Needs.{needs}
 use borrow.Author.Tests.{ltb-true, ltb-false}
+use Rattle.image.specs.Limits.{maxList}
 use Rattle.plan.specs.Trees.{planTree}
 use Rattle.rewrite.specs.Utils.{replace-cols, conjunction}
-use Rattle.writing.proofs.Maps.{plan-maps, mapOf}
+use Rattle.writing.specs.Maps.{mapOf}
+use Rattle.writing.proofs.Maps.{plan-maps}
 use Rattle.writing.proofs.Pushing.{plan-readable}
 use Rattle.push_down_arms.specs.Divided.{parts}
 use Rattle.push_down_base.proofs.Answering.{answers}
@@ -26,7 +28,7 @@ push-some-spec =
       ),
       p .placed .short,
     ))
-    (λ c f q us ds h t k. let o = ltb-true 128 (parts (mapOf (f q)) ds)
+    (λ c f q us ds h t k. let o = ltb-true maxList (parts (mapOf (f q)) ds)
     (sym (c .before .is-over .ensures ds (f q) (k .moved) (k .moved-single) (h .standing)) ∙ c .if1 .taken) in
     let m = pushed-many h t k o in
     record { flag = some-moved ds (k .moved) (k .moved-most); fits = λ small. absurd (omega arith); over = λ many. (refl, refl) })
@@ -63,7 +65,7 @@ push-some-spec =
       ),
     ))
     (λ c. search needs)
-    (λ c f q us ds h t k. let o = ltb-false 128 (parts (mapOf (f q)) ds)
+    (λ c f q us ds h t k. let o = ltb-false maxList (parts (mapOf (f q)) ds)
     (sym (c .before .before .before .before .before .before .before .before .is-over .ensures ds (f q) (k .moved) (k .moved-single) (h .standing))
     ∙ c .before .before .before .before .before .before .before .if1 .left) in
     let i = c .before .before .before .before .before .before .record-at .ensures in
