@@ -21,7 +21,7 @@ use writing::replace_cols_by_name::find;
 use writing::replace_cols_by_name::is_entry;
 ghost use mathlib.Core.Path.{_≡_};
 ghost use mathlib.Core.List.{List};
-ghost use Prim.Native.Nat.{_≤_};
+ghost use Prim.Native.Nat.{_≤_, ℕ};
 ghost use lib.ListN.{length};
 ghost use Rattle.image.specs.Limits.{maxFields};
 ghost use Rattle.image.specs.Tree.{At, Readable, Tree, labelAt};
@@ -63,8 +63,8 @@ fn is_named(part: &[u8], q: usize, n: usize) -> bool
 }
 
 // Whether the entry of a Window at the start of `part` is partitioned by the column.
-fn has_partition(part: &[u8], base: usize, depth: usize, q: usize, n: usize) -> bool
-    requires { ⌜ Readable depth (now part) base ⌝ }
+fn has_partition(part: &[u8], base: usize, q: usize, n: usize) -> bool
+    requires { ⌜ ((d : ℕ) × Readable d (now part) base) ⌝ }
     ensures { λ r. ⌜ ((t : Tree) → At t (now (part .entry)) base → r ≡ partitionIn (nm q n) (t .below)) ⌝ }
 {
     let first = word_at(part, FIRST_LINK);
@@ -88,7 +88,7 @@ fn lets_pass(part: &[u8], base: usize, depth: usize, q: usize, n: usize) -> bool
     ensures { λ r. ⌜ ((t : Tree) → At t (now (part .entry)) base → r ≡ lets (nm q n) t) ⌝ }
 {
     if word_at(part, KIND) == WINDOW_ENTRY {
-        return has_partition(part, base, depth, q, n);
+        return has_partition(part, base, q, n);
     }
     if is_entry(part, q, n) {
         return !is_fixed(part, base, depth);
@@ -118,7 +118,7 @@ fn may_move(part: &[u8], base: usize, depth: usize, q: usize, n: usize) -> bool
     ensures { λ r. ⌜ ((t : Tree) → At t (now (part .entry)) base → r ≡ mayMove t (nm q n)) ⌝ }
 {
     if word_at(part, KIND) == AGGREGATE {
-        return find(part, base, depth, q, n) != 0;
+        return find(part, base, q, n) != 0;
     }
     all_let_pass(part, base, depth, q, n)
 }

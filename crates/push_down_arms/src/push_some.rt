@@ -53,7 +53,7 @@ fn add_replaced(s: &[u8], x: usize, n: usize, c: Conjuncts) -> Conjuncts
     if n == 0 {
         return add(c, 0);
     }
-    let value = value_for(record_at(s, n), record_at(s, x), x, MAX_DEPTH);
+    let value = value_for(record_at(s, n), record_at(s, x), x);
     if value == 0 {
         return add(c, n);
     }
@@ -111,7 +111,7 @@ pub fn push_some(s: &[u8], x: usize, d: Divided, out: &mut [u8], at: usize, leve
         };
     }
     let part = record_at(s, x);
-    let y = last_child(part, x, MAX_DEPTH);
+    let y = last_child(part, x);
     let above = Predicate {
         written: 0,
         list: kept,

@@ -59,7 +59,7 @@ pub fn push_filter(
         Answers (now (out .entry)) (now (out .exit)) at level r (Transformed·yes (f (filter e q)))) ⌝ }
 {
     let part = record_at(s, x);
-    let y = last_child(part, x, MAX_DEPTH);
+    let y = last_child(part, x);
     let nothing = Predicate {
         written: 0,
         list: empty(),

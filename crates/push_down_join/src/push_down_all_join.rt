@@ -18,7 +18,6 @@ use conjuncts::lists::add;
 use conjuncts::lists::empty;
 use conjuncts::lists::item_at;
 use conjuncts::split_conjunction::split_at;
-use image::limits::MAX_DEPTH;
 use image::limits::MAX_LIST;
 use image::limits::MAX_RECORDS;
 use image::limits::NO_ROOM;
@@ -243,7 +242,7 @@ pub fn own_filter(s: &[u8], x: usize) -> Conjuncts
     ensures { λ z. ⌜ ((k : Kind) (l r : Plan) (on : List Pair) (f : Option Expr) → Placed (now (s .entry)) x (join k l r on f) →
         Reads (now (s .entry)) (schema l ++ schema r) z (split-conjunction? f)) ⌝ }
 {
-    let y = last_child(record_at(s, x), x, MAX_DEPTH);
+    let y = last_child(record_at(s, x), x);
     if word_at(record_at(s, y), KIND) < FIRST_PLAN {
         return split_at(s, y, empty());
     }

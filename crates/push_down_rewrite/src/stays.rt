@@ -7,7 +7,6 @@ use conjuncts::lists::Conjuncts;
 use conjuncts::lists::empty;
 use conjuncts::split_conjunction::left_deep_at;
 use conjuncts::split_conjunction::split_at;
-use image::limits::MAX_DEPTH;
 use image::records::KIND;
 use image::records::P;
 use image::records::record_at;
@@ -63,7 +62,7 @@ fn own_left_deep(s: &[u8], x: usize) -> bool
     ensures { λ n. ⌜ ((k : Kind) (l r : Plan) (on : List Pair) (f : Option Expr) → Placed (now (s .entry)) x (join k l r on f) →
         Says n (conjunction (split-conjunction? f) ≡ f)) ⌝ }
 {
-    let y = last_child(record_at(s, x), x, MAX_DEPTH);
+    let y = last_child(record_at(s, x), x);
     if word_at(record_at(s, y), KIND) < FIRST_PLAN {
         return left_deep_at(s, y);
     }

@@ -14,7 +14,7 @@ use image::words::word_at;
 use plan::kinds::COLUMN;
 use plan::kinds::ENTRY;
 ghost use mathlib.Core.Path.{_≡_};
-ghost use Prim.Native.Nat.{_+_, _<_, _≤_};
+ghost use Prim.Native.Nat.{_+_, _<_, _≤_, ℕ};
 ghost use lib.ListN.{length};
 ghost use Rattle.image.specs.Limits.{maxLevel, workBytes};
 ghost use Rattle.image.specs.Room.{Wrote};
@@ -30,8 +30,8 @@ pub fn is_entry(s: &[u8], p: usize, q: usize) -> bool
 }
 
 // The record of the expression that an entry below the record at the start of m gives this name, or 0.
-pub fn find(m: &[u8], of: usize, room: usize, p: usize, q: usize) -> usize
-    requires { ⌜ Readable room (now m) of ⌝ }
+pub fn find(m: &[u8], of: usize, p: usize, q: usize) -> usize
+    requires { ⌜ ((d : ℕ) × Readable d (now m) of) ⌝ }
     ensures { λ r. ⌜ ((t : Tree) → At t (now (m .entry)) of → Leads (lookup (t .below) p q) (now (m .entry)) of r) ⌝ }
 {
     let mut at = word_at(m, FIRST_LINK);
@@ -46,15 +46,15 @@ pub fn find(m: &[u8], of: usize, room: usize, p: usize, q: usize) -> usize
 }
 
 // The same for the record at the start of s, if it is a column.
-pub fn value_for(s: &[u8], m: &[u8], of: usize, room: usize) -> usize
+pub fn value_for(s: &[u8], m: &[u8], of: usize) -> usize
     requires { ⌜ 32 ≤ length (now s) ⌝ }
-    requires { ⌜ Readable room (now m) of ⌝ }
+    requires { ⌜ ((d : ℕ) × Readable d (now m) of) ⌝ }
     ensures { λ r. ⌜ ((t : Tree) → At t (now (m .entry)) of → Leads (valueFor t (labelAt (now (s .entry)))) (now (m .entry)) of r) ⌝ }
 {
     if word_at(s, KIND) != COLUMN {
         return 0;
     }
-    find(m, of, room, word_at(s, P), word_at(s, Q))
+    find(m, of, word_at(s, P), word_at(s, Q))
 }
 
 // Writes the tree at the start of s, with each column that an entry below the record at the start of m names replaced by its expression.
@@ -80,7 +80,7 @@ pub fn replace_cols_by_name(
     if MAX_RECORDS <= at {
         return NO_ROOM;
     }
-    let x = value_for(s, m, of, room);
+    let x = value_for(s, m, of);
     if x != 0 {
         let value = from_record(m, of, x);
         return copy_tree(value, x, room - 2, out, at, level);

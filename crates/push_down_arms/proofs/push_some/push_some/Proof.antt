@@ -4,7 +4,7 @@ use native.Mathlib.Omega.{arith}
 use mathlib.Core.List.{map}
 use borrow.Author.Needs.{needs}
 use borrow.Author.Tests.{ltb-true, ltb-false}
-use Rattle.image.specs.Limits.{maxList}
+use Rattle.image.specs.Limits.{maxList, maxDepth}
 use Rattle.plan.specs.Trees.{planTree}
 use Rattle.rewrite.specs.Utils.{replace-cols, conjunction}
 use Rattle.writing.specs.Maps.{mapOf}
@@ -33,7 +33,7 @@ push-some-spec =
     let m = pushed-many h t k o in
     record { flag = some-moved ds (k .moved) (k .moved-most); fits = λ small. absurd (omega arith); over = λ many. (refl, refl) })
     (λ c κs. c .before .before .before .before .before .before .before .pre .0 .placed .standing .within)
-    (λ c κs. rw (c .record-at .ensures) (plan-readable (c .before .before .before .before .before .before .before .before .pre .0 .placed .standing)))
+    (λ c κs. (maxDepth, rw (c .record-at .ensures) (plan-readable (c .before .before .before .before .before .before .before .before .pre .0 .placed .standing))))
     (λ c κs. let k = c .before .before .before .before .before .before .before .before .before .pre .0 .divides in
     record { image = _; known = record { exprs = _; lists = k .moved; most = k .moved-most } })
     (λ c κs. let p = c .before .before .before .before .before .before .before .before .before .before .before .pre in
