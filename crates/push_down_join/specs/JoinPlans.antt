@@ -2,8 +2,9 @@
 use mathlib.Core.Path.{_≡_}
 use mathlib.Core.Bool.{not}
 use mathlib.Core.List.{List, [], _++_}
-use mathlib.Core.Option.{Option}
-use Prim.Native.Nat.{ℕ, _+_, _≤_}
+use mathlib.Core.Option as O
+use mathlib.Core.Option.{Option, some}
+use Prim.Native.Nat.{ℕ, _+_, _≤_, _<_}
 use lib.Dec.{eqb}
 use lib.ListN.{length}
 use Rattle.image.specs.Limits.{workBytes, maxList}
@@ -16,7 +17,7 @@ use Rattle.plan.specs.Lists.{when}
 use Rattle.rewrite.specs.Utils.{with-filters, conjunction}
 use Rattle.rewrite.specs.PushDownFilter.{left-push, right-push, keep-predicates, join-conditions, on-filter-join-conditions, nothing-moves}
 use Rattle.conjuncts.specs.Items.{Conjuncts, Lists}
-use Rattle.conjuncts.specs.Standing.{StandingP}
+use Rattle.conjuncts.specs.Standing.{Standing, StandingP}
 use Rattle.writing.specs.Maps.{Maps}
 use Rattle.push_down_base.specs.Arms.{Placed, Rests}
 use Rattle.push_down_base.specs.Predicates.{Predicate}
@@ -36,6 +37,11 @@ pub record JoinHere (s : List ℕ) (x : ℕ) : Type 0 where
   pub keys : List Pair
   pub condition : Option Expr
   pub placed : Placed s x (join kind lhs rhs keys condition)
+
+-- the filter of a join stands at record n, or n is 0 and it has none
+pub data FilterOf (s : List ℕ) (n : ℕ) : Option Expr → Type 0 where
+  bare : n ≡ 0 → FilterOf s n O.none
+  own : {e : Expr} → Standing s n e → 0 < n → FilterOf s n (some e)
 
 -- .. and the conjuncts c are over its inputs
 pub record JoinUnder (s : List ℕ) (x : ℕ) (c : Conjuncts) : Type 0 where

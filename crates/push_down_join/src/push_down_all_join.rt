@@ -54,7 +54,7 @@ ghost use Rattle.utils.specs.Masks.{Masks};
 ghost use Rattle.push_down_base.specs.Arms.{Answers, ArmOver, Placed, Rests};
 ghost use Rattle.push_down_base.specs.Parting.{Reads};
 ghost use Rattle.push_down_base.specs.Plain.{Plain};
-ghost use Rattle.push_down_join.specs.JoinPlans.{JoinBetween, JoinHere, JoinUnder, Moved, OverJoin};
+ghost use Rattle.push_down_join.specs.JoinPlans.{FilterOf, JoinBetween, JoinHere, JoinUnder, Moved, OverJoin};
 ghost use Rattle.push_down_join.specs.Parts.{Parted, Wholes};
 ghost use Rattle.push_down_join.specs.Scopes.{Asked, Scopes, Swapper, keyed-left, keyed-right};
 ghost use Rattle.push_down_join.specs.Sides.{Sides, Smalls};
@@ -236,17 +236,30 @@ pub fn right_input(s: &[u8], x: usize) -> usize
     word_at(record_at(s, x + 1), NEXT_LINK)
 }
 
-// The conjuncts of the filter of the join at record x, if it has one: it is the last child, and the only one that is an expression.
+// The record of the filter of the join at record x, or 0 where it has none: it is the last child, and the only one that is an expression.
+pub fn filter_of(s: &[u8], x: usize) -> usize
+    requires { ⌜ JoinHere (now s) x ⌝ }
+    ensures { λ n. ⌜ ((k : Kind) (l r : Plan) (on : List Pair) (f : Option Expr) → Placed (now (s .entry)) x (join k l r on f) →
+        FilterOf (now (s .entry)) n f) ⌝ }
+{
+    let y = last_child(record_at(s, x), x);
+    if word_at(record_at(s, y), KIND) < FIRST_PLAN {
+        return y;
+    }
+    0
+}
+
+// The conjuncts of that filter.
 pub fn own_filter(s: &[u8], x: usize) -> Conjuncts
     requires { ⌜ JoinHere (now s) x ⌝ }
     ensures { λ z. ⌜ ((k : Kind) (l r : Plan) (on : List Pair) (f : Option Expr) → Placed (now (s .entry)) x (join k l r on f) →
         Reads (now (s .entry)) (schema l ++ schema r) z (split-conjunction? f)) ⌝ }
 {
-    let y = last_child(record_at(s, x), x);
-    if word_at(record_at(s, y), KIND) < FIRST_PLAN {
-        return split_at(s, y, empty());
+    let y = filter_of(s, x);
+    if y == 0 {
+        return empty();
     }
-    empty()
+    split_at(s, y, empty())
 }
 
 // push_down_all_join: c is the predicates above the join at record x, g those of its own filter.

@@ -13,7 +13,6 @@ use image::records::record_at;
 use image::words::word_at;
 use plan::kinds::AGGREGATE;
 use plan::kinds::FILTER;
-use plan::kinds::FIRST_PLAN;
 use plan::kinds::JOIN;
 use plan::kinds::PROJECTION;
 use plan::kinds::TABLE_SCAN;
@@ -23,10 +22,10 @@ use push_down_arms::aggregate::divide_groups;
 use push_down_arms::push_some::divide;
 use push_down_arms::table_scan::share_of;
 use push_down_arms::through::takes_none;
-use push_down_base::inputs::last_child;
 use push_down_base::predicates::Predicate;
 use push_down_base::predicates::is_gone;
 use push_down_join::column_checker::join_scope;
+use push_down_join::push_down_all_join::filter_of;
 use push_down_join::push_down_all_join::join_conditions;
 use push_down_join::push_down_all_join::left_push;
 use push_down_join::push_down_all_join::own_filter;
@@ -56,17 +55,17 @@ ghost use Rattle.push_down_rewrite.specs.Found.{Found, OnInput};
 ghost use Rattle.push_down_rewrite.specs.Merging.{FilterInside, Formed, Inside, is-filter};
 ghost use Rattle.push_down_rewrite.specs.Staying.{Kept, Stays, mayStay};
 
-// Whether the filter of the join at record x, if it has one, is joined left-deep: it is the last child, and the only one that is an expression.
+// Whether the filter of the join at record x, if it has one, is joined left-deep.
 fn own_left_deep(s: &[u8], x: usize) -> bool
     requires { ⌜ JoinHere (now s) x ⌝ }
     ensures { λ n. ⌜ ((k : Kind) (l r : Plan) (on : List Pair) (f : Option Expr) → Placed (now (s .entry)) x (join k l r on f) →
         Says n (conjunction (split-conjunction? f) ≡ f)) ⌝ }
 {
-    let y = last_child(record_at(s, x), x);
-    if word_at(record_at(s, y), KIND) < FIRST_PLAN {
-        return left_deep_at(s, y);
+    let y = filter_of(s, x);
+    if y == 0 {
+        return true;
     }
-    true
+    left_deep_at(s, y)
 }
 
 // Whether nothing of the predicates c above the join at record x, and of those of its own filter, g, moves.
