@@ -66,11 +66,11 @@ unfolding depth
 depth-deep none k h = tt
 depth-deep (node l cs ns) k h = (omega arith, depth-deep cs (k - 1) (omega arith), depth-deep ns k (omega arith))
 
--- a tree whose depth is tested is no deeper than 256
+-- a tree whose depth is tested is no deeper than `maxDepth`
 pub tested-deep : (t : Tree) → leb (depthT t) maxDepth ≡ true → Deep (t .below) maxBelow
 tested-deep t e = depth-deep (t .below) maxBelow (omega (arith, leb-true (depthT t) maxDepth e))
 
--- a tree no deeper than 256 passes the test
+-- a tree no deeper than `maxDepth` passes the test
 pub deep-tested : (t : Tree) → Deep (t .below) maxBelow → leb (depthT t) maxDepth ≡ true
 deep-tested t h = le-leb (depthT t) maxDepth (omega (arith, deep-depth (t .below) maxBelow h))
 

@@ -35,7 +35,7 @@ pub record Begun (out : List ℕ) (n : ℕ) (t : Tree) : Type 0 where
   pub rest : List ℕ
   pub bytes : n ≤ maxRecords → out ≡ flat 1 t ++ rest
 
--- a count that is no more than 2,048 is what was counted
+-- a count that is no more than `maxRecords` is what was counted
 pub counted : (m n : ℕ) → n ≡ cap m → n ≤ maxRecords → m ≤ maxRecords
 unfolding cap
 counted m n e h = omega arith

@@ -25,7 +25,7 @@ use Rattle.image.proofs.Relinking.{flats-flat, recs-any-length, recs-length}
 use Rattle.answers.proofs.Depths.{first, depth-at}
 use Rattle.answers.specs.Splicing.{Levels, Ran}
 
--- no count is more than 2,049
+-- no count is more than `noRoom`
 pub wrote-small : {before after : List ℕ} {at level r : ℕ} {t : Tree} → Wrote before after at level r t → r ≤ noRoom
 wrote-small {at = at} {t = t} w = rw (w .next) (cap-le (at + sizeT t))
 

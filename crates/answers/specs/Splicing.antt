@@ -14,7 +14,7 @@ use Rattle.plan.specs.Trees.{planTree}
 use Rattle.plan.specs.Measure.{sizeP}
 use Rattle.answers.specs.declared.splicing.Spot.{Spot}
 
--- some tree of at most 2,048 records stands at the start of s, no deeper than 256, and s is no longer than an image
+-- some tree of at most `maxRecords` records stands at the start of s, no deeper than `maxDepth`, and s is no longer than an image
 pub record Sized (s : List ℕ) : Type 0 where
   pub tree : Tree
   pub at : At tree s 0
@@ -31,8 +31,8 @@ pub record Ran (before after : List ℕ) (at k r : ℕ) (bs : List ℕ) : Type 0
   pub next : r ≡ cap (at + k)
   pub bytes : after ≡ sets before (32 * at) bs
 
--- the records of p before `node` are written flat, the depths of all its records are known, and r says where a new tree goes that is to stand in
--- the place of `old`, at record `node`
+-- the records of p before `node` are written flat, the depths of all its records are known, and r says where a new tree goes that is to
+-- stand in the place of `old`, at record `node`
 pub record Before (out levels : List ℕ) (p : Plan) (node : ℕ) (old : Plan) (r : Spot) : Type 0 where
   pub bytes : take (32 * node) out ≡ take (32 * node) (flat 1 (planTree p))
   pub depths : Levels levels (planTree p)

@@ -64,7 +64,8 @@ pub fn write_before(s: &[u8], node: usize, out: &mut [u8], levels: &mut [u32]) -
     requires { ⌜ Sized (now s) ⌝ }
     requires { ⌜ ThereP (now s) node ⌝ }
     requires { ⌜ Scratch (now out) (now levels) ⌝ }
-    ensures { λ r. ⌜ ((p : Plan) (c : Focus) → StandingP (now (s .entry)) 0 p → focus node p ≡ some c → StandingP (now (s .entry)) node (c .plan) →
+    ensures { λ r. ⌜ ((p : Plan) (c : Focus) → StandingP (now (s .entry)) 0 p → focus node p ≡ some c →
+        StandingP (now (s .entry)) node (c .plan) →
         Before (now (out .exit)) (now (levels .exit)) p node (c .plan) r) ⌝ }
 {
     let records = note_levels(s, levels);

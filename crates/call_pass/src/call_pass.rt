@@ -21,8 +21,8 @@ ghost use Rattle.push_down_rewrite.specs.Found.{Whole};
 ghost use Rattle.call_pass.specs.Answer.{Small, passedOf};
 ghost use Rattle.call_pass.specs.Walks.{Ends, Left, Lent, Spared};
 
-// Visits, flags raised, whether no plan is left to visit, and the number of records; or what stands against it: a test of the image, a rewrite
-// whose answer is too large, at this record of the plan as it then stood, an output that is too short.
+// Visits, flags raised, whether no plan is left to visit, and the number of records; or what stands against it: a test of the image, a
+// rewrite whose answer is too large, at this record of the plan as it then stood, an output that is too short.
 pub enum Answer {
     Image(Checked),
     Refused(usize),

@@ -21,8 +21,8 @@ ghost use Rattle.push_down_rewrite.specs.Outcomes.{Image, answer};
 ghost use Rattle.call_pass.specs.Walks.{Begins, Came, Comes, Continues, Counted, Ends, Lent, Next, Standing, Stands, Visited};
 ghost use Rattle.call_pass.specs.Walks.{goes-on, rest};
 
-// Where a pass stands: whether each rewrite was within the limits; how many records the image has now, and the one to visit next, if it is one
-// of them; what is left of the budget; the visits and the flags raised so far.
+// Where a pass stands: whether each rewrite was within the limits; how many records the image has now, and the one to visit next, if it is
+// one of them; what is left of the budget; the visits and the flags raised so far.
 pub struct Walk {
     pub fits: bool,
     pub records: usize,

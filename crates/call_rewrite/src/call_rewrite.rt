@@ -27,8 +27,8 @@ ghost use Rattle.push_down_rewrite.specs.Found.{Here, Whole};
 ghost use Rattle.push_down_rewrite.specs.Outcomes.{Image};
 ghost use Rattle.call_rewrite.specs.Answer.{rewrittenOf};
 
-// The flag and the number of records, or what stands against it: a test of the image, no plan at this record, an answer that is too large for
-// the rewrite at this record, an output that is too short.
+// The flag and the number of records, or what stands against it: a test of the image, no plan at this record, an answer that is too large
+// for the rewrite at this record, an output that is too short.
 pub enum Answer {
     Image(Checked),
     NoPlan(usize),
@@ -41,7 +41,8 @@ pub enum Answer {
 fn clear_behind(records: usize, flag: bool, out: &mut [u8]) -> Answer
     requires { ⌜ 32 * records ≤ length (now out) ⌝ }
     ensures { λ r. ⌜ ((q : Plan) → Image (now (out .entry)) records q →
-        rewrittenOf r (now (out .exit)) ≡ rewritten (length (now (out .entry))) (with-room (length (now (out .entry))) (granted flag q))) ⌝ }
+        rewrittenOf r (now (out .exit))
+        ≡ rewritten (length (now (out .entry))) (with-room (length (now (out .entry))) (granted flag q))) ⌝ }
 {
     clear_from(out, RECORD_BYTES * records);
     Answer::Is(flag, records)
@@ -51,7 +52,8 @@ fn clear_behind(records: usize, flag: bool, out: &mut [u8]) -> Answer
 fn hand_over(image: &[u8], records: usize, flag: bool, out: &mut [u8]) -> Answer
     requires { ⌜ 32 * records ≤ length (now image) ⌝ }
     ensures { λ r. ⌜ ((q : Plan) → Image (now (image .entry)) records q →
-        rewrittenOf r (now (out .exit)) ≡ rewritten (length (now (out .entry))) (with-room (length (now (out .entry))) (granted flag q))) ⌝ }
+        rewrittenOf r (now (out .exit))
+        ≡ rewritten (length (now (out .entry))) (with-room (length (now (out .entry))) (granted flag q))) ⌝ }
 {
     if out.len() / RECORD_BYTES < records {
         clear(out);

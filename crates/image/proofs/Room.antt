@@ -1,5 +1,5 @@
--- Laws of writing into a work buffer of 2,048 records.
---     cap-le, ..      the laws of `cap`, which counts records up to 2,049
+-- Laws of writing into a work buffer of `maxRecords` records.
+--     cap-le, ..      the laws of `cap`, which counts records up to `noRoom`
 --     sets-next       two runs, one after the other, are one run, also past the end
 --     Left            the invariant of a loop that writes trees: what is left of them completes the output
 --     wrote-past      past the end a tree is written by doing nothing
@@ -21,7 +21,7 @@ use Rattle.image.specs.Flat.{sizeT, bytesOf, flatAny, flat}
 use Rattle.image.proofs.Writing.{sets-append, sets-after, bytesOf-length, flat-length}
 use Rattle.image.specs.Room.{cap, Put, Wrote}
 
--- no count is more than 2,049
+-- no count is more than `noRoom`
 pub cap-le : (n : ℕ) → cap n ≤ noRoom
 unfolding cap
 cap-le n = omega arith
@@ -31,7 +31,7 @@ pub cap-is : (n : ℕ) → n ≤ noRoom → cap n ≡ n
 unfolding cap
 cap-is n h = omega arith
 
--- any other is 2,049
+-- any other is `noRoom`
 pub cap-over : (n : ℕ) → maxRecords < n → cap n ≡ noRoom
 unfolding cap
 cap-over n h = omega arith

@@ -34,7 +34,7 @@ each-count : {R : ℕ → Expr → Type 0} {ns : List ℕ} {es : List Expr} → 
 each-count nil = refl
 each-count (cons h hs) = ap suc (each-count hs)
 
--- a list that stands for no more than 128 is whole
+-- a list that stands for no more than `maxList` is whole
 pub pushes-small : {s : List ℕ} {σ : Name → Expr} {c : Conjuncts} {es : List Expr} → Pushes s σ c es → length es ≤ maxList → c .len ≤ maxList
 unfolding most
 pushes-small h k = omega (arith, h .holds .count, each-count (h .items))

@@ -53,7 +53,7 @@ module _ {s : List ℕ} {x t : ℕ} {fs : List Field} {es : List Expr} {f : Fiel
   pub fields-count : f .len ≡ length fs
   fields-count = sym (names-count n fields-most) ∙ scan-width h
 
--- a list of more than 128 is not whole
+-- a list of more than `maxList` is not whole
 pub too-many : {s : List ℕ} {c : Conjuncts} {es : List Expr} → Lists s c es → maxList < c .len → length es ≤ maxList → ⊥
 too-many l many small = omega (arith, known-of l small .most)
 

@@ -54,7 +54,7 @@ pub record Dividing (s : List ℕ) (x : ℕ) (d : Divided) : Type 0 where
 abbrev pub parts : (Name → Expr) → List Expr → ℕ
 parts σ es = length (flat (λ e. split-conjunction (replace-cols σ e)) es)
 
--- the list c has k items, or 129 where k is more
+-- the list c has k items, or `tooMany` where k is more
 pub record Counts (s : List ℕ) (c : Conjuncts) (k : ℕ) : Type 0 where
   pub exprs : List Expr
   pub lists : Lists s c exprs

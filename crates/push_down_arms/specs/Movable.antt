@@ -41,7 +41,8 @@ partitionIn x (node l cs ns) = namedIn x ns
 
 -- ---- a plan
 
--- a part of a plan lets the field pass: an entry of a Window that is partitioned by it, an entry of its name that is not fixed, any other part
+-- a part of a plan lets the field pass: an entry of a Window that is partitioned by it, an entry of its name that is not fixed, any other
+-- part
 unfoldable pub lets : Name → Tree → Bool
 lets x t =
     cond (eqb (t .label .kind) (numberQ WinPart)) (partitionIn x (t .below))

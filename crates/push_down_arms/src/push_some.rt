@@ -47,7 +47,8 @@ pub struct Divided {
 fn add_replaced(s: &[u8], x: usize, n: usize, c: Conjuncts) -> Conjuncts
     requires { ⌜ Present (now s) n × ThereP (now s) x ⌝ }
     requires { ⌜ length (now s) ≤ workBytes ⌝ }
-    ensures { λ r. ⌜ ((e : Expr) (p : Plan) (k : ℕ) → Item (now (s .entry)) n e → split-conjunction e ≡ e ∷ [] → StandingP (now (s .entry)) x p →
+    ensures { λ r. ⌜ ((e : Expr) (p : Plan) (k : ℕ) → Item (now (s .entry)) n e → split-conjunction e ≡ e ∷ [] →
+        StandingP (now (s .entry)) x p →
         Counts (now (s .entry)) c k → Counts (now (s .entry)) r (k + length (split-conjunction (replace-cols (mapOf p) e)))) ⌝ }
 {
     if n == 0 {
@@ -93,7 +94,8 @@ pub fn divide(s: &[u8], x: usize, p: Predicate) -> Divided
     }
 }
 
-// A Filter over a plan with one input: what moves goes below, over the expressions that the plan's entries name, and what stays is joined anew.
+// A Filter over a plan with one input: what moves goes below, over the expressions that the plan's entries name, and what stays is joined
+// anew.
 pub fn push_some(s: &[u8], x: usize, d: Divided, out: &mut [u8], at: usize, level: usize) -> Written
     requires { ⌜ Dividing (now s) x d ⌝ }
     requires { ⌜ Arm (now out) at level ⌝ }

@@ -1,4 +1,4 @@
-// Predicates whose columns are to be replaced when they are written: 2,048 is added to each item.
+// Predicates whose columns are to be replaced when they are written: MAX_RECORDS is added to each item.
 use conjuncts::lists::Conjuncts;
 use conjuncts::lists::add;
 use conjuncts::lists::empty;
@@ -34,7 +34,8 @@ pub fn changed(c: Conjuncts) -> Conjuncts
 // A predicate, its columns to be replaced.
 pub fn changed_predicate(p: Predicate) -> Predicate
     requires { ⌜ Shapely p ⌝ }
-    ensures { λ r. ⌜ (r .list .len ≤ maxList) × ((s : List ℕ) (σ : Name → Expr) (e : Expr) → Shaped s p e → Perhaps s σ r (some (replace-cols σ e))) ⌝ }
+    ensures { λ r. ⌜ (r .list .len ≤ maxList) × ((s : List ℕ) (σ : Name → Expr) (e : Expr) → Shaped s p e →
+        Perhaps s σ r (some (replace-cols σ e))) ⌝ }
 {
     let list = p.list;
     if p.written == 0 {

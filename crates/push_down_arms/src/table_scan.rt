@@ -62,7 +62,8 @@ ghost use Rattle.push_down_arms.specs.Scans.{Adds, OverScan, Shares, Som
 pub fn supports_filters_pushdown(s: &[u8], n: usize, fields: Fields, marked: u64) -> bool
     requires { ⌜ Present (now s) n ⌝ }
     requires { ⌜ fields .len ≤ maxFields ⌝ }
-    ensures { λ r. ⌜ ((e : Expr) (ns : List Name) (t : Name → Bool) → Item (now (s .entry)) n e → Names fields ns → on-cols (has ns) e ≡ true →
+    ensures { λ r. ⌜ ((e : Expr) (ns : List Name) (t : Name → Bool) → Item (now (s .entry)) n e → Names fields ns →
+        on-cols (has ns) e ≡ true →
         Masks marked ns t → r ≡ supports t e) ⌝ }
 {
     let columns = columns_at(s, n, fields);
@@ -167,7 +168,8 @@ fn add_filter(c: Conjuncts, part: &[u8], n: usize) -> Conjuncts
 // The filters of the scan at record x: its children that are no fields.
 fn scan_filters(s: &[u8], x: usize) -> Conjuncts
     requires { ⌜ ((k : ℕ) × SomeScan (now s) x k) ⌝ }
-    ensures { λ r. ⌜ ((t : ℕ) (fs : List Field) (es : List Expr) → Placed (now (s .entry)) x (scan t fs es) → Lists (now (s .entry)) r es) ⌝ }
+    ensures { λ r. ⌜ ((t : ℕ) (fs : List Field) (es : List Expr) → Placed (now (s .entry)) x (scan t fs es) →
+        Lists (now (s .entry)) r es) ⌝ }
 {
     let part = record_at(s, x);
     let mut r = empty();

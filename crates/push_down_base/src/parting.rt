@@ -26,7 +26,8 @@ ghost use Rattle.push_down_base.specs.Parting.{Reads, agrees};
 fn is_inside(s: &[u8], n: usize, fields: Fields, side: u64) -> bool
     requires { ⌜ Present (now s) n ⌝ }
     requires { ⌜ fields .len ≤ maxFields ⌝ }
-    ensures { λ r. ⌜ ((e : Expr) (ns : List Name) (t : Name → Bool) → Item (now (s .entry)) n e → Names fields ns → on-cols (has ns) e ≡ true →
+    ensures { λ r. ⌜ ((e : Expr) (ns : List Name) (t : Name → Bool) → Item (now (s .entry)) n e → Names fields ns →
+        on-cols (has ns) e ≡ true →
         Masks side ns t → r ≡ on-cols t e) ⌝ }
 {
     is_within(columns_at(s, n, fields), side)
@@ -55,7 +56,8 @@ pub fn select_side(s: &[u8], c: Conjuncts, fields: Fields, side: u64, inside: bo
 pub fn push_to(s: &[u8], c: Conjuncts, fields: Fields, side: u64, preserved: bool) -> Conjuncts
     requires { ⌜ Known (now s) c ⌝ }
     requires { ⌜ fields .len ≤ maxFields ⌝ }
-    ensures { λ r. ⌜ ((es : List Expr) (ns names : List Name) → Reads (now (s .entry)) ns c es → Names fields ns → Masks side ns (has names) →
+    ensures { λ r. ⌜ ((es : List Expr) (ns names : List Name) → Reads (now (s .entry)) ns c es → Names fields ns →
+        Masks side ns (has names) →
         Reads (now (s .entry)) ns r (push-to preserved names es)) ⌝ }
 {
     if preserved {
@@ -68,7 +70,8 @@ pub fn push_to(s: &[u8], c: Conjuncts, fields: Fields, side: u64, preserved: boo
 pub fn push_not(s: &[u8], c: Conjuncts, fields: Fields, side: u64, preserved: bool) -> Conjuncts
     requires { ⌜ Known (now s) c ⌝ }
     requires { ⌜ fields .len ≤ maxFields ⌝ }
-    ensures { λ r. ⌜ ((es : List Expr) (ns names : List Name) → Reads (now (s .entry)) ns c es → Names fields ns → Masks side ns (has names) →
+    ensures { λ r. ⌜ ((es : List Expr) (ns names : List Name) → Reads (now (s .entry)) ns c es → Names fields ns →
+        Masks side ns (has names) →
         Reads (now (s .entry)) ns r (push-not preserved names es)) ⌝ }
 {
     if preserved {

@@ -168,7 +168,7 @@ unfolding conjunction split-conjunction?
 conditions-count [] h = refl
 conditions-count (e ∷ es) h = ap length (split-joined e h)
 
--- counts up to 129
+-- counts up to `tooMany`
 few-of : (n m : ℕ) → n ≡ most m → n ≤ maxList → m ≤ maxList
 unfolding most
 few-of n m e h = omega arith

@@ -110,8 +110,8 @@ join-over k l r on P G =
     (conjunction (join-conditions k s t on P G ++ on-filter-join-conditions k s t on P G))
 
 -- the join stands at record x, its right input at record z; sc is its scope, the map at m swaps its keys, and v are its lists, all whole
-pub record Carries (s m : List ℕ) (x z : ℕ) (sc : Scope) (v : Moves) (k : Kind) (l r : Plan) (on : List Pair) (f : Option Expr) (P G : List Expr)
-    (σ : Name → Expr) : Type 0 where
+pub record Carries (s m : List ℕ) (x z : ℕ) (sc : Scope) (v : Moves) (k : Kind)
+    (l r : Plan) (on : List Pair) (f : Option Expr) (P G : List Expr) (σ : Name → Expr) : Type 0 where
   pub short : length s ≤ workBytes
   pub standing : StandingP s x (join k l r on f)
   pub first : StandingP s (x + 1) l

@@ -57,7 +57,8 @@ keyed-left b l on es = keep (λ e. on-cols (λ x. has l (swap on x)) e) (keyed b
 
 -- .. over the right input and not over the left one
 abbrev pub keyed-right : Bool → List Name → List Name → List Pair → List Expr → List Expr
-keyed-right b l r on es = keep (λ e. on-cols (λ x. has r (swap on x)) e) (keep (λ e. not (on-cols (λ x. has l (swap on x)) e)) (keyed b on es))
+keyed-right b l r on es =
+    keep (λ e. on-cols (λ x. has r (swap on x)) e) (keep (λ e. not (on-cols (λ x. has l (swap on x)) e)) (keyed b on es))
 
 -- σ puts a key's partner in its place, in what reads ns
 abbrev pub Swapper : (Name → Expr) → List Name → List Pair → Type 0

@@ -50,7 +50,8 @@ pub const CLAUSE: usize = 2 * MAX_RECORDS;
 fn add_clause(s: &[u8], to: Conjuncts, n: usize, fields: Fields, side: u64) -> Conjuncts
     requires { ⌜ Present (now s) n ⌝ }
     requires { ⌜ (length (now s) ≤ workBytes) × (fields .len ≤ maxFields) ⌝ }
-    ensures { λ r. ⌜ ((σ : Name → Expr) (ns : List Name) (t : Name → Bool) (es : List Expr) (e : Expr) → Sides (now (s .entry)) σ ns t to es →
+    ensures { λ r. ⌜ ((σ : Name → Expr) (ns : List Name) (t : Name → Bool) (es : List Expr) (e : Expr) →
+        Sides (now (s .entry)) σ ns t to es →
         Item (now (s .entry)) n e → Names fields ns → on-cols (has ns) e ≡ true → Masks side ns t →
         Sides (now (s .entry)) σ ns t r (es ++ listed (or-clause t e))) ⌝ }
 {

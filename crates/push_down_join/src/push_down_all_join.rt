@@ -74,8 +74,8 @@ pub fn append(to: Conjuncts, c: Conjuncts, more: usize) -> Conjuncts
     r
 }
 
-// What of a list of conjuncts a side gets: those that move there, those of which others are inferred that do, and those that move to no side,
-// the clauses of which do.
+// What of a list of conjuncts a side gets: those that move there, those of which others are inferred that do, and those that move to no
+// side, the clauses of which do.
 pub struct Part {
     pub moved: Conjuncts,
     pub keyed: Conjuncts,
@@ -86,7 +86,8 @@ pub struct Part {
 pub fn side_push(s: &[u8], above: Part, own: Part, fields: Fields, side: u64) -> Conjuncts
     requires { ⌜ Wholes (now s) above × Wholes (now s) own ⌝ }
     requires { ⌜ (length (now s) ≤ workBytes) × (fields .len ≤ maxFields) ⌝ }
-    ensures { λ z. ⌜ ((σ : Name → Expr) (ns : List Name) (t : Name → Bool) (a i u b j v : List Expr) → Parted (now (s .entry)) ns above a i u →
+    ensures { λ z. ⌜ ((σ : Name → Expr) (ns : List Name) (t : Name → Bool) (a i u b j v : List Expr) →
+        Parted (now (s .entry)) ns above a i u →
         Parted (now (s .entry)) ns own b j v → Names fields ns → Masks side ns t →
         Sides (now (s .entry)) σ ns t z (a ++ (map (replace-cols σ) (i ++ j) ++ (b ++ extract-or-clauses-for-join t (u ++ v))))) ⌝ }
 {

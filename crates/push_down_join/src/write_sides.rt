@@ -77,7 +77,8 @@ pub fn copy_sided(
     requires { ⌜ Readable room (now m) of ⌝ }
     requires { ⌜ Buffer 1 (level + room) (now out) ⌝ }
     ensures { λ r. ⌜ ((σ : Name → Expr) → Maps (now (m .entry)) of room σ → (ns : List Name) (t : Name → Bool) → Names fields ns →
-        Masks side ns t → (e : Expr) → Sided (now (s .entry)) σ ns t n e → Wrote (now (out .entry)) (now (out .exit)) at level r (exprTree e)) ⌝ }
+        Masks side ns t → (e : Expr) → Sided (now (s .entry)) σ ns t n e →
+        Wrote (now (out .entry)) (now (out .exit)) at level r (exprTree e)) ⌝ }
 {
     if n < CLAUSE {
         return copy_item(s, m, of, room, n, out, at, level);

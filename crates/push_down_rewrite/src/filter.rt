@@ -38,7 +38,8 @@ ghost use Rattle.push_down_rewrite.specs.Merging.{FilterAt, FilterInside
 ghost use Rattle.push_down_rewrite.specs.Merging.{Remains, Settles, settle-first};
 ghost use Rattle.push_down_rewrite.specs.Settled.{settle};
 
-// Where merging comes to rest: a predicate, if anything is left of it, on the plan at record `input`; and whether the plan after each merge fits.
+// Where merging comes to rest: a predicate, if anything is left of it, on the plan at record `input`; and whether the plan after each merge
+// fits.
 pub struct Settled {
     pub fits: bool,
     pub input: usize,

@@ -27,8 +27,8 @@ ghost use Rattle.push_down_rewrite.specs.Found.{Found, JoinInside};
 ghost use Rattle.push_down_rewrite.specs.Merging.{FilterInside, Inside};
 ghost use Rattle.push_down_rewrite.specs.Outcomes.{Finishes, Outcomes, Replaced, Replaces, answer};
 
-// What a rewrite comes to: whether it is within the limits, and the flag; whether a new image was written, of so many records, or the one that
-// was read is the answer.
+// What a rewrite comes to: whether it is within the limits, and the flag; whether a new image was written, of so many records, or the one
+// that was read is the answer.
 pub struct Outcome {
     pub fits: bool,
     pub flag: bool,

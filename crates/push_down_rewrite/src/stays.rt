@@ -109,7 +109,8 @@ fn join_stays(s: &[u8], x: usize) -> bool
 // The predicate p, as it is written, over the Join at record x: what stays above it and in it is joined anew.
 fn over_join_stays(s: &[u8], x: usize, p: Predicate) -> bool
     requires { ⌜ OverJoin (now s) x p × (p .written ≡ 0 → ⊥) ⌝ }
-    ensures { λ n. ⌜ ((e : Expr) (k : Kind) (l r : Plan) (on : List Pair) (f : Option Expr) → Rests (now (s .entry)) x p e (join k l r on f) →
+    ensures { λ n. ⌜ ((e : Expr) (k : Kind) (l r : Plan) (on : List Pair) (f : Option Expr) →
+        Rests (now (s .entry)) x p e (join k l r on f) →
         Kept n (rewrite-filter e (join k l r on f)) (filter e (join k l r on f))) ⌝ }
 {
     if !left_deep_at(s, p.written) {

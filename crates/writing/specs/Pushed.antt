@@ -1,5 +1,5 @@
--- What is written for the items of a list: 0 is FALSE, another number below 2,048 the expression at that record, and 2,048 more the same with
--- its columns replaced.
+-- What is written for the items of a list: 0 is FALSE, another number below `maxRecords` the expression at that record, and `maxRecords`
+-- more the same with its columns replaced.
 use mathlib.Core.Path.{_≡_}
 use mathlib.Core.List.{List, [], _∷_}
 use Prim.Native.Nat.{ℕ, _-_, _≤_, _<_, _*_}

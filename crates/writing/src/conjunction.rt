@@ -1,5 +1,5 @@
 // conjunction (datafusion-expr utils): the items of a list written as one predicate, left-deep.
-// An item is 0 for FALSE, or the record of an expression; 2,048 more for the same with its columns replaced.
+// An item is 0 for FALSE, or the record of an expression; MAX_RECORDS more for the same with its columns replaced.
 use crate::replace_cols_by_name::replace_cols_by_name;
 use conjuncts::lists::Conjuncts;
 use conjuncts::lists::item_at;
@@ -100,7 +100,8 @@ fn copy_first(
     requires { ⌜ Readable room (now m) of ⌝ }
     requires { ⌜ (0 < k) × (k ≤ c .len) ⌝ }
     requires { ⌜ Buffer 1 (level + k + room) (now out) ⌝ }
-    ensures { λ r. ⌜ ((σ : Name → Expr) → Maps (now (m .entry)) of room σ → (e : Expr) (es : List Expr) → Pushes (now (s .entry)) σ c (e ∷ es) →
+    ensures { λ r. ⌜ ((σ : Name → Expr) → Maps (now (m .entry)) of room σ → (e : Expr) (es : List Expr) →
+        Pushes (now (s .entry)) σ c (e ∷ es) →
         Wrote (now (out .entry)) (now (out .exit)) at level r (exprTree (conjoin e (take (k - 1) es)))) ⌝ }
 {
     let last = k - 1;
@@ -128,7 +129,8 @@ pub fn copy_joined(
     requires { ⌜ Readable room (now m) of ⌝ }
     requires { ⌜ 0 < c .len ⌝ }
     requires { ⌜ Buffer 2 (level + room) (now out) ⌝ }
-    ensures { λ r. ⌜ ((σ : Name → Expr) → Maps (now (m .entry)) of room σ → (e : Expr) (es : List Expr) → Pushes (now (s .entry)) σ c (e ∷ es) →
+    ensures { λ r. ⌜ ((σ : Name → Expr) → Maps (now (m .entry)) of room σ → (e : Expr) (es : List Expr) →
+        Pushes (now (s .entry)) σ c (e ∷ es) →
         Wrote (now (out .entry)) (now (out .exit)) at level r (exprTree (conjoin e es))) ⌝ }
 {
     let n = c.len;

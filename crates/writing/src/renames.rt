@@ -61,7 +61,8 @@ fn put_rename(from: Fields, to: Fields, i: usize, m: &mut [u8], at: usize, next:
 // Writes the renames of the fields of `from` to those of `to`, by place.
 pub fn write_renames(from: Fields, to: Fields, m: &mut [u8])
     requires { ⌜ (from .len ≤ maxFields) × (32 * (1 + 2 * from .len) ≤ length (now m)) ⌝ }
-    ensures { λ _. ⌜ ((s t : List Name) → Names from s → Names to t → length s ≡ length t → Maps (now (m .exit)) 0 3 (λ x. col (ren s t x))) ⌝ }
+    ensures { λ _. ⌜ ((s t : List Name) → Names from s → Names to t → length s ≡ length t →
+        Maps (now (m .exit)) 0 3 (λ x. col (ren s t x))) ⌝ }
 {
     let n = from.len;
     let top = Label {

@@ -1,4 +1,4 @@
--- `handing_out::is_shallow` meets its contract. The loop's invariant: no record passed is deeper than 256.
+-- `handing_out::is_shallow` meets its contract. The loop's invariant: no record passed is deeper than `maxDepth`.
 use mathlib.Core.Path.{_≡_}
 use mathlib.Core.List.{List, _++_}
 use Prim.Native.Nat.{ℕ, _-_, _≤_, _<_}

@@ -56,8 +56,7 @@ has-partition-spec =
     let g = c .before .before .before .before .before .before .before .before .before .before .before .args in
     let e : isNamed (nm (g .q) (g .n)) (u .turn .child .label) ≡ false =
     rw (← u .turn .here .head .label, ← c .before .before .before .from-record2 .ensures)
-    (sym (c .before .before .is-named .ensures) ∙ c .before .if2 .left) in
-    (
+    (sym (c .before .before .is-named .ensures) ∙ c .before .if2 .left) in (
       c .before .before .before .before .before .loop .inv .0,
       rw (c .word-at3 .ensures .0, c .before .before .before .from-record2 .ensures)
           (again _ k u (u .so-far ∙ named-step (nm (g .q) (g .n)) (u .turn .child .label) (u .turn .child .below) (u .turn .after) e)),

@@ -50,11 +50,11 @@ find-spec =
       k .0,
       rw (c .word-at3 .ensures .0, c .before .before .before .from-record .ensures)
           (again _ (k .1) u (u .so-far ∙ rw (
-        ← u .turn .here .head .label,
-        ← c .before .before .before .from-record .ensures,
-        ← c .before .before .is-entry .ensures,
-        c .before .if1 .left,
-      ))),
+            ← u .turn .here .head .label,
+            ← c .before .before .before .from-record .ensures,
+            ← c .before .before .is-entry .ensures,
+            c .before .if1 .left,
+          ))),
     ))
     (λ c. let k = c .before .loop .inv .1 in
     for-all (λ t. Leads (lookup (t .below) _ _) _ _ _) (k .stands) (rw (done _ k (c .loop-test .left)) (record { linked = refl }))))
