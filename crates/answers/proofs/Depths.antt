@@ -8,12 +8,13 @@ use native.Mathlib.Omega.{arith}
 use lib.Dec.{leb}
 use lib.ListN.{length, getD}
 use borrow.Author.Tests.{leb-true, le-leb}
-use Rattle.image.specs.Limits.{maxDepth}
+use Rattle.image.specs.Limits.{maxDepth, maxRecords, maxBelow}
 use Rattle.image.specs.Word.{word}
 use Rattle.image.specs.Tree.{Forest, none, node, Tree, size, Deep}
 use Rattle.image.specs.Flat.{sizeT, bytesOf, flat}
 use Rattle.image.proofs.Writing.{bytesOf-length}
-use Rattle.image.proofs.Relinking.{Rec, recsAny, recs, flats, flats-flat, recs-length, word-right, depth-of, Shallow, shallow, shallow-at}
+use Rattle.image.specs.Records.{Rec, recsAny, recs, flats}
+use Rattle.image.proofs.Relinking.{flats-flat, recs-length, word-right, depth-of, Shallow, shallow, shallow-at}
 use Rattle.plan.specs.Measure.{depth, depthT}
 
 -- ---- a depth is read back
@@ -47,7 +48,7 @@ abbrev pub first : Tree → Rec
 first t = (t .label, 1)
 
 -- the depth of record i
-pub depth-at : (t : Tree) (i : ℕ) (out rest : List ℕ) → out ≡ flat 1 t ++ rest → sizeT t ≤ 2048 → i < sizeT t
+pub depth-at : (t : Tree) (i : ℕ) (out rest : List ℕ) → out ≡ flat 1 t ++ rest → sizeT t ≤ maxRecords → i < sizeT t
     → word out (32 * i + 24) ≡ getD (recs 1 t) i (first t) .1
 depth-at t i out rest e small lt =
     rw (e, ← flats-flat 1 t)
@@ -65,13 +66,13 @@ unfolding depth
 depth-deep none k h = tt
 depth-deep (node l cs ns) k h = (omega arith, depth-deep cs (k - 1) (omega arith), depth-deep ns k (omega arith))
 
--- a tree whose depth is tested is no deeper than 256
-pub tested-deep : (t : Tree) → leb (depthT t) maxDepth ≡ true → Deep (t .below) 255
-tested-deep t e = depth-deep (t .below) 255 (omega (arith, leb-true (depthT t) 256 e))
+-- a tree whose depth is tested is no deeper than `maxDepth`
+pub tested-deep : (t : Tree) → leb (depthT t) maxDepth ≡ true → Deep (t .below) maxBelow
+tested-deep t e = depth-deep (t .below) maxBelow (omega (arith, leb-true (depthT t) maxDepth e))
 
--- a tree no deeper than 256 passes the test
-pub deep-tested : (t : Tree) → Deep (t .below) 255 → leb (depthT t) maxDepth ≡ true
-deep-tested t h = le-leb (depthT t) 256 (omega (arith, deep-depth (t .below) 255 h))
+-- a tree no deeper than `maxDepth` passes the test
+pub deep-tested : (t : Tree) → Deep (t .below) maxBelow → leb (depthT t) maxDepth ≡ true
+deep-tested t h = le-leb (depthT t) maxDepth (omega (arith, deep-depth (t .below) maxBelow h))
 
 -- ---- the test of each record
 
@@ -79,24 +80,24 @@ shallow-split : (xs ys : List Rec) → Shallow (xs ++ ys) → Shallow xs × Shal
 shallow-split [] ys h = (tt, h)
 shallow-split (x ∷ xs) ys h = let k = shallow-split xs ys (h .1) in ((h .0, k .0), k .1)
 
-deep-of : (f : Forest) (d k : ℕ) → d + k ≡ 257 → Shallow (recsAny d f) → Deep f k
+deep-of : (f : Forest) (d k : ℕ) → d + k ≡ (maxDepth + 1) → Shallow (recsAny d f) → Deep f k
 deep-of none d k e h = tt
 deep-of (node l cs ns) d k e h =
     let s = shallow-split (recsAny (d + 1) cs) (recsAny d ns) (h .1) in
     (omega (arith, h .0), deep-of cs (d + 1) (k - 1) (omega (arith, h .0)) (s .0), deep-of ns d k e (s .1))
 
-all-shallow : (xs : List Rec) (z : Rec) → ((j : ℕ) → j < length xs → getD xs j z .1 ≤ 256) → Shallow xs
+all-shallow : (xs : List Rec) (z : Rec) → ((j : ℕ) → j < length xs → getD xs j z .1 ≤ maxDepth) → Shallow xs
 all-shallow [] z h = tt
 all-shallow (x ∷ xs) z h = (omega (arith, h 0 (omega arith)), all-shallow xs z (λ j lt. h (suc j) (omega arith)))
 
 -- where no record is too deep, the tree is not
-pub passed : (t : Tree) (n : ℕ) → n ≡ sizeT t → ((j : ℕ) → j < n → getD (recs 1 t) j (first t) .1 ≤ 256) → true ≡ leb (depthT t) maxDepth
+pub passed : (t : Tree) (n : ℕ) → n ≡ sizeT t → ((j : ℕ) → j < n → getD (recs 1 t) j (first t) .1 ≤ maxDepth) → true ≡ leb (depthT t) maxDepth
 passed t n e h =
     let s = all-shallow (recs 1 t) (first t) (λ j lt. h j (omega (arith, recs-length 1 t))) in
-    sym (deep-tested t (deep-of (t .below) 2 255 refl (s .1)))
+    sym (deep-tested t (deep-of (t .below) 2 maxBelow refl (s .1)))
 
 -- where one is, the tree is
-pub failed : (t : Tree) (i : ℕ) → i < sizeT t → 256 < getD (recs 1 t) i (first t) .1 → false ≡ leb (depthT t) maxDepth
+pub failed : (t : Tree) (i : ℕ) → i < sizeT t → maxDepth < getD (recs 1 t) i (first t) .1 → false ≡ leb (depthT t) maxDepth
 failed t i lt h = go (leb (depthT t) maxDepth) refl
   where
     go : (b : Bool) → leb (depthT t) maxDepth ≡ b → false ≡ leb (depthT t) maxDepth

@@ -13,7 +13,7 @@ use lib.Dec.{leb}
 use lib.ListN.{length, take, length-append}
 use lib.Seq.{take-at}
 use borrow.Author.Tests.{le-leb, lt-leb, leb-true, leb-false}
-use Rattle.image.specs.Limits.{maxRecords, maxDepth, maxList}
+use Rattle.image.specs.Limits.{maxRecords, maxDepth, maxList, maxBelow}
 use Rattle.image.specs.Tree.{Tree, Deep}
 use Rattle.image.specs.Flat.{sizeT, flat, enc}
 use Rattle.image.specs.Flattened.{Flattened}
@@ -94,9 +94,9 @@ and-false true = refl
 and-false false = refl
 
 -- too many records
-pub fits-over : {out : List ℕ} {n : ℕ} (p : Plan) → Begun out n (planTree p) → 2048 < n → fits p ≡ false
+pub fits-over : {out : List ℕ} {n : ℕ} (p : Plan) → Begun out n (planTree p) → maxRecords < n → fits p ≡ false
 unfolding fits sizeP _&_ cap
-fits-over {n = n} p h many = rw (lt-leb (sizeT (planTree p)) 2048 (omega (arith, h .count)))
+fits-over {n = n} p h many = rw (lt-leb (sizeT (planTree p)) maxRecords (omega (arith, h .count)))
 
 -- too deep
 pub fits-deep : (p : Plan) → leb (depthT (planTree p)) maxDepth ≡ false → fits p ≡ false
@@ -109,14 +109,14 @@ unfolding fits
 fits-long p h = rw (h, and-false (leb (depthP p) maxDepth), and-false (leb (sizeP p) maxRecords))
 
 -- within all limits
-pub fits-all : {out : List ℕ} {n : ℕ} (p : Plan) → Begun out n (planTree p) → n ≤ 2048 → leb (depthT (planTree p)) maxDepth ≡ true
+pub fits-all : {out : List ℕ} {n : ℕ} (p : Plan) → Begun out n (planTree p) → n ≤ maxRecords → leb (depthT (planTree p)) maxDepth ≡ true
     → leb (listP p) maxList ≡ true → fits p ≡ true
 unfolding fits sizeP depthP _&_
-fits-all {n = n} p h few deep lists = rw (deep, lists, le-leb (sizeT (planTree p)) 2048 (counted _ n (h .count) few))
+fits-all {n = n} p h few deep lists = rw (deep, lists, le-leb (sizeT (planTree p)) maxRecords (counted _ n (h .count) few))
 
 -- ---- what was written
 
-module _ {out : List ℕ} {n : ℕ} {t : Tree} (h : Begun out n t) (few : n ≤ 2048) where
+module _ {out : List ℕ} {n : ℕ} {t : Tree} (h : Begun out n t) (few : n ≤ maxRecords) where
   -- it is counted
   pub begun-count : n ≡ sizeT t
   begun-count = let e = counted (sizeT t) n (h .count) few in h .count ∙ cap-is (sizeT t) (omega arith)
@@ -127,7 +127,7 @@ module _ {out : List ℕ} {n : ℕ} {t : Tree} (h : Begun out n t) (few : n ≤ 
 
   -- linked, it is the image
   pub answered : {linked : List ℕ} → leb (depthT t) maxDepth ≡ true
-      → ((u : Tree) (rest : List ℕ) → Deep (u .below) 255 → n ≡ sizeT u → out ≡ flat 1 u ++ rest → linked ≡ enc 0 u ++ rest)
+      → ((u : Tree) (rest : List ℕ) → Deep (u .below) maxBelow → n ≡ sizeT u → out ≡ flat 1 u ++ rest → linked ≡ enc 0 u ++ rest)
       → take (32 * n) linked ≡ enc 0 t
   answered deep f =
       let l : length (enc 0 t) ≡ 32 * n = simp (length-append, bytesOf-length) (omega (arith, enc-length 1 (t .below), begun-count)) in

@@ -15,6 +15,7 @@ use lib.ListN.{length, getD, drop, set, length-set}
 use lib.Seq.{drop-at, drop-drop, getD-set-same, getD-set-other}
 use borrow.Author.Count.{below-more}
 use borrow.Author.Tests.{eqb-true, eqb-false, leb-true, leb-false}
+use Rattle.image.specs.Limits.{maxRecords}
 use Rattle.image.specs.Word.{word}
 use Rattle.image.specs.Tree.{Label, Forest, none, node, Tree, size, link, Stands, At}
 use Rattle.image.specs.Flat.{sizeT, bytesOf, flatAny, flat}
@@ -71,7 +72,7 @@ pub record Known (s x : List ℕ) (n k : ℕ) : Type 0 where
   pub first : Leads x n (word s (32 * k + 24)) (depth x k + 1)
   pub next : Leads x n (word s (32 * k + 28)) (depth x k)
 
-module _ {s x : List ℕ} {n : ℕ} (few : n ≤ 2048) where
+module _ {s x : List ℕ} {n : ℕ} (few : n ≤ maxRecords) where
   -- the first record's depth
   depth-first : (l : Label) (cs ns : Forest) (d b : ℕ) → Both s x n d b (node l cs ns) → depth x b ≡ d
   depth-first l cs ns d b h =
@@ -138,7 +139,7 @@ both-of {t} h e =
     }
 
 -- what is known of each record but the first
-pub known : {t : Tree} {s : List ℕ} {n k : ℕ} → At t s 0 → n ≡ sizeT t → n ≤ 2048 → 0 < k → k < n → Known s (flat 1 t) n k
+pub known : {t : Tree} {s : List ℕ} {n k : ℕ} → At t s 0 → n ≡ sizeT t → n ≤ maxRecords → 0 < k → k < n → Known s (flat 1 t) n k
 known {t} {s} {n} {k} h e few some lt =
     each (Both s (flat 1 t) n) (Known s (flat 1 t) n) (known-first few) (both-below few) (both-beside few) (t .below) 2 1 (both-of h e) k
     (omega arith) (omega arith)
@@ -226,7 +227,7 @@ module _ {x : List ℕ} {n to v : ℕ} (g : Leads x n to v) where
       go (there lt e) = lt
 
 -- before the loop
-pub noted-start : {t : Tree} {s : List ℕ} {n : ℕ} (l : List ℕ) → At t s 0 → n ≡ sizeT t → n ≤ 2048 → 1 < length l
+pub noted-start : {t : Tree} {s : List ℕ} {n : ℕ} (l : List ℕ) → At t s 0 → n ≡ sizeT t → n ≤ maxRecords → 1 < length l
     → Noted s (flat 1 t) n (set l 1 2) 1
 noted-start {t} {s} {n} l h e few long =
     record {

@@ -9,7 +9,7 @@ use Prim.Native.Nat.{ℕ, _+_, _-_, _*_, _≤_, _<_}
 use native.Mathlib.Omega.{arith}
 use lib.ListN.{length, getD, take, drop, length-append}
 use lib.Seq.{sets, sets-eq, slice, take-all, take-at, length-take-le, drop-at}
-use Rattle.image.specs.Limits.{workBytes}
+use Rattle.image.specs.Limits.{workBytes, maxRecords}
 use Rattle.image.specs.Word.{word}
 use Rattle.image.specs.Tree.{Tree}
 use Rattle.image.specs.Flat.{sizeT, bytesOf, flatAny, flat}
@@ -33,10 +33,10 @@ length-three a b c = simp length-append
 pub record Begun (out : List ℕ) (n : ℕ) (t : Tree) : Type 0 where
   pub count : n ≡ cap (sizeT t)
   pub rest : List ℕ
-  pub bytes : n ≤ 2048 → out ≡ flat 1 t ++ rest
+  pub bytes : n ≤ maxRecords → out ≡ flat 1 t ++ rest
 
--- a count that is no more than 2,048 is what was counted
-pub counted : (m n : ℕ) → n ≡ cap m → n ≤ 2048 → m ≤ 2048
+-- a count that is no more than `maxRecords` is what was counted
+pub counted : (m n : ℕ) → n ≡ cap m → n ≤ maxRecords → m ≤ maxRecords
 unfolding cap
 counted m n e h = omega arith
 
@@ -71,7 +71,7 @@ module _ (p : Plan) (node : ℕ) (c : Focus) (f : focus node p ≡ some c) where
   node-small = omega (arith, within)
 
   -- what `write_before` leaves
-  pub before-of : {out₀ out₁ levels : List ℕ} {to level end records : ℕ} → sizeT (planTree p) ≤ 2048 → length out₀ ≡ workBytes
+  pub before-of : {out₀ out₁ levels : List ℕ} {to level end records : ℕ} → sizeT (planTree p) ≤ maxRecords → length out₀ ≡ workBytes
       → Ran out₀ out₁ 0 (node - 0) to (slice (32 * 0) (32 * node) (flat 1 (planTree p))) → Levels levels (planTree p) → level ≡ getD levels node 0
       → end ≡ node + sizeT (planTree (c .plan)) → records ≡ sizeT (planTree p)
       → Before out₁ levels p node (c .plan) (record { level = level; end = end; records = records })
@@ -114,7 +114,7 @@ module _ (p : Plan) (node : ℕ) (c : Focus) (f : focus node p ≡ some c) where
   front-is out e = e ∙ (ap (take (32 * node)) (at .is) ∙ take-at (at .before) (old ++ at .after) (32 * node) (at .count))
 
   -- What is written before the new tree, the tree, and what is written after it, are the plan with the new one in the old one's place.
-  pub spliced : {out levels : List ℕ} {r : Spot} {out₁ out₂ : List ℕ} {to n : ℕ} (q : Plan) → length out ≡ workBytes → sizeP p ≤ 2048
+  pub spliced : {out levels : List ℕ} {r : Spot} {out₁ out₂ : List ℕ} {to n : ℕ} (q : Plan) → length out ≡ workBytes → sizeP p ≤ maxRecords
       → Before out levels p node (c .plan) r → Wrote out out₁ node (r .level) to (planTree q)
       → Ran out₁ out₂ to (r .records - r .end) n (slice (32 * r .end) (32 * r .records) (flat 1 (planTree p)))
       → Begun out₂ n (planTree (c .back q))
@@ -134,7 +134,7 @@ module _ (p : Plan) (node : ℕ) (c : Focus) (f : focus node p ≡ some c) where
         count = count;
         rest = drop (32 * node + length (new q ++ at .after)) out;
         bytes = λ room.
-            let fits : sizeT (planTree (c .back q)) ≤ 2048 = counted _ n count room in
+            let fits : sizeT (planTree (c .back q)) ≤ maxRecords = counted _ n count room in
             let l : length (new q ++ at .after) ≡ 32 * m + length (at .after) =
             length-append (new q) (at .after) ∙ rw (flat-length (at .level) (planTree q)) in
             e₃ ∙ (sets-eq (new q ++ at .after) out (32 * node) (omega (arith, within-new q))

@@ -13,30 +13,31 @@ use lib.Dec.{leb}
 use lib.ListN.{length, getD, take, drop, List·getD-append, drop-of-length-le}
 use lib.Seq.{sets, sets-eq, slice, take-add, take-append-add, length-take-le, drop-at, drop-drop, drop-append-add, getD-append-add}
 use borrow.Author.Tests.{leb-true, leb-false}
-use Rattle.image.specs.Limits.{workBytes}
+use Rattle.image.specs.Limits.{workBytes, maxRecords, noRoom}
 use Rattle.image.specs.Word.{word}
 use Rattle.image.specs.Tree.{Forest, none, node, Tree, size, labelAt, Stands, At}
 use Rattle.image.specs.Flat.{sizeT, bytesOf, flat}
 use Rattle.image.specs.Room.{cap, Put, Wrote}
 use Rattle.image.proofs.Writing.{bytesOf-length, flat-length}
 use Rattle.image.proofs.Room.{cap-is, cap-le, cap-add, sets-next}
-use Rattle.image.proofs.Relinking.{Rec, recsAny, recs, flats, flats-flat, recs-any-length, recs-length}
+use Rattle.image.specs.Records.{Rec, recsAny, recs, flats}
+use Rattle.image.proofs.Relinking.{flats-flat, recs-any-length, recs-length}
 use Rattle.answers.proofs.Depths.{first, depth-at}
 use Rattle.answers.specs.Splicing.{Levels, Ran}
 
--- no count is more than 2,049
-pub wrote-small : {before after : List ℕ} {at level r : ℕ} {t : Tree} → Wrote before after at level r t → r ≤ 2049
+-- no count is more than `noRoom`
+pub wrote-small : {before after : List ℕ} {at level r : ℕ} {t : Tree} → Wrote before after at level r t → r ≤ noRoom
 wrote-small {at = at} {t = t} w = rw (w .next) (cap-le (at + sizeT t))
 
 -- ---- what was written from the start on
 
 module _ {out out′ : List ℕ} {n : ℕ} {t : Tree} (w : Wrote out out′ 0 1 n t) where
   -- a tree that has room is counted
-  pub begun-size : sizeT t ≤ 2048 → n ≡ sizeT t
+  pub begun-size : sizeT t ≤ maxRecords → n ≡ sizeT t
   begun-size few = w .next ∙ (ap cap (zero-add (sizeT t)) ∙ cap-is (sizeT t) (omega arith))
 
   -- and its bytes are in front
-  pub begun : length out ≡ workBytes → sizeT t ≤ 2048 → out′ ≡ flat 1 t ++ drop (32 * sizeT t) out
+  pub begun : length out ≡ workBytes → sizeT t ≤ maxRecords → out′ ≡ flat 1 t ++ drop (32 * sizeT t) out
   begun long few = w .bytes ∙ (sets-eq (flat 1 t) out 0 (omega (arith, flat-length 1 t)) ∙ rw (zero-add, flat-length))
 
 -- ---- the records of a flat tree
@@ -91,7 +92,7 @@ flats-drop (x ∷ xs) (suc i) z lt =
     rw (e, e′, drop-append-add b (flats xs) (32 * i), drop-append-add b (flats xs) (32 * (i + 1))) (flats-drop xs i z (omega arith))
 
 -- the record i of the flat tree
-pub record-step : (t : Tree) (s : List ℕ) → At t s 0 → sizeT t ≤ 2048 → (i : ℕ) → i < sizeT t
+pub record-step : (t : Tree) (s : List ℕ) → At t s 0 → sizeT t ≤ maxRecords → (i : ℕ) → i < sizeT t
     → drop (32 * i) (flat 1 t)
     ≡ bytesOf (labelAt (drop (32 * i) s)) (word (flat 1 t) (32 * i + 24)) 0 ++ drop (32 * (i + 1)) (flat 1 t)
 record-step t s h few i lt =
@@ -101,7 +102,7 @@ record-step t s h few i lt =
     rw (depth, l, ← flats-flat 1 t) (flats-drop (recs 1 t) i z (rw recs-length lt))
 
 -- the record i of the first n
-part-step : (t : Tree) (s : List ℕ) → At t s 0 → sizeT t ≤ 2048 → (n i : ℕ) → i < n → n ≤ sizeT t
+part-step : (t : Tree) (s : List ℕ) → At t s 0 → sizeT t ≤ maxRecords → (n i : ℕ) → i < n → n ≤ sizeT t
     → slice (32 * i) (32 * n) (flat 1 t)
     ≡ bytesOf (labelAt (drop (32 * i) s)) (word (flat 1 t) (32 * i + 24)) 0 ++ slice (32 * (i + 1)) (32 * n) (flat 1 t)
 part-step t s h few n i lt le =
@@ -125,7 +126,7 @@ pub record Run (t : Tree) (n from : ℕ) (out₀ : List ℕ) (at i : ℕ) (out :
 
 -- one more is written
 pub run-next : {t : Tree} {s l : List ℕ} {n from : ℕ} {out₀ : List ℕ} {at i : ℕ} {out : List ℕ} {to : ℕ} {out′ : List ℕ} {to′ level : ℕ}
-    → At t s 0 → sizeT t ≤ 2048 → n ≤ sizeT t → i < n → length out ≡ workBytes → Levels l t → level ≡ getD l i 0
+    → At t s 0 → sizeT t ≤ maxRecords → n ≤ sizeT t → i < n → length out ≡ workBytes → Levels l t → level ≡ getD l i 0
     → Put out out′ to level to′ (labelAt (drop (32 * i) s)) → Run t n from out₀ at i out to → Run t n from out₀ at (i + 1) out′ to′
 run-next {t} {s} {l} {n} {i = i} {out} {to} {out′} {to′} {level} h few le lt long lv d p r =
     let e = part-step t s h few n i lt le in
@@ -140,7 +141,7 @@ run-next {t} {s} {l} {n} {i = i} {out} {to} {out′} {to′} {level} h few le lt
     }
 
 -- all are written
-pub run-end : {t : Tree} {n from : ℕ} {out₀ : List ℕ} {at i : ℕ} {out : List ℕ} {to : ℕ} → n ≤ sizeT t → n ≤ i → to ≤ 2049
+pub run-end : {t : Tree} {n from : ℕ} {out₀ : List ℕ} {at i : ℕ} {out : List ℕ} {to : ℕ} → n ≤ sizeT t → n ≤ i → to ≤ noRoom
     → Run t n from out₀ at i out to → Ran out₀ out at (n - from) to (slice (32 * from) (32 * n) (flat 1 t))
 run-end {t} {n} {i = i} {out} {to} le past small r =
     let z : to + (n - i) ≡ to = omega arith in

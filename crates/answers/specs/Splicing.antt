@@ -4,7 +4,7 @@ use mathlib.Core.List.{List}
 use Prim.Native.Nat.{ℕ, _+_, _*_, _≤_, _<_}
 use lib.ListN.{length, getD, take}
 use lib.Seq.{sets}
-use Rattle.image.specs.Limits.{maxRecords, workBytes}
+use Rattle.image.specs.Limits.{maxRecords, workBytes, maxBelow}
 use Rattle.image.specs.Word.{word}
 use Rattle.image.specs.Tree.{Tree, At, Deep}
 use Rattle.image.specs.Flat.{sizeT, flat}
@@ -14,11 +14,11 @@ use Rattle.plan.specs.Trees.{planTree}
 use Rattle.plan.specs.Measure.{sizeP}
 use Rattle.answers.specs.declared.splicing.Spot.{Spot}
 
--- some tree of at most 2,048 records stands at the start of s, no deeper than 256, and s is no longer than an image
+-- some tree of at most `maxRecords` records stands at the start of s, no deeper than `maxDepth`, and s is no longer than an image
 pub record Sized (s : List ℕ) : Type 0 where
   pub tree : Tree
   pub at : At tree s 0
-  pub deep : Deep (tree .below) 255
+  pub deep : Deep (tree .below) maxBelow
   pub few : sizeT tree ≤ maxRecords
   pub short : length s ≤ workBytes
 
@@ -31,8 +31,8 @@ pub record Ran (before after : List ℕ) (at k r : ℕ) (bs : List ℕ) : Type 0
   pub next : r ≡ cap (at + k)
   pub bytes : after ≡ sets before (32 * at) bs
 
--- the records of p before `node` are written flat, the depths of all its records are known, and r says where a new tree goes that is to stand in
--- the place of `old`, at record `node`
+-- the records of p before `node` are written flat, the depths of all its records are known, and r says where a new tree goes that is to
+-- stand in the place of `old`, at record `node`
 pub record Before (out levels : List ℕ) (p : Plan) (node : ℕ) (old : Plan) (r : Spot) : Type 0 where
   pub bytes : take (32 * node) out ≡ take (32 * node) (flat 1 (planTree p))
   pub depths : Levels levels (planTree p)

@@ -14,7 +14,7 @@ ghost use Rattle.image.specs.Tree.{Tree};
 ghost use Rattle.plan.specs.Measure.{depthT};
 ghost use Rattle.rewrite.specs.OnBytes.{filled, zeros};
 
-// Whether no record of the flat tree of n records at the start of `work` is deeper than 256.
+// Whether no record of the flat tree of n records at the start of `work` is deeper than MAX_DEPTH.
 pub fn is_shallow(work: &[u8], n: usize) -> bool
     requires { ⌜ (n ≤ maxRecords) × (32 * n ≤ length (now work)) ⌝ }
     ensures { λ r. ⌜ ((t : Tree) (rest : List ℕ) → n ≡ sizeT t → now (work .entry) ≡ flat 1 t ++ rest → r ≡ leb (depthT t) maxDepth) ⌝ }

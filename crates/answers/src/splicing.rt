@@ -12,8 +12,9 @@ ghost use mathlib.Core.Option.{some};
 ghost use Prim.Native.Nat.{_*_, _-_, _<_, _≤_};
 ghost use lib.ListN.{length};
 ghost use lib.Seq.{slice};
+ghost use Rattle.image.specs.Buffers.{Scratch};
 ghost use Rattle.image.specs.Flat.{flat, sizeT};
-ghost use Rattle.image.specs.Limits.{maxRecords, workBytes};
+ghost use Rattle.image.specs.Limits.{maxRecords, noRoom, workBytes};
 ghost use Rattle.image.specs.Tree.{At, Tree};
 ghost use Rattle.plan.specs.Syntax.{Plan};
 ghost use Rattle.rewrite.specs.RewriteAt.{Focus, focus};
@@ -38,7 +39,7 @@ pub fn write_records(
     at: usize,
 ) -> usize
     requires { ⌜ (n ≤ maxRecords) × (32 * n ≤ length (now s)) × (length (now levels) ≡ maxRecords) ⌝ }
-    requires { ⌜ (from ≤ n) × (at ≤ 2049) × (length (now out) ≡ workBytes) ⌝ }
+    requires { ⌜ (from ≤ n) × (at ≤ noRoom) × (length (now out) ≡ workBytes) ⌝ }
     ensures { λ r. ⌜ ((t : Tree) → At t (now (s .entry)) 0 → sizeT t ≤ maxRecords → n ≤ sizeT t → Levels (now (levels .entry)) t →
         Ran (now (out .entry)) (now (out .exit)) at (n - from) r (slice (32 * from) (32 * n) (flat 1 t))) ⌝ }
 {
@@ -56,8 +57,9 @@ pub fn write_records(
 pub fn write_before(s: &[u8], node: usize, out: &mut [u8], levels: &mut [u32]) -> Spot
     requires { ⌜ Sized (now s) ⌝ }
     requires { ⌜ ThereP (now s) node ⌝ }
-    requires { ⌜ (length (now out) ≡ workBytes) × (length (now levels) ≡ maxRecords) ⌝ }
-    ensures { λ r. ⌜ ((p : Plan) (c : Focus) → StandingP (now (s .entry)) 0 p → focus node p ≡ some c → StandingP (now (s .entry)) node (c .plan) →
+    requires { ⌜ Scratch (now out) (now levels) ⌝ }
+    ensures { λ r. ⌜ ((p : Plan) (c : Focus) → StandingP (now (s .entry)) 0 p → focus node p ≡ some c →
+        StandingP (now (s .entry)) node (c .plan) →
         Before (now (out .exit)) (now (levels .exit)) p node (c .plan) r) ⌝ }
 {
     let records = note_levels(s, levels);

@@ -6,7 +6,7 @@ use mathlib.Core.Option.{Option, none, some}
 use Prim.Native.Nat.{ℕ, suc, _+_, _-_, _≤_, _<_}
 use lib.Dec.{eqb, leb, ltb}
 use lib.ListN.{length}
-use Rattle.image.specs.Limits.{workBytes, maxRecords}
+use Rattle.image.specs.Limits.{workBytes, maxRecords, mapBytes}
 use Rattle.plan.specs.Lists.{choose}
 use Rattle.plan.specs.Syntax.{Plan}
 use Rattle.image.specs.Limits.{maxRecords}
@@ -40,13 +40,13 @@ pub record Next (q : Plan) (from r : ℕ) : Type 0 where
 -- the space that is lent: for the image as it stands, for a rewrite's scratch image, for what it writes, for the levels of its records
 pub record Lent (image m work levels : List ℕ) : Type 0 where
   pub image-long : length image ≡ workBytes
-  pub m-long : 4128 ≤ length m
+  pub m-long : mapBytes ≤ length m
   pub work-long : length work ≡ workBytes
   pub levels-long : length levels ≡ maxRecords
 
 -- the same without the first, where the output serves for it
 pub record Spared (m work levels : List ℕ) : Type 0 where
-  pub m-long : 4128 ≤ length m
+  pub m-long : mapBytes ≤ length m
   pub work-long : length work ≡ workBytes
   pub levels-long : length levels ≡ maxRecords
 

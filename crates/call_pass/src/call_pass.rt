@@ -6,6 +6,7 @@ use answers::handing_out::clear_from;
 use answers::handing_out::copy_bytes;
 use check_image::Checked;
 use check_image::check;
+use image::limits::MAP_BYTES;
 use image::limits::MAX_BYTES;
 use image::limits::MAX_RECORDS;
 use image::limits::RECORD_BYTES;
@@ -20,8 +21,8 @@ ghost use Rattle.push_down_rewrite.specs.Found.{Whole};
 ghost use Rattle.call_pass.specs.Answer.{Small, passedOf};
 ghost use Rattle.call_pass.specs.Walks.{Ends, Left, Lent, Spared};
 
-// Visits, flags raised, whether no plan is left to visit, and the number of records; or what stands against it: a test of the image, a rewrite
-// whose answer is too large, at this record of the plan as it then stood, an output that is too short.
+// Visits, flags raised, whether no plan is left to visit, and the number of records; or what stands against it: a test of the image, a
+// rewrite whose answer is too large, at this record of the plan as it then stood, an output that is too short.
 pub enum Answer {
     Image(Checked),
     Refused(usize),
@@ -159,7 +160,7 @@ fn pass_on(image: &[u8], budget: u64, out: &mut [u8]) -> Answer
     ensures { λ r. ⌜ Small r × (passedOf r (now (out .exit))
         ≡ reported (length (now (out .entry))) (pass-call budget (length (now (out .entry))) (planIn (now (image .entry))))) ⌝ }
 {
-    let mut m = [0u8; 4128];
+    let mut m = [0u8; MAP_BYTES];
     let mut work = [0u8; MAX_BYTES];
     let mut levels = [0u32; MAX_RECORDS];
     pass_within(image, budget, &mut m, &mut work, &mut levels, out)

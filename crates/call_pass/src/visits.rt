@@ -1,6 +1,7 @@
 // The walk of a pass: from each record that holds a plan to the next one, with the rewrite there, while the budget lasts.
 use answers::handing_out::copy_bytes;
 use image::limits::RECORD_BYTES;
+use image::records::KIND;
 use image::records::record_at;
 use image::words::word_at;
 use plan::kinds::is_plan;
@@ -20,8 +21,8 @@ ghost use Rattle.push_down_rewrite.specs.Outcomes.{Image, answer};
 ghost use Rattle.call_pass.specs.Walks.{Begins, Came, Comes, Continues, Counted, Ends, Lent, Next, Standing, Stands, Visited};
 ghost use Rattle.call_pass.specs.Walks.{goes-on, rest};
 
-// Where a pass stands: whether each rewrite was within the limits; how many records the image has now, and the one to visit next, if it is one
-// of them; what is left of the budget; the visits and the flags raised so far.
+// Where a pass stands: whether each rewrite was within the limits; how many records the image has now, and the one to visit next, if it is
+// one of them; what is left of the budget; the visits and the flags raised so far.
 pub struct Walk {
     pub fits: bool,
     pub records: usize,
@@ -38,7 +39,7 @@ fn next_plan(s: &[u8], from: usize) -> usize
     let records = s.len() / RECORD_BYTES;
     let mut i = from;
     while i < records {
-        if is_plan(word_at(record_at(s, i), 0)) {
+        if is_plan(word_at(record_at(s, i), KIND)) {
             return i;
         }
         i += 1;

@@ -4,9 +4,11 @@ use answers::handing_out::clear_from;
 use answers::handing_out::hand_out;
 use check_image::Checked;
 use check_image::check;
+use image::limits::MAP_BYTES;
 use image::limits::MAX_BYTES;
 use image::limits::MAX_RECORDS;
 use image::limits::RECORD_BYTES;
+use image::records::KIND;
 use image::records::record_at;
 use image::words::word_at;
 use plan::kinds::is_plan;
@@ -16,7 +18,8 @@ ghost use mathlib.Core.Path.{_≡_};
 ghost use mathlib.Core.List.{List};
 ghost use Prim.Native.Nat.{_*_, _≤_, ℕ};
 ghost use lib.ListN.{length};
-ghost use Rattle.image.specs.Limits.{maxRecords, workBytes};
+ghost use Rattle.image.specs.Buffers.{ScratchMap};
+ghost use Rattle.image.specs.Limits.{mapBytes, maxRecords, workBytes};
 ghost use Rattle.plan.specs.Syntax.{Plan};
 ghost use Rattle.rewrite.specs.OnBytes.{planIn, rewrite-bytes, rewritten};
 ghost use Rattle.rewrite.specs.RewriteAt.{granted, rewrite-call, with-room};
@@ -24,8 +27,8 @@ ghost use Rattle.push_down_rewrite.specs.Found.{Here, Whole};
 ghost use Rattle.push_down_rewrite.specs.Outcomes.{Image};
 ghost use Rattle.call_rewrite.specs.Answer.{rewrittenOf};
 
-// The flag and the number of records, or what stands against it: a test of the image, no plan at this record, an answer that is too large for
-// the rewrite at this record, an output that is too short.
+// The flag and the number of records, or what stands against it: a test of the image, no plan at this record, an answer that is too large
+// for the rewrite at this record, an output that is too short.
 pub enum Answer {
     Image(Checked),
     NoPlan(usize),
@@ -38,7 +41,8 @@ pub enum Answer {
 fn clear_behind(records: usize, flag: bool, out: &mut [u8]) -> Answer
     requires { ⌜ 32 * records ≤ length (now out) ⌝ }
     ensures { λ r. ⌜ ((q : Plan) → Image (now (out .entry)) records q →
-        rewrittenOf r (now (out .exit)) ≡ rewritten (length (now (out .entry))) (with-room (length (now (out .entry))) (granted flag q))) ⌝ }
+        rewrittenOf r (now (out .exit))
+        ≡ rewritten (length (now (out .entry))) (with-room (length (now (out .entry))) (granted flag q))) ⌝ }
 {
     clear_from(out, RECORD_BYTES * records);
     Answer::Is(flag, records)
@@ -48,7 +52,8 @@ fn clear_behind(records: usize, flag: bool, out: &mut [u8]) -> Answer
 fn hand_over(image: &[u8], records: usize, flag: bool, out: &mut [u8]) -> Answer
     requires { ⌜ 32 * records ≤ length (now image) ⌝ }
     ensures { λ r. ⌜ ((q : Plan) → Image (now (image .entry)) records q →
-        rewrittenOf r (now (out .exit)) ≡ rewritten (length (now (out .entry))) (with-room (length (now (out .entry))) (granted flag q))) ⌝ }
+        rewrittenOf r (now (out .exit))
+        ≡ rewritten (length (now (out .entry))) (with-room (length (now (out .entry))) (granted flag q))) ⌝ }
 {
     if out.len() / RECORD_BYTES < records {
         clear(out);
@@ -68,7 +73,7 @@ fn rewrite_apart(
     out: &mut [u8],
 ) -> Answer
     requires { ⌜ Here (now image) node ⌝ }
-    requires { ⌜ (4128 ≤ length (now m)) × (length (now work) ≡ workBytes) × (length (now levels) ≡ maxRecords) ⌝ }
+    requires { ⌜ ScratchMap (now m) (now work) (now levels) ⌝ }
     ensures { λ r. ⌜ rewrittenOf r (now (out .exit))
         ≡ rewritten (length (now (out .entry))) (rewrite-call node (length (now (out .entry))) (planIn (now (image .entry)))) ⌝ }
 {
@@ -92,7 +97,7 @@ fn rewrite_short(
     out: &mut [u8],
 ) -> Answer
     requires { ⌜ Here (now image) node ⌝ }
-    requires { ⌜ (4128 ≤ length (now m)) × (length (now levels) ≡ maxRecords) ⌝ }
+    requires { ⌜ (mapBytes ≤ length (now m)) × (length (now levels) ≡ maxRecords) ⌝ }
     ensures { λ r. ⌜ rewrittenOf r (now (out .exit))
         ≡ rewritten (length (now (out .entry))) (rewrite-call node (length (now (out .entry))) (planIn (now (image .entry)))) ⌝ }
 {
@@ -109,7 +114,7 @@ fn rewrite_in_output(
     out: &mut [u8],
 ) -> Answer
     requires { ⌜ Here (now image) node ⌝ }
-    requires { ⌜ (4128 ≤ length (now m)) × (length (now levels) ≡ maxRecords) × (workBytes ≤ length (now out)) ⌝ }
+    requires { ⌜ (mapBytes ≤ length (now m)) × (length (now levels) ≡ maxRecords) × (workBytes ≤ length (now out)) ⌝ }
     ensures { λ r. ⌜ rewrittenOf r (now (out .exit))
         ≡ rewritten (length (now (out .entry))) (rewrite-call node (length (now (out .entry))) (planIn (now (image .entry)))) ⌝ }
 {
@@ -133,7 +138,7 @@ fn rewrite_within(
     out: &mut [u8],
 ) -> Answer
     requires { ⌜ Here (now image) node ⌝ }
-    requires { ⌜ (4128 ≤ length (now m)) × (length (now levels) ≡ maxRecords) ⌝ }
+    requires { ⌜ (mapBytes ≤ length (now m)) × (length (now levels) ≡ maxRecords) ⌝ }
     ensures { λ r. ⌜ rewrittenOf r (now (out .exit))
         ≡ rewritten (length (now (out .entry))) (rewrite-call node (length (now (out .entry))) (planIn (now (image .entry)))) ⌝ }
 {
@@ -149,7 +154,7 @@ fn rewrite_here(image: &[u8], node: usize, out: &mut [u8]) -> Answer
     ensures { λ r. ⌜ rewrittenOf r (now (out .exit))
         ≡ rewritten (length (now (out .entry))) (rewrite-call node (length (now (out .entry))) (planIn (now (image .entry)))) ⌝ }
 {
-    let mut m = [0u8; 4128];
+    let mut m = [0u8; MAP_BYTES];
     let mut levels = [0u32; MAX_RECORDS];
     rewrite_within(image, node, &mut m, &mut levels, out)
 }
@@ -164,7 +169,7 @@ fn rewrite_at(image: &[u8], node: usize, out: &mut [u8]) -> Answer
         clear(out);
         return Answer::NoPlan(node);
     }
-    if !is_plan(word_at(record_at(image, node), 0)) {
+    if !is_plan(word_at(record_at(image, node), KIND)) {
         clear(out);
         return Answer::NoPlan(node);
     }

@@ -13,32 +13,20 @@ use native.Mathlib.Numerals.{add-one}
 use lib.ListN.{length, getD, take, drop, set, replicate, length-append, length-set, length-replicate, drop-of-length-le}
 use lib.Dec.{lit<}
 use lib.Seq.{sets, take-all, length-take-le, getD-set-same, getD-set-other, getD-append-add, take-suc, drop-cons}
+use Rattle.image.specs.Limits.{maxBelow, maxDepth}
 use Rattle.image.specs.Word.{word, le}
 use Rattle.image.specs.Tree.{Label, Forest, none, node, Tree, size, link, Deep}
 use Rattle.image.specs.Flat.{sizeT, bytesOf, flatAny, flat, encAny, enc}
+use Rattle.image.specs.Records.{Rec, recsAny, recs, flats}
 use Rattle.image.proofs.Writing.{bytesOf-length}
 
--- a label and a depth
-abbrev pub Rec : Type 0
-Rec = Label × ℕ
-
--- the records of a forest whose first are at depth d
-abbrev pub recsAny : ℕ → Forest → List Rec
-recsAny d none = []
-recsAny d (node l cs ns) = (l, d) ∷ (recsAny (d + 1) cs ++ recsAny d ns)
-
--- the records of a tree whose top is at depth d
-abbrev pub recs : ℕ → Tree → List Rec
-recs d t = (t .label, d) ∷ recsAny (d + 1) (t .below)
-
--- records written flat
-abbrev pub flats : List Rec → List ℕ
-flats [] = []
-flats (x ∷ xs) = bytesOf (x .0) (x .1) 0 ++ flats xs
+-- the table has a place for each depth, for none and for one below the deepest
+abbrev pub places : ℕ
+places = maxDepth + 2
 
 -- the table after the pass over records, the first with the number i
 abbrev pub table : ℕ → List Rec → List ℕ
-table i [] = replicate 258 0
+table i [] = replicate places 0
 table i (x ∷ xs) = set (set (table (i + 1) xs) (x .1) i) (x .1 + 1) 0
 
 -- the bytes after the pass over records, the first with the number i
@@ -46,9 +34,9 @@ abbrev pub links : ℕ → List Rec → List ℕ
 links i [] = []
 links i (x ∷ xs) = bytesOf (x .0) (getD (table (i + 1) xs) (x .1 + 1) 0) (getD (table (i + 1) xs) (x .1) 0) ++ links (i + 1) xs
 
--- the table has a place for each depth, and two more
-table-length : (i : ℕ) (xs : List Rec) → length (table i xs) ≡ 258
-table-length i [] = length-replicate {A = ℕ} 258 0
+-- .. whatever stands in it
+table-length : (i : ℕ) (xs : List Rec) → length (table i xs) ≡ places
+table-length i [] = length-replicate {A = ℕ} places 0
 table-length i (x ∷ xs) = simp length-set (table-length (i + 1) xs)
 
 -- ---- the flat tree is its records
@@ -90,7 +78,7 @@ record Mid (before after : List ℕ) (d v : ℕ) : Type 0 where
   under : (e : ℕ) → e < d → getD after e 0 ≡ getD before e 0
 
 -- a record at depth d before its children and its siblings
-mid-more : (T₀ T₁ T₂ : List ℕ) (d u v b : ℕ) → length T₂ ≡ 258 → d + 1 < 258 → Mid T₀ T₁ d u → Mid T₁ T₂ (d + 1) v
+mid-more : (T₀ T₁ T₂ : List ℕ) (d u v b : ℕ) → length T₂ ≡ places → d + 1 < places → Mid T₀ T₁ d u → Mid T₁ T₂ (d + 1) v
     → Mid T₀ (set (set T₂ d b) (d + 1) 0) d b
 mid-more T₀ T₁ T₂ d u v b len small h k =
     let l : d + 1 < length (set T₂ d b) = simp length-set (omega arith) in
@@ -105,7 +93,7 @@ mid-more T₀ T₁ T₂ d u v b len small h k =
     }
 
 -- a forest at depth d leaves the link to it at d
-mid : (f : Forest) (d b k m : ℕ) (zs : List Rec) → Deep f k → d + k ≤ 257 → m ≡ b + size f → ((e : ℕ) → d ≤ e → getD (table m zs) e 0 ≡ 0)
+mid : (f : Forest) (d b k m : ℕ) (zs : List Rec) → Deep f k → d + k ≤ maxDepth + 1 → m ≡ b + size f → ((e : ℕ) → d ≤ e → getD (table m zs) e 0 ≡ 0)
     → Mid (table m zs) (table b (recsAny d f ++ zs)) d (link b f)
 mid none d b k m zs deep small e z = let q : m ≡ b = omega arith in rw (← q)
     (record { here = z d (le-refl d); above = λ e lt. z e (omega arith); under = λ e lt. refl })
@@ -116,7 +104,7 @@ mid (node l cs ns) d b k m zs deep small e z =
     (mid-more _ _ _ d _ _ b (table-length (b + 1) (recsAny (d + 1) cs ++ (recsAny d ns ++ zs))) (omega arith) h j)
 
 -- the bytes of a forest at depth d are its image
-links-any : (f : Forest) (d b k m : ℕ) (zs : List Rec) → Deep f k → d + k ≤ 257 → m ≡ b + size f → ((e : ℕ) → d ≤ e → getD (table m zs) e 0 ≡ 0)
+links-any : (f : Forest) (d b k m : ℕ) (zs : List Rec) → Deep f k → d + k ≤ maxDepth + 1 → m ≡ b + size f → ((e : ℕ) → d ≤ e → getD (table m zs) e 0 ≡ 0)
     → links b (recsAny d f ++ zs) ≡ encAny b f ++ links m zs
 links-any none d b k m zs deep small e z = let q : m ≡ b = omega arith in rw q
 links-any (node l cs ns) d b k m zs deep small e z =
@@ -134,20 +122,20 @@ zeros (suc n) zero = refl
 zeros (suc n) (suc e) = zeros n e
 
 -- the bytes of a whole tree are its image
-pub relinked : (t : Tree) → Deep (t .below) 255 → links 0 (recs 1 t) ≡ enc 0 t
+pub relinked : (t : Tree) → Deep (t .below) maxBelow → links 0 (recs 1 t) ≡ enc 0 t
 relinked t deep =
     let f : Forest = t .below in
-    let r : links 1 (recsAny 2 f ++ []) ≡ encAny 1 f ++ [] = links-any f 2 1 255 (1 + size f) [] deep (omega arith) refl (λ e h. zeros 258 e) in
-    let q : Mid (table (1 + size f) []) (table 1 (recsAny 2 f ++ [])) 2 (link 1 f) = mid f 2 1 255 (1 + size f) [] deep (omega arith) refl
-    (λ e h. zeros 258 e) in
-    rw (simp append-nil at (q .here), simp append-nil at (q .under 1 (omega arith)), zeros 258 1, simp append-nil at r)
+    let r : links 1 (recsAny 2 f ++ []) ≡ encAny 1 f ++ [] = links-any f 2 1 maxBelow (1 + size f) [] deep (omega arith) refl (λ e h. zeros places e) in
+    let q : Mid (table (1 + size f) []) (table 1 (recsAny 2 f ++ [])) 2 (link 1 f) = mid f 2 1 maxBelow (1 + size f) [] deep (omega arith) refl
+    (λ e h. zeros places e) in
+    rw (simp append-nil at (q .here), simp append-nil at (q .under 1 (omega arith)), zeros places 1, simp append-nil at r)
 
 -- ---- a turn
 
 -- the table has a place for the depth of each record, and for the next
 abbrev pub Shallow : List Rec → Type 0
 Shallow [] = Unit {0}
-Shallow (x ∷ xs) = (x .1 + 1 < 258) × Shallow xs
+Shallow (x ∷ xs) = (x .1 + 1 < places) × Shallow xs
 
 -- two shallow lists, one after the other, are shallow
 shallow-append : (xs ys : List Rec) → Shallow xs → Shallow ys → Shallow (xs ++ ys)
@@ -155,7 +143,7 @@ shallow-append [] ys h k = k
 shallow-append (x ∷ xs) ys h k = (h .0, shallow-append xs ys (h .1) k)
 
 -- the records of a forest that is not too deep are shallow
-shallow-any : (f : Forest) (d k : ℕ) → Deep f k → d + k ≤ 257 → Shallow (recsAny d f)
+shallow-any : (f : Forest) (d k : ℕ) → Deep f k → d + k ≤ maxDepth + 1 → Shallow (recsAny d f)
 shallow-any none d k deep small = tt
 shallow-any (node l cs ns) d k deep small = (
   omega arith,
@@ -163,12 +151,12 @@ shallow-any (node l cs ns) d k deep small = (
       (shallow-any ns d k (deep .2) small),
 )
 
--- the records of a tree of 256 levels at most are shallow
-pub shallow : (t : Tree) → Deep (t .below) 255 → Shallow (recs 1 t)
-shallow t deep = (lit< tt, shallow-any (t .below) 2 255 deep (omega arith))
+-- the records of a tree that is not too deep are shallow
+pub shallow : (t : Tree) → Deep (t .below) maxBelow → Shallow (recs 1 t)
+shallow t deep = (lit< tt, shallow-any (t .below) 2 maxBelow deep (omega arith))
 
 -- the table has a place for the depth of one record of shallow ones
-pub shallow-at : (xs : List Rec) (j : ℕ) (z : Rec) → Shallow xs → j < length xs → getD xs j z .1 + 1 < 258
+pub shallow-at : (xs : List Rec) (j : ℕ) (z : Rec) → Shallow xs → j < length xs → getD xs j z .1 + 1 < places
 shallow-at [] j z h lt = absurd (omega arith)
 shallow-at (x ∷ xs) zero z h lt = h .0
 shallow-at (x ∷ xs) (suc j) z h lt = shallow-at xs j z (h .1) (omega arith)
@@ -238,7 +226,7 @@ turned-bytes out A S l d j e len small =
     )
 
 -- the record x, with the number j, is turned next: ys are those after it
-module _ (out tab : List ℕ) (j : ℕ) (xs ys : List Rec) (x : Rec) (rest : List ℕ) (low : x .1 + 1 < 258) (h : Back out tab (suc j) xs rest)
+module _ (out tab : List ℕ) (j : ℕ) (xs ys : List Rec) (x : Rec) (rest : List ℕ) (low : x .1 + 1 < places) (h : Back out tab (suc j) xs rest)
     (shorter : take (suc j) xs ≡ take j xs ++ (x ∷ [])) (longer : drop j xs ≡ x ∷ ys) (tail : drop (suc j) xs ≡ ys) where
   -- the output is cut before and after the record
   split : out ≡ flats (take j xs) ++ (bytesOf (x .0) (x .1) 0 ++ (links (j + 1) ys ++ rest))
@@ -253,7 +241,7 @@ module _ (out tab : List ℕ) (j : ℕ) (xs ys : List Rec) (x : Rec) (rest : Lis
   turned-of =
       let k = turned-bytes out (flats (take j xs)) (links (j + 1) ys ++ rest) (x .0) (x .1) j split count (omega arith) in
       let t : tab ≡ table (j + 1) ys = h .tabled ∙ rw (tail, ← add-one j) in
-      let l : length tab ≡ 258 = rw t (table-length (j + 1) ys) in
+      let l : length tab ≡ places = rw t (table-length (j + 1) ys) in
       record {
         room = rw split (simp (length-append, bytesOf-length) (omega (arith, count)));
         small = rw (k .0) (omega arith);
@@ -272,7 +260,7 @@ turned out tab j xs rest low h =
 
 -- before the loop all records are flat, and the table is empty
 pub back-start : (out : List ℕ) (n : ℕ) (t : Tree) (rest : List ℕ) → n ≡ sizeT t → out ≡ flat 1 t ++ rest
-    → Back out (replicate 258 0) n (recs 1 t) rest
+    → Back out (replicate places 0) n (recs 1 t) rest
 back-start out n t rest e f =
     let l : length (recs 1 t) ≡ n = recs-length 1 t ∙ sym e in
     let a : take n (recs 1 t) ≡ recs 1 t = take-all n (recs 1 t) (omega arith) in
@@ -280,18 +268,18 @@ back-start out n t rest e f =
     record { within = omega arith; bytes = f ∙ rw (a, b, flats-flat 1 t); tabled = rw b }
 
 -- the table keeps its length
-pub back-long : {out tab : List ℕ} {i : ℕ} {xs : List Rec} {rest : List ℕ} → Back out tab i xs rest → length tab ≡ 258
+pub back-long : {out tab : List ℕ} {i : ℕ} {xs : List Rec} {rest : List ℕ} → Back out tab i xs rest → length tab ≡ places
 back-long {i = i} {xs = xs} h = rw (h .tabled) (table-length i (drop i xs))
 
 -- in the loop there is a record to turn
-pub back-turn : (t : Tree) {out tab : List ℕ} {i : ℕ} {rest : List ℕ} → (i ≡ 0 → ⊥) → Deep (t .below) 255 → Back out tab i (recs 1 t) rest
+pub back-turn : (t : Tree) {out tab : List ℕ} {i : ℕ} {rest : List ℕ} → (i ≡ 0 → ⊥) → Deep (t .below) maxBelow → Back out tab i (recs 1 t) rest
     → Turned out tab (i - 1) (recs 1 t) rest
 back-turn t {out} {tab} {i} {rest} nz deep h =
     let e : i ≡ suc (i - 1) = omega arith in
     turned out tab (i - 1) (recs 1 t) rest (shallow t deep) (subst (λ (k : ℕ). Back out tab k (recs 1 t) rest) e h)
 
 -- after the loop the output is the image
-pub back-end : (t : Tree) {out tab : List ℕ} {i : ℕ} {rest : List ℕ} → i ≡ 0 → Deep (t .below) 255 → Back out tab i (recs 1 t) rest
+pub back-end : (t : Tree) {out tab : List ℕ} {i : ℕ} {rest : List ℕ} → i ≡ 0 → Deep (t .below) maxBelow → Back out tab i (recs 1 t) rest
     → out ≡ enc 0 t ++ rest
 back-end t {out} {tab} {i} {rest} z deep h =
     let k : Back out tab 0 (recs 1 t) rest = subst (λ (n : ℕ). Back out tab n (recs 1 t) rest) z h in

@@ -1,5 +1,5 @@
--- Laws of writing into a work buffer of 2,048 records.
---     cap-le, ..      the laws of `cap`, which counts records up to 2,049
+-- Laws of writing into a work buffer of `maxRecords` records.
+--     cap-le, ..      the laws of `cap`, which counts records up to `noRoom`
 --     sets-next       two runs, one after the other, are one run, also past the end
 --     Left            the invariant of a loop that writes trees: what is left of them completes the output
 --     wrote-past      past the end a tree is written by doing nothing
@@ -15,24 +15,24 @@ use borrow.Author.Tests.{leb-true, leb-false}
 use mathlib.Core.Bool.{Bool, true, false}
 use lib.ListN.{length}
 use lib.Seq.{sets, set-out, length-sets}
-use Rattle.image.specs.Limits.{maxRecords, workBytes}
+use Rattle.image.specs.Limits.{maxRecords, workBytes, noRoom}
 use Rattle.image.specs.Tree.{Label, Forest, none, node, Tree, size}
 use Rattle.image.specs.Flat.{sizeT, bytesOf, flatAny, flat}
 use Rattle.image.proofs.Writing.{sets-append, sets-after, bytesOf-length, flat-length}
 use Rattle.image.specs.Room.{cap, Put, Wrote}
 
--- no count is more than 2,049
-pub cap-le : (n : ℕ) → cap n ≤ 2049
+-- no count is more than `noRoom`
+pub cap-le : (n : ℕ) → cap n ≤ noRoom
 unfolding cap
 cap-le n = omega arith
 
 -- a count that is no more stays what it is
-pub cap-is : (n : ℕ) → n ≤ 2049 → cap n ≡ n
+pub cap-is : (n : ℕ) → n ≤ noRoom → cap n ≡ n
 unfolding cap
 cap-is n h = omega arith
 
--- any other is 2,049
-pub cap-over : (n : ℕ) → 2048 < n → cap n ≡ 2049
+-- any other is `noRoom`
+pub cap-over : (n : ℕ) → maxRecords < n → cap n ≡ noRoom
 unfolding cap
 cap-over n h = omega arith
 
@@ -49,14 +49,14 @@ sets-past l i (v ∷ vs) h = rw (set-out l i v h) (sets-past l (suc i) vs (omega
 -- two runs, one after the other, are one run, also past the end
 pub sets-next : (out vs ws : List ℕ) (at n r : ℕ) → length out ≡ workBytes → length vs ≡ 32 * n → r ≡ cap (at + n)
     → sets (sets out (32 * at) vs) (32 * r) ws ≡ sets out (32 * at) (vs ++ ws)
-sets-next out vs ws at n r long count e = go (leb (at + n) 2048) refl
+sets-next out vs ws at n r long count e = go (leb (at + n) maxRecords) refl
   where
-    go : (t : Bool) → leb (at + n) 2048 ≡ t → sets (sets out (32 * at) vs) (32 * r) ws ≡ sets out (32 * at) (vs ++ ws)
+    go : (t : Bool) → leb (at + n) maxRecords ≡ t → sets (sets out (32 * at) vs) (32 * r) ws ≡ sets out (32 * at) (vs ++ ws)
     go true t =
-        let h : at + n ≤ 2048 = leb-true (at + n) 2048 t in
+        let h : at + n ≤ maxRecords = leb-true (at + n) maxRecords t in
         sym (sets-after out (32 * at) vs ws (32 * r) (omega (arith, cap-is (at + n) (omega arith))))
     go false t =
-        let h : 2048 < at + n = leb-false (at + n) 2048 t in
+        let h : maxRecords < at + n = leb-false (at + n) maxRecords t in
         sets-past (sets out (32 * at) vs) (32 * r) ws (rw length-sets (omega (arith, cap-over (at + n) h)))
         ∙ sym (sets-append out (32 * at) vs ws ∙ sets-past (sets out (32 * at) vs) (32 * at + length vs) ws (rw length-sets (omega arith)))
 
@@ -67,7 +67,7 @@ pub record Left (out₀ : List ℕ) (at₀ level : ℕ) (all : Forest) (out : Li
   pub count : cap (to + size rest) ≡ cap (at₀ + size all)
   pub same : sets out (32 * to) (flatAny level rest) ≡ sets out₀ (32 * at₀) (flatAny level all)
   pub long : length out ≡ workBytes
-  pub small : to ≤ 2049
+  pub small : to ≤ noRoom
 
 -- a tree is written
 pub left-next : {out₀ : List ℕ} {at₀ level : ℕ} {all : Forest} {out : List ℕ} {to : ℕ} (t : Tree) {after : Forest} {out′ : List ℕ} {to′ : ℕ}
@@ -99,7 +99,7 @@ left-end {out₀} {out₁} {at} {at₁} {level} {l} {all} {to = to} long p h =
     }
 
 -- past the buffer's end a tree is written by doing nothing
-pub wrote-past : (out : List ℕ) (at level : ℕ) (t : Tree) → length out ≡ workBytes → maxRecords ≤ at → Wrote out out at level 2049 t
+pub wrote-past : (out : List ℕ) (at level : ℕ) (t : Tree) → length out ≡ workBytes → maxRecords ≤ at → Wrote out out at level noRoom t
 wrote-past out at level t long h =
     record {
       next = sym (cap-over (at + sizeT t) (omega arith));

@@ -1,4 +1,5 @@
--- The two ways of writing a tree, parents first: flat, each record with its depth in the place of its first link, and as an image, with links.
+-- The two ways of writing a tree, parents first: flat, each record with its depth in the place of its first link, and as an image, with
+-- links.
 use mathlib.Core.List.{List, [], _++_}
 use Prim.Native.Nat.{ℕ, suc, _+_}
 use Rattle.image.specs.Word.{le}

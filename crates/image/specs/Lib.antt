@@ -1,7 +1,9 @@
 pub mod Limits
+pub mod Buffers
 pub mod Word
 pub mod Tree
 pub mod Flat
+pub mod Records
 pub mod Links
 pub mod Flattened
 pub mod Room

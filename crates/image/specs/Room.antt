@@ -1,14 +1,15 @@
--- A work buffer has room for 2,048 records. Records past its end are counted, up to 2,049, and not written.
+-- A work buffer has room for the records of the longest image. Records past its end are counted, up to `noRoom`, and not written.
 use mathlib.Core.Path.{_≡_}
 use mathlib.Core.List.{List}
 use Prim.Native.Nat.{ℕ, _+_, _-_, _*_}
 use lib.Seq.{sets}
+use Rattle.image.specs.Limits.{noRoom}
 use Rattle.image.specs.Tree.{Label, Tree}
 use Rattle.image.specs.Flat.{sizeT, bytesOf, flat}
 
--- n, and 2,049 at most
+-- n, and `noRoom` at most
 unfoldable pub cap : ℕ → ℕ
-cap n = n - (n - 2049)
+cap n = n - (n - noRoom)
 
 -- a record is written at `at`, its depth in the place of its first link, and r is the record after it
 pub record Put (before after : List ℕ) (at level r : ℕ) (l : Label) : Type 0 where

@@ -1,4 +1,4 @@
-// The kinds of records that are looked for or written.
+// Records and trees written flat into a work buffer, each record with its depth in the place of its first link.
 use crate::limits::MAX_RECORDS;
 use crate::limits::NO_ROOM;
 use crate::records::FIRST_LINK;
@@ -11,11 +11,11 @@ use crate::words::word_at;
 ghost use mathlib.Core.Path.{_≡_};
 ghost use Prim.Native.Nat.{_+_, _<_, _≤_};
 ghost use lib.ListN.{length};
-ghost use Rattle.image.specs.Limits.{workBytes};
+ghost use Rattle.image.specs.Limits.{maxLevel, workBytes};
 ghost use Rattle.image.specs.Room.{Put, Wrote};
 ghost use Rattle.image.specs.Tree.{At, Readable, Tree, labelAt};
 
-// Writes a record with its depth, where there is room, and returns the record after it: 2,049 at most.
+// Writes a record with its depth, where there is room, and returns the record after it: NO_ROOM at most.
 pub fn put(out: &mut [u8], at: usize, label: Label, level: usize) -> usize
     requires { ⌜ length (now out) ≡ workBytes ⌝ }
     ensures { λ n. ⌜ Put (now (out .entry)) (now (out .exit)) at level n label ⌝ }
@@ -45,7 +45,7 @@ pub fn copy_tree(
     level: usize,
 ) -> usize
     requires { ⌜ Readable depth (now s) base ⌝ }
-    requires { ⌜ level + depth < 4096 ⌝ }
+    requires { ⌜ level + depth < maxLevel ⌝ }
     requires { ⌜ length (now out) ≡ workBytes ⌝ }
     ensures { λ r. ⌜ ((t : Tree) → At t (now (s .entry)) base → Wrote (now (out .entry)) (now (out .exit)) at level r t) ⌝ }
 {

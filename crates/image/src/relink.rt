@@ -9,6 +9,7 @@ ghost use mathlib.Core.List.{_++_, List};
 ghost use Prim.Native.Nat.{_*_, _+_, _<_, _≤_, ℕ};
 ghost use lib.ListN.{getD, length, set};
 ghost use lib.Seq.{sets};
+ghost use Rattle.image.specs.Limits.{maxBelow};
 ghost use Rattle.image.specs.Flat.{enc, flat, sizeT};
 ghost use Rattle.image.specs.Flattened.{Flattened};
 ghost use Rattle.image.specs.Tree.{Deep, Tree};
@@ -36,7 +37,7 @@ fn link_one(out: &mut [u8], table: &mut [usize], i: usize)
 // Turns a flat tree of n records at the start of `out` into its image.
 pub fn relink(out: &mut [u8], n: usize)
     requires { ⌜ Flattened (now out) n ⌝ }
-    ensures { λ _. ⌜ ((t : Tree) (rest : List ℕ) → Deep (t .below) 255 → n ≡ sizeT t
+    ensures { λ _. ⌜ ((t : Tree) (rest : List ℕ) → Deep (t .below) maxBelow → n ≡ sizeT t
         → now (out .entry) ≡ flat 1 t ++ rest → now (out .exit) ≡ enc 0 t ++ rest) ⌝ }
 {
     let mut table = [0usize; MAX_DEPTH + 2];

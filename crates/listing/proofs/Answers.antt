@@ -6,7 +6,7 @@ use mathlib.Core.Bool.{Bool, true, false}
 use mathlib.Core.List.{List, _++_}
 use lib.ListN.{length}
 use borrow.Author.Tests.{eqb-true}
-use Rattle.image.specs.Limits.{workBytes}
+use Rattle.image.specs.Limits.{workBytes, maxRecords, maxDepth}
 use Rattle.image.specs.Lowest.{Found, nothing, found, unless, alone}
 use Rattle.image.specs.Word.{Bytes}
 use Rattle.image.specs.Tree.{Tree, At, Readable, SmallT}
@@ -115,7 +115,7 @@ module _ (q : Plan) (w : WellFormed q) where
   unfolding filled
   standing e = rw e (at-enc t 0 _ small (omega (arith, w .records)))
 
-  pub readable : {out : List ℕ} → out ≡ filled workBytes (imageOf q) → Readable 256 out 0
+  pub readable : {out : List ℕ} → out ≡ filled workBytes (imageOf q) → Readable maxDepth out 0
   readable e = record {
     tree = t;
     at = standing e;
@@ -129,7 +129,7 @@ module _ {r : Passed} {text : List ℕ} (g : Leaves r text) where
   here = standing (g .plan) (g .well) (g .output)
 
   module _ {flat₀ flat : List ℕ} {n : ℕ} (w : Wrote flat₀ flat 0 1 n (planTree (g .plan))) where
-    pub few : n ≤ 2048
+    pub few : n ≤ maxRecords
     few = omega (arith, begun-size w (g .well .records), g .well .records)
 
     pub flat-text : length flat₀ ≡ workBytes → flat-lines n flat ++ counts (r .visits) (r .changed) (r .finished) ≡ text

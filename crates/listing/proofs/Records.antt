@@ -7,6 +7,7 @@ use mathlib.Core.Path.{_≡_, refl, ap, _∙_}
 use mathlib.Core.List.{List, _++_, append-assoc, append-nil}
 use lib.ListN.{length, drop, length-append}
 use lib.Seq.{drop-at, drop-drop}
+use Rattle.image.specs.Limits.{maxRecords}
 use Rattle.image.specs.Lowest.{alone}
 use Rattle.image.specs.Word.{word, le}
 use Rattle.image.specs.Tree.{Label, Forest, none, node, Tree, size, labelAt, Fits32, Small, SmallT}
@@ -103,7 +104,7 @@ lines-any (node l cs ns) d k rest h few =
     )
     (simp append-assoc)
 
-pub lines-tree : (t : Tree) (rest : List ℕ) {n : ℕ} {s : List ℕ} → SmallT t → sizeT t ≤ 2048 → n ≡ sizeT t → s ≡ flat 1 t ++ rest
+pub lines-tree : (t : Tree) (rest : List ℕ) {n : ℕ} {s : List ℕ} → SmallT t → sizeT t ≤ maxRecords → n ≡ sizeT t → s ≡ flat 1 t ++ rest
     → flat-lines n s ≡ lines 1 (alone t)
 unfolding flat-lines
 lines-tree t rest {n} {s} h few count bytes =

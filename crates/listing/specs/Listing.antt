@@ -1,5 +1,6 @@
--- What the lister prints, in bytes. To be read beside the end of document 01's section 'Dishes for the table': it "reads an image from standard
--- input, runs a pass of budget 10,000, and prints depth, kind, p, q, r, lo, hi per record, then the counts (or only "refused N at R")".
+-- What the lister prints, in bytes. To be read beside the end of document 01's section 'Dishes for the table': it "reads an image from
+-- standard input, runs a pass of budget 10,000, and prints depth, kind, p, q, r, lo, hi per record, then the counts (or only "refused N at
+-- R")".
 use Prim.Native.Nat.{ℕ, zero, suc, _+_, _/_, _%_}
 use mathlib.Core.List.{List, [], _∷_, _++_}
 use lib.Dec.{ltb}
@@ -35,7 +36,8 @@ newline = 10 ∷ []
 -- depth, kind, p, q, r, lo, hi
 unfoldable pub line : ℕ → Label → List ℕ
 line d l =
-    decimal d ++ (spaced (l .kind) ++ (spaced (l .p) ++ (spaced (l .q) ++ (spaced (l .r) ++ (spaced (l .lo) ++ (spaced (l .hi) ++ newline))))))
+    decimal d
+    ++ (spaced (l .kind) ++ (spaced (l .p) ++ (spaced (l .q) ++ (spaced (l .r) ++ (spaced (l .lo) ++ (spaced (l .hi) ++ newline))))))
 
 -- a line for each record of a forest, parents first, the first of them at depth d
 unfoldable pub lines : ℕ → Forest → List ℕ

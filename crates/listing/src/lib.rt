@@ -8,23 +8,24 @@ use crate::lines::put_refusal;
 use image::copying::copy_tree;
 use image::limits::MAX_BYTES;
 use image::limits::MAX_DEPTH;
+use image::limits::MAX_RECORDS;
 use push_down_filter::push_down_filter_pass;
 ghost use mathlib.Core.Path.{_≡_};
-ghost use Prim.Native.Nat.{_≤_};
+ghost use Prim.Native.Nat.{_*_, _+_, _≤_};
 ghost use lib.ListN.{length, take};
-ghost use Rattle.image.specs.Limits.{workBytes};
+ghost use Rattle.image.specs.Limits.{maxRecords, workBytes};
 ghost use Rattle.listing.specs.Listing.{listing};
 
 // The pass may make so many visits.
 const BUDGET: u64 = 10000;
 
-// A line for each of 2,048 records, at most 77 bytes long: seven words of ten digits, each with a byte behind it; and 87 bytes for the counts,
-// three numbers of twenty digits behind their names.
-pub const TEXT_BYTES: usize = 157783;
+// A line for each record, at most 77 bytes long: seven words of ten digits, each with a byte behind it; and 87 bytes for the counts, three
+// numbers of twenty digits behind their names.
+pub const TEXT_BYTES: usize = 77 * MAX_RECORDS + 87;
 
 // Passes over the image and writes what it leaves, with space lent for the plan, and for the plan with its depths.
 fn list_within(image: &[u8], out: &mut [u8], flat: &mut [u8], text: &mut [u8]) -> usize
-    requires { ⌜ (length (now out) ≡ workBytes) × (length (now flat) ≡ workBytes) × (157783 ≤ length (now text)) ⌝ }
+    requires { ⌜ (length (now out) ≡ workBytes) × (length (now flat) ≡ workBytes) × (77 * maxRecords + 87 ≤ length (now text)) ⌝ }
     ensures { λ r. ⌜ (r ≤ length (now (text .exit))) × (take r (now (text .exit)) ≡ listing (now (image .entry))) ⌝ }
 {
     let passed = push_down_filter_pass(image, BUDGET, out);

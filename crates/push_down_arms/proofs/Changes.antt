@@ -6,6 +6,7 @@ use mathlib.Core.Path.{_≡_, refl, ap, _∙_}
 use mathlib.Core.List.{List, [], _∷_, _++_, map}
 use mathlib.Core.Option.{some}
 use lib.ListN.{drop, length}
+use Rattle.image.specs.Limits.{maxRecords, maxList}
 use Rattle.plan.specs.Syntax.{Name, Expr, bin, and}
 use Rattle.rewrite.specs.Utils.{replace-cols, split-conjunction, conjoin, conjunction}
 use Rattle.conjuncts.specs.Items.{Conjuncts, most}
@@ -33,8 +34,8 @@ each-count : {R : ℕ → Expr → Type 0} {ns : List ℕ} {es : List Expr} → 
 each-count nil = refl
 each-count (cons h hs) = ap suc (each-count hs)
 
--- a list that stands for no more than 128 is whole
-pub pushes-small : {s : List ℕ} {σ : Name → Expr} {c : Conjuncts} {es : List Expr} → Pushes s σ c es → length es ≤ 128 → c .len ≤ 128
+-- a list that stands for no more than `maxList` is whole
+pub pushes-small : {s : List ℕ} {σ : Name → Expr} {c : Conjuncts} {es : List Expr} → Pushes s σ c es → length es ≤ maxList → c .len ≤ maxList
 unfolding most
 pushes-small h k = omega (arith, h .holds .count, each-count (h .items))
 
@@ -47,7 +48,7 @@ pub changed-list : {s : List ℕ} {p : Predicate} {c : Conjuncts} (σ : Name →
     → Pushes s σ c (map (replace-cols σ) (split-conjunction e)) → Perhaps s σ (record { written = 0; list = c }) (some (replace-cols σ e))
 changed-list {s} {p} {c} σ e h z k = go (split-conjunction e) (h .joined z) k (split-some e) (few h)
   where
-    go : (es : List Expr) → conjunction es ≡ some e → Pushes s σ c (map (replace-cols σ) es) → 1 ≤ length es → length es ≤ 128
+    go : (es : List Expr) → conjunction es ≡ some e → Pushes s σ c (map (replace-cols σ) es) → 1 ≤ length es → length es ≤ maxList
         → Perhaps s σ (record { written = 0; list = c }) (some (replace-cols σ e))
     go [] j k m f = absurd (omega arith)
     go (x ∷ xs) j k m f =
@@ -57,7 +58,7 @@ changed-list {s} {p} {c} σ e h z k = go (split-conjunction e) (h .joined z) k (
         (λ z. omega (arith, pushes-length k l))
 
 -- a predicate as it is written, its columns replaced
-pub changed-written : {s : List ℕ} {p : Predicate} (σ : Name → Expr) (e : Expr) (n : ℕ) → Shaped s p e → (p .written ≡ 0 → ⊥) → n ≡ p .written + 2048
+pub changed-written : {s : List ℕ} {p : Predicate} (σ : Name → Expr) (e : Expr) (n : ℕ) → Shaped s p e → (p .written ≡ 0 → ⊥) → n ≡ p .written + maxRecords
     → Perhaps s σ (record { written = n; list = p .list }) (some (replace-cols σ e))
 changed-written σ e n h nz i =
     left {e = replace-cols σ e} (record { item = λ f. rw i (pushed-changed (standing-item (h .stands nz) nz)); list = λ z. absurd (omega arith) })

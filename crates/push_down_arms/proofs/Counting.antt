@@ -14,7 +14,7 @@ use lib.Dec.{ltb}
 use lib.ListN.{length, getD, drop, length-drop, length-append}
 use borrow.Author.Tests.{ltb-true, ltb-false}
 use Rattle.image.specs.Tree.{Tree, At, labelAt}
-use Rattle.image.specs.Limits.{workBytes}
+use Rattle.image.specs.Limits.{workBytes, maxList, maxBelow}
 use Rattle.image.proofs.Walking.{only}
 use Rattle.plan.specs.Lists.{flat}
 use Rattle.plan.specs.Schema.{same}
@@ -31,7 +31,8 @@ use Rattle.conjuncts.proofs.Listed.{lists-none, lists-add, lists-length, known-
 use Rattle.conjuncts.proofs.Operands.{Both, and-label, single, part-of}
 use Rattle.writing.specs.Replaced.{Leads, valueFor}
 use Rattle.writing.proofs.Entries.{value, no-value}
-use Rattle.writing.proofs.Maps.{mapOf, plan-map, replaced-expr}
+use Rattle.writing.specs.Maps.{mapOf}
+use Rattle.writing.proofs.Maps.{plan-map, replaced-expr}
 use Rattle.writing.proofs.Pushing.{plan-readable}
 use Rattle.push_down_arms.specs.Divided.{parts, Counts}
 use Rattle.push_down_base.proofs.Plain.{split-some}
@@ -129,7 +130,7 @@ module _ {s : List ℕ} {x v : ℕ} (e : Expr) (p : Plan) (k : StandingP s x p) 
       record {
         within = omega (arith, w .past, w .fits);
         here = rw (← part-of s (drop (32 * x) s) x v refl (omega (arith, w .past))) here;
-        deep = deep-more (kidsE (replace-cols (mapOf p) e)) 253 255 (rw t at (w .readable .deep)) (omega arith);
+        deep = deep-more (kidsE (replace-cols (mapOf p) e)) (maxBelow - 2) maxBelow (rw t at (w .readable .deep)) (omega arith);
         fits = fits-replaced (mapOf p) (λ y. fits-map p y (k .fits)) e f;
         small = omega (arith, w .past, w .fits);
       }
@@ -177,19 +178,19 @@ module _ {s : List ℕ} {σ : Name → Expr} {es : List Expr} where
       record { done = _; counts = k; is = omega (arith, h .is) }
 
   -- it is too long exactly if the count is
-  pub counted-all : {r : Conjuncts} (i : ℕ) → length es ≤ i → Counted s r σ es i → ltb 128 (r .len) ≡ ltb 128 (parts σ es)
+  pub counted-all : {r : Conjuncts} (i : ℕ) → length es ≤ i → Counted s r σ es i → ltb maxList (r .len) ≡ ltb maxList (parts σ es)
   unfolding flat
   counted-all {r} i le h =
       let z : parts σ (drop i es) ≡ 0 = ap (parts σ) (at-end es i le) in
       let n : length (h .counts .exprs) ≡ parts σ es = omega (arith, h .counts .count, h .is) in
-      go (ltb 128 (r .len)) (ltb 128 (parts σ es)) refl refl n
+      go (ltb maxList (r .len)) (ltb maxList (parts σ es)) refl refl n
     where
-      go : (a b : Bool) → ltb 128 (r .len) ≡ a → ltb 128 (parts σ es) ≡ b → length (h .counts .exprs) ≡ parts σ es → a ≡ b
+      go : (a b : Bool) → ltb maxList (r .len) ≡ a → ltb maxList (parts σ es) ≡ b → length (h .counts .exprs) ≡ parts σ es → a ≡ b
       go true true e f n = refl
       go false false e f n = refl
       go true false e f n =
-          let m = ltb-false 128 (parts σ es) f in
-          absurd (omega (arith, ltb-true 128 (r .len) e, known-of (h .counts .lists) (omega arith) .most))
+          let m = ltb-false maxList (parts σ es) f in
+          absurd (omega (arith, ltb-true maxList (r .len) e, known-of (h .counts .lists) (omega arith) .most))
       go false true e f n =
-          let m = ltb-false 128 (r .len) e in
-          absurd (omega (arith, ltb-true 128 (parts σ es) f, lists-length (h .counts .lists) m))
+          let m = ltb-false maxList (r .len) e in
+          absurd (omega (arith, ltb-true maxList (parts σ es) f, lists-length (h .counts .lists) m))

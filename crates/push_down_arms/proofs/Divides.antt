@@ -19,7 +19,7 @@ use Rattle.rewrite.specs.Utils.{replace-cols, split-conjunction, conjoin, conju
 use Rattle.conjuncts.specs.Items.{Conjuncts, Lists}
 use Rattle.conjuncts.proofs.Listed.{lists-length}
 use Rattle.writing.specs.Pushed.{Pushes}
-use Rattle.writing.proofs.Maps.{mapOf}
+use Rattle.writing.specs.Maps.{mapOf}
 use Rattle.writing.proofs.Pushing.{pushes-of}
 use Rattle.push_down_arms.specs.Over.{under}
 use Rattle.push_down_base.specs.Predicates.{Perhaps}
@@ -63,16 +63,16 @@ module _ {s : List ℕ} {x : ℕ} {d : Divided} {f : Plan → Plan} {q : Plan} {
       filters-list us _ ∙ ap₂ larger (single-parts (k .kept-single))
       (t .lists _ ∙ filters-list (map (replace-cols (mapOf (f q))) ds) q ∙ ap (λ n. larger n (listP q)) (replaced-parts (mapOf (f q)) ds))
 
-  pub pushed-few : parts (mapOf (f q)) ds ≤ 128 → listP (pushed f q us ds .plan) ≤ maxList
+  pub pushed-few : parts (mapOf (f q)) ds ≤ maxList → listP (pushed f q us ds .plan) ≤ maxList
   pushed-few small =
       le-trans (le-of-eq lists-is) (max-le (le-trans (le-of-eq (lists-length (k .kept) (k .kept-most))) (k .kept-most))
       (max-le small (le-trans (le-of-eq (sym (t .lists q))) (h .lists))))
 
-  pub pushed-many : 128 < parts (mapOf (f q)) ds → maxList < listP (pushed f q us ds .plan)
+  pub pushed-many : maxList < parts (mapOf (f q)) ds → maxList < listP (pushed f q us ds .plan)
   pushed-many many = le-trans many (le-trans (le-trans (le-max-left _ _) (le-max-right (length us) _)) (le-of-eq (sym lists-is)))
 
 -- the flag: something moves
-pub some-moved : {s : List ℕ} {c : Conjuncts} (es : List Expr) → Lists s c es → c .len ≤ 128 → not (eqb (c .len) 0) ≡ not (is-empty es)
+pub some-moved : {s : List ℕ} {c : Conjuncts} (es : List Expr) → Lists s c es → c .len ≤ maxList → not (eqb (c .len) 0) ≡ not (is-empty es)
 some-moved [] h m = rw (← lists-length h m)
 some-moved {c = c} (e ∷ es) h m = ap not (ne-eqb (c .len) 0 (λ z. omega (arith, lists-length h m)))
 
@@ -83,7 +83,7 @@ module _ {s : List ℕ} {d : Divided} {us ds : List Expr} (k : Divides s d us ds
   kept-perhaps = list-perhaps (d .kept) us (k .kept-most) (pushes-of (k .kept))
 
   module _ {c : Conjuncts} (h : Pushes s σ c (map (replace-cols σ) ds)) where
-    pub moved-small : c .len ≤ 128
+    pub moved-small : c .len ≤ maxList
     moved-small =
         pushes-small h (le-trans (le-of-eq (map-count (replace-cols σ) ds ∙ lists-length (k .moved) (k .moved-most))) (k .moved-most))
 

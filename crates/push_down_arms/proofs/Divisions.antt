@@ -11,7 +11,7 @@ use mathlib.Core.Bool.{Bool, true, false, not}
 use mathlib.Core.List.{List, [], _∷_, map}
 use lib.ListN.{length}
 use borrow.Author.Tests.{leb-true}
-use Rattle.image.specs.Limits.{workBytes}
+use Rattle.image.specs.Limits.{workBytes, maxFields, maxList}
 use Rattle.plan.specs.Columns.{on-cols, on-cols-all}
 use Rattle.plan.specs.Lists.{_&_, all, choose, put, keep, anil}
 use Rattle.plan.specs.Measure.{sizes}
@@ -81,15 +81,15 @@ module _ {s : List ℕ} {x : ℕ} {q : Plan} (short : length s ≤ workBytes) wh
 -- ---- the lists
 
 -- a plan that keeps the rules has no more fields than a schema holds
-pub fields-few : {s : List ℕ} {x : ℕ} {q : Plan} → Placed s x q → length (schema q) ≤ 64
+pub fields-few : {s : List ℕ} {x : ℕ} {q : Plan} → Placed s x q → length (schema q) ≤ maxFields
 unfolding sound
-fields-few {q = q} h = leb-true (length (schema q)) 64 (and-r _ _ (rule-sound _ q (h .rules)))
+fields-few {q = q} h = leb-true (length (schema q)) maxFields (and-r _ _ (rule-sound _ q (h .rules)))
 
 singles : (e : Expr) → Singles (split-conjunction e)
 singles e = All-map (λ x w. w .one) (split-plain e)
 
 module _ {s : List ℕ} {p : Predicate} {e : Expr} (h : Shaped s p e) where
-  kept-small : {c : Conjuncts} (f : Expr → Bool) → Lists s c (keep f (split-conjunction e)) → c .len ≤ 128
+  kept-small : {c : Conjuncts} (f : Expr → Bool) → Lists s c (keep f (split-conjunction e)) → c .len ≤ maxList
   kept-small f l = known-of l (omega (arith, keep-length f (split-conjunction e), few h)) .most
 
   pub divides-of : {d : Divided} (t : Name → Bool) → Lists s (d .kept) (keep (agrees false t) (split-conjunction e))

@@ -7,7 +7,7 @@ use mathlib.Core.Option.{Option}
 use lib.ListN.{length, take, length-append}
 use lib.Seq.{take-at}
 use Rattle.image.specs.Tree.{Label, Forest, none, node}
-use Rattle.image.proofs.Relinking.{Rec, recs, recsAny}
+use Rattle.image.specs.Records.{Rec, recs, recsAny}
 use Rattle.image.specs.Limits.{workBytes}
 use Rattle.image.specs.Room.{Wrote}
 use Rattle.plan.specs.Syntax.{Entry, Key, AggEntry, WinEntry, Plan, scan, project, alias, distinct, sort, repartition, aggregate, window}

@@ -26,8 +26,8 @@ pub whole-left : {s : List ℕ} {σ : Name → Expr} {p : Predicate} {e : Expr} 
 whole-left (left h f) = h
 
 module _ {s : List ℕ} {x i : ℕ} {p : Predicate} {e : Expr} {q : Plan} (h : Rests s x p e (alias i q)) where
-  -- an alias has as many fields as its input, and no more than 64
-  pub alias-few : length (schema (alias i q)) ≤ 64
+  -- an alias has as many fields as its input, and no more than `maxFields`
+  pub alias-few : length (schema (alias i q)) ≤ maxFields
   unfolding rule schema sound
   alias-few = leb-true (length (map (requalify i) (schema q))) maxFields (and-r _ _ (and-l _ _ (h .placed .rules)))
 

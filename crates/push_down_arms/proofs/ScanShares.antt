@@ -11,7 +11,7 @@ use Prim.Native.Nat.{ℕ, suc, _+_, _≤_, _<_}
 use native.Mathlib.Omega.{arith}
 use native.Mathlib.Nat.{le-trans, le-of-eq, max-le, le-max-right}
 use lib.ListN.{length, length-append}
-use Rattle.image.specs.Limits.{maxList}
+use Rattle.image.specs.Limits.{maxList, noRoom, maxFields}
 use Rattle.plan.specs.Columns.{on-cols}
 use Rattle.plan.specs.Lists.{put, keep, choose, All}
 use Rattle.plan.specs.Schema.{has, schema}
@@ -47,14 +47,14 @@ keep-both f (x ∷ xs) = go (f x) (keep-both f xs)
 
 module _ {s : List ℕ} {x t : ℕ} {fs : List Field} {es : List Expr} {f : Fields} (h : Placed s x (scan t fs es))
     (n : Names f (schema (scan t fs es))) where
-  pub fields-most : f .len ≤ 64
+  pub fields-most : f .len ≤ maxFields
   fields-most = names-fit n (omega (arith, scan-few h, scan-width h))
 
   pub fields-count : f .len ≡ length fs
   fields-count = sym (names-count n fields-most) ∙ scan-width h
 
--- a list of more than 128 is not whole
-pub too-many : {s : List ℕ} {c : Conjuncts} {es : List Expr} → Lists s c es → 128 < c .len → length es ≤ 128 → ⊥
+-- a list of more than `maxList` is not whole
+pub too-many : {s : List ℕ} {c : Conjuncts} {es : List Expr} → Lists s c es → maxList < c .len → length es ≤ maxList → ⊥
 too-many l many small = omega (arith, known-of l small .most)
 
 -- the answer where something is taken
@@ -77,13 +77,13 @@ module _ {s : List ℕ} {x : ℕ} {p : Predicate} {e : Expr} {t : ℕ} {fs : Lis
   pub lasting-over : All (λ a. on-cols (has (schema (scan t fs es))) a ≡ true) (non-volatile-filters e)
   lasting-over = All-keep (λ a. not (is-volatile a)) (split-cols (has (schema (scan t fs es))) e (h .scope))
 
-  pub lasting-few : length (non-volatile-filters e) ≤ 128
+  pub lasting-few : length (non-volatile-filters e) ≤ maxList
   lasting-few = omega (arith, few (h .shaped), keep-length (λ a. not (is-volatile a)) (split-conjunction e))
 
-  pub taken-few : length (supported-filters fs e) ≤ 128
+  pub taken-few : length (supported-filters fs e) ≤ maxList
   taken-few = omega (arith, lasting-few, keep-length (λ a. supports-pushdown fs a) (non-volatile-filters e))
 
-  pub left-few : length (unsupported-filters fs e ++ volatile-filters e) ≤ 128
+  pub left-few : length (unsupported-filters fs e ++ volatile-filters e) ≤ maxList
   left-few = omega (
     arith,
     few (h .shaped),
@@ -92,7 +92,7 @@ module _ {s : List ℕ} {x : ℕ} {p : Predicate} {e : Expr} {t : ℕ} {fs : Lis
     length-append (unsupported-filters fs e) (volatile-filters e),
   )
 
-  pub own-few : length es ≤ 128
+  pub own-few : length es ≤ maxList
   unfolding listP
   own-few = h .placed .lists
 
@@ -116,12 +116,12 @@ module _ {s : List ℕ} {x : ℕ} {p : Predicate} {e : Expr} {t : ℕ} {fs : Lis
 abbrev over-scan : ℕ → List Field → List Expr → List Expr → Plan
 over-scan t fs xs ys = with-filters xs (scan t fs ys)
 
-pub pushed-fits : (t : ℕ) (fs : List Field) {xs : List Expr} (ys : List Expr) → Plain xs → length xs ≤ 128 → length ys ≤ 128
+pub pushed-fits : (t : ℕ) (fs : List Field) {xs : List Expr} (ys : List Expr) → Plain xs → length xs ≤ maxList → length ys ≤ maxList
     → listP (over-scan t fs xs ys) ≤ maxList
 unfolding with-filters listP
 pushed-fits t fs {xs} ys = go xs
   where
-    go : (xs : List Expr) → Plain xs → length xs ≤ 128 → length ys ≤ 128 → listP (over-scan t fs xs ys) ≤ maxList
+    go : (xs : List Expr) → Plain xs → length xs ≤ maxList → length ys ≤ maxList → listP (over-scan t fs xs ys) ≤ maxList
     go [] h k l = l
     go (x ∷ xs) h k l = max-le (le-trans (le-of-eq (ap length (split-joined x h))) k) l
 
@@ -131,8 +131,8 @@ scan-lists t fs [] ys = omega arith
 scan-lists t fs (x ∷ xs) ys = le-max-right (length (split-conjunction (conjoin x xs))) (length ys)
 
 -- too many filters: nothing is written
-pub pushed-over : {s out : List ℕ} {at level : ℕ} {r : Written} {c : Conjuncts} (t : ℕ) (fs : List Field) (xs ys : List Expr) → r .next ≡ 2049
-    → r .flag ≡ true → Lists s c ys → 128 < c .len → Answers out out at level r (Transformed·yes (over-scan t fs xs ys))
+pub pushed-over : {s out : List ℕ} {at level : ℕ} {r : Written} {c : Conjuncts} (t : ℕ) (fs : List Field) (xs ys : List Expr) → r .next ≡ noRoom
+    → r .flag ≡ true → Lists s c ys → maxList < c .len → Answers out out at level r (Transformed·yes (over-scan t fs xs ys))
 pushed-over t fs xs ys n f l many = record {
   flag = f;
   fits = λ small. absurd (too-many l many (le-trans (scan-lists t fs xs ys) small));

@@ -9,10 +9,10 @@ use Prim.Native.Nat.{ℕ, suc, _+_, _-_, _*_, _≤_, _<_}
 use native.Mathlib.Omega.{arith}
 use lib.ListN.{length, take, drop, getD, length-drop}
 use lib.Seq.{drop-drop, take-at, length-sets}
-use Rattle.image.specs.Limits.{workBytes}
+use Rattle.image.specs.Limits.{workBytes, noRoom, maxBelow}
 use Rattle.image.specs.Room.{Wrote}
 use Rattle.image.specs.Tree.{Label, Forest, none, node, Deep, At}
-use Rattle.image.proofs.Relinking.{Rec, recs, recsAny}
+use Rattle.image.specs.Records.{Rec, recs, recsAny}
 use Rattle.image.proofs.Room.{cap-le}
 use Rattle.plan.specs.Integers.{FitsE, Every}
 use Rattle.plan.specs.Measure.{sizes}
@@ -58,7 +58,7 @@ abbrev pub Added : List ℕ → Label → ℕ → Conjuncts → Conjuncts → Ty
 Added s l n c r = (ds : List Expr) → Lists s c ds → Adds s l n r ds
 
 pub filters-next : {s : List ℕ} {x y : ℕ} {r r′ : Conjuncts} {es : List Expr} (l : Label) (cs ns : Forest) → Filters s r es (node l cs ns)
-    → length s ≤ workBytes → x < y → At (record { label = l; below = cs }) (drop (32 * (y - x)) (drop (32 * x) s)) y → Deep cs 255
+    → length s ≤ workBytes → x < y → At (record { label = l; below = cs }) (drop (32 * (y - x)) (drop (32 * x) s)) y → Deep cs maxBelow
     → Added s l y r r′ → Filters s r′ es ns
 unfolding each
 filters-next {s} {x} {y} {r} {r′} {es} l cs ns h short past here deep add = go (h .fields) (h .rest) (h .is) (h .fits) (h .completes)
@@ -122,7 +122,7 @@ pub record Copied (out₀ : List ℕ) (at₀ level : ℕ) (es : List Expr) (out 
   pub completes : done ++ run level (drop i es) ≡ run level es
 
 module _ {out₀ : List ℕ} {at₀ level : ℕ} {es : List Expr} where
-  pub copied-start : at₀ ≤ 2049 → Copied out₀ at₀ level es out₀ at₀ 0
+  pub copied-start : at₀ ≤ noRoom → Copied out₀ at₀ level es out₀ at₀ 0
   copied-start h = record { done = []; wrote = wrote-none out₀ at₀ h; completes = refl }
 
   pub copied-next : {out out′ : List ℕ} {to to′ : ℕ} (i : ℕ) → length out₀ ≡ workBytes → i < length es → Copied out₀ at₀ level es out to i
@@ -145,7 +145,7 @@ module _ {out₀ : List ℕ} {at₀ level : ℕ} {es : List Expr} where
 pub wrote-long : {out out₁ : List ℕ} {at r : ℕ} {xs : List Rec} → length out ≡ workBytes → WroteAll out out₁ at r xs → length out₁ ≡ workBytes
 wrote-long long h = rw (h .bytes, length-sets) long
 
-pub wrote-few : {out out₁ : List ℕ} {at r : ℕ} {xs : List Rec} → WroteAll out out₁ at r xs → r ≤ 2049
+pub wrote-few : {out out₁ : List ℕ} {at r : ℕ} {xs : List Rec} → WroteAll out out₁ at r xs → r ≤ noRoom
 wrote-few {at = at} {xs = xs} h = rw (h .next) (cap-le (at + length xs))
 
 -- ---- the scan

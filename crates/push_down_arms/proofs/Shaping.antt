@@ -5,6 +5,7 @@ use mathlib.Core.Path.{_≡_, refl, sym}
 use mathlib.Core.List.{List, [], _∷_}
 use mathlib.Core.Option.{none, some}
 use lib.ListN.{length}
+use Rattle.image.specs.Limits.{maxList}
 use Rattle.plan.specs.Syntax.{Name, Expr, Plan}
 use Rattle.rewrite.specs.Utils.{split-conjunction, conjoin, conjunction, with-filters}
 use Rattle.conjuncts.specs.Items.{Conjuncts, Item, Lists}
@@ -24,7 +25,7 @@ under-list [] p = refl
 under-list (e ∷ es) p = refl
 
 -- a list that is joined anew
-pub list-perhaps : {s : List ℕ} {σ : Name → Expr} (c : Conjuncts) (es : List Expr) → c .len ≤ 128 → Pushes s σ c es
+pub list-perhaps : {s : List ℕ} {σ : Name → Expr} (c : Conjuncts) (es : List Expr) → c .len ≤ maxList → Pushes s σ c es
     → Perhaps s σ (record { written = 0; list = c }) (conjunction es)
 unfolding conjunction
 list-perhaps c [] small h = gone refl (sym (pushes-length h small))

@@ -13,7 +13,7 @@ use native.Mathlib.Omega.{arith}
 use lib.Dec.{eqb}
 use lib.ListN.{length, take, drop, length-drop}
 use borrow.Author.Tests.{leb-true}
-use Rattle.image.specs.Limits.{maxFields}
+use Rattle.image.specs.Limits.{maxFields, maxBelow}
 use Rattle.image.specs.Tree.{Forest, none}
 use Rattle.image.specs.Word.{word}
 use Rattle.plan.specs.Columns.{on-cols}
@@ -120,7 +120,7 @@ marked-place (f ∷ fs) (suc i) h lt =
 
 module _ {s : List ℕ} {x t : ℕ} {fs : List Field} {es : List Expr} (h : Placed s x (scan t fs es)) where
   -- the fields stand right behind the scan's own record, one record each
-  pub scan-fields : On s (x + 1) 255 (each fieldLabel nothingBelow fs (each labelE kidsE es none))
+  pub scan-fields : On s (x + 1) maxBelow (each fieldLabel nothingBelow fs (each labelE kidsE es none))
   unfolding kidsP
   scan-fields = children (h .short) (h .standing)
 
@@ -128,10 +128,10 @@ module _ {s : List ℕ} {x t : ℕ} {fs : List Field} {es : List Expr} (h : Plac
   unfolding schema
   scan-width = names-length fs
 
-  pub scan-few : length fs ≤ 64
+  pub scan-few : length fs ≤ maxFields
   unfolding sound
   scan-few =
-      let k : length (schema (scan t fs es)) ≤ 64 = leb-true (length (schema (scan t fs es))) maxFields
+      let k : length (schema (scan t fs es)) ≤ maxFields = leb-true (length (schema (scan t fs es))) maxFields
       (and-r _ _ (rule-sound eqb (scan t fs es) (h .rules))) in
       omega (arith, scan-width)
 

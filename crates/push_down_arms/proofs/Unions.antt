@@ -10,7 +10,7 @@ use lib.Dec.{eqb}
 use lib.ListN.{length, drop, length-drop}
 use lib.Seq.{drop-drop}
 use borrow.Author.Tests.{leb-true, eqb-true}
-use Rattle.image.specs.Limits.{maxList, maxFields, workBytes}
+use Rattle.image.specs.Limits.{maxList, maxFields, workBytes, maxBelow}
 use Rattle.image.specs.Room.{Put, Wrote}
 use Rattle.image.specs.Tree.{Label, Forest, none, node, Tree, Deep, At}
 use Rattle.image.proofs.Room.{Left, put-start, left-next, left-end}
@@ -101,7 +101,7 @@ none-more {ns} {e} {all} {out₀} {at₀} {level} {out} {to} h = go (h .rest) (h
     go (pcons p ps) i k = let z : _≡_ {A = ℕ} 0 1 = cc in absurd (omega arith)
 
 module _ {s : List ℕ} {x : ℕ} {p : Predicate} {e : Expr} {ps : Plans} (h : Rests s x p e (union ps)) where
-  pub union-few : length (schema (union ps)) ≤ 64
+  pub union-few : length (schema (union ps)) ≤ maxFields
   unfolding sound
   union-few = leb-true (length (schema (union ps))) maxFields (and-r _ _ (rule-sound eqb (union ps) (h .placed .rules)))
 
@@ -127,9 +127,9 @@ pub record Spread (s : List ℕ) (x : ℕ) (from : Fields) (below : Predicate) (
   pub short : length s ≤ workBytes
   pub standing : StandingP s x (union ps)
   pub names : Names from (schema (union ps))
-  pub few : length (schema (union ps)) ≤ 64
+  pub few : length (schema (union ps)) ≤ maxFields
   pub wide : ok-all (length (schema (union ps))) ps ≡ true
-  pub most : below .list .len ≤ 128
+  pub most : below .list .len ≤ maxList
   pub changed : (σ : Name → Expr) → Perhaps s σ below (some (replace-cols σ e))
 
 module _ {s : List ℕ} {x : ℕ} {from : Fields} {below : Predicate} {e : Expr} {ps : Plans} (h : Spread s x from below e ps) where
@@ -148,7 +148,7 @@ module _ {s : List ℕ} {x : ℕ} {from : Fields} {below : Predicate} {e : Expr}
   -- the first of those that are left may be written
   pub renames-first : {out₀ : List ℕ} {at₀ level : ℕ} {out : List ℕ} {to y : ℕ} {l : Label} {cs f : Forest}
       (k : First (schema (union ps)) e ps out₀ at₀ level out to l cs f) → x < y
-      → At (record { label = l; below = cs }) (drop (32 * (y - x)) (drop (32 * x) s)) y → Deep cs 255
+      → At (record { label = l; below = cs }) (drop (32 * (y - x)) (drop (32 * x) s)) y → Deep cs maxBelow
       → Renamed s from below y e (k .plan) (schema (union ps))
   renames-first {y = y} {l} {cs} k past here deep =
       let i : 32 * x + 32 * (y - x) ≡ 32 * y = omega arith in
@@ -169,7 +169,7 @@ module _ {s : List ℕ} {x : ℕ} {from : Fields} {below : Predicate} {e : Expr}
       }
 
 pub spread-of : {s : List ℕ} {x : ℕ} {p : Predicate} {from : Fields} {below : Predicate} {e : Expr} {ps : Plans} → Rests s x p e (union ps)
-    → Names from (schema (union ps)) → below .list .len ≤ 128 → ((σ : Name → Expr) → Perhaps s σ below (some (replace-cols σ e)))
+    → Names from (schema (union ps)) → below .list .len ≤ maxList → ((σ : Name → Expr) → Perhaps s σ below (some (replace-cols σ e)))
     → Spread s x from below e ps
 spread-of h n m c = record {
   short = h .placed .short;

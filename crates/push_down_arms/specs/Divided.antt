@@ -4,12 +4,13 @@ use mathlib.Core.Bool.{not}
 use mathlib.Core.List.{List, [], _∷_, map}
 use Prim.Native.Nat.{ℕ, _≤_}
 use lib.ListN.{length}
+use Rattle.image.specs.Limits.{maxList}
 use Rattle.plan.specs.Lists.{flat, All}
 use Rattle.plan.specs.Syntax.{Name, Expr, Entry, AggEntry, WinEntry, Plan, project, aggregate, window}
 use Rattle.rewrite.specs.Utils.{replace-cols, split-conjunction, with-filters, is-empty}
 use Rattle.rewrite.specs.PushDownFilter.{Transformed}
 use Rattle.conjuncts.specs.Items.{Conjuncts, Lists}
-use Rattle.writing.proofs.Maps.{mapOf}
+use Rattle.writing.specs.Maps.{mapOf}
 use Rattle.push_down_base.specs.Predicates.{Predicate}
 use Rattle.push_down_base.specs.Arms.{Placed, Rests, Takes}
 use Rattle.push_down_arms.specs.declared.push_some.Divided as declared
@@ -25,10 +26,10 @@ Singles es = All (λ e. split-conjunction e ≡ e ∷ []) es
 -- of d the list us stays above and ds moves down: both whole, and of conjuncts
 pub record Divides (s : List ℕ) (d : Divided) (us ds : List Expr) : Type 0 where
   pub kept : Lists s (d .kept) us
-  pub kept-most : d .kept .len ≤ 128
+  pub kept-most : d .kept .len ≤ maxList
   pub kept-single : Singles us
   pub moved : Lists s (d .moved) ds
-  pub moved-most : d .moved .len ≤ 128
+  pub moved-most : d .moved .len ≤ maxList
   pub moved-single : Singles ds
 
 -- us above the plan f q, and ds below it, over the expressions that its entries name
@@ -52,7 +53,7 @@ pub record Dividing (s : List ℕ) (x : ℕ) (d : Divided) : Type 0 where
 abbrev pub parts : (Name → Expr) → List Expr → ℕ
 parts σ es = length (flat (λ e. split-conjunction (replace-cols σ e)) es)
 
--- the list c has k items, or 129 where k is more
+-- the list c has k items, or `tooMany` where k is more
 pub record Counts (s : List ℕ) (c : Conjuncts) (k : ℕ) : Type 0 where
   pub exprs : List Expr
   pub lists : Lists s c exprs

@@ -2,6 +2,7 @@
 use mathlib.Core.Bool.{Bool, true, false, not, _&&_, _||_, cond}
 use lib.Dec.{eqb}
 use Rattle.image.specs.Tree.{Label, Forest, none, node, Tree}
+use Rattle.plan.specs.Kinds.{numberE, numberP, numberQ, Function, Aggregate, EntryPart, WinPart}
 use Rattle.plan.specs.Syntax.{Name}
 use Rattle.plan.specs.Trees.{qualifier, ident}
 use Rattle.conjuncts.specs.Functions.{marked, fnIn}
@@ -11,7 +12,7 @@ use Rattle.writing.specs.Replaced.{isEntry, lookup}
 
 -- the record is a leafward function
 abbrev pub leafHere : Label → Bool
-leafHere l = eqb (l .kind) 10 && (eqb (l .q) 2 || eqb (l .q) 3)
+leafHere l = eqb (l .kind) (numberE Function) && (eqb (l .q) 2 || eqb (l .q) 3)
 
 -- the first of a forest is
 abbrev pub leafFirst : Forest → Bool
@@ -40,9 +41,12 @@ partitionIn x (node l cs ns) = namedIn x ns
 
 -- ---- a plan
 
--- a part of a plan lets the field pass: an entry of a Window that is partitioned by it, an entry of its name that is not fixed, any other part
+-- a part of a plan lets the field pass: an entry of a Window that is partitioned by it, an entry of its name that is not fixed, any other
+-- part
 unfoldable pub lets : Name → Tree → Bool
-lets x t = cond (eqb (t .label .kind) 53) (partitionIn x (t .below)) (cond (isEntry (t .label) (qualifier x) (ident x)) (not (fixed t)) true)
+lets x t =
+    cond (eqb (t .label .kind) (numberQ WinPart)) (partitionIn x (t .below))
+    (cond (isEntry (t .label) (qualifier x) (ident x)) (not (fixed t)) true)
 
 -- each part does
 unfoldable pub letsAll : Name → Forest → Bool
@@ -56,9 +60,10 @@ isSome (node l cs ns) = true
 
 -- a conjunct that reads the field may move: the field is a group entry of an Aggregate; each part of any other plan lets it pass
 unfoldable pub mayMove : Tree → Name → Bool
-mayMove t x = cond (eqb (t .label .kind) 42) (isSome (lookup (t .below) (qualifier x) (ident x))) (letsAll x (t .below))
+mayMove t x =
+    cond (eqb (t .label .kind) (numberP Aggregate)) (isSome (lookup (t .below) (qualifier x) (ident x))) (letsAll x (t .below))
 
 -- the first part is an entry: an Aggregate has groups
 abbrev pub entryFirst : Forest → Bool
 entryFirst none = false
-entryFirst (node l cs ns) = eqb (l .kind) 49
+entryFirst (node l cs ns) = eqb (l .kind) (numberQ EntryPart)

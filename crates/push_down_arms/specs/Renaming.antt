@@ -4,6 +4,7 @@ use mathlib.Core.List.{List}
 use mathlib.Core.Option.{some}
 use Prim.Native.Nat.{ℕ, _≤_}
 use lib.ListN.{length}
+use Rattle.image.specs.Limits.{maxFields, maxList}
 use Rattle.plan.specs.Syntax.{Name, Expr, Plan}
 use Rattle.plan.specs.Schema.{schema}
 use Rattle.rewrite.specs.Utils.{replace-cols}
@@ -16,8 +17,8 @@ pub record Renamed (s : List ℕ) (from : Fields) (p : Predicate) (y : ℕ) (e :
   pub standing : StandingP s y q
   pub names : Names from ns
   pub wide : length ns ≡ length (schema q)
-  pub few : length ns ≤ 64
-  pub most : p .list .len ≤ 128
+  pub few : length ns ≤ maxFields
+  pub most : p .list .len ≤ maxList
   pub changed : (σ : Name → Expr) → Perhaps s σ p (some (replace-cols σ e))
 
 pub record Renaming (s : List ℕ) (from : Fields) (p : Predicate) (y : ℕ) : Type 0 where

@@ -5,6 +5,7 @@ use mathlib.Core.List.{List, [], _∷_, _++_}
 use Prim.Native.Nat.{ℕ}
 use lib.ListN.{length}
 use Rattle.image.specs.Tree.{Label}
+use Rattle.plan.specs.Kinds.{numberQ, FieldPart}
 use Rattle.plan.specs.Columns.{on-cols}
 use Rattle.plan.specs.Lists.{_&_}
 use Rattle.plan.specs.Syntax.{Name, Expr, Field, scan}
@@ -26,7 +27,7 @@ supports t e = not (no-columns e) & on-cols t e
 
 -- of a record with the label l and the number n: a field adds nothing to the list ds, which becomes r, and an expression itself
 pub record Adds (s : List ℕ) (l : Label) (n : ℕ) (r : Conjuncts) (ds : List Expr) : Type 0 where
-  pub field : l .kind ≡ 48 → Lists s r ds
+  pub field : l .kind ≡ numberQ FieldPart → Lists s r ds
   pub filter : (e : Expr) → l ≡ labelE e → Item s n e → Lists s r (ds ++ (e ∷ []))
 
 -- of the conjuncts of e a scan of the k fields fs takes one list, and leaves the other

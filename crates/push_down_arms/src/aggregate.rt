@@ -4,6 +4,7 @@ use crate::push_some::divide;
 use crate::push_some::push_some;
 use conjuncts::lists::empty;
 use image::records::FIRST_LINK;
+use image::records::KIND;
 use image::records::from_record;
 use image::records::record_at;
 use image::words::word_at;
@@ -12,13 +13,11 @@ use push_down_base::predicates::Predicate;
 use push_down_base::predicates::Written;
 ghost use mathlib.Core.Path.{_≡_};
 ghost use mathlib.Core.List.{List};
-ghost use Prim.Native.Nat.{_<_, _≤_, ℕ};
-ghost use lib.ListN.{length};
-ghost use Rattle.image.specs.Limits.{workBytes};
+ghost use Prim.Native.Nat.{ℕ};
 ghost use Rattle.image.specs.Tree.{At, Readable, Tree};
 ghost use Rattle.plan.specs.Syntax.{AggEntry, Entry, Expr, Plan, aggregate};
 ghost use Rattle.rewrite.specs.PushDownFilter.{in-groups, move, rewrite-filter, stay};
-ghost use Rattle.push_down_base.specs.Arms.{Answers, Rests};
+ghost use Rattle.push_down_base.specs.Arms.{Answers, Arm, Rests};
 ghost use Rattle.push_down_arms.specs.Divided.{Divides, OverAggregate};
 ghost use Rattle.push_down_arms.specs.Movable.{entryFirst};
 
@@ -31,7 +30,7 @@ fn has_groups(part: &[u8], base: usize) -> bool
     if first == 0 {
         return false;
     }
-    word_at(from_record(part, base, first), 0) == ENTRY
+    word_at(from_record(part, base, first), KIND) == ENTRY
 }
 
 // Parts them over an Aggregate: without group entries nothing moves, not even a conjunct without columns.
@@ -60,7 +59,7 @@ pub fn rewrite_aggregate(
     level: usize,
 ) -> Written
     requires { ⌜ OverAggregate (now s) x p ⌝ }
-    requires { ⌜ (level < 3000) × (length (now out) ≡ workBytes) × (at ≤ 2049) ⌝ }
+    requires { ⌜ Arm (now out) at level ⌝ }
     ensures { λ r. ⌜ ((e : Expr) (gs : List Entry) (ags : List AggEntry) (q : Plan) → Rests (now (s .entry)) x p e (aggregate gs ags q) →
         Answers (now (out .entry)) (now (out .exit)) at level r (rewrite-filter e (aggregate gs ags q))) ⌝ }
 {

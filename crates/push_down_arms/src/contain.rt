@@ -2,12 +2,17 @@
 // leafward, an Aggregate's groups, and those by which every entry of a Window is partitioned (expr_columns, 1425).
 use conjuncts::volatility::has_function;
 use image::records::FIRST_LINK;
+use image::records::KIND;
 use image::records::NEXT_LINK;
+use image::records::P;
+use image::records::Q;
 use image::records::from_record;
 use image::words::word_at;
 use plan::kinds::AGGREGATE;
 use plan::kinds::FUNCTION;
 use plan::kinds::WINDOW_ENTRY;
+use plan::words::LEAFWARD;
+use plan::words::VOLATILE_LEAFWARD;
 use utils::schema_columns::Fields;
 use utils::schema_columns::n_at;
 use utils::schema_columns::q_at;
@@ -16,8 +21,9 @@ use writing::replace_cols_by_name::find;
 use writing::replace_cols_by_name::is_entry;
 ghost use mathlib.Core.Path.{_≡_};
 ghost use mathlib.Core.List.{List};
-ghost use Prim.Native.Nat.{_≤_};
+ghost use Prim.Native.Nat.{_≤_, ℕ};
 ghost use lib.ListN.{length};
+ghost use Rattle.image.specs.Limits.{maxFields};
 ghost use Rattle.image.specs.Tree.{At, Readable, Tree, labelAt};
 ghost use Rattle.plan.specs.Syntax.{Name, nm};
 ghost use Rattle.utils.specs.Fields.{Names};
@@ -29,8 +35,8 @@ fn is_leafward(part: &[u8]) -> bool
     requires { ⌜ 32 ≤ length (now part) ⌝ }
     ensures { λ r. ⌜ r ≡ leafHere (labelAt (now (part .entry))) ⌝ }
 {
-    let marks = word_at(part, 8);
-    (word_at(part, 0) == FUNCTION) & ((marks == 2) | (marks == 3))
+    let marks = word_at(part, Q);
+    (word_at(part, KIND) == FUNCTION) & ((marks == LEAFWARD) | (marks == VOLATILE_LEAFWARD))
 }
 
 // Whether the expression of the entry at the start of `part` is volatile or leafward.
@@ -53,12 +59,12 @@ fn is_named(part: &[u8], q: usize, n: usize) -> bool
     requires { ⌜ 32 ≤ length (now part) ⌝ }
     ensures { λ r. ⌜ r ≡ isNamed (nm q n) (labelAt (now (part .entry))) ⌝ }
 {
-    (word_at(part, 4) == q) & (word_at(part, 8) == n)
+    (word_at(part, P) == q) & (word_at(part, Q) == n)
 }
 
 // Whether the entry of a Window at the start of `part` is partitioned by the column.
-fn has_partition(part: &[u8], base: usize, depth: usize, q: usize, n: usize) -> bool
-    requires { ⌜ Readable depth (now part) base ⌝ }
+fn has_partition(part: &[u8], base: usize, q: usize, n: usize) -> bool
+    requires { ⌜ ((d : ℕ) × Readable d (now part) base) ⌝ }
     ensures { λ r. ⌜ ((t : Tree) → At t (now (part .entry)) base → r ≡ partitionIn (nm q n) (t .below)) ⌝ }
 {
     let first = word_at(part, FIRST_LINK);
@@ -81,8 +87,8 @@ fn lets_pass(part: &[u8], base: usize, depth: usize, q: usize, n: usize) -> bool
     requires { ⌜ Readable depth (now part) base ⌝ }
     ensures { λ r. ⌜ ((t : Tree) → At t (now (part .entry)) base → r ≡ lets (nm q n) t) ⌝ }
 {
-    if word_at(part, 0) == WINDOW_ENTRY {
-        return has_partition(part, base, depth, q, n);
+    if word_at(part, KIND) == WINDOW_ENTRY {
+        return has_partition(part, base, q, n);
     }
     if is_entry(part, q, n) {
         return !is_fixed(part, base, depth);
@@ -111,8 +117,8 @@ fn may_move(part: &[u8], base: usize, depth: usize, q: usize, n: usize) -> bool
     requires { ⌜ Readable depth (now part) base ⌝ }
     ensures { λ r. ⌜ ((t : Tree) → At t (now (part .entry)) base → r ≡ mayMove t (nm q n)) ⌝ }
 {
-    if word_at(part, 0) == AGGREGATE {
-        return find(part, base, depth, q, n) != 0;
+    if word_at(part, KIND) == AGGREGATE {
+        return find(part, base, q, n) != 0;
     }
     all_let_pass(part, base, depth, q, n)
 }
@@ -120,7 +126,7 @@ fn may_move(part: &[u8], base: usize, depth: usize, q: usize, n: usize) -> bool
 // The places of the fields with which a conjunct may move below the plan at the start of `part`.
 pub fn movable(part: &[u8], base: usize, depth: usize, fields: Fields) -> u64
     requires { ⌜ Readable depth (now part) base ⌝ }
-    requires { ⌜ fields .len ≤ 64 ⌝ }
+    requires { ⌜ fields .len ≤ maxFields ⌝ }
     ensures { λ r. ⌜ ((t : Tree) (ns : List Name) → At t (now (part .entry)) base → Names fields ns → Masks r ns (mayMove t)) ⌝ }
 {
     let len = fields.len;

@@ -4,14 +4,10 @@ use crate::push_some::push_some;
 use crate::through::keep_filter;
 use push_down_base::predicates::Predicate;
 use push_down_base::predicates::Written;
-ghost use mathlib.Core.Path.{_≡_};
 ghost use mathlib.Core.List.{List};
-ghost use Prim.Native.Nat.{_<_, _≤_};
-ghost use lib.ListN.{length};
-ghost use Rattle.image.specs.Limits.{workBytes};
 ghost use Rattle.plan.specs.Syntax.{Entry, Expr, Plan, project};
 ghost use Rattle.rewrite.specs.PushDownFilter.{rewrite-filter};
-ghost use Rattle.push_down_base.specs.Arms.{Answers, Rests};
+ghost use Rattle.push_down_base.specs.Arms.{Answers, Arm, Rests};
 ghost use Rattle.push_down_arms.specs.Divided.{OverProjection};
 
 // Filter over Projection: what reads no volatile or leafward entry moves; if nothing does, the Filter stays as it is.
@@ -24,7 +20,7 @@ pub fn rewrite_projection(
     level: usize,
 ) -> Written
     requires { ⌜ OverProjection (now s) x p ⌝ }
-    requires { ⌜ (level < 3000) × (length (now out) ≡ workBytes) × (at ≤ 2049) ⌝ }
+    requires { ⌜ Arm (now out) at level ⌝ }
     ensures { λ r. ⌜ ((e : Expr) (es : List Entry) (q : Plan) → Rests (now (s .entry)) x p e (project es q) →
         Answers (now (out .entry)) (now (out .exit)) at level r (rewrite-filter e (project es q))) ⌝ }
 {

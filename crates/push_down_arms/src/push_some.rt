@@ -20,10 +20,10 @@ use utils::schema_columns::schema_at;
 use writing::replace_cols_by_name::value_for;
 ghost use mathlib.Core.Path.{_≡_};
 ghost use mathlib.Core.List.{_∷_, List, []};
-ghost use Prim.Native.Nat.{_+_, _<_, _≤_, ℕ};
+ghost use Prim.Native.Nat.{_+_, _≤_, ℕ};
 ghost use lib.Dec.{ltb};
 ghost use lib.ListN.{length};
-ghost use Rattle.image.specs.Limits.{workBytes};
+ghost use Rattle.image.specs.Limits.{maxList, workBytes};
 ghost use Rattle.plan.specs.Columns.{on-cols};
 ghost use Rattle.plan.specs.Syntax.{Expr, Plan};
 ghost use Rattle.plan.specs.Trees.{planTree};
@@ -31,9 +31,9 @@ ghost use Rattle.rewrite.specs.PushDownFilter.{move, stay};
 ghost use Rattle.rewrite.specs.Utils.{replace-cols, split-conjunction};
 ghost use Rattle.conjuncts.specs.Items.{Item, Known, Lists, Present};
 ghost use Rattle.conjuncts.specs.Standing.{StandingP};
-ghost use Rattle.writing.proofs.Maps.{mapOf};
+ghost use Rattle.writing.specs.Maps.{mapOf};
 ghost use Rattle.writing.specs.Plans.{ThereP};
-ghost use Rattle.push_down_base.specs.Arms.{Answers, Placed, Resting, Rests, Takes};
+ghost use Rattle.push_down_base.specs.Arms.{Answers, Arm, Placed, Resting, Rests, Takes};
 ghost use Rattle.push_down_arms.specs.Divided.{Counts, Divides, Dividing, Singles, parts, pushed};
 ghost use Rattle.push_down_arms.specs.Movable.{mayMove};
 
@@ -47,13 +47,14 @@ pub struct Divided {
 fn add_replaced(s: &[u8], x: usize, n: usize, c: Conjuncts) -> Conjuncts
     requires { ⌜ Present (now s) n × ThereP (now s) x ⌝ }
     requires { ⌜ length (now s) ≤ workBytes ⌝ }
-    ensures { λ r. ⌜ ((e : Expr) (p : Plan) (k : ℕ) → Item (now (s .entry)) n e → split-conjunction e ≡ e ∷ [] → StandingP (now (s .entry)) x p →
+    ensures { λ r. ⌜ ((e : Expr) (p : Plan) (k : ℕ) → Item (now (s .entry)) n e → split-conjunction e ≡ e ∷ [] →
+        StandingP (now (s .entry)) x p →
         Counts (now (s .entry)) c k → Counts (now (s .entry)) r (k + length (split-conjunction (replace-cols (mapOf p) e)))) ⌝ }
 {
     if n == 0 {
         return add(c, 0);
     }
-    let value = value_for(record_at(s, n), record_at(s, x), x, MAX_DEPTH);
+    let value = value_for(record_at(s, n), record_at(s, x), x);
     if value == 0 {
         return add(c, n);
     }
@@ -65,7 +66,7 @@ fn is_over(s: &[u8], x: usize, c: Conjuncts) -> bool
     requires { ⌜ Known (now s) c × ThereP (now s) x ⌝ }
     requires { ⌜ length (now s) ≤ workBytes ⌝ }
     ensures { λ r. ⌜ ((es : List Expr) (p : Plan) → Lists (now (s .entry)) c es → Singles es → StandingP (now (s .entry)) x p →
-        r ≡ ltb 128 (parts (mapOf p) es)) ⌝ }
+        r ≡ ltb maxList (parts (mapOf p) es)) ⌝ }
 {
     let n = c.len;
     let mut r = empty();
@@ -93,10 +94,11 @@ pub fn divide(s: &[u8], x: usize, p: Predicate) -> Divided
     }
 }
 
-// A Filter over a plan with one input: what moves goes below, over the expressions that the plan's entries name, and what stays is joined anew.
+// A Filter over a plan with one input: what moves goes below, over the expressions that the plan's entries name, and what stays is joined
+// anew.
 pub fn push_some(s: &[u8], x: usize, d: Divided, out: &mut [u8], at: usize, level: usize) -> Written
     requires { ⌜ Dividing (now s) x d ⌝ }
-    requires { ⌜ (level < 3000) × (length (now out) ≡ workBytes) × (at ≤ 2049) ⌝ }
+    requires { ⌜ Arm (now out) at level ⌝ }
     ensures { λ r. ⌜ ((f : Plan → Plan) (q : Plan) (us ds : List Expr) → Placed (now (s .entry)) x (f q) → Takes (now (s .entry)) x f q →
         Divides (now (s .entry)) d us ds → Answers (now (out .entry)) (now (out .exit)) at level r (pushed f q us ds)) ⌝ }
 {
@@ -111,7 +113,7 @@ pub fn push_some(s: &[u8], x: usize, d: Divided, out: &mut [u8], at: usize, leve
         };
     }
     let part = record_at(s, x);
-    let y = last_child(part, x, MAX_DEPTH);
+    let y = last_child(part, x);
     let above = Predicate {
         written: 0,
         list: kept,

@@ -8,6 +8,7 @@ use push_down_base::predicates::Predicate;
 ghost use mathlib.Core.List.{List, map};
 ghost use mathlib.Core.Option.{some};
 ghost use Prim.Native.Nat.{_≤_, ℕ};
+ghost use Rattle.image.specs.Limits.{maxList};
 ghost use Rattle.plan.specs.Syntax.{Expr, Name};
 ghost use Rattle.rewrite.specs.Utils.{replace-cols};
 ghost use Rattle.conjuncts.specs.Items.{Lists};
@@ -33,7 +34,8 @@ pub fn changed(c: Conjuncts) -> Conjuncts
 // A predicate, its columns to be replaced.
 pub fn changed_predicate(p: Predicate) -> Predicate
     requires { ⌜ Shapely p ⌝ }
-    ensures { λ r. ⌜ (r .list .len ≤ 128) × ((s : List ℕ) (σ : Name → Expr) (e : Expr) → Shaped s p e → Perhaps s σ r (some (replace-cols σ e))) ⌝ }
+    ensures { λ r. ⌜ (r .list .len ≤ maxList) × ((s : List ℕ) (σ : Name → Expr) (e : Expr) → Shaped s p e →
+        Perhaps s σ r (some (replace-cols σ e))) ⌝ }
 {
     let list = p.list;
     if p.written == 0 {

@@ -12,15 +12,15 @@ use writing::make_filter::make_filter;
 use writing::renames::write_renames;
 ghost use mathlib.Core.Path.{_≡_};
 ghost use mathlib.Core.List.{List};
-ghost use Prim.Native.Nat.{_<_, _≤_, ℕ};
+ghost use Prim.Native.Nat.{_≤_, ℕ};
 ghost use lib.ListN.{length};
-ghost use Rattle.image.specs.Limits.{workBytes};
+ghost use Rattle.image.specs.Limits.{Shallow, mapBytes, workBytes};
 ghost use Rattle.image.specs.Room.{Wrote};
 ghost use Rattle.plan.specs.Schema.{schema};
 ghost use Rattle.plan.specs.Syntax.{Expr, Name, Plan, alias, filter};
 ghost use Rattle.plan.specs.Trees.{planTree};
 ghost use Rattle.rewrite.specs.PushDownFilter.{renamed, rewrite-filter};
-ghost use Rattle.push_down_base.specs.Arms.{Answers, OverAlias, Rests};
+ghost use Rattle.push_down_base.specs.Arms.{Answers, ArmOver, OverAlias, Rests};
 ghost use Rattle.push_down_arms.specs.Renaming.{Renamed, Renaming};
 
 // Writes the plan at record y under a Filter, whose columns get the names of the plan's own fields in the places of those of `from`.
@@ -35,7 +35,7 @@ pub fn copy_renamed(
     level: usize,
 ) -> usize
     requires { ⌜ Renaming (now s) from p y ⌝ }
-    requires { ⌜ (4128 ≤ length (now m)) × (level < 3100) × (length (now out) ≡ workBytes) ⌝ }
+    requires { ⌜ (mapBytes ≤ length (now m)) × Shallow 4 level × (length (now out) ≡ workBytes) ⌝ }
     ensures { λ r. ⌜ ((e : Expr) (q : Plan) (ns : List Name) → Renamed (now (s .entry)) from p y e q ns →
         Wrote (now (out .entry)) (now (out .exit)) at level r (planTree (filter (renamed ns (schema q) e) q))) ⌝ }
 {
@@ -56,7 +56,7 @@ pub fn rewrite_subquery_alias(
     level: usize,
 ) -> Written
     requires { ⌜ OverAlias (now s) x p ⌝ }
-    requires { ⌜ (4128 ≤ length (now m)) × (level < 3000) × (length (now out) ≡ workBytes) × (at ≤ 2049) ⌝ }
+    requires { ⌜ ArmOver (now m) (now out) at level ⌝ }
     ensures { λ r. ⌜ ((e : Expr) (i : ℕ) (q : Plan) → Rests (now (s .entry)) x p e (alias i q) →
         Answers (now (out .entry)) (now (out .exit)) at level r (rewrite-filter e (alias i q))) ⌝ }
 {

@@ -13,12 +13,15 @@ use image::limits::MAX_DEPTH;
 use image::limits::MAX_LIST;
 use image::limits::NO_ROOM;
 use image::records::FIRST_LINK;
+use image::records::KIND;
+use image::records::LO;
 use image::records::NEXT_LINK;
 use image::records::from_record;
 use image::records::record_at;
 use image::words::word_at;
 use plan::kinds::FIELD;
 use plan::kinds::FILTER;
+use plan::words::MARKED;
 use push_down_base::predicates::Predicate;
 use push_down_base::predicates::Written;
 use utils::has_all_column_refs::columns_at;
@@ -34,8 +37,9 @@ ghost use mathlib.Core.Bool.{Bool, true};
 ghost use mathlib.Core.List.{_++_, List};
 ghost use Prim.Native.Nat.{_<_, _≤_, ℕ};
 ghost use lib.ListN.{length};
-ghost use Rattle.image.proofs.Relinking.{recsAny};
-ghost use Rattle.image.specs.Limits.{workBytes};
+ghost use Rattle.image.specs.Limits.{maxFields, maxRecords};
+ghost use Rattle.image.specs.Buffers.{BufferAt};
+ghost use Rattle.image.specs.Records.{recsAny};
 ghost use Rattle.image.specs.Room.{Wrote};
 ghost use Rattle.image.specs.Tree.{labelAt, none};
 ghost use Rattle.plan.specs.Columns.{on-cols};
@@ -49,15 +53,16 @@ ghost use Rattle.conjuncts.specs.Items.{Item, Known, Lists, Present};
 ghost use Rattle.utils.specs.Fields.{Names};
 ghost use Rattle.utils.specs.Masks.{Masks};
 ghost use Rattle.writing.specs.Plans.{ThereP};
-ghost use Rattle.push_down_base.specs.Arms.{Answers, Placed, Rests};
+ghost use Rattle.push_down_base.specs.Arms.{Answers, Arm, Placed, Rests};
 ghost use Rattle.push_down_base.specs.Around.{WroteAll};
 ghost use Rattle.push_down_arms.specs.Scans.{Adds, OverScan, Shares, SomeScan, supports, told};
 
 // The scan's answer to the conjunct n: it takes one that has a column if all its columns are marked.
 pub fn supports_filters_pushdown(s: &[u8], n: usize, fields: Fields, marked: u64) -> bool
     requires { ⌜ Present (now s) n ⌝ }
-    requires { ⌜ fields .len ≤ 64 ⌝ }
-    ensures { λ r. ⌜ ((e : Expr) (ns : List Name) (t : Name → Bool) → Item (now (s .entry)) n e → Names fields ns → on-cols (has ns) e ≡ true →
+    requires { ⌜ fields .len ≤ maxFields ⌝ }
+    ensures { λ r. ⌜ ((e : Expr) (ns : List Name) (t : Name → Bool) → Item (now (s .entry)) n e → Names fields ns →
+        on-cols (has ns) e ≡ true →
         Masks marked ns t → r ≡ supports t e) ⌝ }
 {
     let columns = columns_at(s, n, fields);
@@ -88,7 +93,7 @@ fn add_volatile(s: &[u8], into: Conjuncts, c: Conjuncts, volatile: bool) -> Conj
 // The conjuncts of c that the scan takes, or those that it leaves.
 fn select_supported(s: &[u8], c: Conjuncts, fields: Fields, marked: u64, taken: bool) -> Conjuncts
     requires { ⌜ Known (now s) c ⌝ }
-    requires { ⌜ fields .len ≤ 64 ⌝ }
+    requires { ⌜ fields .len ≤ maxFields ⌝ }
     ensures { λ r. ⌜ ((es : List Expr) (ns : List Name) (t : Name → Bool) → Lists (now (s .entry)) c es → Names fields ns →
         All (λ e. on-cols (has ns) e ≡ true) es → Masks marked ns t → Lists (now (s .entry)) r (keep (told taken (supports t)) es)) ⌝ }
 {
@@ -114,7 +119,7 @@ fn marked_fields(s: &[u8], x: usize, k: usize) -> u64
     let mut i = 0;
     while i < k {
         let field = record_at(s, x + 1 + i);
-        set = mark(set, i, word_at(field, 16) == 1);
+        set = mark(set, i, word_at(field, LO) == MARKED);
         i += 1;
     }
     set
@@ -150,10 +155,10 @@ pub fn share_of(s: &[u8], x: usize, p: Predicate) -> Share
 
 // Appends the child at the start of `part`, which has the number n, unless it is a field.
 fn add_filter(c: Conjuncts, part: &[u8], n: usize) -> Conjuncts
-    requires { ⌜ (32 ≤ length (now part)) × (n < 2048) ⌝ }
+    requires { ⌜ (32 ≤ length (now part)) × (n < maxRecords) ⌝ }
     ensures { λ r. ⌜ ((s : List ℕ) (ds : List Expr) → Lists s c ds → Adds s (labelAt (now (part .entry))) n r ds) ⌝ }
 {
-    if word_at(part, 0) == FIELD {
+    if word_at(part, KIND) == FIELD {
         return c;
     }
     add(c, n)
@@ -162,7 +167,8 @@ fn add_filter(c: Conjuncts, part: &[u8], n: usize) -> Conjuncts
 // The filters of the scan at record x: its children that are no fields.
 fn scan_filters(s: &[u8], x: usize) -> Conjuncts
     requires { ⌜ ((k : ℕ) × SomeScan (now s) x k) ⌝ }
-    ensures { λ r. ⌜ ((t : ℕ) (fs : List Field) (es : List Expr) → Placed (now (s .entry)) x (scan t fs es) → Lists (now (s .entry)) r es) ⌝ }
+    ensures { λ r. ⌜ ((t : ℕ) (fs : List Field) (es : List Expr) → Placed (now (s .entry)) x (scan t fs es) →
+        Lists (now (s .entry)) r es) ⌝ }
 {
     let part = record_at(s, x);
     let mut r = empty();
@@ -178,7 +184,7 @@ fn scan_filters(s: &[u8], x: usize) -> Conjuncts
 // Writes the items of a list, one after another. None has its columns replaced: the plan at record x serves as the map.
 fn copy_items(s: &[u8], x: usize, c: Conjuncts, out: &mut [u8], at: usize, level: usize) -> usize
     requires { ⌜ Known (now s) c × ThereP (now s) x ⌝ }
-    requires { ⌜ (level < 3500) × (length (now out) ≡ workBytes) × (at ≤ 2049) ⌝ }
+    requires { ⌜ BufferAt 2 level (now out) at ⌝ }
     ensures { λ r. ⌜ ((es : List Expr) → Lists (now (s .entry)) c es →
         WroteAll (now (out .entry)) (now (out .exit)) at r (recsAny level (each labelE kidsE es none))) ⌝ }
 {
@@ -204,7 +210,7 @@ fn write_scan(
     level: usize,
 ) -> usize
     requires { ⌜ SomeScan (now s) x k × Known (now s) filters ⌝ }
-    requires { ⌜ (level < 3400) × (length (now out) ≡ workBytes) × (at ≤ 2049) ⌝ }
+    requires { ⌜ BufferAt 3 level (now out) at ⌝ }
     ensures { λ r. ⌜ ((t : ℕ) (fs : List Field) (es ys : List Expr) → Placed (now (s .entry)) x (scan t fs es) → k ≡ length fs →
         Lists (now (s .entry)) filters ys → Wrote (now (out .entry)) (now (out .exit)) at level r (planTree (scan t fs ys))) ⌝ }
 {
@@ -225,7 +231,7 @@ fn write_filtered(
     level: usize,
 ) -> usize
     requires { ⌜ SomeScan (now s) x k × Known (now s) above × Known (now s) filters ⌝ }
-    requires { ⌜ (level < 3200) × (length (now out) ≡ workBytes) × (at ≤ 2049) ⌝ }
+    requires { ⌜ BufferAt 4 level (now out) at ⌝ }
     ensures { λ r. ⌜ ((t : ℕ) (fs : List Field) (es xs ys : List Expr) → Placed (now (s .entry)) x (scan t fs es) → k ≡ length fs →
         Lists (now (s .entry)) above xs → Lists (now (s .entry)) filters ys →
         Wrote (now (out .entry)) (now (out .exit)) at level r (planTree (with-filters xs (scan t fs ys)))) ⌝ }
@@ -249,7 +255,7 @@ pub fn rewrite_table_scan(
     level: usize,
 ) -> Written
     requires { ⌜ OverScan (now s) x p ⌝ }
-    requires { ⌜ (level < 3000) × (length (now out) ≡ workBytes) × (at ≤ 2049) ⌝ }
+    requires { ⌜ Arm (now out) at level ⌝ }
     ensures { λ r. ⌜ ((e : Expr) (t : ℕ) (fs : List Field) (es : List Expr) → Rests (now (s .entry)) x p e (scan t fs es) →
         Answers (now (out .entry)) (now (out .exit)) at level r (rewrite-filter e (scan t fs es))) ⌝ }
 {

@@ -3,21 +3,25 @@
 use crate::with_filters::write_over;
 use conjuncts::lists::empty;
 use image::limits::MAX_DEPTH;
+use image::records::KIND;
+use image::records::P;
 use image::records::record_at;
 use image::words::word_at;
+use plan::kinds::LIMIT;
+use plan::kinds::SORT;
+use plan::words::FETCHES;
 use push_down_base::inputs::last_child;
 use push_down_base::predicates::Predicate;
 use push_down_base::predicates::Written;
 use writing::make_filter::make_filter;
 ghost use mathlib.Core.Path.{_≡_};
 ghost use mathlib.Core.Bool.{true};
-ghost use Prim.Native.Nat.{_<_, _≤_};
+ghost use Prim.Native.Nat.{_≤_};
 ghost use lib.ListN.{length};
-ghost use Rattle.image.specs.Limits.{workBytes};
 ghost use Rattle.image.specs.Tree.{labelAt};
 ghost use Rattle.plan.specs.Syntax.{Expr, Plan, filter};
 ghost use Rattle.rewrite.specs.PushDownFilter.{Transformed·no, Transformed·yes, rewrite-filter};
-ghost use Rattle.push_down_base.specs.Arms.{Answers, Resting, Rests, Taken, Takes};
+ghost use Rattle.push_down_base.specs.Arms.{Answers, Arm, Resting, Rests, Taken, Takes};
 ghost use Rattle.push_down_arms.specs.Through.{OverThrough, takesNone, through};
 
 // Filter over a plan that takes nothing: both stay as they are.
@@ -30,7 +34,7 @@ pub fn keep_filter(
     level: usize,
 ) -> Written
     requires { ⌜ Resting (now s) x p ⌝ }
-    requires { ⌜ (level < 3000) × (length (now out) ≡ workBytes) × (at ≤ 2049) ⌝ }
+    requires { ⌜ Arm (now out) at level ⌝ }
     ensures { λ r. ⌜ ((e : Expr) (q : Plan) → Rests (now (s .entry)) x p e q →
         Answers (now (out .entry)) (now (out .exit)) at level r (Transformed·no (filter e q))) ⌝ }
 {
@@ -50,12 +54,12 @@ pub fn push_filter(
     level: usize,
 ) -> Written
     requires { ⌜ Taken (now s) x p ⌝ }
-    requires { ⌜ (level < 3000) × (length (now out) ≡ workBytes) × (at ≤ 2049) ⌝ }
+    requires { ⌜ Arm (now out) at level ⌝ }
     ensures { λ r. ⌜ ((e : Expr) (q : Plan) (f : Plan → Plan) → Rests (now (s .entry)) x p e (f q) → Takes (now (s .entry)) x f q →
         Answers (now (out .entry)) (now (out .exit)) at level r (Transformed·yes (f (filter e q)))) ⌝ }
 {
     let part = record_at(s, x);
-    let y = last_child(part, x, MAX_DEPTH);
+    let y = last_child(part, x);
     let nothing = Predicate {
         written: 0,
         list: empty(),
@@ -69,8 +73,8 @@ pub fn takes_none(part: &[u8]) -> bool
     requires { ⌜ 32 ≤ length (now part) ⌝ }
     ensures { λ r. ⌜ r ≡ takesNone (labelAt (now (part .entry))) ⌝ }
 {
-    let kind = word_at(part, 0);
-    (kind == 41) | ((kind == 39) & (word_at(part, 4) == 1))
+    let kind = word_at(part, KIND);
+    (kind == LIMIT) | ((kind == SORT) & (word_at(part, P) == FETCHES))
 }
 
 // Filter over Distinct, Sort, Repartition or Limit.
@@ -83,7 +87,7 @@ pub fn rewrite_through(
     level: usize,
 ) -> Written
     requires { ⌜ OverThrough (now s) x p ⌝ }
-    requires { ⌜ (level < 3000) × (length (now out) ≡ workBytes) × (at ≤ 2049) ⌝ }
+    requires { ⌜ Arm (now out) at level ⌝ }
     ensures { λ r. ⌜ ((e : Expr) (q : Plan) → Rests (now (s .entry)) x p e q → through q ≡ true →
         Answers (now (out .entry)) (now (out .exit)) at level r (rewrite-filter e q)) ⌝ }
 {

@@ -11,13 +11,9 @@ use push_down_base::predicates::Predicate;
 use push_down_base::predicates::Written;
 use utils::schema_columns::no_fields;
 use utils::schema_columns::schema_at;
-ghost use mathlib.Core.Path.{_≡_};
-ghost use Prim.Native.Nat.{_<_, _≤_};
-ghost use lib.ListN.{length};
-ghost use Rattle.image.specs.Limits.{workBytes};
 ghost use Rattle.plan.specs.Syntax.{Expr, Plans, union};
 ghost use Rattle.rewrite.specs.PushDownFilter.{rewrite-filter};
-ghost use Rattle.push_down_base.specs.Arms.{Answers, OverUnion, Rests};
+ghost use Rattle.push_down_base.specs.Arms.{Answers, ArmOver, OverUnion, Rests};
 
 // Filter over Union: each input gets the predicate, with the names of its own fields.
 pub fn rewrite_union(
@@ -30,7 +26,7 @@ pub fn rewrite_union(
     level: usize,
 ) -> Written
     requires { ⌜ OverUnion (now s) x p ⌝ }
-    requires { ⌜ (4128 ≤ length (now m)) × (level < 3000) × (length (now out) ≡ workBytes) ⌝ }
+    requires { ⌜ ArmOver (now m) (now out) at level ⌝ }
     ensures { λ r. ⌜ ((e : Expr) (ps : Plans) → Rests (now (s .entry)) x p e (union ps) →
         Answers (now (out .entry)) (now (out .exit)) at level r (rewrite-filter e (union ps))) ⌝ }
 {

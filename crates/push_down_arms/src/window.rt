@@ -3,14 +3,10 @@ use crate::push_some::divide;
 use crate::push_some::push_some;
 use push_down_base::predicates::Predicate;
 use push_down_base::predicates::Written;
-ghost use mathlib.Core.Path.{_≡_};
 ghost use mathlib.Core.List.{List};
-ghost use Prim.Native.Nat.{_<_, _≤_};
-ghost use lib.ListN.{length};
-ghost use Rattle.image.specs.Limits.{workBytes};
 ghost use Rattle.plan.specs.Syntax.{Expr, Plan, WinEntry, window};
 ghost use Rattle.rewrite.specs.PushDownFilter.{rewrite-filter};
-ghost use Rattle.push_down_base.specs.Arms.{Answers, Rests};
+ghost use Rattle.push_down_base.specs.Arms.{Answers, Arm, Rests};
 ghost use Rattle.push_down_arms.specs.Divided.{OverWindow};
 
 // Filter over Window: what reads partition columns of every entry moves.
@@ -23,7 +19,7 @@ pub fn rewrite_window(
     level: usize,
 ) -> Written
     requires { ⌜ OverWindow (now s) x p ⌝ }
-    requires { ⌜ (level < 3000) × (length (now out) ≡ workBytes) × (at ≤ 2049) ⌝ }
+    requires { ⌜ Arm (now out) at level ⌝ }
     ensures { λ r. ⌜ ((e : Expr) (ws : List WinEntry) (q : Plan) → Rests (now (s .entry)) x p e (window ws q) →
         Answers (now (out .entry)) (now (out .exit)) at level r (rewrite-filter e (window ws q))) ⌝ }
 {

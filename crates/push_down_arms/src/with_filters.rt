@@ -17,10 +17,11 @@ use writing::make_filter::make_filter;
 ghost use mathlib.Core.Path.{_≡_};
 ghost use mathlib.Core.List.{[]};
 ghost use mathlib.Core.Option.{Option};
-ghost use Prim.Native.Nat.{_+_, _<_, _≤_, ℕ};
+ghost use Prim.Native.Nat.{_+_, _≤_, ℕ};
 ghost use lib.ListN.{length};
-ghost use Rattle.image.proofs.Relinking.{recs};
-ghost use Rattle.image.specs.Limits.{workBytes};
+ghost use Rattle.image.specs.Buffers.{Buffer, BufferAt, BufferTo};
+ghost use Rattle.image.specs.Records.{recs};
+ghost use Rattle.image.specs.Limits.{noRoom, workBytes};
 ghost use Rattle.image.specs.Room.{Wrote};
 ghost use Rattle.image.specs.Tree.{At, Readable, Tree, labelAt};
 ghost use Rattle.plan.specs.Lists.{put};
@@ -36,7 +37,7 @@ ghost use Rattle.push_down_arms.specs.Over.{under};
 
 // Writes the label of the record at the start of `part`, if told.
 fn put_if(part: &[u8], out: &mut [u8], at: usize, level: usize, yes: bool) -> usize
-    requires { ⌜ (32 ≤ length (now part)) × (length (now out) ≡ workBytes) × (at ≤ 2049) ⌝ }
+    requires { ⌜ (32 ≤ length (now part)) × (length (now out) ≡ workBytes) × (at ≤ noRoom) ⌝ }
     ensures { λ r. ⌜ WroteAll (now (out .entry)) (now (out .exit)) at r (put yes (labelAt (now (part .entry)), level) []) ⌝ }
 {
     if yes {
@@ -57,7 +58,7 @@ pub fn copy_some(
     level: usize,
 ) -> usize
     requires { ⌜ Readable depth (now part) base ⌝ }
-    requires { ⌜ (level + depth < 4096) × (length (now out) ≡ workBytes) × (at ≤ 2049) ⌝ }
+    requires { ⌜ BufferTo depth level (now out) at ⌝ }
     ensures { λ r. ⌜ ((t : Tree) → At t (now (part .entry)) base →
         WroteAll (now (out .entry)) (now (out .exit)) at r (window first end base (recs level t))) ⌝ }
 {
@@ -89,7 +90,7 @@ pub fn with_filters(
 ) -> usize
     requires { ⌜ Writable (now s) (now m) of room p ⌝ }
     requires { ⌜ ThereP (now s) x ⌝ }
-    requires { ⌜ (level + room < 3500) × (length (now out) ≡ workBytes) ⌝ }
+    requires { ⌜ Buffer 3 (level + room) (now out) ⌝ }
     ensures { λ r. ⌜ ((σ : Name → Expr) → Maps (now (m .entry)) of room σ → (o : Option Expr) → Perhaps (now (s .entry)) σ p o →
         (q : Plan) → StandingP (now (s .entry)) x q → Wrote (now (out .entry)) (now (out .exit)) at level r (planTree (under o q))) ⌝ }
 {
@@ -116,7 +117,7 @@ fn write_below(
 ) -> usize
     requires { ⌜ Writable (now s) (now m) of room p ⌝ }
     requires { ⌜ ThereP (now s) x × ThereP (now s) y ⌝ }
-    requires { ⌜ (level + room < 3400) × (length (now out) ≡ workBytes) × (at ≤ 2049) ⌝ }
+    requires { ⌜ BufferAt 4 (level + room) (now out) at ⌝ }
     ensures { λ r. ⌜ ((σ : Name → Expr) → Maps (now (m .entry)) of room σ → (o : Option Expr) → Perhaps (now (s .entry)) σ p o →
         (f : Plan → Plan) (q : Plan) (k : ℕ) → Frame f k → y ≡ x + k → StandingP (now (s .entry)) x (f q) → StandingP (now (s .entry)) y q →
         Wrote (now (out .entry)) (now (out .exit)) at level r (planTree (f (under o q)))) ⌝ }
@@ -142,7 +143,7 @@ pub fn write_over(
 ) -> usize
     requires { ⌜ Writable (now s) (now m) of room above × Writable (now s) (now m) of room below ⌝ }
     requires { ⌜ ThereP (now s) x × ThereP (now s) y ⌝ }
-    requires { ⌜ (level + room < 3300) × (length (now out) ≡ workBytes) × (at ≤ 2049) ⌝ }
+    requires { ⌜ BufferAt 5 (level + room) (now out) at ⌝ }
     ensures { λ r. ⌜ ((σ : Name → Expr) → Maps (now (m .entry)) of room σ → (a b : Option Expr) → Perhaps (now (s .entry)) σ above a →
         Perhaps (now (s .entry)) σ below b → (f : Plan → Plan) (q : Plan) (k : ℕ) → Frame f k → y ≡ x + k →
         StandingP (now (s .entry)) x (f q) → StandingP (now (s .entry)) y q →

@@ -5,7 +5,8 @@ use mathlib.Core.Path.{_≡_, refl, sym, ap, _∙_}
 use mathlib.Core.List.{List, [], _∷_, _++_, append-assoc}
 use lib.ListN.{length, length-append}
 use Rattle.image.specs.Tree.{Label, Forest, none}
-use Rattle.image.proofs.Relinking.{recsAny, recs-any-length}
+use Rattle.image.specs.Records.{recsAny}
+use Rattle.image.proofs.Relinking.{recs-any-length}
 use Rattle.plan.specs.Measure.{sizes}
 use Rattle.plan.specs.Trees.{each}
 

@@ -7,7 +7,7 @@ use mathlib.Core.Option.{Option, some}
 use lib.ListN.{length, drop, length-drop}
 use lib.Seq.{drop-drop}
 use Rattle.image.specs.Tree.{Label, Forest, none, node, size, Deep, Stands, At}
-use Rattle.image.specs.Limits.{workBytes}
+use Rattle.image.specs.Limits.{workBytes, maxBelow}
 use Rattle.plan.specs.Syntax.{Expr, Plan, Plans, filter, project, join, alias, union, distinct, sort, repartition, limit, aggregate, window}
 use Rattle.plan.specs.Syntax.{Entry, AggEntry, WinEntry, Pair, Key, Kind}
 use Rattle.plan.specs.Integers.{FitsE, FitsP, FitsPs}
@@ -57,12 +57,12 @@ past-run l k (x ∷ xs) {s} {m} {d} {ns} h =
 
 module _ {s : List ℕ} (short : length s ≤ workBytes) where
   -- the children of a plan
-  pub children : {n : ℕ} {p : Plan} → StandingP s n p → On s (n + 1) 255 (kidsP p)
+  pub children : {n : ℕ} {p : Plan} → StandingP s n p → On s (n + 1) maxBelow (kidsP p)
   children {n} h =
       let e : 32 * n + 32 ≡ 32 * (n + 1) = omega arith in
       record { stands = rw (drop-drop, e) at (h .here .below); deep = h .deep }
 
-  module _ {m d : ℕ} {ns : Forest} (small : d ≤ 255) where
+  module _ {m d : ℕ} {ns : Forest} (small : d ≤ maxBelow) where
     -- a plan in front of other trees
     pub plan-first : {p : Plan} → On s m d (node (labelP p) (kidsP p) ns) → FitsP p → StandingP s m p
     plan-first {p} h f =
@@ -71,7 +71,7 @@ module _ {s : List ℕ} (short : length s ≤ workBytes) where
         record {
           within = omega (arith, r, length-drop (32 * m) s);
           here = t;
-          deep = deep-more (kidsP p) (d - 1) 255 (h .deep .1) (omega arith);
+          deep = deep-more (kidsP p) (d - 1) maxBelow (h .deep .1) (omega arith);
           fits = f;
           small = omega (arith, r, length-drop (32 * m) s);
         }
@@ -84,7 +84,7 @@ module _ {s : List ℕ} (short : length s ≤ workBytes) where
         record {
           within = omega (arith, r, length-drop (32 * m) s);
           here = t;
-          deep = deep-more (kidsE e) (d - 1) 255 (h .deep .1) (omega arith);
+          deep = deep-more (kidsE e) (d - 1) maxBelow (h .deep .1) (omega arith);
           fits = f;
           small = omega (arith, r, length-drop (32 * m) s);
         }
@@ -143,7 +143,7 @@ module _ {s : List ℕ} (short : length s ≤ workBytes) where
   unfolding kidsP
   limit-input h = plan-first (omega arith) (children h) (h .fits)
 
-  pub union-inputs : {n : ℕ} {ps : Plans} → StandingP s n (union ps) → On s (n + 1) 255 (forestP ps)
+  pub union-inputs : {n : ℕ} {ps : Plans} → StandingP s n (union ps) → On s (n + 1) maxBelow (forestP ps)
   unfolding kidsP
   union-inputs h = children h
 
@@ -153,7 +153,7 @@ module _ {s : List ℕ} (short : length s ≤ workBytes) where
   at {p = p} e h = subst (λ i. StandingP s i p) e h
 
   ways : Ways (λ n p t C. (b : ℕ) → StandingP s b p → StandingP s (b + n) t)
-      (λ n ps t C. (b d : ℕ) → d ≤ 255 → On s b d (forestP ps) → FitsPs ps → StandingP s (b + n) t)
+      (λ n ps t C. (b d : ℕ) → d ≤ maxBelow → On s b d (forestP ps) → FitsPs ps → StandingP s (b + n) t)
   unfolding kidsP sizeP
   ways = record {
     root = λ p b h. at (omega arith) h;
@@ -162,7 +162,7 @@ module _ {s : List ℕ} (short : length s ≤ workBytes) where
     in-left = λ n l t C j r on f k b h. at (omega arith) (k _ (left-input h));
     in-right = λ n r t C j l on f k b h. at (omega arith) (k _ (right-input h));
     in-alias = λ n p t C i k b h. at (omega arith) (k _ (alias-input h));
-    in-union = λ n ps t C k b h. at (omega arith) (k (b + 1) 255 (omega arith) (union-inputs h) (h .fits));
+    in-union = λ n ps t C k b h. at (omega arith) (k (b + 1) maxBelow (omega arith) (union-inputs h) (h .fits));
     in-distinct = λ n p t C k b h. at (omega arith) (k _ (distinct-input h));
     in-sort = λ n p t C f ks k b h. at (omega arith) (k _ (sort-input h));
     in-repartition = λ n p t C k b h. at (omega arith) (k _ (repartition-input h));

@@ -9,12 +9,13 @@ use lib.ListN.{length, take, drop, length-append}
 use lib.Dec.{leb, ltb}
 use lib.Seq.{sets, length-sets}
 use borrow.Author.Tests.{le-leb, lt-leb, le-ltb, lt-ltb}
-use Rattle.image.specs.Limits.{workBytes}
+use Rattle.image.specs.Limits.{workBytes, noRoom}
 use Rattle.image.specs.Tree.{Label, Forest, none, node, Tree, size, link}
 use Rattle.image.specs.Flat.{bytesOf}
 use Rattle.image.specs.Room.{cap, Put, Wrote}
 use Rattle.image.proofs.Room.{cap-le, cap-is, cap-add, sets-next}
-use Rattle.image.proofs.Relinking.{Rec, recs, recsAny, flats, flats-length, flats-flat, recs-length}
+use Rattle.image.specs.Records.{Rec, recs, recsAny, flats}
+use Rattle.image.proofs.Relinking.{flats-length, flats-flat, recs-length}
 use Rattle.plan.specs.Lists.{_&_, put}
 use Rattle.plan.proofs.Lists.{and-true}
 use Rattle.push_down_base.specs.Around.{window, WroteAll}
@@ -86,7 +87,7 @@ window-drop (suc n) b end (x ∷ xs) h =
 
 -- ---- writing
 
-pub wrote-none : (out : List ℕ) (at : ℕ) → at ≤ 2049 → WroteAll out out at at []
+pub wrote-none : (out : List ℕ) (at : ℕ) → at ≤ noRoom → WroteAll out out at at []
 wrote-none out at h = record { next = sym (ap cap (add-zero at) ∙ cap-is at h); bytes = refl }
 
 pub wrote-then : {out out₁ out₂ : List ℕ} {at r₁ r₂ : ℕ} {xs ys : List Rec} → length out ≡ workBytes
@@ -115,7 +116,7 @@ pub record Rest (first end level b : ℕ) (out₀ : List ℕ) (at₀ : ℕ) (all
   pub is : done ++ window first end from (recsAny level rest) ≡ window first end b (recsAny level all)
   pub long₀ : length out₀ ≡ workBytes
   pub long : length out ≡ workBytes
-  pub small : to ≤ 2049
+  pub small : to ≤ noRoom
 
 window-link : (first end d m : ℕ) (f : Forest) → window first end (link m f) (recsAny d f) ≡ window first end m (recsAny d f)
 unfolding window
@@ -181,7 +182,7 @@ wrote-yes false e h = cc-out e
     cc-out : {A : Type 0} → false ≡ true → A
     cc-out e = let z : _≡_ {A = ℕ} 0 1 = cc in absurd (omega arith)
 
-pub wrote-no : {out : List ℕ} {at : ℕ} (x : Rec) (b : Bool) → b ≡ false → at ≤ 2049 → WroteAll out out at at (put b x [])
+pub wrote-no : {out : List ℕ} {at : ℕ} (x : Rec) (b : Bool) → b ≡ false → at ≤ noRoom → WroteAll out out at at (put b x [])
 unfolding put
 wrote-no {out} {at} x false e h = wrote-none out at h
 wrote-no x true e h = cc-out e

@@ -5,7 +5,8 @@ use mathlib.Core.List.{List}
 use mathlib.Core.Option.{some}
 use Prim.Native.Nat.{ℕ, _+_, _≤_, _<_}
 use lib.ListN.{length}
-use Rattle.image.specs.Limits.{workBytes, maxList}
+use Rattle.image.specs.Limits.{Shallow, mapBytes, maxList, noRoom, workBytes}
+use Rattle.image.specs.Buffers.{BufferAt}
 use Rattle.image.specs.Room.{Wrote}
 use Rattle.plan.specs.Syntax.{Expr, Plan, Plans, alias, union}
 use Rattle.plan.specs.Schema.{schema}
@@ -61,7 +62,7 @@ Written = declared.Written
 pub record Answers (before after : List ℕ) (at level : ℕ) (r : Written) (t : Transformed) : Type 0 where
   pub flag : r .flag ≡ t .transformed
   pub fits : listP (t .plan) ≤ maxList → Wrote before after at level (r .next) (planTree (t .plan))
-  pub over : maxList < listP (t .plan) → (r .next ≡ 2049) × (after ≡ before)
+  pub over : maxList < listP (t .plan) → (r .next ≡ noRoom) × (after ≡ before)
 
 -- the plan at record x is f q: a frame around its input q, which is its last child, and with no list of its own
 pub record Takes (s : List ℕ) (x : ℕ) (f : Plan → Plan) (q : Plan) : Type 0 where
@@ -78,6 +79,14 @@ pub record Taken (s : List ℕ) (x : ℕ) (p : Predicate) : Type 0 where
   pub above : Plan → Plan
   pub rests : Rests s x p expr (above plan)
   pub takes : Takes s x above plan
+
+-- what an arm is lent: a work buffer in which it writes from record `at` on, its top at depth `level`; no arm's writers are higher than 6
+abbrev pub Arm : List ℕ → ℕ → ℕ → Type 0
+Arm out at level = BufferAt 6 level out at
+
+-- the same, and room for a map of names
+abbrev pub ArmOver : List ℕ → List ℕ → ℕ → ℕ → Type 0
+ArmOver m out at level = (mapBytes ≤ length m) × Shallow 6 level × (length out ≡ workBytes) × (at ≤ noRoom)
 
 -- some predicate rests on a SubqueryAlias
 pub record OverAlias (s : List ℕ) (x : ℕ) (p : Predicate) : Type 0 where

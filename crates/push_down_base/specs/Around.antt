@@ -6,7 +6,7 @@ use lib.ListN.{length}
 use lib.Dec.{leb, ltb}
 use lib.Seq.{sets}
 use Rattle.image.specs.Room.{cap}
-use Rattle.image.proofs.Relinking.{Rec, flats}
+use Rattle.image.specs.Records.{Rec, flats}
 use Rattle.plan.specs.Lists.{_&_, put}
 
 -- of records whose first has the number b those with a number from `first` on and before `end`

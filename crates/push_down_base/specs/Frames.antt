@@ -3,7 +3,7 @@ use Prim.Native.Nat.{ℕ, _+_}
 use mathlib.Core.Path.{_≡_}
 use mathlib.Core.List.{List, _++_}
 use lib.ListN.{length}
-use Rattle.image.proofs.Relinking.{Rec, recs}
+use Rattle.image.specs.Records.{Rec, recs}
 use Rattle.plan.specs.Syntax.{Plan}
 use Rattle.plan.specs.Trees.{planTree}
 

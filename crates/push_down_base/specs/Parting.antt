@@ -3,6 +3,7 @@ use mathlib.Core.Path.{_≡_}
 use mathlib.Core.Bool.{Bool, true, false, not}
 use mathlib.Core.List.{List}
 use Prim.Native.Nat.{ℕ, _≤_}
+use Rattle.image.specs.Limits.{maxList}
 use Rattle.plan.specs.Syntax.{Name, Expr}
 use Rattle.plan.specs.Columns.{on-cols}
 use Rattle.plan.specs.Schema.{has}
@@ -18,4 +19,4 @@ agrees false t = λ e. not (on-cols t e)
 pub record Reads (s : List ℕ) (ns : List Name) (c : Conjuncts) (es : List Expr) : Type 0 where
   pub lists : Lists s c es
   pub over : All (λ e. on-cols (has ns) e ≡ true) es
-  pub most : c .len ≤ 128
+  pub most : c .len ≤ maxList

@@ -29,4 +29,5 @@ pub record Ways (P : ℕ → Plan → Plan → (Plan → Plan) → Type 0) (Q : 
   pub in-window : (n : ℕ) (p t : Plan) (C : Plan → Plan) (ws : List WinEntry) → P n p t C
       → P (suc (sizes winKids ws) + n) (window ws p) t (λ q. window ws (C q))
   pub in-first : (n : ℕ) (p t : Plan) (C : Plan → Plan) (ps : Plans) → P n p t C → Q n (pcons p ps) t (λ q. pcons (C q) ps)
-  pub in-later : (n : ℕ) (ps : Plans) (t : Plan) (C : Plan → Plans) (p : Plan) → Q n ps t C → Q (sizeP p + n) (pcons p ps) t (λ q. pcons p (C q))
+  pub in-later : (n : ℕ) (ps : Plans) (t : Plan) (C : Plan → Plans) (p : Plan) → Q n ps t C
+      → Q (sizeP p + n) (pcons p ps) t (λ q. pcons p (C q))

@@ -3,6 +3,7 @@ use mathlib.Core.Path.{_≡_}
 use mathlib.Core.List.{List}
 use mathlib.Core.Option.{Option, none, some}
 use Prim.Native.Nat.{ℕ, _≤_, _<_}
+use Rattle.image.specs.Limits.{maxList}
 use Rattle.plan.specs.Syntax.{Name, Expr}
 use Rattle.conjuncts.specs.Items.{Conjuncts, Known}
 use Rattle.writing.specs.Maps.{Maps}
@@ -24,7 +25,7 @@ pub record Writable (s m : List ℕ) (of room : ℕ) (p : Predicate) : Type 0 wh
   pub maps : Maps m of room map
   pub expr : Option Expr
   pub perhaps : Perhaps s map p expr
-  pub most : p .list .len ≤ 128
+  pub most : p .list .len ≤ maxList
 
 -- c is a list of items of some image
 pub record Listing (c : Conjuncts) : Type 0 where

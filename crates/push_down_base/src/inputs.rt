@@ -4,13 +4,13 @@ use image::records::NEXT_LINK;
 use image::records::from_record;
 use image::words::word_at;
 ghost use mathlib.Core.Path.{_≡_};
-ghost use Prim.Native.Nat.{_+_};
+ghost use Prim.Native.Nat.{_+_, ℕ};
 ghost use Rattle.image.specs.Tree.{At, Readable, Tree};
 ghost use Rattle.push_down_base.specs.Inputs.{lastOf};
 
 // The record of the last child of the record at the start of `part`, or 0 where it has none.
-pub fn last_child(part: &[u8], base: usize, depth: usize) -> usize
-    requires { ⌜ Readable depth (now part) base ⌝ }
+pub fn last_child(part: &[u8], base: usize) -> usize
+    requires { ⌜ ((d : ℕ) × Readable d (now part) base) ⌝ }
     ensures { λ r. ⌜ ((t : Tree) → At t (now (part .entry)) base → r ≡ lastOf 0 (base + 1) (t .below)) ⌝ }
 {
     let mut last = 0;

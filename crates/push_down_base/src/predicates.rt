@@ -18,7 +18,7 @@ pub fn is_gone(p: Predicate) -> bool
     (p.written == 0) & (list.len == 0)
 }
 
-// What a rewrite answers: the record after the plan that it wrote, or 2,049 where that has no room; and whether it raises the flag.
+// What a rewrite answers: the record after the plan that it wrote, or NO_ROOM where that has no room; and whether it raises the flag.
 pub struct Written {
     pub next: usize,
     pub flag: bool,

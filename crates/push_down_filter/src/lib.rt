@@ -41,7 +41,8 @@ pub struct Rewritten {
     pub records: u32,
 }
 
-// PushDownFilter::rewrite of the plan at record `node`; the answer's image goes to `out`, zeros after it, or zeros alone where it is refused.
+// PushDownFilter::rewrite of the plan at record `node`; the answer's image goes to `out`, zeros after it, or zeros alone where it is
+// refused.
 #[no_mangle]
 pub extern "C" fn push_down_filter_rewrite(image: &[u8], node: u32, out: &mut [u8]) -> Rewritten
     ensures { λ r. ⌜ rewrittenIs r (now (out .exit)) ≡ rewrite-bytes (now (image .entry)) node (length (now (out .entry))) ⌝ }
@@ -68,7 +69,8 @@ pub struct Passed {
     pub records: u32,
 }
 
-// A pass from the root on, of at most `budget` visits; the image that it leaves goes to `out`, zeros after it, or zeros alone where it is refused.
+// A pass from the root on, of at most `budget` visits; the image that it leaves goes to `out`, zeros after it, or zeros alone where it is
+// refused.
 #[no_mangle]
 pub extern "C" fn push_down_filter_pass(image: &[u8], budget: u64, out: &mut [u8]) -> Passed
     ensures { λ r. ⌜ passedIs r (now (out .exit)) ≡ pass-bytes (now (image .entry)) budget (length (now (out .entry))) ⌝ }

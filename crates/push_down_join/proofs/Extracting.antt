@@ -13,7 +13,7 @@ use lib.Dec.{eqb}
 use borrow.Author.Tests.{eq-eqb, ne-eqb, le-leb, lt-leb}
 use lib.ListN.{length, drop, length-drop}
 use Rattle.image.specs.Flat.{sizeT}
-use Rattle.image.specs.Limits.{workBytes}
+use Rattle.image.specs.Limits.{workBytes, maxRecords, maxDepth}
 use Rattle.image.specs.Word.{word}
 use Rattle.image.specs.Room.{Wrote}
 use Rattle.image.specs.Tree as T
@@ -179,8 +179,8 @@ module _ {o : Op} {e : Expr} {x y : ℕ} {left right : List ℕ} (u : Sides o e 
   pub sides-size : sizeE e ≡ suc (sizeE (u .lhs) + sizeE (u .rhs))
   sides-size = ap sizeE (u .is) ∙ size-bin o (u .lhs) (u .rhs)
 
--- an expression that can be read has at most 2,048 records
-pub size-room : {d : ℕ} {part : List ℕ} {base : ℕ} (h : ReadableE d part base) → sizeE (h .expr) ≤ 2048
+-- an expression that can be read has at most `maxRecords` records
+pub size-room : {d : ℕ} {part : List ℕ} {base : ℕ} (h : ReadableE d part base) → sizeE (h .expr) ≤ maxRecords
 unfolding sizeE
 size-room h = omega (arith, h .at .head .room, h .room)
 
@@ -422,8 +422,8 @@ wrote-clause o a b k w e is = rw (is, ← e) w
 
 -- ---- the conjuncts that are an OR at their top
 
--- an expression that stands in an image of at most 2,048 records can be read
-pub standing-readable : {s : List ℕ} {n : ℕ} {e : Expr} → Standing s n e → length s ≤ workBytes → ReadableE 256 (drop (32 * n) s) n
+-- an expression that stands in an image of at most `maxRecords` records can be read
+pub standing-readable : {s : List ℕ} {n : ℕ} {e : Expr} → Standing s n e → length s ≤ workBytes → ReadableE maxDepth (drop (32 * n) s) n
 standing-readable {s} {n} {e} h small =
     record { expr = e; at = h .here; some = omega arith; deep = h .deep; room = rw length-drop (omega (arith, h .within)) }
 

@@ -14,6 +14,7 @@ use native.Mathlib.Nat.{le-trans, le-of-eq, le-refl, max-le, le-max-left, le-max
 use lib.Dec.{leb}
 use lib.ListN.{length, length-append}
 use borrow.Author.Tests.{leb-true, le-leb}
+use Rattle.image.specs.Limits.{maxList}
 use Rattle.plan.specs.Schema.{has, schema}
 use Rattle.plan.specs.Syntax.{Name, Expr, col, num, bool, nul, bin, and, or, cmp, neg, test, between, inlist, fn, Pair, Kind, Plan, join}
 use Rattle.plan.specs.Lists.{anil, acons}
@@ -147,7 +148,7 @@ split-plain? (some e) = split-plain e
 -- ---- the longest list
 
 -- of a plan under a Filter
-pub filters-few : (es : List Expr) (p : Plan) → Plain es → length es ≤ 128 → listP p ≤ 128 → listP (with-filters es p) ≤ 128
+pub filters-few : (es : List Expr) (p : Plan) → Plain es → length es ≤ maxList → listP p ≤ maxList → listP (with-filters es p) ≤ maxList
 unfolding with-filters listP
 filters-few [] p h few below = below
 filters-few (e ∷ es) p h few below = max-le (le-trans (le-of-eq (ap length (split-joined e h))) few) below
@@ -168,12 +169,12 @@ unfolding conjunction split-conjunction?
 conditions-count [] h = refl
 conditions-count (e ∷ es) h = ap length (split-joined e h)
 
--- counts up to 129
-few-of : (n m : ℕ) → n ≡ most m → n ≤ 128 → m ≤ 128
+-- counts up to `tooMany`
+few-of : (n m : ℕ) → n ≡ most m → n ≤ maxList → m ≤ maxList
 unfolding most
 few-of n m e h = omega arith
 
-count-of : (n m : ℕ) → n ≡ most m → m ≤ 128 → n ≤ 128
+count-of : (n m : ℕ) → n ≡ most m → m ≤ maxList → n ≤ maxList
 unfolding most
 count-of n m e h = omega arith
 
@@ -191,14 +192,14 @@ told true h = refl
 told false h = sym h
 
 -- what `fits` tells
-pub fits-each : (a b c : ℕ) → ((leb a 128 && leb b 128) && leb c 128) ≡ true → (a ≤ 128) × (b ≤ 128) × (c ≤ 128)
+pub fits-each : (a b c : ℕ) → ((leb a maxList && leb b maxList) && leb c maxList) ≡ true → (a ≤ maxList) × (b ≤ maxList) × (c ≤ maxList)
 fits-each a b c h =
-    let x = both-true (leb a 128 && leb b 128) (leb c 128) h in
-    let y = both-true (leb a 128) (leb b 128) (x .0) in
-    (leb-true a 128 (y .0), leb-true b 128 (y .1), leb-true c 128 (x .1))
+    let x = both-true (leb a maxList && leb b maxList) (leb c maxList) h in
+    let y = both-true (leb a maxList) (leb b maxList) (x .0) in
+    (leb-true a maxList (y .0), leb-true b maxList (y .1), leb-true c maxList (x .1))
 
-each-fits : (a b c : ℕ) → a ≤ 128 → b ≤ 128 → c ≤ 128 → ((leb a 128 && leb b 128) && leb c 128) ≡ true
-each-fits a b c x y z = rw (le-leb a 128 x, le-leb b 128 y, le-leb c 128 z)
+each-fits : (a b c : ℕ) → a ≤ maxList → b ≤ maxList → c ≤ maxList → ((leb a maxList && leb b maxList) && leb c maxList) ≡ true
+each-fits a b c x y z = rw (le-leb a maxList x, le-leb b maxList y, le-leb c maxList z)
 
 -- the join, and what stays above it
 abbrev pub answer-over : Kind → Plan → Plan → List Pair → List Expr → List Expr → Plan
@@ -206,8 +207,8 @@ answer-over k l r on A G = with-filters (keep-predicates k (schema l) (schema r)
 
 module _ {img : List ℕ} {σ : Name → Expr} {v : Moves} (k : Kind) (l r : Plan) (on : List Pair) {A G : List Expr}
     (h : Moved img σ v k (schema l) (schema r) on A G) (p : Plain A) (g : Plain G) where
-  pub fits-few : listP l ≤ 128 → listP r ≤ 128 → v .left .len ≤ 128 → v .right .len ≤ 128 → v .conditions .len ≤ 128 → listP
-      (answer-over k l r on A G) ≤ 128
+  pub fits-few : listP l ≤ maxList → listP r ≤ maxList → v .left .len ≤ maxList → v .right .len ≤ maxList → v .conditions .len ≤ maxList → listP
+      (answer-over k l r on A G) ≤ maxList
   unfolding listP
   fits-few hl hr a b c =
       filters-few (keep-predicates k (schema l) (schema r) on A G) (join-over k l r on A G) (kept-plain k (schema l) (schema r) on p g)
@@ -219,16 +220,16 @@ module _ {img : List ℕ} {σ : Name → Expr} {v : Moves} (k : Kind) (l r : Pla
       (filters-few _ l (left-plain k (schema l) (schema r) on p g) (few-of (v .left .len) _ (sides-count (h .left)) a) hl)
       (filters-few _ r (right-plain k (schema l) (schema r) on p g) (few-of (v .right .len) _ (sides-count (h .right)) b) hr)))
 
-  pub few-fits : listP (answer-over k l r on A G) ≤ 128 → ((leb (v .left .len) 128 && leb (v .right .len) 128) && leb (v .conditions .len) 128) ≡ true
+  pub few-fits : listP (answer-over k l r on A G) ≤ maxList → ((leb (v .left .len) maxList && leb (v .right .len) maxList) && leb (v .conditions .len) maxList) ≡ true
   unfolding listP
   few-fits few =
-      let inner : listP (join-over k l r on A G) ≤ 128 =
+      let inner : listP (join-over k l r on A G) ≤ maxList =
       le-trans (filters-below (keep-predicates k (schema l) (schema r) on A G) (join-over k l r on A G)) few in
       let cs : length (split-conjunction? (conjunction
-      (join-conditions k (schema l) (schema r) on A G ++ on-filter-join-conditions k (schema l) (schema r) on A G))) ≤ 128 =
+      (join-conditions k (schema l) (schema r) on A G ++ on-filter-join-conditions k (schema l) (schema r) on A G))) ≤ maxList =
       le-trans (le-max-left _ _) inner in
       let sides : larger (listP (with-filters (left-push k (schema l) (schema r) on A G) l))
-      (listP (with-filters (right-push k (schema l) (schema r) on A G) r)) ≤ 128 = le-trans (le-max-right _ _) inner in
+      (listP (with-filters (right-push k (schema l) (schema r) on A G) r)) ≤ maxList = le-trans (le-max-right _ _) inner in
       each-fits (v .left .len) (v .right .len) (v .conditions .len)
       (count-of (v .left .len) _ (sides-count (h .left))
       (le-trans (filters-own _ l (left-plain k (schema l) (schema r) on p g)) (le-trans (le-max-left _ _) sides)))
@@ -238,7 +239,7 @@ module _ {img : List ℕ} {σ : Name → Expr} {v : Moves} (k : Kind) (l r : Pla
       (le-trans (le-of-eq (sym (conditions-count _ (conditions-plain k (schema l) (schema r) on p g)))) cs))
 
 -- the inputs of a join have no longer list
-pub inputs-few : (k : Kind) (l r : Plan) (on : List Pair) (f : Option Expr) → listP (join k l r on f) ≤ 128 → (listP l ≤ 128) × (listP r ≤ 128)
+pub inputs-few : (k : Kind) (l r : Plan) (on : List Pair) (f : Option Expr) → listP (join k l r on f) ≤ maxList → (listP l ≤ maxList) × (listP r ≤ maxList)
 unfolding listP
 inputs-few k l r on f h =
     let both = le-trans (le-max-right _ (larger (listP l) (listP r))) h in

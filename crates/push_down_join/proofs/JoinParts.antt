@@ -16,11 +16,11 @@ use lib.Dec.{eqb}
 use borrow.Author.Tests.{ne-eqb}
 use lib.ListN.{length, drop, length-drop}
 use lib.Seq.{length-sets}
-use Rattle.image.specs.Limits.{workBytes}
+use Rattle.image.specs.Limits.{workBytes, noRoom, maxBelow}
 use Rattle.image.specs.Room.{Wrote}
 use Rattle.image.specs.Tree.{Label, Forest, none, node, Tree, At, size}
 use Rattle.image.specs.Word.{word}
-use Rattle.image.proofs.Relinking.{Rec, recs, recsAny}
+use Rattle.image.specs.Records.{Rec, recs, recsAny}
 use Rattle.image.proofs.Room.{cap-le}
 use Rattle.plan.specs.Integers.{Fits?}
 use Rattle.plan.specs.Lists.{when}
@@ -41,7 +41,7 @@ use Rattle.conjuncts.proofs.Listed.{known-of}
 use Rattle.push_down_base.specs.Around.{WroteAll}
 use Rattle.push_down_base.specs.Arms.{Placed}
 use Rattle.push_down_base.specs.Inputs.{lastOf}
-use Rattle.push_down_join.specs.JoinPlans.{pairRecs}
+use Rattle.push_down_join.specs.JoinPlans.{pairRecs, FilterOf, bare, own}
 use Rattle.push_down_base.specs.Parting.{Reads}
 use Rattle.push_down_base.proofs.Steps.{On, rest-trees, children, expr-first, right-input}
 use Rattle.push_down_base.proofs.Windows.{wrote-none, wrote-then, wrote-tree}
@@ -92,7 +92,7 @@ pub data Last (s : List ℕ) (n : ℕ) : Option Expr → Type 0 where
 
 module _ {s : List ℕ} (short : length s ≤ workBytes) where
   -- past the pairs of keys, of which the last so far is at record b
-  past-keys : (on : List Pair) (f : Option Expr) {m : ℕ} (b : ℕ) → On s m 255 (each pairLabel pairKids on (filterKids f)) → Fits? f → 0 < m
+  past-keys : (on : List Pair) (f : Option Expr) {m : ℕ} (b : ℕ) → On s m maxBelow (each pairLabel pairKids on (filterKids f)) → Fits? f → 0 < m
       → 32 * b + 32 ≤ length s → 32 ≤ word (drop (32 * b) s) 0 → Last s (lastOf b m (each pairLabel pairKids on (filterKids f))) f
   unfolding each
   past-keys [] O.none b h fits pos room kind = no-filter room kind
@@ -129,28 +129,36 @@ module _ {s : List ℕ} {n : ℕ} where
   last-room (no-filter room kind) = room
   last-room (a-filter h pos kind) = omega (arith, h .here .head .room, length-drop (32 * n) s, h .within)
 
-  pub last-there : {f : Option Expr} → Last s n f → word (drop (32 * n) s) 0 < 32 → There s n × (0 < n)
-  last-there (no-filter room kind) lt = absurd (omega arith)
-  last-there (a-filter {e} h pos kind) lt = (record { expr = e; standing = h }, pos)
+  pub last-own : {f : Option Expr} → Last s n f → word (drop (32 * n) s) 0 < 32 → FilterOf s n f
+  last-own (no-filter room kind) lt = absurd (omega arith)
+  last-own (a-filter h pos kind) lt = own h pos
+
+  pub last-bare : {f : Option Expr} → Last s n f → 32 ≤ word (drop (32 * n) s) 0 → FilterOf s 0 f
+  last-bare (no-filter room kind) le = bare refl
+  last-bare (a-filter h pos kind) le = absurd (omega arith)
+
+  pub own-there : {f : Option Expr} → FilterOf s n f → (n ≡ 0 → ⊥) → There s n × (0 < n)
+  own-there (bare e) nz = absurd (nz e)
+  own-there (own {e} h pos) nz = (record { expr = e; standing = h }, pos)
 
 -- what is split at the filter
-pub last-reads : {s : List ℕ} {x n : ℕ} {k : Kind} {l r : Plan} {on : List Pair} {f : Option Expr} {z : Conjuncts} → Placed s x (join k l r on f)
-    → Last s n f → word (drop (32 * n) s) 0 < 32 → ((e : Expr) → Standing s n e → Lists s z (split-conjunction e))
+pub own-reads : {s : List ℕ} {x n : ℕ} {k : Kind} {l r : Plan} {on : List Pair} {f : Option Expr} {z : Conjuncts} → Placed s x (join k l r on f)
+    → FilterOf s n f → (n ≡ 0 → ⊥) → ((e : Expr) → Standing s n e → Lists s z (split-conjunction e))
     → Reads s (schema l ++ schema r) z (split-conjunction? f)
 unfolding split-conjunction? rule listP
-last-reads p (no-filter room kind) lt g = absurd (omega arith)
-last-reads {l = l} {r} p (a-filter {e} h pos kind) lt g = record {
+own-reads p (bare e) nz g = absurd (nz e)
+own-reads {l = l} {r} p (own {e} h pos) nz g = record {
   lists = g e h;
   over = split-cols (has (schema l ++ schema r)) e (and-l _ _ (and-r _ _ (and-r _ _ (p .rules))));
   most = known-of (g e h) (le-trans (le-max-left (length (split-conjunction e)) _) (p .lists)) .most;
 }
 
 -- where there is none
-pub last-none : {s : List ℕ} {n : ℕ} {f : Option Expr} {ns : List Name} {z : Conjuncts} → Last s n f → 32 ≤ word (drop (32 * n) s) 0 → Reads s ns z []
+pub own-none : {s : List ℕ} {n : ℕ} {f : Option Expr} {ns : List Name} {z : Conjuncts} → FilterOf s n f → n ≡ 0 → Reads s ns z []
     → Reads s ns z (split-conjunction? f)
 unfolding split-conjunction?
-last-none (no-filter room kind) le h = h
-last-none (a-filter t pos kind) le h = absurd (omega arith)
+own-none (bare e) z h = h
+own-none (own t pos) z h = absurd (omega arith)
 
 -- ---- the keys
 
@@ -158,7 +166,7 @@ pub wrote-when : {out out₁ : List ℕ} {at r : ℕ} {xs : List Rec} (b : Bool)
 unfolding when
 wrote-when b e h = rw e h
 
-pub wrote-unless : {out : List ℕ} {at : ℕ} (b : Bool) (xs : List Rec) → b ≡ false → at ≤ 2049 → WroteAll out out at at (when b xs)
+pub wrote-unless : {out : List ℕ} {at : ℕ} (b : Bool) (xs : List Rec) → b ≡ false → at ≤ noRoom → WroteAll out out at at (when b xs)
 unfolding when
 wrote-unless {out} {at} b xs e h = rw e (wrote-none out at h)
 
@@ -169,9 +177,9 @@ pub record PairsLeft (d : ℕ) (out₀ : List ℕ) (at₀ : ℕ) (all : Forest) 
   pub is : done ++ pairRecs d rest ≡ pairRecs d all
   pub long₀ : length out₀ ≡ workBytes
   pub long : length out ≡ workBytes
-  pub small : to ≤ 2049
+  pub small : to ≤ noRoom
 
-pub pairs-all : {out : List ℕ} {at : ℕ} (d : ℕ) (all : Forest) → length out ≡ workBytes → at ≤ 2049 → PairsLeft d out at all out at all
+pub pairs-all : {out : List ℕ} {at : ℕ} (d : ℕ) (all : Forest) → length out ≡ workBytes → at ≤ noRoom → PairsLeft d out at all out at all
 pairs-all {out} {at} d all long small =
     record { done = []; wrote = wrote-none out at small; is = refl; long₀ = long; long = long; small = small }
 
@@ -218,7 +226,7 @@ pairs-join d k l r on f = none-when _ _ _ (no-plan l) ∙ none-when _ _ _ (no-pl
 
 -- ---- a join's new filter
 
-pub conditions-none : {out : List ℕ} {at : ℕ} (level : ℕ) (es : List Expr) → length es ≡ 0 → at ≤ 2049
+pub conditions-none : {out : List ℕ} {at : ℕ} (level : ℕ) (es : List Expr) → length es ≡ 0 → at ≤ noRoom
     → WroteAll out out at at (recsAny level (filterKids (conjunction es)))
 unfolding conjunction
 conditions-none {out} {at} level [] z small = wrote-none out at small

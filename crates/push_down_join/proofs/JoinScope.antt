@@ -9,6 +9,7 @@ use Prim.Native.Nat.{ℕ, _*_, _≤_}
 use native.Mathlib.Omega.{arith}
 use lib.ListN.{length, drop}
 use borrow.Author.Tests.{leb-true}
+use Rattle.image.specs.Limits.{maxDepth, maxFields}
 use Rattle.plan.specs.Columns.{on-cols}
 use Rattle.plan.specs.Lists.{_&_, all, any}
 use Rattle.plan.specs.Schema.{has, same, schema, nodup}
@@ -24,13 +25,13 @@ use Rattle.push_down_join.specs.Partners.{orSelf}
 use Rattle.push_down_join.specs.Scopes.{swap}
 
 -- a plan that stands at a record is there to be read
-pub plan-here : {s : List ℕ} {n : ℕ} {p : Plan} → StandingP s n p → PlanHere (drop (32 * n) s) n 256
+pub plan-here : {s : List ℕ} {n : ℕ} {p : Plan} → StandingP s n p → PlanHere (drop (32 * n) s) n maxDepth
 plan-here {p = p} h = record { plan = p; at = h .here; some = omega arith; deep = h .deep }
 
 module _ (k : Kind) (l r : Plan) (on : List Pair) (f : Option Expr) (h : ok (join k l r on f) ≡ true) where
-  pub join-short : length (schema l ++ schema r) ≤ 64
+  pub join-short : length (schema l ++ schema r) ≤ maxFields
   unfolding rule sound
-  join-short = leb-true (length (schema l ++ schema r)) 64 (and-r _ _ (and-l _ _ h))
+  join-short = leb-true (length (schema l ++ schema r)) maxFields (and-r _ _ (and-l _ _ h))
 
   pub join-single : nodup (schema l ++ schema r) ≡ true
   unfolding rule

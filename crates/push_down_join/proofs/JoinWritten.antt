@@ -7,11 +7,11 @@ use mathlib.Core.List.{List, [], _∷_, _++_, append-assoc}
 use mathlib.Core.Option.{Option}
 use Prim.Native.Nat.{ℕ, _+_, _*_, _≤_}
 use lib.ListN.{length, drop}
-use Rattle.image.specs.Limits.{workBytes}
+use Rattle.image.specs.Limits.{workBytes, maxList}
 use Rattle.image.specs.Room.{Put, Wrote}
 use Rattle.image.specs.Tree.{Label, none}
 use Rattle.image.specs.Word.{word}
-use Rattle.image.proofs.Relinking.{Rec, recs, recsAny}
+use Rattle.image.specs.Records.{Rec, recs, recsAny}
 use Rattle.plan.specs.Schema.{has, schema}
 use Rattle.plan.specs.Syntax.{Name, Expr, Pair, Kind, Plan, join}
 use Rattle.plan.specs.Trees.{joinNumber, labelP, kidsP, planTree, each, pairLabel, pairKids, filterKids}
@@ -86,7 +86,7 @@ kind-is h e i = i ∙ ap (λ b. word b 4) e ∙ ap (λ (t : Label). t .p) (h .he
 
 pub carries : {s m : List ℕ} {x z : ℕ} {sc : Scope} {v : Moves} {k : Kind} {l r : Plan} {on : List Pair} {f : Option Expr} {P G : List Expr}
     {σ : Name → Expr} → Placed s x (join k l r on f) → StandingP s z r → Maps m 0 3 σ → Scopes sc (schema l) (schema r) on
-    → Moved s σ v k (schema l) (schema r) on P G → (v .left .len ≤ 128) × (v .right .len ≤ 128) × (v .conditions .len ≤ 128)
+    → Moved s σ v k (schema l) (schema r) on P G → (v .left .len ≤ maxList) × (v .right .len ≤ maxList) × (v .conditions .len ≤ maxList)
     → Carries s m x z sc v k l r on f P G σ
 carries h z m sc v few = record {
   short = h .short;

@@ -7,6 +7,7 @@ use mathlib.Core.List.{List}
 use Prim.Native.Nat.{ℕ, _≤_, _<_}
 use native.Mathlib.Omega.{arith}
 use lib.ListN.{length, getD}
+use Rattle.image.specs.Limits.{maxList}
 use Rattle.plan.specs.Syntax.{Name, Expr}
 use Rattle.conjuncts.specs.Items.{Conjuncts, FALSE, listed}
 use Rattle.conjuncts.proofs.Listed.{count-is, whole}
@@ -15,7 +16,7 @@ use Rattle.push_down_join.specs.Sides.{Sided, Sides, OneSided, SomeSided
 
 -- of a list that is whole
 module _ {s : List ℕ} {σ : Name → Expr} {ns : List Name} {t : Name → Bool} {c : Conjuncts} {es : List Expr} (h : Sides s σ ns t c es)
-    (small : c .len ≤ 128) where
+    (small : c .len ≤ maxList) where
   pub sides-length : length es ≡ c .len
   sides-length = each-length (h .items) ∙ count-is (h .holds) small
 

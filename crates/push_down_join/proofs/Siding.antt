@@ -8,11 +8,12 @@ use mathlib.Core.Bool.{Bool, true, false, cond}
 use mathlib.Core.List.{List, [], _∷_, _++_, map, map-append, append-assoc, append-nil}
 use mathlib.Core.Option as O
 use mathlib.Core.Option.{Option, some}
-use Prim.Native.Nat.{ℕ, _+_, _-_, _≤_, _<_}
+use Prim.Native.Nat.{ℕ, _+_, _-_, _≤_, _<_, _*_}
 use native.Mathlib.Omega.{arith}
 use native.Mathlib.Numerals.{add-one}
 use lib.ListN.{length, take, drop, getD}
 use lib.Seq.{take-suc, take-all}
+use Rattle.image.specs.Limits.{maxRecords, maxList}
 use Rattle.plan.specs.Columns.{on-cols}
 use Rattle.plan.specs.Lists.{put, keep, flat}
 use Rattle.plan.specs.Schema.{has}
@@ -36,7 +37,7 @@ pub smalls-of : {s : List ℕ} {c : Conjuncts} → Known s c → Smalls c
 smalls-of h = record { most = h .most; room = lists-room (h .lists) (h .most); each = λ i lt. lists-at (h .lists) (h .most) i _ lt refl .small }
 
 -- so many are appended
-pub append-step : (m i x : ℕ) (xs ys : List ℕ) {c : Conjuncts} → Holds c ys → c .len ≤ 128 → i < c .len → x ≡ getD (listed c) i 0
+pub append-step : (m i x : ℕ) (xs ys : List ℕ) {c : Conjuncts} → Holds c ys → c .len ≤ maxList → i < c .len → x ≡ getD (listed c) i 0
     → (xs ++ map (λ y. y + m) (take i ys)) ++ ((x + m) ∷ []) ≡ xs ++ map (λ y. y + m) (take (i + 1) ys)
 append-step m i x xs ys h small lt e =
     let n = count-is h small in
@@ -45,7 +46,7 @@ append-step m i x xs ys h small lt e =
     rw (add-one, take-suc ys i 0 l, map-append, k) (append-assoc xs (map (λ y. y + m) (take i ys)) ((getD ys i 0 + m) ∷ []))
 
 -- all are
-pub append-end : (i : ℕ) (ys : List ℕ) {c : Conjuncts} → Holds c ys → c .len ≤ 128 → c .len ≤ i → take i ys ≡ ys
+pub append-end : (i : ℕ) (ys : List ℕ) {c : Conjuncts} → Holds c ys → c .len ≤ maxList → c .len ≤ i → take i ys ≡ ys
 append-end i ys h small le = let n = count-is h small in take-all i ys (omega arith)
 
 -- ---- what is written

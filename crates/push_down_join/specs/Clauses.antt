@@ -4,15 +4,17 @@ use mathlib.Core.Option.{Option, none, some}
 use Prim.Native.Nat.{ℕ, _+_}
 use lib.Dec.{eqb, leb}
 use Rattle.image.specs.Tree.{Label}
+use Rattle.plan.specs.Kinds.{numberE, Binary}
 use Rattle.plan.specs.Measure.{sizeE}
-use Rattle.plan.specs.Syntax.{Name, Expr}
+use Rattle.plan.specs.Syntax.{Name, Expr, or}
+use Rattle.plan.specs.Trees.{opNumber}
 use Rattle.rewrite.specs.PushDownFilter.{extract-or-clause, is-or}
 use Rattle.push_down_join.specs.declared.extract_or_clause.Clause.{Clause}
 use Rattle.push_down_join.specs.declared.extract_or_clause.Clause.the-variants.{Made, Nothing}
 
--- 1 for And, 2 for Or, 0 for any other record
+-- the operator of an And or an Or, 0 for any other record
 unfoldable pub operatorOf : Label → ℕ
-operatorOf l = cond (eqb (l .kind) 5) (cond (leb (l .p) 2) (l .p) 0) 0
+operatorOf l = cond (eqb (l .kind) (numberE Binary)) (cond (leb (l .p) (opNumber or)) (l .p) 0) 0
 
 abbrev pub clauseOf : Option Expr → Clause
 clauseOf none = Nothing
@@ -34,9 +36,9 @@ abbrev pub yields : Option Expr → Bool
 yields none = false
 yields (some e) = true
 
--- an operand of an Or (2) is part of its clause, one of an And if it yields
+-- an operand of an Or is part of its clause, one of an And if it yields
 abbrev pub kept : ℕ → Option Expr → Bool
-kept op x = eqb op 2 || yields x
+kept op x = eqb op (opNumber or) || yields x
 
 -- the clause of a conjunct that is an OR at its top
 abbrev pub or-clause : (Name → Bool) → Expr → Option Expr

@@ -2,20 +2,22 @@
 use mathlib.Core.Path.{_≡_}
 use mathlib.Core.Bool.{not}
 use mathlib.Core.List.{List, [], _++_}
-use mathlib.Core.Option.{Option}
-use Prim.Native.Nat.{ℕ, _+_, _≤_}
+use mathlib.Core.Option as O
+use mathlib.Core.Option.{Option, some}
+use Prim.Native.Nat.{ℕ, _+_, _≤_, _<_}
 use lib.Dec.{eqb}
 use lib.ListN.{length}
-use Rattle.image.specs.Limits.{workBytes}
+use Rattle.image.specs.Limits.{workBytes, maxList}
 use Rattle.image.specs.Tree.{Forest, none, node}
-use Rattle.image.proofs.Relinking.{Rec, recs}
+use Rattle.image.specs.Records.{Rec, recs}
+use Rattle.plan.specs.Kinds.{numberQ, PairPart}
 use Rattle.plan.specs.Schema.{has, schema}
 use Rattle.plan.specs.Syntax.{Name, Expr, Pair, Kind, Plan, join}
 use Rattle.plan.specs.Lists.{when}
 use Rattle.rewrite.specs.Utils.{with-filters, conjunction}
 use Rattle.rewrite.specs.PushDownFilter.{left-push, right-push, keep-predicates, join-conditions, on-filter-join-conditions, nothing-moves}
 use Rattle.conjuncts.specs.Items.{Conjuncts, Lists}
-use Rattle.conjuncts.specs.Standing.{StandingP}
+use Rattle.conjuncts.specs.Standing.{Standing, StandingP}
 use Rattle.writing.specs.Maps.{Maps}
 use Rattle.push_down_base.specs.Arms.{Placed, Rests}
 use Rattle.push_down_base.specs.Predicates.{Predicate}
@@ -35,6 +37,11 @@ pub record JoinHere (s : List ℕ) (x : ℕ) : Type 0 where
   pub keys : List Pair
   pub condition : Option Expr
   pub placed : Placed s x (join kind lhs rhs keys condition)
+
+-- the filter of a join stands at record n, or n is 0 and it has none
+pub data FilterOf (s : List ℕ) (n : ℕ) : Option Expr → Type 0 where
+  bare : n ≡ 0 → FilterOf s n O.none
+  own : {e : Expr} → Standing s n e → 0 < n → FilterOf s n (some e)
 
 -- .. and the conjuncts c are over its inputs
 pub record JoinUnder (s : List ℕ) (x : ℕ) (c : Conjuncts) : Type 0 where
@@ -90,7 +97,7 @@ pub record Moved (s : List ℕ) (σ : Name → Expr) (v : Moves) (k : Kind) (l r
 -- the records of the pairs of keys in a forest, its first trees at depth d
 unfoldable pub pairRecs : ℕ → Forest → List Rec
 pairRecs d none = []
-pairRecs d (node l cs ns) = when (eqb (l .kind) 50) (recs d (record { label = l; below = cs })) ++ pairRecs d ns
+pairRecs d (node l cs ns) = when (eqb (l .kind) (numberQ PairPart)) (recs d (record { label = l; below = cs })) ++ pairRecs d ns
 
 -- ---- the join over them
 
@@ -103,8 +110,8 @@ join-over k l r on P G =
     (conjunction (join-conditions k s t on P G ++ on-filter-join-conditions k s t on P G))
 
 -- the join stands at record x, its right input at record z; sc is its scope, the map at m swaps its keys, and v are its lists, all whole
-pub record Carries (s m : List ℕ) (x z : ℕ) (sc : Scope) (v : Moves) (k : Kind) (l r : Plan) (on : List Pair) (f : Option Expr) (P G : List Expr)
-    (σ : Name → Expr) : Type 0 where
+pub record Carries (s m : List ℕ) (x z : ℕ) (sc : Scope) (v : Moves) (k : Kind)
+    (l r : Plan) (on : List Pair) (f : Option Expr) (P G : List Expr) (σ : Name → Expr) : Type 0 where
   pub short : length s ≤ workBytes
   pub standing : StandingP s x (join k l r on f)
   pub first : StandingP s (x + 1) l
@@ -112,9 +119,9 @@ pub record Carries (s m : List ℕ) (x z : ℕ) (sc : Scope) (v : Moves) (k : Ki
   pub maps : Maps m 0 3 σ
   pub scopes : Scopes sc (schema l) (schema r) on
   pub moved : Moved s σ v k (schema l) (schema r) on P G
-  pub left-most : v .left .len ≤ 128
-  pub right-most : v .right .len ≤ 128
-  pub conditions-most : v .conditions .len ≤ 128
+  pub left-most : v .left .len ≤ maxList
+  pub right-most : v .right .len ≤ maxList
+  pub conditions-most : v .conditions .len ≤ maxList
 
 -- some join does
 pub record Carried (s m : List ℕ) (x z : ℕ) (sc : Scope) (v : Moves) : Type 0 where

@@ -7,6 +7,8 @@ use mathlib.Core.Option.{Option, some}
 use Prim.Native.Nat.{_<_}
 use lib.Dec.{eqb}
 use Rattle.image.specs.Tree.{Label, Forest, none, node}
+use Rattle.plan.specs.Kinds as K
+use Rattle.plan.specs.Kinds.{numberE, numberQ, PairPart}
 use Rattle.plan.specs.Syntax.{Name, nm}
 use Rattle.rewrite.specs.PushDownFilter.{pair-of, nothing}
 use Rattle.utils.specs.Fields.{Names}
@@ -29,7 +31,7 @@ pub record Told (c : Column) (o : Option Name) : Type 0 where
 
 -- the name of a record that is a column
 abbrev pub columnOf : Label → Option Name
-columnOf l = cond (eqb (l .kind) 1) (some (nm (l .p) (l .q))) O.none
+columnOf l = cond (eqb (l .kind) (numberE K.Column)) (some (nm (l .p) (l .q))) O.none
 
 -- the first that there is
 abbrev pub orElse : Option Name → Option Name → Option Name
@@ -44,7 +46,7 @@ pairIn x (node a cs (node b ds ns)) = pair-of x (columnOf a) (columnOf b) O.none
 
 -- the partner in a record with these below, if it is a pair of keys
 unfoldable pub keyIn : Name → Label → Forest → Option Name
-keyIn x l cs = cond (eqb (l .kind) 50) (pairIn x cs) O.none
+keyIn x l cs = cond (eqb (l .kind) (numberQ PairPart)) (pairIn x cs) O.none
 
 -- in the first of a forest that has one
 unfoldable pub partnerIn : Name → Forest → Option Name

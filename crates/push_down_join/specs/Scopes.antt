@@ -3,6 +3,7 @@ use mathlib.Core.Path.{_≡_}
 use mathlib.Core.Bool.{Bool, true, not}
 use mathlib.Core.List.{List, _++_, map}
 use Prim.Native.Nat.{ℕ, _≤_}
+use Rattle.image.specs.Limits.{maxFields}
 use Rattle.plan.specs.Columns.{on-cols}
 use Rattle.plan.specs.Lists.{keep}
 use Rattle.plan.specs.Schema.{has}
@@ -29,7 +30,7 @@ swap on x = orSelf x (partner on x)
 -- sc has the fields of inputs with the schemas l and r, their partners, and their sets by the join's keys
 pub record Scopes (sc : Scope) (l r : List Name) (on : List Pair) : Type 0 where
   pub names : Names (sc .fields) (l ++ r)
-  pub most : sc .fields .len ≤ 64
+  pub most : sc .fields .len ≤ maxFields
   pub to : Names (sc .to) (map (swap on) (l ++ r))
   pub left : Masks (sc .left) (l ++ r) (has l)
   pub right : Masks (sc .right) (l ++ r) (has r)
@@ -56,7 +57,8 @@ keyed-left b l on es = keep (λ e. on-cols (λ x. has l (swap on x)) e) (keyed b
 
 -- .. over the right input and not over the left one
 abbrev pub keyed-right : Bool → List Name → List Name → List Pair → List Expr → List Expr
-keyed-right b l r on es = keep (λ e. on-cols (λ x. has r (swap on x)) e) (keep (λ e. not (on-cols (λ x. has l (swap on x)) e)) (keyed b on es))
+keyed-right b l r on es =
+    keep (λ e. on-cols (λ x. has r (swap on x)) e) (keep (λ e. not (on-cols (λ x. has l (swap on x)) e)) (keyed b on es))
 
 -- σ puts a key's partner in its place, in what reads ns
 abbrev pub Swapper : (Name → Expr) → List Name → List Pair → Type 0

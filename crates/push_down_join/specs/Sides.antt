@@ -5,6 +5,7 @@ use mathlib.Core.List.{List}
 use mathlib.Core.Option.{some}
 use Prim.Native.Nat.{ℕ, _*_, _-_, _≤_, _<_}
 use lib.ListN.{length, getD}
+use Rattle.image.specs.Limits.{maxRecords, maxList}
 use Rattle.plan.specs.Columns.{on-cols}
 use Rattle.plan.specs.Schema.{has}
 use Rattle.plan.specs.Syntax.{Name, Expr}
@@ -36,7 +37,7 @@ pub record Sides (s : List ℕ) (σ : Name → Expr) (ns : List Name) (t : Name 
 
 -- c is whole, and its items are plain
 pub record Smalls (c : Conjuncts) : Type 0 where
-  pub most : c .len ≤ 128
+  pub most : c .len ≤ maxList
   pub room : length (listed c) ≡ c .len
   pub each : (i : ℕ) → i < c .len → getD (listed c) i 0 < replacedBy
 
@@ -55,7 +56,7 @@ pub record SomeSided (s : List ℕ) (c : Conjuncts) : Type 0 where
   pub test : Name → Bool
   pub exprs : List Expr
   pub sides : Sides s map names test c exprs
-  pub most : c .len ≤ 128
+  pub most : c .len ≤ maxList
 
 -- the map at m is σ, and `side` has those of the names ns, which `fields` holds, that pass t
 pub record Side (m : List ℕ) (fields : Fields) (side : ℕ) (σ : Name → Expr) (ns : List Name) (t : Name → Bool) : Type 0 where

@@ -19,6 +19,7 @@ ghost use mathlib.Core.List.{_++_, List};
 ghost use mathlib.Core.Option.{Option};
 ghost use Prim.Native.Nat.{_≤_};
 ghost use lib.ListN.{length};
+ghost use Rattle.image.specs.Limits.{maxFields};
 ghost use Rattle.image.specs.Tree.{Forest};
 ghost use Rattle.plan.specs.Schema.{has, nodup, schema};
 ghost use Rattle.plan.specs.Syntax.{Expr, Kind, Name, Pair, Plan};
@@ -42,7 +43,7 @@ pub struct Scope {
 
 // The sets of fields of which the first k are the left input's, by the partners of the keys.
 pub fn scope_of(fields: Fields, k: usize, swapped: Swapped) -> Scope
-    requires { ⌜ (fields .len ≤ 64) × (k ≤ 64) × (swapped .to .len ≤ 64) ⌝ }
+    requires { ⌜ (fields .len ≤ maxFields) × (k ≤ maxFields) × (swapped .to .len ≤ maxFields) ⌝ }
     ensures { λ z. ⌜ ((l r : List Name) (on : List Pair) (f : Forest) → Names fields (l ++ r) → k ≡ length l → nodup (l ++ r) ≡ true →
         Swaps swapped f (l ++ r) → ((x : Name) → partnerIn x f ≡ partner on x) →
         ((x : Name) → has (l ++ r) x ≡ true → has (l ++ r) (swap on x) ≡ true) → Scopes z l r on) ⌝ }

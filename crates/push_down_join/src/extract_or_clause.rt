@@ -9,20 +9,25 @@ use image::limits::MAX_DEPTH;
 use image::limits::MAX_RECORDS;
 use image::limits::NO_ROOM;
 use image::records::FIRST_LINK;
+use image::records::KIND;
 use image::records::NEXT_LINK;
+use image::records::P;
 use image::records::from_record;
 use image::records::record_at;
 use image::words::word_at;
+use plan::kinds::BINARY_EXPR;
+use plan::words::AND;
+use plan::words::OR;
 use utils::has_all_column_refs::has_all_column_refs;
 use utils::schema_columns::Fields;
 ghost use mathlib.Core.Path.{_≡_};
 ghost use mathlib.Core.Bool.{Bool, true};
 ghost use mathlib.Core.List.{_++_, List};
 ghost use mathlib.Core.Option.{some};
-ghost use Prim.Native.Nat.{_+_, _<_, _≤_};
+ghost use Prim.Native.Nat.{_*_, _+_, _<_, _≤_};
 ghost use lib.ListN.{length};
 ghost use Rattle.image.specs.Flat.{sizeT};
-ghost use Rattle.image.specs.Limits.{workBytes};
+ghost use Rattle.image.specs.Limits.{Shallow, maxFields, maxLevel, maxRecords, workBytes};
 ghost use Rattle.image.specs.Room.{Wrote};
 ghost use Rattle.image.specs.Tree.{At, Readable, Tree, labelAt};
 ghost use Rattle.plan.specs.Lists.{All};
@@ -42,8 +47,9 @@ ghost use Rattle.push_down_join.specs.Sides.{Sides};
 // Appends the clause of the conjunct n for a side, if it yields one.
 fn add_clause(s: &[u8], to: Conjuncts, n: usize, fields: Fields, side: u64) -> Conjuncts
     requires { ⌜ Present (now s) n ⌝ }
-    requires { ⌜ (length (now s) ≤ workBytes) × (fields .len ≤ 64) ⌝ }
-    ensures { λ r. ⌜ ((σ : Name → Expr) (ns : List Name) (t : Name → Bool) (es : List Expr) (e : Expr) → Sides (now (s .entry)) σ ns t to es →
+    requires { ⌜ (length (now s) ≤ workBytes) × (fields .len ≤ maxFields) ⌝ }
+    ensures { λ r. ⌜ ((σ : Name → Expr) (ns : List Name) (t : Name → Bool) (es : List Expr) (e : Expr) →
+        Sides (now (s .entry)) σ ns t to es →
         Item (now (s .entry)) n e → Names fields ns → on-cols (has ns) e ≡ true → Masks side ns t →
         Sides (now (s .entry)) σ ns t r (es ++ listed (or-clause t e))) ⌝ }
 {
@@ -62,7 +68,7 @@ pub fn extract_or_clauses_for_join(
     side: u64,
 ) -> Conjuncts
     requires { ⌜ Known (now s) c ⌝ }
-    requires { ⌜ (length (now s) ≤ workBytes) × (fields .len ≤ 64) ⌝ }
+    requires { ⌜ (length (now s) ≤ workBytes) × (fields .len ≤ maxFields) ⌝ }
     ensures { λ r. ⌜ ((σ : Name → Expr) (ns : List Name) (t : Name → Bool) (es fs : List Expr) → Sides (now (s .entry)) σ ns t to es →
         Lists (now (s .entry)) c fs → Names fields ns → All (λ e. on-cols (has ns) e ≡ true) fs → Masks side ns t →
         Sides (now (s .entry)) σ ns t r (es ++ extract-or-clauses-for-join t fs)) ⌝ }
@@ -83,16 +89,16 @@ pub enum Clause {
     Nothing,
 }
 
-// The operator of the expression at the start of `part`: 1 for And, 2 for Or, 0 for any other and for none.
+// The operator of the expression at the start of `part`, if it is And or Or; 0 for any other and for none.
 pub fn operator(part: &[u8]) -> usize
     requires { ⌜ 32 ≤ length (now part) ⌝ }
     ensures { λ r. ⌜ r ≡ operatorOf (labelAt (now (part .entry))) ⌝ }
 {
-    if word_at(part, 0) != 5 {
+    if word_at(part, KIND) != BINARY_EXPR {
         return 0;
     }
-    let p = word_at(part, 4);
-    if p <= 2 {
+    let p = word_at(part, P);
+    if p <= OR {
         return p;
     }
     0
@@ -115,7 +121,7 @@ fn records(part: &[u8], base: usize, depth: usize) -> usize
 
 // An AND keeps each operand that yields.
 fn either_and(a: Clause, b: Clause) -> Clause
-    requires { ⌜ recordsOf a + recordsOf b < 4096 ⌝ }
+    requires { ⌜ recordsOf a + recordsOf b < (2 * maxRecords) ⌝ }
     ensures { λ r. ⌜ r ≡ eitherAnd a b ⌝ }
 {
     match a {
@@ -131,7 +137,7 @@ fn either_and(a: Clause, b: Clause) -> Clause
 // An OR yields one only if both its operands do.
 pub fn extract_or_clause(part: &[u8], base: usize, depth: usize, f: Fields, side: u64) -> Clause
     requires { ⌜ ReadableE depth (now part) base ⌝ }
-    requires { ⌜ f .len ≤ 64 ⌝ }
+    requires { ⌜ f .len ≤ maxFields ⌝ }
     ensures is { λ r. ⌜ ((e : Expr) (ns : List Name) (c : Name → Bool) → At (exprTree e) (now (part .entry)) base → Names f ns
         → on-cols (has ns) e ≡ true → Masks side ns c → r ≡ clauseOf (extract-or-clause c e)) ⌝ }
     ensures small { λ r. ⌜ ((e : Expr) → At (exprTree e) (now (part .entry)) base → recordsOf r ≤ sizeE e) ⌝ }
@@ -147,7 +153,7 @@ pub fn extract_or_clause(part: &[u8], base: usize, depth: usize, f: Fields, side
     let left = from_record(part, base, x);
     let y = word_at(left, NEXT_LINK);
     let right = from_record(part, base, y);
-    if op == 1 {
+    if op == AND {
         let a = extract_or_clause(left, x, depth - 1, f, side);
         let b = extract_or_clause(right, y, depth - 1, f, side);
         return either_and(a, b);
@@ -164,11 +170,11 @@ pub fn extract_or_clause(part: &[u8], base: usize, depth: usize, f: Fields, side
 // Whether an operand is part of the clause of an AND or OR that yields one: of an OR each is, of an AND each that yields.
 fn is_kept(op: usize, part: &[u8], base: usize, depth: usize, f: Fields, side: u64) -> bool
     requires { ⌜ ReadableE depth (now part) base ⌝ }
-    requires { ⌜ f .len ≤ 64 ⌝ }
+    requires { ⌜ f .len ≤ maxFields ⌝ }
     ensures { λ r. ⌜ ((e : Expr) (ns : List Name) (c : Name → Bool) → At (exprTree e) (now (part .entry)) base → Names f ns
         → on-cols (has ns) e ≡ true → Masks side ns c → r ≡ kept op (extract-or-clause c e)) ⌝ }
 {
-    if op == 2 {
+    if op == OR {
         return true;
     }
     let Clause::Made(_) = extract_or_clause(part, base, depth, f, side) else {
@@ -189,8 +195,8 @@ pub fn copy_clause(
     level: usize,
 ) -> usize
     requires { ⌜ ReadableE depth (now part) base ⌝ }
-    requires { ⌜ f .len ≤ 64 ⌝ }
-    requires { ⌜ level + depth < 4096 ⌝ }
+    requires { ⌜ f .len ≤ maxFields ⌝ }
+    requires { ⌜ level + depth < maxLevel ⌝ }
     requires { ⌜ length (now out) ≡ workBytes ⌝ }
     ensures { λ r. ⌜ ((e clause : Expr) (ns : List Name) (c : Name → Bool) → At (exprTree e) (now (part .entry)) base → Names f ns
         → on-cols (has ns) e ≡ true → Masks side ns c → extract-or-clause c e ≡ some clause
@@ -223,7 +229,7 @@ pub fn copy_clause(
 pub fn or_clause_at(s: &[u8], n: usize, f: Fields, side: u64) -> Clause
     requires { ⌜ Present (now s) n ⌝ }
     requires { ⌜ length (now s) ≤ workBytes ⌝ }
-    requires { ⌜ f .len ≤ 64 ⌝ }
+    requires { ⌜ f .len ≤ maxFields ⌝ }
     ensures { λ r. ⌜ ((e : Expr) (ns : List Name) (c : Name → Bool) → Item (now (s .entry)) n e → Names f ns
         → on-cols (has ns) e ≡ true → Masks side ns c → r ≡ clauseOf (or-clause c e)) ⌝ }
 {
@@ -231,7 +237,7 @@ pub fn or_clause_at(s: &[u8], n: usize, f: Fields, side: u64) -> Clause
         return Clause::Nothing;
     }
     let part = record_at(s, n);
-    if operator(part) == 2 {
+    if operator(part) == OR {
         return extract_or_clause(part, n, MAX_DEPTH, f, side);
     }
     Clause::Nothing
@@ -249,8 +255,8 @@ pub fn copy_or_clause(
 ) -> usize
     requires { ⌜ There (now s) n ⌝ }
     requires { ⌜ length (now s) ≤ workBytes ⌝ }
-    requires { ⌜ f .len ≤ 64 ⌝ }
-    requires { ⌜ level < 3840 ⌝ }
+    requires { ⌜ f .len ≤ maxFields ⌝ }
+    requires { ⌜ Shallow 1 level ⌝ }
     requires { ⌜ length (now out) ≡ workBytes ⌝ }
     ensures { λ r. ⌜ ((e clause : Expr) (ns : List Name) (c : Name → Bool) → Standing (now (s .entry)) n e → Names f ns
         → on-cols (has ns) e ≡ true → Masks side ns c → or-clause c e ≡ some clause

@@ -3,6 +3,7 @@ use crate::column_checker::Scope;
 use conjuncts::lists::Conjuncts;
 use conjuncts::lists::empty;
 use image::records::FIRST_LINK;
+use image::records::KIND;
 use image::records::NEXT_LINK;
 use image::records::from_record;
 use image::records::label_at;
@@ -22,6 +23,7 @@ ghost use mathlib.Core.Option.{Option, none};
 ghost use Prim.Native.Nat.{_<_, _≤_, ℕ};
 ghost use lib.Dec.{ltb};
 ghost use lib.ListN.{length};
+ghost use Rattle.image.specs.Limits.{maxFields};
 ghost use Rattle.image.specs.Tree.{At, Readable, Tree, labelAt};
 ghost use Rattle.plan.specs.Syntax.{Expr, Name, Pair, nm};
 ghost use Rattle.rewrite.specs.PushDownFilter.{pair-of};
@@ -115,7 +117,7 @@ fn partner_in(part: &[u8], base: usize, q: usize, n: usize) -> Column
     requires { ⌜ ((d : ℕ) × Readable d (now part) base) ⌝ }
     ensures { λ r. ⌜ ((t : Tree) → At t (now (part .entry)) base → Told r (keyIn (nm q n) (t .label) (t .below))) ⌝ }
 {
-    if word_at(part, 0) != PAIR {
+    if word_at(part, KIND) != PAIR {
         return no_column();
     }
     let x = word_at(part, FIRST_LINK);
@@ -169,7 +171,7 @@ pub struct Swapped {
 // The partners of the fields by the keys of the join at the start of `part`.
 pub fn swap_keys(part: &[u8], base: usize, fields: Fields) -> Swapped
     requires { ⌜ ((d : ℕ) × Readable d (now part) base) ⌝ }
-    requires { ⌜ fields .len ≤ 64 ⌝ }
+    requires { ⌜ fields .len ≤ maxFields ⌝ }
     ensures { λ r. ⌜ ((t : Tree) (ns : List Name) → At t (now (part .entry)) base → Names fields ns → Swaps r (t .below) ns) ⌝ }
 {
     let len = fields.len;
@@ -189,7 +191,7 @@ pub fn swap_keys(part: &[u8], base: usize, fields: Fields) -> Swapped
 
 // The places of the names of `to` that are among the first k of the fields.
 pub fn places_among(fields: Fields, to: Fields, k: usize) -> u64
-    requires { ⌜ (fields .len ≤ 64) × (to .len ≤ 64) ⌝ }
+    requires { ⌜ (fields .len ≤ maxFields) × (to .len ≤ maxFields) ⌝ }
     ensures { λ r. ⌜ ((ns ms : List Name) → Names fields ns → Names to ms → Masks r ms (λ y. ltb (placeIn ns y) k)) ⌝ }
 {
     let len = to.len;

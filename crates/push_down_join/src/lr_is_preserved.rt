@@ -1,4 +1,11 @@
 // lr_is_preserved (169 to 183), on_lr_is_preserved (185 to 190): to which inputs of a join predicates may move, by its kind.
+use plan::words::INNER;
+use plan::words::LEFT;
+use plan::words::LEFT_ANTI;
+use plan::words::LEFT_SEMI;
+use plan::words::RIGHT;
+use plan::words::RIGHT_ANTI;
+use plan::words::RIGHT_SEMI;
 ghost use mathlib.Core.Path.{_≡_};
 ghost use Rattle.plan.specs.Syntax.{Kind};
 ghost use Rattle.plan.specs.Trees.{joinNumber};
@@ -15,8 +22,8 @@ pub fn lr_is_preserved(kind: usize) -> Preserved
     ensures { λ r. ⌜ ((k : Kind) → kind ≡ joinNumber k → (r .left ≡ left-preserved k) × (r .right ≡ right-preserved k)) ⌝ }
 {
     Preserved {
-        left: (kind == 1) | (kind == 2) | (kind == 5) | (kind == 7),
-        right: (kind == 1) | (kind == 3) | (kind == 6) | (kind == 8),
+        left: (kind == INNER) | (kind == LEFT) | (kind == LEFT_SEMI) | (kind == LEFT_ANTI),
+        right: (kind == INNER) | (kind == RIGHT) | (kind == RIGHT_SEMI) | (kind == RIGHT_ANTI),
     }
 }
 
@@ -25,8 +32,16 @@ pub fn on_lr_is_preserved(kind: usize) -> Preserved
     ensures { λ r. ⌜ ((k : Kind) → kind ≡ joinNumber k → (r .left ≡ on-left-preserved k) × (r .right ≡ on-right-preserved k)) ⌝ }
 {
     Preserved {
-        left: (kind == 1) | (kind == 3) | (kind == 5) | (kind == 6) | (kind == 8),
-        right: (kind == 1) | (kind == 2) | (kind == 5) | (kind == 6) | (kind == 7),
+        left: (kind == INNER)
+            | (kind == RIGHT)
+            | (kind == LEFT_SEMI)
+            | (kind == RIGHT_SEMI)
+            | (kind == RIGHT_ANTI),
+        right: (kind == INNER)
+            | (kind == LEFT)
+            | (kind == LEFT_SEMI)
+            | (kind == RIGHT_SEMI)
+            | (kind == LEFT_ANTI),
     }
 }
 
@@ -34,5 +49,5 @@ pub fn on_lr_is_preserved(kind: usize) -> Preserved
 pub fn is_inner(kind: usize) -> bool
     ensures { λ r. ⌜ ((k : Kind) → kind ≡ joinNumber k → r ≡ is-inner k) ⌝ }
 {
-    kind == 1
+    kind == INNER
 }

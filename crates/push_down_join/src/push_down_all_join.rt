@@ -19,10 +19,12 @@ use conjuncts::lists::add;
 use conjuncts::lists::empty;
 use conjuncts::lists::item_at;
 use conjuncts::split_conjunction::split_at;
-use image::limits::MAX_DEPTH;
 use image::limits::MAX_LIST;
+use image::limits::MAX_RECORDS;
 use image::limits::NO_ROOM;
+use image::records::KIND;
 use image::records::NEXT_LINK;
+use image::records::P;
 use image::records::record_at;
 use image::words::word_at;
 use plan::kinds::FIRST_PLAN;
@@ -35,10 +37,10 @@ ghost use mathlib.Core.Path.{_≡_};
 ghost use mathlib.Core.Bool.{_&&_, Bool};
 ghost use mathlib.Core.List.{_++_, List, map};
 ghost use mathlib.Core.Option.{Option};
-ghost use Prim.Native.Nat.{_+_, _<_, _≤_, ℕ};
+ghost use Prim.Native.Nat.{_*_, _+_, _≤_, ℕ};
 ghost use lib.Dec.{leb};
 ghost use lib.ListN.{length};
-ghost use Rattle.image.specs.Limits.{workBytes};
+ghost use Rattle.image.specs.Limits.{maxFields, maxList, maxRecords, workBytes};
 ghost use Rattle.plan.specs.Schema.{has, schema};
 ghost use Rattle.plan.specs.Syntax.{Expr, Kind, Name, Pair, Plan, join};
 ghost use Rattle.plan.specs.Trees.{joinNumber};
@@ -50,10 +52,10 @@ ghost use Rattle.conjuncts.specs.Items.{Holds, clauseBy};
 ghost use Rattle.conjuncts.specs.Standing.{StandingP};
 ghost use Rattle.utils.specs.Fields.{Names};
 ghost use Rattle.utils.specs.Masks.{Masks};
-ghost use Rattle.push_down_base.specs.Arms.{Answers, Placed, Rests};
+ghost use Rattle.push_down_base.specs.Arms.{Answers, ArmOver, Placed, Rests};
 ghost use Rattle.push_down_base.specs.Parting.{Reads};
 ghost use Rattle.push_down_base.specs.Plain.{Plain};
-ghost use Rattle.push_down_join.specs.JoinPlans.{JoinBetween, JoinHere, JoinUnder, Moved, OverJoin};
+ghost use Rattle.push_down_join.specs.JoinPlans.{FilterOf, JoinBetween, JoinHere, JoinUnder, Moved, OverJoin};
 ghost use Rattle.push_down_join.specs.Parts.{Parted, Wholes};
 ghost use Rattle.push_down_join.specs.Scopes.{Asked, Scopes, Swapper, keyed-left, keyed-right};
 ghost use Rattle.push_down_join.specs.Sides.{Sides, Smalls};
@@ -73,8 +75,8 @@ pub fn append(to: Conjuncts, c: Conjuncts, more: usize) -> Conjuncts
     r
 }
 
-// What of a list of conjuncts a side gets: those that move there, those of which others are inferred that do, and those that move to no side,
-// the clauses of which do.
+// What of a list of conjuncts a side gets: those that move there, those of which others are inferred that do, and those that move to no
+// side, the clauses of which do.
 pub struct Part {
     pub moved: Conjuncts,
     pub keyed: Conjuncts,
@@ -84,8 +86,9 @@ pub struct Part {
 // The list of a side, in the source's order.
 pub fn side_push(s: &[u8], above: Part, own: Part, fields: Fields, side: u64) -> Conjuncts
     requires { ⌜ Wholes (now s) above × Wholes (now s) own ⌝ }
-    requires { ⌜ (length (now s) ≤ workBytes) × (fields .len ≤ 64) ⌝ }
-    ensures { λ z. ⌜ ((σ : Name → Expr) (ns : List Name) (t : Name → Bool) (a i u b j v : List Expr) → Parted (now (s .entry)) ns above a i u →
+    requires { ⌜ (length (now s) ≤ workBytes) × (fields .len ≤ maxFields) ⌝ }
+    ensures { λ z. ⌜ ((σ : Name → Expr) (ns : List Name) (t : Name → Bool) (a i u b j v : List Expr) →
+        Parted (now (s .entry)) ns above a i u →
         Parted (now (s .entry)) ns own b j v → Names fields ns → Masks side ns t →
         Sides (now (s .entry)) σ ns t z (a ++ (map (replace-cols σ) (i ++ j) ++ (b ++ extract-or-clauses-for-join t (u ++ v))))) ⌝ }
 {
@@ -218,7 +221,7 @@ pub fn moves_of(s: &[u8], p: Conjuncts, g: Conjuncts, sc: Scope, kind: usize) ->
 
 // Whether none of the lists that are written is too long.
 fn fits(v: Moves) -> bool
-    ensures { λ r. ⌜ r ≡ ((leb (v .left .len) 128 && leb (v .right .len) 128) && leb (v .conditions .len) 128) ⌝ }
+    ensures { λ r. ⌜ r ≡ ((leb (v .left .len) maxList && leb (v .right .len) maxList) && leb (v .conditions .len) maxList) ⌝ }
 {
     let left = v.left;
     let right = v.right;
@@ -235,17 +238,30 @@ pub fn right_input(s: &[u8], x: usize) -> usize
     word_at(record_at(s, x + 1), NEXT_LINK)
 }
 
-// The conjuncts of the filter of the join at record x, if it has one: it is the last child, and the only one that is an expression.
+// The record of the filter of the join at record x, or 0 where it has none: it is the last child, and the only one that is an expression.
+pub fn filter_of(s: &[u8], x: usize) -> usize
+    requires { ⌜ JoinHere (now s) x ⌝ }
+    ensures { λ n. ⌜ ((k : Kind) (l r : Plan) (on : List Pair) (f : Option Expr) → Placed (now (s .entry)) x (join k l r on f) →
+        FilterOf (now (s .entry)) n f) ⌝ }
+{
+    let y = last_child(record_at(s, x), x);
+    if word_at(record_at(s, y), KIND) < FIRST_PLAN {
+        return y;
+    }
+    0
+}
+
+// The conjuncts of that filter.
 pub fn own_filter(s: &[u8], x: usize) -> Conjuncts
     requires { ⌜ JoinHere (now s) x ⌝ }
     ensures { λ z. ⌜ ((k : Kind) (l r : Plan) (on : List Pair) (f : Option Expr) → Placed (now (s .entry)) x (join k l r on f) →
         Reads (now (s .entry)) (schema l ++ schema r) z (split-conjunction? f)) ⌝ }
 {
-    let y = last_child(record_at(s, x), x, MAX_DEPTH);
-    if word_at(record_at(s, y), 0) < FIRST_PLAN {
-        return split_at(s, y, empty());
+    let y = filter_of(s, x);
+    if y == 0 {
+        return empty();
     }
-    empty()
+    split_at(s, y, empty())
 }
 
 // push_down_all_join: c is the predicates above the join at record x, g those of its own filter.
@@ -260,7 +276,7 @@ fn push_down_all_join(
     level: usize,
 ) -> Written
     requires { ⌜ JoinBetween (now s) x c g ⌝ }
-    requires { ⌜ (4128 ≤ length (now m)) × (level < 3000) × (length (now out) ≡ workBytes) × (at ≤ 2049) ⌝ }
+    requires { ⌜ ArmOver (now m) (now out) at level ⌝ }
     ensures { λ n. ⌜ ((k : Kind) (l r : Plan) (on : List Pair) (f : Option Expr) (P G : List Expr) →
         Placed (now (s .entry)) x (join k l r on f) → Reads (now (s .entry)) (schema l ++ schema r) c P →
         Reads (now (s .entry)) (schema l ++ schema r) g G → Plain P → Plain G →
@@ -268,7 +284,7 @@ fn push_down_all_join(
 {
     let z = right_input(s, x);
     let sc = join_scope(s, x, x + 1, z);
-    let kind = word_at(record_at(s, x), 4);
+    let kind = word_at(record_at(s, x), P);
     let v = moves_of(s, c, g, sc, kind);
     // A list that is too long is written nowhere.
     if !fits(v) {
@@ -295,7 +311,7 @@ pub fn push_down_join(
     level: usize,
 ) -> Written
     requires { ⌜ JoinUnder (now s) x c ⌝ }
-    requires { ⌜ (4128 ≤ length (now m)) × (level < 3000) × (length (now out) ≡ workBytes) × (at ≤ 2049) ⌝ }
+    requires { ⌜ ArmOver (now m) (now out) at level ⌝ }
     ensures { λ r. ⌜ ((k : Kind) (l q : Plan) (on : List Pair) (f : Option Expr) (P : List Expr) →
         Placed (now (s .entry)) x (join k l q on f) → Reads (now (s .entry)) (schema l ++ schema q) c P → Plain P →
         Answers (now (out .entry)) (now (out .exit)) at level r (push-down-join k l q on f P)) ⌝ }
@@ -315,7 +331,7 @@ pub fn rewrite_join(
     level: usize,
 ) -> Written
     requires { ⌜ OverJoin (now s) x p ⌝ }
-    requires { ⌜ (4128 ≤ length (now m)) × (level < 3000) × (length (now out) ≡ workBytes) × (at ≤ 2049) ⌝ }
+    requires { ⌜ ArmOver (now m) (now out) at level ⌝ }
     ensures { λ r. ⌜ ((e : Expr) (k : Kind) (l q : Plan) (on : List Pair) (f : Option Expr) →
         Rests (now (s .entry)) x p e (join k l q on f) →
         Answers (now (out .entry)) (now (out .exit)) at level r (rewrite-filter e (join k l q on f))) ⌝ }

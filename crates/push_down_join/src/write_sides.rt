@@ -9,6 +9,7 @@ use image::copying::put_kind;
 use image::copying::put_label;
 use image::limits::MAX_DEPTH;
 use image::records::FIRST_LINK;
+use image::records::KIND;
 use image::records::NEXT_LINK;
 use image::records::from_record;
 use image::records::record_at;
@@ -21,17 +22,18 @@ use utils::schema_columns::Fields;
 use writing::conjunction::copy_item;
 use writing::conjunction::copy_joined;
 use writing::make_filter::copy_plan;
-ghost use mathlib.Core.Path.{_≡_};
 ghost use mathlib.Core.Bool.{Bool};
 ghost use mathlib.Core.List.{_∷_, List};
 ghost use mathlib.Core.Option.{Option};
 ghost use Prim.Native.Nat.{_+_, _-_, _<_, _≤_};
 ghost use lib.Dec.{eqb};
 ghost use lib.ListN.{length, take};
-ghost use Rattle.image.proofs.Relinking.{recs, recsAny};
-ghost use Rattle.image.specs.Limits.{workBytes};
+ghost use Rattle.image.specs.Buffers.{Buffer, BufferAt, BufferTo};
+ghost use Rattle.image.specs.Records.{recs, recsAny};
+ghost use Rattle.image.specs.Limits.{maxFields, workBytes};
 ghost use Rattle.image.specs.Room.{Wrote};
 ghost use Rattle.image.specs.Tree.{At, Readable, Tree};
+ghost use Rattle.plan.specs.Kinds.{PairPart, numberQ};
 ghost use Rattle.plan.specs.Lists.{when};
 ghost use Rattle.plan.specs.Schema.{schema};
 ghost use Rattle.plan.specs.Syntax.{Expr, Kind, Name, Pair, Plan};
@@ -71,11 +73,12 @@ pub fn copy_sided(
     level: usize,
 ) -> usize
     requires { ⌜ OneSided (now s) n ⌝ }
-    requires { ⌜ (length (now s) ≤ workBytes) × (fields .len ≤ 64) ⌝ }
+    requires { ⌜ (length (now s) ≤ workBytes) × (fields .len ≤ maxFields) ⌝ }
     requires { ⌜ Readable room (now m) of ⌝ }
-    requires { ⌜ (level + room < 3800) × (length (now out) ≡ workBytes) ⌝ }
+    requires { ⌜ Buffer 1 (level + room) (now out) ⌝ }
     ensures { λ r. ⌜ ((σ : Name → Expr) → Maps (now (m .entry)) of room σ → (ns : List Name) (t : Name → Bool) → Names fields ns →
-        Masks side ns t → (e : Expr) → Sided (now (s .entry)) σ ns t n e → Wrote (now (out .entry)) (now (out .exit)) at level r (exprTree e)) ⌝ }
+        Masks side ns t → (e : Expr) → Sided (now (s .entry)) σ ns t n e →
+        Wrote (now (out .entry)) (now (out .exit)) at level r (exprTree e)) ⌝ }
 {
     if n < CLAUSE {
         return copy_item(s, m, of, room, n, out, at, level);
@@ -96,10 +99,10 @@ fn copy_sided_first(
     level: usize,
 ) -> usize
     requires { ⌜ SomeSided (now s) c ⌝ }
-    requires { ⌜ (length (now s) ≤ workBytes) × (fields .len ≤ 64) ⌝ }
+    requires { ⌜ (length (now s) ≤ workBytes) × (fields .len ≤ maxFields) ⌝ }
     requires { ⌜ Readable 3 (now m) 0 ⌝ }
     requires { ⌜ (0 < k) × (k ≤ c .len) ⌝ }
-    requires { ⌜ (level + k < 3700) × (length (now out) ≡ workBytes) ⌝ }
+    requires { ⌜ Buffer 2 (level + k) (now out) ⌝ }
     ensures { λ r. ⌜ ((σ : Name → Expr) (ns : List Name) (t : Name → Bool) → Side (now (m .entry)) fields side σ ns t →
         (e : Expr) (es : List Expr) → Sides (now (s .entry)) σ ns t c (e ∷ es) →
         Wrote (now (out .entry)) (now (out .exit)) at level r (exprTree (conjoin e (take (k - 1) es)))) ⌝ }
@@ -126,10 +129,10 @@ fn copy_sided_joined(
     level: usize,
 ) -> usize
     requires { ⌜ SomeSided (now s) c ⌝ }
-    requires { ⌜ (length (now s) ≤ workBytes) × (fields .len ≤ 64) ⌝ }
+    requires { ⌜ (length (now s) ≤ workBytes) × (fields .len ≤ maxFields) ⌝ }
     requires { ⌜ Readable 3 (now m) 0 ⌝ }
     requires { ⌜ 0 < c .len ⌝ }
-    requires { ⌜ (level < 3500) × (length (now out) ≡ workBytes) ⌝ }
+    requires { ⌜ Buffer 3 level (now out) ⌝ }
     ensures { λ r. ⌜ ((σ : Name → Expr) (ns : List Name) (t : Name → Bool) → Side (now (m .entry)) fields side σ ns t →
         (e : Expr) (es : List Expr) → Sides (now (s .entry)) σ ns t c (e ∷ es) →
         Wrote (now (out .entry)) (now (out .exit)) at level r (exprTree (conjoin e es))) ⌝ }
@@ -151,10 +154,10 @@ pub fn copy_sided_filtered(
     level: usize,
 ) -> usize
     requires { ⌜ SomeSided (now s) c ⌝ }
-    requires { ⌜ (length (now s) ≤ workBytes) × (fields .len ≤ 64) ⌝ }
+    requires { ⌜ (length (now s) ≤ workBytes) × (fields .len ≤ maxFields) ⌝ }
     requires { ⌜ Readable 3 (now m) 0 ⌝ }
     requires { ⌜ ThereP (now s) x ⌝ }
-    requires { ⌜ (level < 3400) × (length (now out) ≡ workBytes) ⌝ }
+    requires { ⌜ Buffer 4 level (now out) ⌝ }
     ensures { λ r. ⌜ ((σ : Name → Expr) (ns : List Name) (t : Name → Bool) → Side (now (m .entry)) fields side σ ns t →
         (es : List Expr) → Sides (now (s .entry)) σ ns t c es → (p : Plan) → StandingP (now (s .entry)) x p →
         Wrote (now (out .entry)) (now (out .exit)) at level r (planTree (with-filters es p))) ⌝ }
@@ -178,11 +181,11 @@ fn copy_pair(
     level: usize,
 ) -> usize
     requires { ⌜ Readable depth (now part) base ⌝ }
-    requires { ⌜ (level + depth < 4096) × (length (now out) ≡ workBytes) × (at ≤ 2049) ⌝ }
+    requires { ⌜ BufferTo depth level (now out) at ⌝ }
     ensures { λ r. ⌜ ((t : Tree) → At t (now (part .entry)) base →
-        WroteAll (now (out .entry)) (now (out .exit)) at r (when (eqb (t .label .kind) 50) (recs level t))) ⌝ }
+        WroteAll (now (out .entry)) (now (out .exit)) at r (when (eqb (t .label .kind) (numberQ PairPart)) (recs level t))) ⌝ }
 {
-    if word_at(part, 0) == PAIR {
+    if word_at(part, KIND) == PAIR {
         return copy_tree(part, base, depth, out, at, level);
     }
     at
@@ -198,7 +201,7 @@ fn copy_pairs(
     level: usize,
 ) -> usize
     requires { ⌜ Readable depth (now part) base ⌝ }
-    requires { ⌜ (level + depth < 4096) × (length (now out) ≡ workBytes) × (at ≤ 2049) ⌝ }
+    requires { ⌜ BufferTo depth level (now out) at ⌝ }
     ensures { λ r. ⌜ ((t : Tree) → At t (now (part .entry)) base →
         WroteAll (now (out .entry)) (now (out .exit)) at r (pairRecs level (t .below))) ⌝ }
 {
@@ -223,7 +226,7 @@ fn copy_conditions(
 ) -> usize
     requires { ⌜ Known (now s) c ⌝ }
     requires { ⌜ Readable 3 (now m) 0 ⌝ }
-    requires { ⌜ (level < 3500) × (length (now out) ≡ workBytes) × (at ≤ 2049) ⌝ }
+    requires { ⌜ BufferAt 3 level (now out) at ⌝ }
     ensures { λ r. ⌜ ((σ : Name → Expr) → Maps (now (m .entry)) 0 3 σ → (es : List Expr) → Lists (now (s .entry)) c es →
         WroteAll (now (out .entry)) (now (out .exit)) at r (recsAny level (filterKids (conjunction es)))) ⌝ }
 {
@@ -246,7 +249,7 @@ fn write_join(
     level: usize,
 ) -> usize
     requires { ⌜ Carried (now s) (now m) x z sc v ⌝ }
-    requires { ⌜ (level < 3200) × (length (now out) ≡ workBytes) ⌝ }
+    requires { ⌜ Buffer 5 level (now out) ⌝ }
     ensures { λ n. ⌜ ((k : Kind) (l r : Plan) (on : List Pair) (f : Option Expr) (P G : List Expr) (σ : Name → Expr) →
         Carries (now (s .entry)) (now (m .entry)) x z sc v k l r on f P G σ →
         Wrote (now (out .entry)) (now (out .exit)) at level n (planTree (join-over k l r on P G))) ⌝ }
@@ -276,7 +279,7 @@ pub fn write_kept(
     level: usize,
 ) -> usize
     requires { ⌜ Carried (now s) (now m) x z sc v ⌝ }
-    requires { ⌜ (level < 3100) × (length (now out) ≡ workBytes) ⌝ }
+    requires { ⌜ Buffer 6 level (now out) ⌝ }
     ensures { λ n. ⌜ ((k : Kind) (l r : Plan) (on : List Pair) (f : Option Expr) (P G : List Expr) (σ : Name → Expr) →
         Carries (now (s .entry)) (now (m .entry)) x z sc v k l r on f P G σ →
         Wrote (now (out .entry)) (now (out .exit)) at level n

@@ -7,7 +7,7 @@ use mathlib.Core.List.{List}
 use lib.Dec.{leb}
 use lib.Seq.{slice}
 use borrow.Author.Tests.{leb-true, leb-false, le-leb}
-use Rattle.image.specs.Limits.{maxDepth, maxList}
+use Rattle.image.specs.Limits.{maxDepth, maxList, maxRecords, noRoom}
 use Rattle.image.specs.Flat.{flat}
 use Rattle.image.specs.Room.{cap}
 use Rattle.plan.specs.Syntax.{Plan}
@@ -44,10 +44,10 @@ unfit e f g = record { fit = e ∙ g; flag = f; written = λ y. no-yes (sym e �
 module _ {s levels work : List ℕ} {spot : Spot} {new : Written} {node : ℕ} {w : Plan} {c : Focus} {t : Transformed}
     (h : Replaces s levels work spot new node w c t) where
   -- the answer's lists are within the limit, or nothing was written
-  pub next-small : new .next ≤ 2049
+  pub next-small : new .next ≤ noRoom
   next-small = go (leb (listP (t .plan)) maxList) refl
     where
-      go : (b : Bool) → leb (listP (t .plan)) maxList ≡ b → new .next ≤ 2049
+      go : (b : Bool) → leb (listP (t .plan)) maxList ≡ b → new .next ≤ noRoom
       go true e = wrote-small (h .answers .fits (leb-true (listP (t .plan)) maxList e))
       go false e = omega (arith, h .answers .over (leb-false (listP (t .plan)) maxList e) .0)
 
@@ -60,14 +60,14 @@ module _ {s levels work : List ℕ} {spot : Spot} {new : Written} {node : ℕ} {
     lists-back : leb (listP (c .back (t .plan))) maxList ≡ leb (listP (t .plan)) maxList
     lists-back = list-back w node c (h .inside .there) (t .plan) maxList (h .inside .lists)
 
-    pub too-many : 2048 < n → false ≡ fits (c .back (t .plan))
+    pub too-many : maxRecords < n → false ≡ fits (c .back (t .plan))
     too-many many = go (leb (listP (t .plan)) maxList) refl
       where
         go : (b : Bool) → leb (listP (t .plan)) maxList ≡ b → false ≡ fits (c .back (t .plan))
         go true e = rw (fits-over (c .back (t .plan)) (begun-of (leb-true (listP (t .plan)) maxList e)) many)
         go false e = rw (fits-long (c .back (t .plan)) (lists-back ∙ e))
 
-    module _ (few : n ≤ 2048) where
+    module _ (few : n ≤ maxRecords) where
       lists-small : listP (t .plan) ≤ maxList
       unfolding cap
       lists-small = go (leb (listP (t .plan)) maxList) refl

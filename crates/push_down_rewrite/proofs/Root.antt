@@ -8,7 +8,7 @@ use mathlib.Core.List.{List}
 use lib.ListN.{length}
 use borrow.Author.Tests.{leb-true, le-leb}
 use Rattle.image.specs.Tree.{Forest, none, node, Deep}
-use Rattle.image.specs.Limits.{maxRecords, maxDepth, maxList, workBytes}
+use Rattle.image.specs.Limits.{maxRecords, maxDepth, maxList, workBytes, maxBelow}
 use Rattle.plan.specs.Syntax.{Plan}
 use Rattle.plan.specs.Trees.{planTree, kidsP}
 use Rattle.plan.specs.Measure.{depth, sizeP, depthP}
@@ -58,7 +58,7 @@ module _ (s : List ℕ) (p : Plan) (a : Accepted s p) where
       record {
         within = omega arith;
         here = rw (a .image) (record { head = k .head; below = k .below });
-        deep = depth-deep (kidsP p) 255 (omega (arith, deep-enough p (a .well .depth)));
+        deep = depth-deep (kidsP p) maxBelow (omega (arith, deep-enough p (a .well .depth)));
         fits = a .well .integers;
         small = omega arith;
       }

@@ -34,7 +34,7 @@ use Rattle.push_down_arms.specs.Movable.{mayMove}
 use Rattle.push_down_base.specs.Predicates.{Predicate}
 use Rattle.push_down_arms.specs.Through.{takesNone}
 use Rattle.push_down_arms.proofs.Divisions.{aggregate-pushed, window-pushed, project-kept}
-use Rattle.push_down_join.proofs.JoinParts.{Last, no-filter, a-filter}
+use Rattle.push_down_join.specs.JoinPlans.{FilterOf, bare, own}
 use Rattle.push_down_join.proofs.MovedLists.{counts-none}
 use Rattle.push_down_rewrite.proofs.OneMerge.{input-placed, stays}
 use Rattle.push_down_base.proofs.Plain.{split-some}
@@ -63,17 +63,17 @@ kept-as e h = record { yes = λ y. h .yes (e ∙ y); no = λ n. h .no (e ∙ n) 
 
 module _ {s : List ℕ} {n : ℕ} where
   -- it is at record n
-  pub last-deep : {f : Option Expr} {b : Bool} → Last s n f → word (drop (32 * n) s) 0 < 32 → ((e : Expr) → Standing s n e → Says b (LeftDeep e))
+  pub own-deep : {f : Option Expr} {b : Bool} → FilterOf s n f → (n ≡ 0 → ⊥) → ((e : Expr) → Standing s n e → Says b (LeftDeep e))
       → Says b (conjunction (split-conjunction? f) ≡ f)
   unfolding split-conjunction?
-  last-deep (no-filter room kind) lt g = absurd (omega arith)
-  last-deep (a-filter {e} h pos kind) lt g = g e h
+  own-deep (bare e) nz g = absurd (nz e)
+  own-deep (own {e} h pos) nz g = g e h
 
   -- there is none
-  pub last-bare : {f : Option Expr} → Last s n f → 32 ≤ word (drop (32 * n) s) 0 → Says true (conjunction (split-conjunction? f) ≡ f)
+  pub own-bare : {f : Option Expr} → FilterOf s n f → n ≡ 0 → Says true (conjunction (split-conjunction? f) ≡ f)
   unfolding split-conjunction? conjunction
-  last-bare (no-filter room kind) le = says-so refl
-  last-bare (a-filter h pos kind) le = absurd (omega arith)
+  own-bare (bare e) z = says-so refl
+  own-bare (own h pos) z = absurd (omega arith)
 
 no-conjuncts : (f : Option Expr) → length (split-conjunction? f) ≡ 0 → f ≡ none
 unfolding split-conjunction?

@@ -9,7 +9,7 @@ use native.Mathlib.Omega.{arith}
 use lib.Dec.{leb}
 use lib.ListN.{length}
 use borrow.Author.Tests.{leb-true, leb-false, le-leb, lt-leb}
-use Rattle.image.specs.Limits.{maxRecords, maxDepth, maxList}
+use Rattle.image.specs.Limits.{maxRecords, maxDepth, maxList, noRoom}
 use Rattle.image.specs.Word.{word}
 use Rattle.image.specs.Flat.{flat}
 use Rattle.plan.specs.Syntax.{Name, Expr, Plan, filter}
@@ -70,7 +70,7 @@ module _ {s : List ℕ} {node : ℕ} {w : Plan} {c : Focus} (h : Inside s node w
   unfolding sizeP
   end-within = omega (arith, within w node c (h .there))
 
-  pub level-small : {level : ℕ} → level ≡ word (flat 1 (planTree w)) (32 * node + 24) → level ≤ 2049
+  pub level-small : {level : ℕ} → level ≡ word (flat 1 (planTree w)) (32 * node + 24) → level ≤ noRoom
   level-small {level} e =
       let k = stands-inside .small in
       omega (arith, level-is w node c (h .there) level (omega (arith, k)) e, split-at w node 1 c (h .there) .small, k)

@@ -1,4 +1,5 @@
--- What the merging of Filters is asked and answers: predicates that are simplified and merged, the plan after a merge, and where it comes to rest.
+-- What the merging of Filters is asked and answers: predicates that are simplified and merged, the plan after a merge, and where it comes
+-- to rest.
 use mathlib.Core.Path.{_≡_}
 use mathlib.Core.Bool.{Bool, true, false}
 use mathlib.Core.List.{List}

@@ -22,7 +22,8 @@ abbrev pub Outcome : Type 0
 Outcome = declared.Outcome
 
 -- the answer t was written in the place of what c found at record `node` of the whole, w
-pub record Replaces (s levels work : List ℕ) (spot : Spot) (new : Written) (node : ℕ) (w : Plan) (c : Focus) (t : Transformed) : Type 0 where
+pub record Replaces (s levels work : List ℕ) (spot : Spot) (new : Written) (node : ℕ) (w : Plan) (c : Focus) (t : Transformed)
+    : Type 0 where
   pub inside : Inside s node w c
   pub before : List ℕ
   pub long : length before ≡ workBytes

@@ -4,7 +4,9 @@ use mathlib.Core.Bool.{Bool, true, false, not, _&&_, _||_}
 use mathlib.Core.List.{[]}
 use lib.Dec.{eqb}
 use Rattle.image.specs.Tree.{Label}
-use Rattle.plan.specs.Syntax.{Plan}
+use Rattle.plan.specs.Kinds.{numberP, TableScan, Projection, Aggregate, Window, Join}
+use Rattle.plan.specs.Syntax.{Plan, inner}
+use Rattle.plan.specs.Trees.{joinNumber}
 use Rattle.rewrite.specs.PushDownFilter.{Transformed, Transformed·no, rewrite, merges}
 use Rattle.push_down_arms.specs.Through.{takesNone}
 
@@ -22,4 +24,7 @@ pub record Stays (b : Bool) (p : Plan) : Type 0 where
 -- that take none; it merges with a Filter, and goes below any other
 abbrev pub mayStay : Label → Bool
 mayStay l =
-    (((eqb (l .kind) 32 || eqb (l .kind) 34) || (eqb (l .kind) 42 || eqb (l .kind) 43)) || (eqb (l .kind) 35 && not (eqb (l .p) 1))) || takesNone l
+    (((eqb (l .kind) (numberP TableScan) || eqb (l .kind) (numberP Projection))
+    || (eqb (l .kind) (numberP Aggregate) || eqb (l .kind) (numberP Window)))
+    || (eqb (l .kind) (numberP Join) && not (eqb (l .p) (joinNumber inner))))
+    || takesNone l

@@ -10,6 +10,7 @@ use conjuncts::unique::unique;
 use image::limits::MAX_DEPTH;
 use image::limits::MAX_LIST;
 use image::limits::MAX_RECORDS;
+use image::records::KIND;
 use image::records::NEXT_LINK;
 use image::records::record_at;
 use image::words::word_at;
@@ -23,7 +24,8 @@ ghost use mathlib.Core.Path.{_≡_};
 ghost use mathlib.Core.Option.{some};
 ghost use Prim.Native.Nat.{_<_, _≤_};
 ghost use lib.ListN.{length};
-ghost use Rattle.image.specs.Limits.{maxList, maxRecords, workBytes};
+ghost use Rattle.image.specs.Buffers.{Scratch};
+ghost use Rattle.image.specs.Limits.{maxList, workBytes};
 ghost use Rattle.plan.specs.Syntax.{Expr, Plan, filter};
 ghost use Rattle.rewrite.specs.Limits.{fits, listP};
 ghost use Rattle.rewrite.specs.PushDownFilter.{merged, merges, merges-under, simplify-filter};
@@ -36,7 +38,8 @@ ghost use Rattle.push_down_rewrite.specs.Merging.{FilterAt, FilterInside
 ghost use Rattle.push_down_rewrite.specs.Merging.{Remains, Settles, settle-first};
 ghost use Rattle.push_down_rewrite.specs.Settled.{settle};
 
-// Where merging comes to rest: a predicate, if anything is left of it, on the plan at record `input`; and whether the plan after each merge fits.
+// Where merging comes to rest: a predicate, if anything is left of it, on the plan at record `input`; and whether the plan after each merge
+// fits.
 pub struct Settled {
     pub fits: bool,
     pub input: usize,
@@ -103,7 +106,7 @@ fn merge_fits(
     levels: &mut [u32],
 ) -> bool
     requires { ⌜ Mergeable (now s) node p x ⌝ }
-    requires { ⌜ (length (now work) ≡ workBytes) × (length (now levels) ≡ maxRecords) ⌝ }
+    requires { ⌜ Scratch (now work) (now levels) ⌝ }
     ensures { λ r. ⌜ ((w : Plan) (c : Focus) → Inside (now (s .entry)) node w c → (e : Expr) (q : Plan) → Made (now (s .entry)) p e →
         StandingP (now (s .entry)) x q → listP q ≤ maxList → r ≡ fits (c .back (filter e q))) ⌝ }
 {
@@ -143,12 +146,12 @@ fn rewrite_filter(
     levels: &mut [u32],
 ) -> Settled
     requires { ⌜ Merging (now s) node p x ⌝ }
-    requires { ⌜ (length (now work) ≡ workBytes) × (length (now levels) ≡ maxRecords) ⌝ }
+    requires { ⌜ Scratch (now work) (now levels) ⌝ }
     ensures { λ r. ⌜ ((w : Plan) (c : Focus) → Inside (now (s .entry)) node w c → (e : Expr) (q : Plan) → Rests (now (s .entry)) x p e q →
         Settles (now (s .entry)) r c (merges-under e q) (settle e q)) ⌝ }
 {
     let part = record_at(s, x);
-    if word_at(part, 0) == FILTER {
+    if word_at(part, KIND) == FILTER {
         return merge_filter(s, node, p, x, work, levels);
     }
     Settled {
@@ -168,7 +171,7 @@ fn merge_filter(
     levels: &mut [u32],
 ) -> Settled
     requires { ⌜ MergingInto (now s) node p x ⌝ }
-    requires { ⌜ (length (now work) ≡ workBytes) × (length (now levels) ≡ maxRecords) ⌝ }
+    requires { ⌜ Scratch (now work) (now levels) ⌝ }
     ensures { λ r. ⌜ ((w : Plan) (c : Focus) → Inside (now (s .entry)) node w c → (e b : Expr) (q : Plan) →
         Rests (now (s .entry)) x p e (filter b q) → Settles (now (s .entry)) r c (merges-under e (filter b q)) (settle e (filter b q))) ⌝ }
 {
@@ -195,7 +198,7 @@ fn merge_filter(
 // The Filter at record `node`: its predicate is simplified, and the Filters below are merged into it.
 pub fn settle_filter(s: &[u8], node: usize, work: &mut [u8], levels: &mut [u32]) -> Settled
     requires { ⌜ FilterInside (now s) node ⌝ }
-    requires { ⌜ (length (now work) ≡ workBytes) × (length (now levels) ≡ maxRecords) ⌝ }
+    requires { ⌜ Scratch (now work) (now levels) ⌝ }
     ensures { λ r. ⌜ ((w : Plan) (c : Focus) → Inside (now (s .entry)) node w c → (e : Expr) (q : Plan) → c .plan ≡ filter e q →
         Settles (now (s .entry)) r c (merges (filter e q)) (settle-first e q)) ⌝ }
 {

@@ -8,6 +8,7 @@ use answers::splicing::write_before;
 use answers::splicing::write_records;
 use conjuncts::lists::empty;
 use image::limits::MAX_RECORDS;
+use image::records::KIND;
 use image::records::record_at;
 use image::relink::relink;
 use image::words::word_at;
@@ -17,9 +18,8 @@ use push_down_base::predicates::Written;
 use push_down_join::push_down_all_join::push_down_join;
 ghost use mathlib.Core.Path.{_≡_};
 ghost use mathlib.Core.Bool.{true};
-ghost use Prim.Native.Nat.{_≤_, ℕ};
-ghost use lib.ListN.{length};
-ghost use Rattle.image.specs.Limits.{maxRecords, workBytes};
+ghost use Prim.Native.Nat.{ℕ};
+ghost use Rattle.image.specs.Buffers.{Scratch, ScratchMap};
 ghost use Rattle.plan.specs.Syntax.{Plan};
 ghost use Rattle.rewrite.specs.PushDownFilter.{Transformed};
 ghost use Rattle.rewrite.specs.RewriteAt.{Focus};
@@ -27,8 +27,8 @@ ghost use Rattle.push_down_rewrite.specs.Found.{Found, JoinInside};
 ghost use Rattle.push_down_rewrite.specs.Merging.{FilterInside, Inside};
 ghost use Rattle.push_down_rewrite.specs.Outcomes.{Finishes, Outcomes, Replaced, Replaces, answer};
 
-// What a rewrite comes to: whether it is within the limits, and the flag; whether a new image was written, of so many records, or the one that
-// was read is the answer.
+// What a rewrite comes to: whether it is within the limits, and the flag; whether a new image was written, of so many records, or the one
+// that was read is the answer.
 pub struct Outcome {
     pub fits: bool,
     pub flag: bool,
@@ -39,7 +39,7 @@ pub struct Outcome {
 // Writes what stands behind the new plan, tests the whole, and links it.
 fn finish(s: &[u8], spot: Spot, levels: &[u32], new: Written, work: &mut [u8]) -> Outcome
     requires { ⌜ Replaced (now s) (now levels) (now work) spot new ⌝ }
-    requires { ⌜ (length (now work) ≡ workBytes) × (length (now levels) ≡ maxRecords) ⌝ }
+    requires { ⌜ Scratch (now work) (now levels) ⌝ }
     ensures { λ r. ⌜ ((node : ℕ) (w : Plan) (c : Focus) (t : Transformed) →
         Replaces (now (s .entry)) (now (levels .entry)) (now (work .entry)) spot new node w c t →
         Finishes (now (work .exit)) r (t .transformed) (c .back (t .plan))) ⌝ }
@@ -79,7 +79,7 @@ fn rewrite_filter_node(
     levels: &mut [u32],
 ) -> Outcome
     requires { ⌜ FilterInside (now s) node ⌝ }
-    requires { ⌜ (4128 ≤ length (now m)) × (length (now work) ≡ workBytes) × (length (now levels) ≡ maxRecords) ⌝ }
+    requires { ⌜ ScratchMap (now m) (now work) (now levels) ⌝ }
     ensures { λ r. ⌜ ((w : Plan) (c : Focus) → Inside (now (s .entry)) node w c → Outcomes (now (work .exit)) r w c) ⌝ }
 {
     let rest = settle_filter(s, node, work, levels);
@@ -105,7 +105,7 @@ fn rewrite_join_node(
     levels: &mut [u32],
 ) -> Outcome
     requires { ⌜ JoinInside (now s) node ⌝ }
-    requires { ⌜ (4128 ≤ length (now m)) × (length (now work) ≡ workBytes) × (length (now levels) ≡ maxRecords) ⌝ }
+    requires { ⌜ ScratchMap (now m) (now work) (now levels) ⌝ }
     ensures { λ r. ⌜ ((w : Plan) (c : Focus) → Inside (now (s .entry)) node w c → Outcomes (now (work .exit)) r w c) ⌝ }
 {
     let spot = write_before(s, node, work, levels);
@@ -122,10 +122,10 @@ pub fn rewrite_anew(
     levels: &mut [u32],
 ) -> Outcome
     requires { ⌜ Found (now s) node ⌝ }
-    requires { ⌜ (4128 ≤ length (now m)) × (length (now work) ≡ workBytes) × (length (now levels) ≡ maxRecords) ⌝ }
+    requires { ⌜ ScratchMap (now m) (now work) (now levels) ⌝ }
     ensures { λ r. ⌜ ((w : Plan) (c : Focus) → Inside (now (s .entry)) node w c → Outcomes (now (work .exit)) r w c) ⌝ }
 {
-    let kind = word_at(record_at(s, node), 0);
+    let kind = word_at(record_at(s, node), KIND);
     if kind == FILTER {
         return rewrite_filter_node(s, node, m, work, levels);
     }
@@ -143,7 +143,7 @@ pub fn rewrite_anew(
 // The plan at record `node`. Nothing is written for one that stays as it is: what is written is another plan.
 pub fn rewrite(s: &[u8], node: usize, m: &mut [u8], work: &mut [u8], levels: &mut [u32]) -> Outcome
     requires { ⌜ Found (now s) node ⌝ }
-    requires { ⌜ (4128 ≤ length (now m)) × (length (now work) ≡ workBytes) × (length (now levels) ≡ maxRecords) ⌝ }
+    requires { ⌜ ScratchMap (now m) (now work) (now levels) ⌝ }
     ensures { λ r. ⌜ ((w : Plan) (c : Focus) → Inside (now (s .entry)) node w c → Outcomes (now (work .exit)) r w c) ⌝ }
     ensures changes { λ r. ⌜ ((w : Plan) (c : Focus) → Inside (now (s .entry)) node w c → r .written ≡ true → answer c ≡ w → ⊥) ⌝ }
 {

@@ -7,24 +7,25 @@ use conjuncts::lists::Conjuncts;
 use conjuncts::lists::empty;
 use conjuncts::split_conjunction::left_deep_at;
 use conjuncts::split_conjunction::split_at;
-use image::limits::MAX_DEPTH;
+use image::records::KIND;
+use image::records::P;
 use image::records::record_at;
 use image::words::word_at;
 use plan::kinds::AGGREGATE;
 use plan::kinds::FILTER;
-use plan::kinds::FIRST_PLAN;
 use plan::kinds::JOIN;
 use plan::kinds::PROJECTION;
 use plan::kinds::TABLE_SCAN;
 use plan::kinds::WINDOW;
+use plan::words::INNER;
 use push_down_arms::aggregate::divide_groups;
 use push_down_arms::push_some::divide;
 use push_down_arms::table_scan::share_of;
 use push_down_arms::through::takes_none;
-use push_down_base::inputs::last_child;
 use push_down_base::predicates::Predicate;
 use push_down_base::predicates::is_gone;
 use push_down_join::column_checker::join_scope;
+use push_down_join::push_down_all_join::filter_of;
 use push_down_join::push_down_all_join::join_conditions;
 use push_down_join::push_down_all_join::left_push;
 use push_down_join::push_down_all_join::own_filter;
@@ -54,17 +55,17 @@ ghost use Rattle.push_down_rewrite.specs.Found.{Found, OnInput};
 ghost use Rattle.push_down_rewrite.specs.Merging.{FilterInside, Formed, Inside, is-filter};
 ghost use Rattle.push_down_rewrite.specs.Staying.{Kept, Stays, mayStay};
 
-// Whether the filter of the join at record x, if it has one, is joined left-deep: it is the last child, and the only one that is an expression.
+// Whether the filter of the join at record x, if it has one, is joined left-deep.
 fn own_left_deep(s: &[u8], x: usize) -> bool
     requires { ⌜ JoinHere (now s) x ⌝ }
     ensures { λ n. ⌜ ((k : Kind) (l r : Plan) (on : List Pair) (f : Option Expr) → Placed (now (s .entry)) x (join k l r on f) →
         Says n (conjunction (split-conjunction? f) ≡ f)) ⌝ }
 {
-    let y = last_child(record_at(s, x), x, MAX_DEPTH);
-    if word_at(record_at(s, y), 0) < FIRST_PLAN {
-        return left_deep_at(s, y);
+    let y = filter_of(s, x);
+    if y == 0 {
+        return true;
     }
-    true
+    left_deep_at(s, y)
 }
 
 // Whether nothing of the predicates c above the join at record x, and of those of its own filter, g, moves.
@@ -76,7 +77,7 @@ fn nothing_moves(s: &[u8], x: usize, c: Conjuncts, g: Conjuncts) -> bool
 {
     let z = right_input(s, x);
     let sc = join_scope(s, x, x + 1, z);
-    let kind = word_at(record_at(s, x), 4);
+    let kind = word_at(record_at(s, x), P);
     let left = left_push(s, c, g, sc, kind);
     if left.len != 0 {
         return false;
@@ -108,7 +109,8 @@ fn join_stays(s: &[u8], x: usize) -> bool
 // The predicate p, as it is written, over the Join at record x: what stays above it and in it is joined anew.
 fn over_join_stays(s: &[u8], x: usize, p: Predicate) -> bool
     requires { ⌜ OverJoin (now s) x p × (p .written ≡ 0 → ⊥) ⌝ }
-    ensures { λ n. ⌜ ((e : Expr) (k : Kind) (l r : Plan) (on : List Pair) (f : Option Expr) → Rests (now (s .entry)) x p e (join k l r on f) →
+    ensures { λ n. ⌜ ((e : Expr) (k : Kind) (l r : Plan) (on : List Pair) (f : Option Expr) →
+        Rests (now (s .entry)) x p e (join k l r on f) →
         Kept n (rewrite-filter e (join k l r on f)) (filter e (join k l r on f))) ⌝ }
 {
     if !left_deep_at(s, p.written) {
@@ -177,7 +179,7 @@ fn over_stays(s: &[u8], x: usize, p: Predicate) -> bool
     ensures { λ n. ⌜ ((e : Expr) (q : Plan) → Rests (now (s .entry)) x p e q → is-filter q ≡ false →
         Kept n (rewrite-filter e q) (filter e q)) ⌝ }
 {
-    let kind = word_at(record_at(s, x), 0);
+    let kind = word_at(record_at(s, x), KIND);
     if kind == TABLE_SCAN {
         return over_scan_stays(s, x, p);
     }
@@ -201,11 +203,11 @@ fn may_stay(part: &[u8]) -> bool
     requires { ⌜ 32 ≤ length (now part) ⌝ }
     ensures { λ r. ⌜ r ≡ mayStay (labelAt (now (part .entry))) ⌝ }
 {
-    let kind = word_at(part, 0);
+    let kind = word_at(part, KIND);
     (kind == TABLE_SCAN)
         | (kind == PROJECTION)
         | ((kind == AGGREGATE) | (kind == WINDOW))
-        | ((kind == JOIN) & (word_at(part, 4) != 1))
+        | ((kind == JOIN) & (word_at(part, P) != INNER))
         | takes_none(part)
 }
 
@@ -255,7 +257,7 @@ pub fn stays(s: &[u8], node: usize) -> bool
     requires { ⌜ Found (now s) node ⌝ }
     ensures { λ r. ⌜ ((w : Plan) (c : Focus) → Inside (now (s .entry)) node w c → Stays r (c .plan)) ⌝ }
 {
-    let kind = word_at(record_at(s, node), 0);
+    let kind = word_at(record_at(s, node), KIND);
     if kind == FILTER {
         return filter_stays(s, node);
     }

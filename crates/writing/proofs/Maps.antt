@@ -13,6 +13,7 @@ use Prim.Native.Nat.{ℕ, _-_, _*_, _<_}
 use native.Mathlib.Omega.{arith}
 use lib.ListN.{drop}
 use lib.Dec.{eqb}
+use Rattle.image.specs.Limits.{maxDepth}
 use Rattle.image.specs.Tree.{Label, Forest, none, node, Tree, At, Deep}
 use Rattle.plan.specs.Lists.{_&_}
 use Rattle.plan.specs.Schema.{same}
@@ -26,7 +27,7 @@ use Rattle.rewrite.specs.Utils.{replace-cols, replace-cols-all}
 use Rattle.rewrite.specs.PushDownFilter.{pick}
 use Rattle.conjuncts.specs.Standing.{StandingP}
 use Rattle.writing.specs.Replaced.{isEntry, either, lookup, firstOr, plant, replacedAny, replaced}
-use Rattle.writing.specs.Maps.{Maps}
+use Rattle.writing.specs.Maps.{Maps, mapOf}
 
 -- the entries of m give each column what σ does
 abbrev pub Gives : Tree → (Name → Expr) → Type 0
@@ -116,21 +117,6 @@ entries-map (e ∷ es) ns x h = rw (same-entry e x) (one-entry (same (e .name) x
 
 -- ---- plans
 
--- what the entries of a plan replace columns by: those of a Projection, the group entries of an Aggregate, and no others
-abbrev pub mapOf : Plan → Name → Expr
-mapOf (project es p) = pick es
-mapOf (aggregate gs ags p) = pick gs
-mapOf (scan t fs es) = col
-mapOf (filter e p) = col
-mapOf (join k l r on f) = col
-mapOf (alias q p) = col
-mapOf (union ps) = col
-mapOf (distinct p) = col
-mapOf (sort f ks p) = col
-mapOf (repartition p) = col
-mapOf (limit n k p) = col
-mapOf (window ws p) = col
-
 -- a run of parts that are no entries
 pub parts-none : {A : Type 0} (l : A → Label) (k : A → Forest) (xs : List A) (ns : Forest)
     → ((x : A) → eqb (l x .kind) 49 ≡ false) → NoEntry ns → NoEntry (each l k xs ns)
@@ -207,5 +193,5 @@ pub maps : {t : Tree} {m : List ℕ} {of room : ℕ} {σ : Name → Expr}
 maps {t} {σ = σ} g h pos deep = record { tree = t; at = h; some = pos; deep = deep; is = replaced-expr t σ g }
 
 -- a plan that stands in an image is a map
-pub plan-maps : {s : List ℕ} {n : ℕ} {p : Plan} → StandingP s n p → Maps (drop (32 * n) s) n 256 (mapOf p)
+pub plan-maps : {s : List ℕ} {n : ℕ} {p : Plan} → StandingP s n p → Maps (drop (32 * n) s) n maxDepth (mapOf p)
 plan-maps {p = p} h = maps (plan-map p) (h .here) (omega arith) (h .deep)

@@ -10,6 +10,7 @@ use Prim.Native.Nat.{ℕ, zero, suc, _+_, _-_, _*_, _≤_, _<_}
 use native.Mathlib.Omega.{arith}
 use lib.ListN.{length, getD, take, drop}
 use lib.Seq.{take-suc}
+use Rattle.image.specs.Limits.{maxRecords, maxDepth, maxList}
 use Rattle.image.specs.Tree.{Readable}
 use Rattle.plan.specs.Syntax.{Name, Expr, bin, and, Plan}
 use Rattle.plan.specs.Trees.{exprTree, planTree}
@@ -27,11 +28,11 @@ pub maps-readable : {m : List ℕ} {of room : ℕ} {σ : Name → Expr} → Maps
 maps-readable h = record { tree = h .tree; at = h .at; some = h .some; deep = h .deep }
 
 -- an expression that stands at a record can be read from there
-pub standing-readable : {s : List ℕ} {n : ℕ} {e : Expr} → Standing s n e → Readable 256 (drop (32 * n) s) n
+pub standing-readable : {s : List ℕ} {n : ℕ} {e : Expr} → Standing s n e → Readable maxDepth (drop (32 * n) s) n
 standing-readable {e = e} h = record { tree = exprTree e; at = h .here; some = omega arith; deep = h .deep }
 
 -- a plan that stands at a record can be read from there
-pub plan-readable : {s : List ℕ} {n : ℕ} {p : Plan} → StandingP s n p → Readable 256 (drop (32 * n) s) n
+pub plan-readable : {s : List ℕ} {n : ℕ} {p : Plan} → StandingP s n p → Readable maxDepth (drop (32 * n) s) n
 plan-readable {p = p} h = record { tree = planTree p; at = h .here; some = omega arith; deep = h .deep }
 
 -- FALSE has no columns
@@ -92,7 +93,7 @@ module _ {s : List ℕ} {σ : Name → Expr} where
   pushes-of h = record { numbers = h .numbers; holds = h .holds; items = each-of σ (h .items) }
 
   -- of a list that is whole
-  module _ {c : Conjuncts} {es : List Expr} (h : Pushes s σ c es) (small : c .len ≤ 128) where
+  module _ {c : Conjuncts} {es : List Expr} (h : Pushes s σ c es) (small : c .len ≤ maxList) where
     pub pushes-length : length es ≡ c .len
     pushes-length = each-length (h .items) ∙ count-is (h .holds) small
 

@@ -12,6 +12,7 @@ use native.Mathlib.Omega.{arith}
 use borrow.Author.Count.{below-more}
 use lib.ListN.{length, drop, length-append}
 use lib.Seq.{sets, sets-eq, length-sets}
+use Rattle.image.specs.Limits.{maxFields, recordBytes}
 use Rattle.image.specs.Tree.{Label, Forest, none, node, size, link, At, Stands, Deep, Small}
 use Rattle.image.specs.Flat.{bytesOf, encAny}
 use Rattle.image.proofs.Writing.{sets-after, bytesOf-length}
@@ -70,7 +71,7 @@ renames-deep f g i zero = tt
 renames-deep f g i (suc k) = (omega arith, (omega arith, tt, tt), renames-deep f g (i + 1) k)
 
 -- the bytes of a rename
-bytes-length : (x y : Name) (a b : ℕ) → length (renameBytes x y a b) ≡ 64
+bytes-length : (x y : Name) (a b : ℕ) → length (renameBytes x y a b) ≡ 2 * recordBytes
 bytes-length x y a b = simp (length-append, bytesOf-length)
 
 pub two-records : (m : List ℕ) (at : ℕ) (l k : Label) (a b c d : ℕ)
@@ -126,7 +127,7 @@ unfolding each
 renames-end {n = n} {i = i} h le = let z : n - i ≡ 0 = omega arith in rw z at (h .same)
 
 -- the image is there
-pub written : (f g : Fields) (n : ℕ) (m m₀ m′ : List ℕ) (r : ℕ) → n ≤ 64 → 32 * (1 + 2 * n) ≤ length m
+pub written : (f g : Fields) (n : ℕ) (m m₀ m′ : List ℕ) (r : ℕ) → n ≤ maxFields → 32 * (1 + 2 * n) ≤ length m
     → r ≡ linkTo 1 n → m₀ ≡ sets m 0 (bytesOf (renamesTree f g n .label) r 0)
     → m′ ≡ sets m₀ 32 (encAny 1 (renames f g 0 n)) → ((j : ℕ) → j < n → SmallPair f g j) → At (renamesTree f g n) m′ 0
 written f g n m m₀ m′ r le long first e h small =
@@ -178,12 +179,12 @@ pick-ren (y ∷ s) (z ∷ t) f g i x e h k =
     pick-next x hi ki rest
 
 -- as many as there are
-whole : {f : Fields} {s : List Name} → Names f s → f .len ≤ 64 → length s ≡ f .len
+whole : {f : Fields} {s : List Name} → Names f s → f .len ≤ maxFields → length s ≡ f .len
 unfolding most
 whole h le = omega (arith, h .count)
 
 -- the renames are a map
-pub renames-map : {f g : Fields} {m : List ℕ} → At (renamesTree f g (f .len)) m 0 → f .len ≤ 64 → (s t : List Name) → Names f s → Names g t
+pub renames-map : {f g : Fields} {m : List ℕ} → At (renamesTree f g (f .len)) m 0 → f .len ≤ maxFields → (s t : List Name) → Names f s → Names g t
     → length s ≡ length t → Maps m 0 3 (λ x. col (ren s t x))
 renames-map {f} {g} {m} h le s t a b e =
     let n : length s ≡ f .len = whole a le in

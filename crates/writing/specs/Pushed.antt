@@ -1,7 +1,8 @@
 -- What is written for the items of a list: an expression as it stands, or with its columns replaced.
 use mathlib.Core.Path.{_≡_}
 use mathlib.Core.List.{List, [], _∷_}
-use Prim.Native.Nat.{ℕ, _-_, _≤_, _<_}
+use Prim.Native.Nat.{ℕ, _-_, _≤_, _<_, _*_}
+use Rattle.image.specs.Limits.{maxRecords, maxList}
 use Rattle.plan.specs.Syntax.{Name, Expr}
 use Rattle.rewrite.specs.Utils.{replace-cols, conjoin}
 use Rattle.conjuncts.specs.Items.{Conjuncts, Holds, Item, clauseBy, replacedBy}
@@ -54,11 +55,11 @@ pub record Some (s : List ℕ) (c : Conjuncts) : Type 0 where
   pub map : Name → Expr
   pub exprs : List Expr
   pub pushes : Pushes s map c exprs
-  pub most : c .len ≤ 128
+  pub most : c .len ≤ maxList
 
 -- a predicate is written
 pub record Predicated (s : List ℕ) (written : ℕ) (c : Conjuncts) : Type 0 where
   pub map : Name → Expr
   pub expr : Expr
   pub predicate : Predicate s map written c expr
-  pub most : c .len ≤ 128
+  pub most : c .len ≤ maxList

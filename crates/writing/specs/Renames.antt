@@ -3,8 +3,9 @@ use mathlib.Core.List.{List, [], _∷_, _++_}
 use Prim.Native.Nat.{ℕ, zero, suc, _+_, _<_}
 use Rattle.image.specs.Tree.{Label, none, Tree}
 use Rattle.image.specs.Flat.{bytesOf}
+use Rattle.plan.specs.Kinds.{plan, numberE, numberQ, Column, EntryPart, Projection}
 use Rattle.plan.specs.Syntax.{Name, col, Entry}
-use Rattle.plan.specs.Trees.{qualifier, ident, each, entryLabel, entryKids}
+use Rattle.plan.specs.Trees.{label, qualifier, ident, each, entryLabel, entryKids}
 use Rattle.utils.specs.Fields.{Fields, fieldAt}
 
 -- the label of this kind with this name
@@ -23,7 +24,7 @@ linkTo b (suc k) = b
 
 -- the bytes of a rename
 abbrev pub renameBytes : Name → Name → ℕ → ℕ → List ℕ
-renameBytes x y a b = bytesOf (namedLabel 49 x) a b ++ bytesOf (namedLabel 1 y) 0 0
+renameBytes x y a b = bytesOf (namedLabel (numberQ EntryPart) x) a b ++ bytesOf (namedLabel (numberE Column) y) 0 0
 
 -- the name x for the name y
 abbrev pub renameOf : Name → Name → Entry
@@ -37,4 +38,4 @@ renamesFrom f g i (suc k) = renameOf (fieldAt f i) (fieldAt g i) ∷ renamesFrom
 -- the tree of the renames
 abbrev pub renamesTree : Fields → Fields → ℕ → Tree
 renamesTree f g n =
-    record { label = record { kind = 34; p = 0; q = 0; r = 0; lo = 0; hi = 0 }; below = each entryLabel entryKids (renamesFrom f g 0 n) none }
+    record { label = label (plan Projection) 0 0 0 0 0; below = each entryLabel entryKids (renamesFrom f g 0 n) none }

@@ -5,6 +5,7 @@ use Prim.Native.Nat.{ℕ}
 use lib.Dec.{eqb}
 use mathlib.Core.List.{List}
 use Rattle.image.specs.Tree.{Label, Forest, none, node, Tree, Linked}
+use Rattle.plan.specs.Kinds.{numberE, numberQ, Column, EntryPart}
 
 -- f is linked at x: a record around `Linked`, by which f is found
 pub record Leads (f : Forest) (s : List ℕ) (b x : ℕ) : Type 0 where
@@ -12,7 +13,7 @@ pub record Leads (f : Forest) (s : List ℕ) (b x : ℕ) : Type 0 where
 
 -- the label is that of an entry of this name
 abbrev pub isEntry : Label → ℕ → ℕ → Bool
-isEntry e p q = (eqb (e .kind) 49 && eqb (e .p) p) && eqb (e .q) q
+isEntry e p q = (eqb (e .kind) (numberQ EntryPart) && eqb (e .p) p) && eqb (e .q) q
 
 -- the first if the test holds, and else the second
 abbrev pub either : Bool → Forest → Forest → Forest
@@ -26,7 +27,7 @@ lookup (node e cs ns) p q = either (isEntry e p q) cs (lookup ns p q)
 
 -- .. of the name that a column has
 abbrev pub valueFor : Tree → Label → Forest
-valueFor e l = either (eqb (l .kind) 1) (lookup (e .below) (l .p) (l .q)) none
+valueFor e l = either (eqb (l .kind) (numberE Column)) (lookup (e .below) (l .p) (l .q)) none
 
 -- the forest's first tree, or t
 abbrev pub firstOr : Forest → Tree → Tree

@@ -1,5 +1,5 @@
 // conjunction (datafusion-expr utils): the items of a list written as one predicate, left-deep.
-// An item is 0 for FALSE, or the record of an expression; 2,048 more for the same with its columns replaced.
+// An item is 0 for FALSE, or the record of an expression; MAX_RECORDS more for the same with its columns replaced.
 use crate::replace_cols_by_name::replace_cols_by_name;
 use conjuncts::items::REPLACED;
 use conjuncts::lists::Conjuncts;
@@ -11,11 +11,10 @@ use image::records::record_at;
 use plan::kinds::BINARY_EXPR;
 use plan::kinds::BOOLEAN_LITERAL;
 use plan::words::AND;
-ghost use mathlib.Core.Path.{_≡_};
 ghost use mathlib.Core.List.{_∷_, List};
 ghost use Prim.Native.Nat.{_+_, _-_, _<_, _≤_};
-ghost use lib.ListN.{length, take};
-ghost use Rattle.image.specs.Limits.{workBytes};
+ghost use lib.ListN.{take};
+ghost use Rattle.image.specs.Buffers.{Buffer};
 ghost use Rattle.image.specs.Room.{Wrote};
 ghost use Rattle.image.specs.Tree.{Readable};
 ghost use Rattle.plan.specs.Syntax.{Expr, Name};
@@ -28,7 +27,7 @@ ghost use Rattle.writing.specs.Pushed.{One, Predicate, Predicated, Pushe
 // Writes what the item n stands for, which is a record or FALSE.
 fn copy_plain(s: &[u8], n: usize, out: &mut [u8], at: usize, level: usize) -> usize
     requires { ⌜ Present (now s) n ⌝ }
-    requires { ⌜ (level < 3800) × (length (now out) ≡ workBytes) ⌝ }
+    requires { ⌜ Buffer 1 level (now out) ⌝ }
     ensures { λ r. ⌜ ((e : Expr) → Item (now (s .entry)) n e → Wrote (now (out .entry)) (now (out .exit)) at level r (exprTree e)) ⌝ }
 {
     if n == 0 {
@@ -51,7 +50,7 @@ fn copy_changed(
 ) -> usize
     requires { ⌜ Present (now s) n ⌝ }
     requires { ⌜ Readable room (now m) of ⌝ }
-    requires { ⌜ (level + room < 3800) × (length (now out) ≡ workBytes) ⌝ }
+    requires { ⌜ Buffer 1 (level + room) (now out) ⌝ }
     ensures { λ r. ⌜ ((σ : Name → Expr) → Maps (now (m .entry)) of room σ → (e : Expr) → Item (now (s .entry)) n e →
         Wrote (now (out .entry)) (now (out .exit)) at level r (exprTree (replace-cols σ e))) ⌝ }
 {
@@ -75,7 +74,7 @@ pub fn copy_item(
 ) -> usize
     requires { ⌜ One (now s) n ⌝ }
     requires { ⌜ Readable room (now m) of ⌝ }
-    requires { ⌜ (level + room < 3800) × (length (now out) ≡ workBytes) ⌝ }
+    requires { ⌜ Buffer 1 (level + room) (now out) ⌝ }
     ensures { λ r. ⌜ ((σ : Name → Expr) → Maps (now (m .entry)) of room σ → (e : Expr) → Pushed (now (s .entry)) σ n e →
         Wrote (now (out .entry)) (now (out .exit)) at level r (exprTree e)) ⌝ }
 {
@@ -100,8 +99,9 @@ fn copy_first(
     requires { ⌜ Some (now s) c ⌝ }
     requires { ⌜ Readable room (now m) of ⌝ }
     requires { ⌜ (0 < k) × (k ≤ c .len) ⌝ }
-    requires { ⌜ (level + k + room < 3800) × (length (now out) ≡ workBytes) ⌝ }
-    ensures { λ r. ⌜ ((σ : Name → Expr) → Maps (now (m .entry)) of room σ → (e : Expr) (es : List Expr) → Pushes (now (s .entry)) σ c (e ∷ es) →
+    requires { ⌜ Buffer 1 (level + k + room) (now out) ⌝ }
+    ensures { λ r. ⌜ ((σ : Name → Expr) → Maps (now (m .entry)) of room σ → (e : Expr) (es : List Expr) →
+        Pushes (now (s .entry)) σ c (e ∷ es) →
         Wrote (now (out .entry)) (now (out .exit)) at level r (exprTree (conjoin e (take (k - 1) es)))) ⌝ }
 {
     let last = k - 1;
@@ -128,8 +128,9 @@ pub fn copy_joined(
     requires { ⌜ Some (now s) c ⌝ }
     requires { ⌜ Readable room (now m) of ⌝ }
     requires { ⌜ 0 < c .len ⌝ }
-    requires { ⌜ (level + room < 3600) × (length (now out) ≡ workBytes) ⌝ }
-    ensures { λ r. ⌜ ((σ : Name → Expr) → Maps (now (m .entry)) of room σ → (e : Expr) (es : List Expr) → Pushes (now (s .entry)) σ c (e ∷ es) →
+    requires { ⌜ Buffer 2 (level + room) (now out) ⌝ }
+    ensures { λ r. ⌜ ((σ : Name → Expr) → Maps (now (m .entry)) of room σ → (e : Expr) (es : List Expr) →
+        Pushes (now (s .entry)) σ c (e ∷ es) →
         Wrote (now (out .entry)) (now (out .exit)) at level r (exprTree (conjoin e es))) ⌝ }
 {
     let n = c.len;
@@ -150,7 +151,7 @@ pub fn copy_predicate(
 ) -> usize
     requires { ⌜ Predicated (now s) written c ⌝ }
     requires { ⌜ Readable room (now m) of ⌝ }
-    requires { ⌜ (level + room < 3600) × (length (now out) ≡ workBytes) ⌝ }
+    requires { ⌜ Buffer 2 (level + room) (now out) ⌝ }
     ensures { λ r. ⌜ ((σ : Name → Expr) → Maps (now (m .entry)) of room σ → (e : Expr) → Predicate (now (s .entry)) σ written c e →
         Wrote (now (out .entry)) (now (out .exit)) at level r (exprTree e)) ⌝ }
 {

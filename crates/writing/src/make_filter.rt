@@ -6,10 +6,8 @@ use image::copying::put_kind;
 use image::limits::MAX_DEPTH;
 use image::records::record_at;
 use plan::kinds::FILTER;
-ghost use mathlib.Core.Path.{_≡_};
-ghost use Prim.Native.Nat.{_+_, _<_};
-ghost use lib.ListN.{length};
-ghost use Rattle.image.specs.Limits.{workBytes};
+ghost use Prim.Native.Nat.{_+_};
+ghost use Rattle.image.specs.Buffers.{Buffer};
 ghost use Rattle.image.specs.Room.{Wrote};
 ghost use Rattle.image.specs.Tree.{Readable};
 ghost use Rattle.plan.specs.Syntax.{Expr, Name, Plan, filter};
@@ -22,7 +20,7 @@ ghost use Rattle.writing.specs.Pushed.{Predicate, Predicated};
 // Writes the plan at record x.
 pub fn copy_plan(s: &[u8], x: usize, out: &mut [u8], at: usize, level: usize) -> usize
     requires { ⌜ ThereP (now s) x ⌝ }
-    requires { ⌜ (level < 3800) × (length (now out) ≡ workBytes) ⌝ }
+    requires { ⌜ Buffer 1 level (now out) ⌝ }
     ensures { λ r. ⌜ ((p : Plan) → StandingP (now (s .entry)) x p → Wrote (now (out .entry)) (now (out .exit)) at level r (planTree p)) ⌝ }
 {
     let part = record_at(s, x);
@@ -45,7 +43,7 @@ pub fn make_filter(
     requires { ⌜ Predicated (now s) written c ⌝ }
     requires { ⌜ Readable room (now m) of ⌝ }
     requires { ⌜ ThereP (now s) x ⌝ }
-    requires { ⌜ (level + room < 3500) × (length (now out) ≡ workBytes) ⌝ }
+    requires { ⌜ Buffer 3 (level + room) (now out) ⌝ }
     ensures { λ r. ⌜ ((σ : Name → Expr) → Maps (now (m .entry)) of room σ → (e : Expr) → Predicate (now (s .entry)) σ written c e →
         (p : Plan) → StandingP (now (s .entry)) x p → Wrote (now (out .entry)) (now (out .exit)) at level r (planTree (filter e p))) ⌝ }
 {

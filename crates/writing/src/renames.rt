@@ -13,6 +13,7 @@ ghost use mathlib.Core.List.{List};
 ghost use Prim.Native.Nat.{_*_, _+_, _<_, _≤_};
 ghost use lib.ListN.{length};
 ghost use lib.Seq.{sets};
+ghost use Rattle.image.specs.Limits.{maxFields};
 ghost use Rattle.image.specs.Flat.{bytesOf};
 ghost use Rattle.plan.specs.Syntax.{Name, col};
 ghost use Rattle.rewrite.specs.PushDownFilter.{ren};
@@ -32,7 +33,7 @@ fn link_to(at: usize, left: usize) -> usize
 
 // Stores record `at`: this kind, with the name of the field i.
 fn put_named(m: &mut [u8], at: usize, kind: usize, f: Fields, i: usize, first: usize, next: usize)
-    requires { ⌜ (i < 64) × (32 * (at + 1) ≤ length (now m)) ⌝ }
+    requires { ⌜ (i < maxFields) × (32 * (at + 1) ≤ length (now m)) ⌝ }
     ensures { λ _. ⌜ now (m .exit) ≡ sets (now (m .entry)) (32 * at) (bytesOf (namedLabel kind (fieldAt f i)) first next) ⌝ }
     ensures { λ _. ⌜ SmallName (fieldAt f i) ⌝ }
 {
@@ -49,7 +50,7 @@ fn put_named(m: &mut [u8], at: usize, kind: usize, f: Fields, i: usize, first: u
 
 // Stores the rename of the field i: the entry at record `at`, with `next` after it, and the column.
 fn put_rename(from: Fields, to: Fields, i: usize, m: &mut [u8], at: usize, next: usize)
-    requires { ⌜ (i < 64) × (32 * (at + 2) ≤ length (now m)) ⌝ }
+    requires { ⌜ (i < maxFields) × (32 * (at + 2) ≤ length (now m)) ⌝ }
     ensures { λ _. ⌜ now (m .exit) ≡ sets (now (m .entry)) (32 * at) (renameBytes (fieldAt from i) (fieldAt to i) (at + 1) next) ⌝ }
     ensures { λ _. ⌜ SmallName (fieldAt from i) × SmallName (fieldAt to i) ⌝ }
 {
@@ -59,8 +60,9 @@ fn put_rename(from: Fields, to: Fields, i: usize, m: &mut [u8], at: usize, next:
 
 // Writes the renames of the fields of `from` to those of `to`, by place.
 pub fn write_renames(from: Fields, to: Fields, m: &mut [u8])
-    requires { ⌜ (from .len ≤ 64) × (32 * (1 + 2 * from .len) ≤ length (now m)) ⌝ }
-    ensures { λ _. ⌜ ((s t : List Name) → Names from s → Names to t → length s ≡ length t → Maps (now (m .exit)) 0 3 (λ x. col (ren s t x))) ⌝ }
+    requires { ⌜ (from .len ≤ maxFields) × (32 * (1 + 2 * from .len) ≤ length (now m)) ⌝ }
+    ensures { λ _. ⌜ ((s t : List Name) → Names from s → Names to t → length s ≡ length t →
+        Maps (now (m .exit)) 0 3 (λ x. col (ren s t x))) ⌝ }
 {
     let n = from.len;
     let top = Label {

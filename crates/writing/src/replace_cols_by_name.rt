@@ -5,15 +5,18 @@ use image::copying::put_label;
 use image::limits::MAX_RECORDS;
 use image::limits::NO_ROOM;
 use image::records::FIRST_LINK;
+use image::records::KIND;
 use image::records::NEXT_LINK;
+use image::records::P;
+use image::records::Q;
 use image::records::from_record;
 use image::words::word_at;
 use plan::kinds::COLUMN;
 use plan::kinds::ENTRY;
 ghost use mathlib.Core.Path.{_≡_};
-ghost use Prim.Native.Nat.{_+_, _<_, _≤_};
+ghost use Prim.Native.Nat.{_+_, _<_, _≤_, ℕ};
 ghost use lib.ListN.{length};
-ghost use Rattle.image.specs.Limits.{workBytes};
+ghost use Rattle.image.specs.Limits.{maxLevel, workBytes};
 ghost use Rattle.image.specs.Room.{Wrote};
 ghost use Rattle.image.specs.Tree.{At, Readable, Tree, labelAt};
 ghost use Rattle.writing.specs.Replaced.{Leads, isEntry, lookup, replaced, valueFor};
@@ -23,12 +26,12 @@ pub fn is_entry(s: &[u8], p: usize, q: usize) -> bool
     requires { ⌜ 32 ≤ length (now s) ⌝ }
     ensures { λ r. ⌜ r ≡ isEntry (labelAt (now (s .entry))) p q ⌝ }
 {
-    (word_at(s, 0) == ENTRY) & (word_at(s, 4) == p) & (word_at(s, 8) == q)
+    (word_at(s, KIND) == ENTRY) & (word_at(s, P) == p) & (word_at(s, Q) == q)
 }
 
 // The record of the expression that an entry below the record at the start of m gives this name, or 0.
-pub fn find(m: &[u8], of: usize, room: usize, p: usize, q: usize) -> usize
-    requires { ⌜ Readable room (now m) of ⌝ }
+pub fn find(m: &[u8], of: usize, p: usize, q: usize) -> usize
+    requires { ⌜ ((d : ℕ) × Readable d (now m) of) ⌝ }
     ensures { λ r. ⌜ ((t : Tree) → At t (now (m .entry)) of → Leads (lookup (t .below) p q) (now (m .entry)) of r) ⌝ }
 {
     let mut at = word_at(m, FIRST_LINK);
@@ -43,15 +46,15 @@ pub fn find(m: &[u8], of: usize, room: usize, p: usize, q: usize) -> usize
 }
 
 // The same for the record at the start of s, if it is a column.
-pub fn value_for(s: &[u8], m: &[u8], of: usize, room: usize) -> usize
+pub fn value_for(s: &[u8], m: &[u8], of: usize) -> usize
     requires { ⌜ 32 ≤ length (now s) ⌝ }
-    requires { ⌜ Readable room (now m) of ⌝ }
+    requires { ⌜ ((d : ℕ) × Readable d (now m) of) ⌝ }
     ensures { λ r. ⌜ ((t : Tree) → At t (now (m .entry)) of → Leads (valueFor t (labelAt (now (s .entry)))) (now (m .entry)) of r) ⌝ }
 {
-    if word_at(s, 0) != COLUMN {
+    if word_at(s, KIND) != COLUMN {
         return 0;
     }
-    find(m, of, room, word_at(s, 4), word_at(s, 8))
+    find(m, of, word_at(s, P), word_at(s, Q))
 }
 
 // Writes the tree at the start of s, with each column that an entry below the record at the start of m names replaced by its expression.
@@ -68,7 +71,7 @@ pub fn replace_cols_by_name(
 ) -> usize
     requires { ⌜ Readable depth (now s) base ⌝ }
     requires { ⌜ Readable room (now m) of ⌝ }
-    requires { ⌜ level + depth + room < 4096 ⌝ }
+    requires { ⌜ level + depth + room < maxLevel ⌝ }
     requires { ⌜ length (now out) ≡ workBytes ⌝ }
     ensures { λ r. ⌜ ((e : Tree) → At e (now (m .entry)) of → (t : Tree) → At t (now (s .entry)) base →
         Wrote (now (out .entry)) (now (out .exit)) at level r (replaced e t)) ⌝ }
@@ -77,7 +80,7 @@ pub fn replace_cols_by_name(
     if MAX_RECORDS <= at {
         return NO_ROOM;
     }
-    let x = value_for(s, m, of, room);
+    let x = value_for(s, m, of);
     if x != 0 {
         let value = from_record(m, of, x);
         return copy_tree(value, x, room - 2, out, at, level);

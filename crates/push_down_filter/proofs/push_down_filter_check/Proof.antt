@@ -1,4 +1,4 @@
--- `push_down_filter_check` meets its contract: the record fits 32 bits, since it is at most 2,048.
+-- `push_down_filter_check` meets its contract: the record fits 32 bits, since it is at most `maxRecords`.
 use native.Mathlib.Omega.{arith}
 use mathlib.Core.Path.{_≡_, ap, ap₂, _∙_}
 use mathlib.Core.List.{List}

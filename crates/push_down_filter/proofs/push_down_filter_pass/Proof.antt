@@ -1,4 +1,4 @@
--- `push_down_filter_pass` meets its contract: the record and the count of records fit 32 bits, since neither is above 2,048.
+-- `push_down_filter_pass` meets its contract: the record and the count of records fit 32 bits, since neither is above `maxRecords`.
 use native.Mathlib.Omega.{arith}
 use mathlib.Core.Path.{_≡_, refl}
 use mathlib.Core.List.{List, []}

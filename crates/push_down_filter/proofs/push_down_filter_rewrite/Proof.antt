@@ -1,5 +1,5 @@
 -- `push_down_filter_rewrite` meets its contract: the record fits 32 bits, since it is the node, 0, or a record of the image, and so does the
--- count of records, which is at most 2,048.
+-- count of records, which is at most `maxRecords`.
 use native.Mathlib.Omega.{arith}
 use mathlib.Core.Path.{_≡_, refl}
 use mathlib.Core.Bool.{Bool, true, false}

@@ -1,13 +1,14 @@
--- `handing_out::is_shallow` meets its contract. The loop's invariant: no record passed is deeper than 256.
+-- `handing_out::is_shallow` meets its contract. The loop's invariant: no record passed is deeper than `maxDepth`.
 use mathlib.Core.Path.{_≡_}
 use mathlib.Core.List.{List, _++_}
 use Prim.Native.Nat.{ℕ, _-_, _≤_, _<_}
 use native.Mathlib.Omega.{arith}
 use lib.ListN.{getD}
 use borrow.Author.Count.{below-more}
+use Rattle.image.specs.Limits.{maxDepth}
 use Rattle.image.specs.Tree.{Tree}
 use Rattle.image.specs.Flat.{sizeT, flat}
-use Rattle.image.proofs.Relinking.{recs}
+use Rattle.image.specs.Records.{recs}
 use Rattle.answers.proofs.Depths.{first, depth-at, passed, failed}
 use Rattle.answers.proofs.handing_out.is_shallow.Statement.{statement}
 use Rattle.answers.proofs.handing_out.is_shallow.Tie as tie
@@ -15,7 +16,7 @@ use Rattle.answers.proofs.handing_out.is_shallow.Tie as tie
 abbrev Inv-loop : tie.InvT-loop
 Inv-loop work n i₀ i =
     (i ≤ n)
-    × ((t : Tree) (rest : List ℕ) → n ≡ sizeT t → work ≡ flat 1 t ++ rest → (j : ℕ) → j < i → getD (recs 1 t) j (first t) .1 ≤ 256)
+    × ((t : Tree) (rest : List ℕ) → n ≡ sizeT t → work ≡ flat 1 t ++ rest → (j : ℕ) → j < i → getD (recs 1 t) j (first t) .1 ≤ maxDepth)
 
 abbrev μ-loop : tie.MeasureT-loop
 μ-loop work n i₀ i = n - i

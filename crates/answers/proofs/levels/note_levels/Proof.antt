@@ -27,7 +27,7 @@ note-levels-spec =
     (λ c κs. let z = c .before .before .pre .0 in ((z .tree, z .at), omega (arith, z .short)))
     (λ c. omega (arith, c .before .before .before .pre .1))
     (λ c. let p = c .before .before .before .pre in
-    let few : c .tree-end .result ≤ 2048 = omega (arith, c .tree-end .ensures (p .0 .tree) (p .0 .at), p .0 .few) in
+    let few : c .tree-end .result ≤ maxRecords = omega (arith, c .tree-end .ensures (p .0 .tree) (p .0 .at), p .0 .few) in
     (omega arith, few, simp length-set (p .1), λ t h e. noted-start (c .before .before .before .args .levels .now) h e few (omega (arith, p .1))))
     (λ c. omega arith)
     (λ c. omega arith)

@@ -4,6 +4,7 @@ use Prim.Native.Nat.{_≤_}
 use native.Mathlib.Omega.{arith}
 use lib.ListN.{length-drop}
 use borrow.Author.Needs.{needs}
+use Rattle.image.specs.Limits.{maxRecords}
 use Rattle.image.specs.Tree.{Tree}
 use Rattle.image.specs.Flat.{sizeT}
 use Rattle.image.proofs.Walking.{only}
@@ -33,7 +34,7 @@ write-before-spec =
     (λ c. search needs)
     (λ c p f h e k.
     let q = c .before .before .before .before .before .before .before .before .before .before .before .before .before .before .before .before .pre in
-    let few = subst (λ (t : Tree). sizeT t ≤ 2048) (only (q .0 .at) (h .here)) (q .0 .few) in
+    let few = subst (λ (t : Tree). sizeT t ≤ maxRecords) (only (q .0 .at) (h .here)) (q .0 .few) in
     let n = c .before .before .before .before .before .before .before .before .before .before .before .note-levels .ensures (planTree p) (h .here) in
     let w = c .before .before .before .before .before .before .write-records .ensures (planTree p) (h .here) few
     (omega (arith, node-small p _ f e)) (n .1) in

@@ -4,7 +4,7 @@ use Prim.Native.Nat.{_-_, _≤_}
 use native.Mathlib.Omega.{arith}
 use borrow.Author.Needs.{needs}
 use lib.ListN.{length, length-drop}
-use Rattle.image.specs.Limits.{workBytes}
+use Rattle.image.specs.Limits.{workBytes, maxRecords, noRoom}
 use Rattle.image.specs.Tree.{Tree, At}
 use Rattle.image.specs.Flat.{sizeT}
 use Rattle.image.proofs.Room.{cap-le}
@@ -15,7 +15,7 @@ use Rattle.answers.proofs.splicing.write_records.Tie as tie
 
 abbrev Inv-loop : tie.InvT-loop
 Inv-loop s levels from n out₀ at to₀ i₀ out to i =
-    (length out ≡ workBytes) × (to ≤ 2049) × ((t : Tree) → At t s 0 → sizeT t ≤ 2048 → n ≤ sizeT t → Levels levels t → Run t n from out₀ at i out to)
+    (length out ≡ workBytes) × (to ≤ noRoom) × ((t : Tree) → At t s 0 → sizeT t ≤ maxRecords → n ≤ sizeT t → Levels levels t → Run t n from out₀ at i out to)
 
 abbrev μ-loop : tie.MeasureT-loop
 μ-loop s levels from n out₀ at to₀ i₀ out to i = n - i

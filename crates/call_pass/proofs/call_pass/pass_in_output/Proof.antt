@@ -4,6 +4,7 @@ use native.Mathlib.Nat.{le-of-lt}
 use borrow.Author.Needs.{needs}
 use lib.ListN.{drop}
 use lib.Seq.{length-take-le, length-front}
+use Rattle.image.specs.Limits.{workBytes}
 use Rattle.push_down_rewrite.proofs.Finishes.{told, untold}
 use Rattle.push_down_rewrite.proofs.Fronts.{front-long, front-cleared}
 use Rattle.call_pass.proofs.Reports.{refused-11, called, left-room, left-few, left-front}
@@ -15,13 +16,13 @@ pass-in-output-spec =
     tie.close
     (tie.spec
     (λ c. search needs)
-    (λ c. sym (length-take-le 65536 (c .before .before .before .before .before .before .args .out .now) (c .before .before .before .before .before
+    (λ c. sym (length-take-le workBytes (c .before .before .before .before .before .before .args .out .now) (c .before .before .before .before .before
     .before .pre .1 .1)))
     (λ c κs. let p = c .before .before .before .before .before .before .before .before .before .pre in
     let l = p .1 .0 in (
       p .0,
       record {
-        image-long = length-take-le 65536 (c .before .before .before .before .before .before .before .before .before .args .out .now) (p .1 .1);
+        image-long = length-take-le workBytes (c .before .before .before .before .before .before .before .before .before .args .out .now) (p .1 .1);
         m-long = l .m-long;
         work-long = l .work-long;
         levels-long = l .levels-long;
@@ -36,19 +37,19 @@ pass-in-output-spec =
     .1 .1 .0)
     (λ c. let b = c .before .before .before .before .before .before .before .before .before .before .before .before .before .before in
     c .before .before .clear .kept .0 ∙ length-front (b .before .before .before .before .before .before .before .before .before .before .args .out
-    .now) (b .walk-in .last .1 .1 .0) 65536 (b .walk-in .kept .1 .1 .0))
+    .now) (b .walk-in .last .1 .1 .0) workBytes (b .walk-in .kept .1 .1 .0))
     (λ c. let b = c .before .before .before .before .before .before .before .before .before .before .before .before .before .before in
     let e = b .walk-in .ensures in
     let no = untold (c .before .before .before .before .if1 .taken) in
-    let o = front-cleared 65536 (b .before .before .before .before .before .before .before .before .before .before .args .out .now) (b .walk-in
+    let o = front-cleared workBytes (b .before .before .before .before .before .before .before .before .before .before .args .out .now) (b .walk-in
     .last .1 .1 .0) (b .walk-in .kept .1 .1 .0) (c .before .before .clear .ensures) in
     (le-of-lt (e .near no), refused-11 _ (e .refused no) o ∙ called _ _ _))
     (λ c κs. let b = c .before .before .before .before .before .before .before .before .before .before .before in
     let left = b .walk-in .ensures .left (told (c .before .if1 .left)) in
     let out = b .before .before .before .before .before .before .before .before .before .before .args .out .now in
-    let long = front-long 65536 out (b .walk-in .last .1 .1 .0) (b .walk-in .kept .1 .1 .0) (b .before .before .before .before .before .before
+    let long = front-long workBytes out (b .walk-in .last .1 .1 .0) (b .walk-in .kept .1 .1 .0) (b .before .before .before .before .before .before
     .before .before .before .before .pre .1 .1) in
-    (left-room (left-front left (drop 65536 out)), left-few left long))
+    (left-room (left-front left (drop workBytes out)), left-few left long))
     (λ c. c .before .before .before .before .before .before .before .before .before .before .before .before .before .before .walk-in .kept .1 .1 .1
     .0)
     (λ c. c .before .before .before .before .before .before .before .before .before .before .before .before .before .before .walk-in .kept .1 .1 .1
@@ -57,10 +58,10 @@ pass-in-output-spec =
     .1 .1 .0)
     (λ c. let b = c .before .before .before .before .before .before .before .before .before .before .before .before .before .before in
     c .before .before .clear-behind-walk .kept .1 .0 ∙ length-front (b .before .before .before .before .before .before .before .before .before .before
-    .args .out .now) (b .walk-in .last .1 .1 .0) 65536 (b .walk-in .kept .1 .1 .0))
+    .args .out .now) (b .walk-in .last .1 .1 .0) workBytes (b .walk-in .kept .1 .1 .0))
     (λ c. let b = c .before .before .before .before .before .before .before .before .before .before .before .before .before .before in
     let e = c .before .before .clear-behind-walk .ensures in
     let out = b .before .before .before .before .before .before .before .before .before .before .args .out .now in
     let left = b .walk-in .ensures .left (told (c .before .before .before .before .if1 .left)) in
-    let long = length-front out (b .walk-in .last .1 .1 .0) 65536 (b .walk-in .kept .1 .1 .0) in
-    (e .0, rw long at (e .1 _ (left-front left (drop 65536 out))) ∙ called _ _ _)))
+    let long = length-front out (b .walk-in .last .1 .1 .0) workBytes (b .walk-in .kept .1 .1 .0) in
+    (e .0, rw long at (e .1 _ (left-front left (drop workBytes out))) ∙ called _ _ _)))

@@ -4,16 +4,18 @@ use mathlib.Core.List.{List, _++_}
 use Prim.Native.Nat.{ℕ}
 use native.Mathlib.Omega.{arith}
 use lib.ListN.{length}
+use Rattle.image.specs.Limits.{maxBelow}
 use Rattle.image.specs.Tree.{Tree, Deep}
 use Rattle.image.specs.Flat.{sizeT, flat}
-use Rattle.image.proofs.Relinking.{Back, recs, back-start, back-long, back-turn, back-end}
+use Rattle.image.specs.Records.{recs}
+use Rattle.image.proofs.Relinking.{Back, back-start, back-long, back-turn, back-end}
 use Rattle.image.proofs.relink.relink.Statement.{statement}
 use Rattle.image.proofs.relink.relink.Tie as tie
 
 abbrev Inv-loop : tie.InvT-loop
 Inv-loop out₀ n table₀ i₀ out table i =
     (length out ≡ length out₀)
-    × ((t : Tree) (rest : List ℕ) → Deep (t .below) 255 → n ≡ sizeT t → out₀ ≡ flat 1 t ++ rest → Back out table i (recs 1 t) rest)
+    × ((t : Tree) (rest : List ℕ) → Deep (t .below) maxBelow → n ≡ sizeT t → out₀ ≡ flat 1 t ++ rest → Back out table i (recs 1 t) rest)
 
 abbrev μ-loop : tie.MeasureT-loop
 μ-loop out₀ n table₀ i₀ out table i = i

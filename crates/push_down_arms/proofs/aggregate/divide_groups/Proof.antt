@@ -1,5 +1,6 @@
 use mathlib.Core.Path.{refl, sym, _∙_}
 use borrow.Author.Needs.{needs}
+use Rattle.image.specs.Limits.{maxDepth}
 use Rattle.plan.specs.Syntax.{aggregate}
 use Rattle.plan.specs.Trees.{planTree}
 use Rattle.writing.proofs.Pushing.{plan-readable}
@@ -12,7 +13,7 @@ divide-groups-spec =
     tie.close
     (tie.spec
     (λ c κs. c .before .pre .rests .placed .standing .within)
-    (λ c κs. (256, rw (c .record-at .ensures) (plan-readable (c .before .before .pre .rests .placed .standing))))
+    (λ c κs. (maxDepth, rw (c .record-at .ensures) (plan-readable (c .before .before .pre .rests .placed .standing))))
     (λ c κs. let p = c .before .before .before .before .pre in record { expr = p .expr; plan = _; rests = p .rests })
     (λ c e gs ags q h. let i = c .before .before .has-groups .ensures (planTree (aggregate gs ags q))
     (rw (c .before .before .before .record-at .ensures) (h .placed .standing .here)) in

@@ -1,7 +1,8 @@
 use native.Mathlib.Omega.{arith}
 use borrow.Author.Needs.{needs}
+use Rattle.image.specs.Limits.{maxDepth}
 use Rattle.rewrite.specs.Utils.{replace-cols, split-conjunction}
-use Rattle.writing.proofs.Maps.{mapOf}
+use Rattle.writing.specs.Maps.{mapOf}
 use Rattle.writing.proofs.Pushing.{plan-readable}
 use Rattle.push_down_arms.proofs.Counting.{false-parts, value-leads, value-single, value-standing, value-past, counts-one, counts-more}
 use Rattle.push_down_arms.proofs.push_some.add_replaced.Statement.{statement}
@@ -18,7 +19,7 @@ add-replaced-spec =
     (λ c κs. search needs)
     (λ c κs. let p = c .before .before .before .before .pre .0 in
     let w = p .0 .item .some (c .before .before .if1 .left) in
-    (rw (c .before .record-at .ensures) (omega (arith, w .here .head .room)), rw (c .record-at2 .ensures) (plan-readable (p .1 .standing))))
+    (rw (c .before .record-at .ensures) (omega (arith, w .here .head .room)), (maxDepth, rw (c .record-at2 .ensures) (plan-readable (p .1 .standing)))))
     (λ c κs. search needs)
     (λ c e p k i o h m. let w = i .some (c .before .before .before .before .before .if1 .left) in
     let l = value-leads (c .before .before .before .before .record-at .ensures) (c .before .before .before .record-at2 .ensures) w h

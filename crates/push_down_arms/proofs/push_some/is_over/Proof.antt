@@ -8,7 +8,7 @@ use Rattle.plan.specs.Syntax.{Expr, Plan}
 use Rattle.conjuncts.specs.Items.{FALSE, Lists}
 use Rattle.conjuncts.specs.Standing.{StandingP}
 use Rattle.conjuncts.proofs.Listed.{lists-at, lists-length, lists-room}
-use Rattle.writing.proofs.Maps.{mapOf}
+use Rattle.writing.specs.Maps.{mapOf}
 use Rattle.push_down_arms.specs.Divided.{Singles}
 use Rattle.push_down_base.proofs.Selecting.{all-at}
 use Rattle.push_down_arms.proofs.Counting.{Counted, counted-start, counted-next, counted-all}

@@ -4,9 +4,11 @@ use native.Mathlib.Omega.{arith}
 use mathlib.Core.List.{map}
 use borrow.Author.Needs.{needs}
 use borrow.Author.Tests.{ltb-true, ltb-false}
+use Rattle.image.specs.Limits.{maxList, maxDepth}
 use Rattle.plan.specs.Trees.{planTree}
 use Rattle.rewrite.specs.Utils.{replace-cols, conjunction}
-use Rattle.writing.proofs.Maps.{plan-maps, mapOf}
+use Rattle.writing.specs.Maps.{mapOf}
+use Rattle.writing.proofs.Maps.{plan-maps}
 use Rattle.writing.proofs.Pushing.{plan-readable}
 use Rattle.push_down_arms.specs.Divided.{parts}
 use Rattle.push_down_base.proofs.Answering.{answers}
@@ -26,12 +28,12 @@ push-some-spec =
       ),
       p .placed .short,
     ))
-    (λ c f q us ds h t k. let o = ltb-true 128 (parts (mapOf (f q)) ds)
+    (λ c f q us ds h t k. let o = ltb-true maxList (parts (mapOf (f q)) ds)
     (sym (c .before .is-over .ensures ds (f q) (k .moved) (k .moved-single) (h .standing)) ∙ c .if1 .taken) in
     let m = pushed-many h t k o in
     record { flag = some-moved ds (k .moved) (k .moved-most); fits = λ small. absurd (omega arith); over = λ many. (refl, refl) })
     (λ c κs. c .before .before .before .before .before .before .before .pre .0 .placed .standing .within)
-    (λ c κs. rw (c .record-at .ensures) (plan-readable (c .before .before .before .before .before .before .before .before .pre .0 .placed .standing)))
+    (λ c κs. (maxDepth, rw (c .record-at .ensures) (plan-readable (c .before .before .before .before .before .before .before .before .pre .0 .placed .standing))))
     (λ c κs. let k = c .before .before .before .before .before .before .before .before .before .pre .0 .divides in
     record { image = _; known = record { exprs = _; lists = k .moved; most = k .moved-most } })
     (λ c κs. let p = c .before .before .before .before .before .before .before .before .before .before .before .pre in
@@ -63,7 +65,7 @@ push-some-spec =
       ),
     ))
     (λ c. search needs)
-    (λ c f q us ds h t k. let o = ltb-false 128 (parts (mapOf (f q)) ds)
+    (λ c f q us ds h t k. let o = ltb-false maxList (parts (mapOf (f q)) ds)
     (sym (c .before .before .before .before .before .before .before .before .is-over .ensures ds (f q) (k .moved) (k .moved-single) (h .standing))
     ∙ c .before .before .before .before .before .before .before .if1 .left) in
     let i = c .before .before .before .before .before .before .record-at .ensures in

@@ -7,7 +7,8 @@ use lib.ListN.{getD}
 use Rattle.plan.specs.Syntax.{Expr}
 use Rattle.conjuncts.specs.Items.{FALSE, Lists}
 use Rattle.conjuncts.proofs.Listed.{lists-at, lists-length, lists-room}
-use Rattle.writing.proofs.Maps.{plan-maps, mapOf}
+use Rattle.writing.specs.Maps.{mapOf}
+use Rattle.writing.proofs.Maps.{plan-maps}
 use Rattle.writing.proofs.Pushing.{plan-readable, pushed-plain}
 use Rattle.push_down_arms.proofs.Scans.{Copied, copied-start, copied-next, copied-end, wrote-long}
 use Rattle.push_down_arms.proofs.table_scan.copy_items.Statement.{statement}

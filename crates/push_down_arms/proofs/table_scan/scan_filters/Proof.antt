@@ -1,9 +1,10 @@
 -- `table_scan::scan_filters` meets its contract. The loop's invariant: what is listed, and then the filters that are left, are all.
 use mathlib.Core.List.{List}
-use Prim.Native.Nat.{ℕ, _*_}
+use Prim.Native.Nat.{ℕ, _*_, _-_}
 use native.Mathlib.Omega.{arith}
 use borrow.Author.Needs.{needs}
 use lib.ListN.{drop, length-drop}
+use Rattle.image.specs.Limits.{maxDepth, maxBelow}
 use Rattle.image.proofs.Walking.{Chain, chain, round, again, done, left}
 use Rattle.plan.specs.Syntax.{Expr, Field, scan}
 use Rattle.plan.specs.Trees.{planTree}
@@ -16,7 +17,7 @@ use Rattle.push_down_arms.proofs.table_scan.scan_filters.Tie as tie
 
 abbrev Inv-loop : tie.InvT-loop
 Inv-loop s x part r₀ at₀ r at =
-    (t : ℕ) (fs : List Field) (es : List Expr) → Placed s x (scan t fs es) → Chain (λ t rest. Filters s r es rest) 256 (drop (32 * x) s) x at
+    (t : ℕ) (fs : List Field) (es : List Expr) → Placed s x (scan t fs es) → Chain (λ t rest. Filters s r es rest) maxDepth (drop (32 * x) s) x at
 
 abbrev μ-loop : tie.MeasureT-loop
 μ-loop s x part r₀ at₀ r at = left (drop (32 * x) s) x at
@@ -65,6 +66,6 @@ scan-filters-spec =
     let i = c .before .before .before .before .before .before .before .record-at .ensures in
     rw (c .word-at2 .ensures .0, c .before .before .from-record .ensures, i)
     (again _ k u (filters-next (u .turn .child .label) (u .turn .child .below) (u .turn .after) (u .so-far) (h .short) (u .turn .past) (u .turn .here)
-    (deep-more (u .turn .child .below) 254 255 (deep-as 254 (u .turn .here) (u .readable .at) (u .readable .deep)) (omega arith))
+    (deep-more (u .turn .child .below) (maxBelow - 1) maxBelow (deep-as (maxBelow - 1) (u .turn .here) (u .readable .at) (u .readable .deep)) (omega arith))
     (λ ds l. rw (← e, ← i, ← c .before .before .from-record .ensures) (c .before .add-filter .ensures _ ds l)))))
     (λ c t fs es h. filters-end (done _ (c .before .loop .inv t fs es h) (c .loop-test .left))))

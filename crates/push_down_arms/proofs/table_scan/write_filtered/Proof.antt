@@ -6,7 +6,8 @@ use lib.Seq.{length-sets}
 use Rattle.image.proofs.Room.{cap-le}
 use Rattle.plan.specs.Syntax.{scan}
 use Rattle.conjuncts.proofs.Listed.{lists-length}
-use Rattle.writing.proofs.Maps.{plan-maps, mapOf}
+use Rattle.writing.specs.Maps.{mapOf}
+use Rattle.writing.proofs.Maps.{plan-maps}
 use Rattle.writing.proofs.Pushing.{plan-readable, pushes-of, filters-none}
 use Rattle.writing.proofs.Written.{wrote-filtered}
 use Rattle.push_down_arms.proofs.Scans.{some-first}

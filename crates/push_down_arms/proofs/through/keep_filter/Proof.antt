@@ -1,7 +1,8 @@
 use mathlib.Core.Path.{refl}
 use native.Mathlib.Omega.{arith}
 use borrow.Author.Needs.{needs}
-use Rattle.writing.proofs.Maps.{plan-maps, mapOf}
+use Rattle.writing.specs.Maps.{mapOf}
+use Rattle.writing.proofs.Maps.{plan-maps}
 use Rattle.writing.proofs.Pushing.{plan-readable}
 use Rattle.push_down_arms.proofs.Shaping.{shaped-predicate}
 use Rattle.push_down_base.proofs.Answering.{answers, filter-few}

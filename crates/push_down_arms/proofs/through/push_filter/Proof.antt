@@ -3,8 +3,10 @@ use mathlib.Core.Path.{refl, _∙_}
 use mathlib.Core.Option.{none, some}
 use native.Mathlib.Omega.{arith}
 use borrow.Author.Needs.{needs}
+use Rattle.image.specs.Limits.{maxDepth}
 use Rattle.plan.specs.Trees.{planTree}
-use Rattle.writing.proofs.Maps.{plan-maps, mapOf}
+use Rattle.writing.specs.Maps.{mapOf}
+use Rattle.writing.proofs.Maps.{plan-maps}
 use Rattle.writing.proofs.Pushing.{plan-readable}
 use Rattle.push_down_base.specs.Predicates.{gone}
 use Rattle.push_down_arms.proofs.Shaping.{shaped-perhaps}
@@ -17,7 +19,7 @@ push-filter-spec =
     tie.close
     (tie.spec
     (λ c κs. c .before .before .pre .0 .rests .placed .standing .within)
-    (λ c κs. rw (c .record-at .ensures) (plan-readable (c .before .before .before .pre .0 .rests .placed .standing)))
+    (λ c κs. (maxDepth, rw (c .record-at .ensures) (plan-readable (c .before .before .before .pre .0 .rests .placed .standing))))
     (λ c κs. search needs)
     (λ c κs. let p = c .before .before .before .before .before .before .pre in
     let h = p .0 .rests in

@@ -1,9 +1,10 @@
 -- `union::rewrite_union` meets its contract. The loop's invariant: what is left of the inputs, each under its Filter, completes the output.
 use mathlib.Core.Path.{_≡_, refl, sym, _∙_}
-use Prim.Native.Nat.{_+_, _*_}
+use Prim.Native.Nat.{_+_, _*_, _-_}
 use native.Mathlib.Omega.{arith}
 use borrow.Author.Needs.{needs}
 use lib.ListN.{length, drop, length-drop}
+use Rattle.image.specs.Limits.{maxDepth, maxBelow}
 use Rattle.image.proofs.Walking.{Chain, chain, round, again, done, left}
 use Rattle.plan.specs.Syntax.{Expr, Plans, union}
 use Rattle.plan.specs.Schema.{schema}
@@ -18,7 +19,7 @@ use Rattle.push_down_arms.proofs.union.rewrite_union.Tie as tie
 abbrev Inv-loop : tie.InvT-loop
 Inv-loop s x m₀ out₀ at level from below part next₀ y₀ m out next y =
     (length m ≡ length m₀) × ((e : Expr) (ps : Plans) → Spread s x from below e ps
-    → Chain (λ t rest. Inputs (schema (union ps)) e ps out₀ next₀ (level + 1) out next rest) 256 (drop (32 * x) s) x y)
+    → Chain (λ t rest. Inputs (schema (union ps)) e ps out₀ next₀ (level + 1) out next rest) maxDepth (drop (32 * x) s) x y)
 
 abbrev μ-loop : tie.MeasureT-loop
 μ-loop s x m₀ out₀ at level from below part next₀ y₀ m out next y = left (drop (32 * x) s) x y
@@ -63,7 +64,7 @@ rewrite-union-spec =
         plan = f .plan;
         over = schema (union (p .0 .inputs));
         renamed = renames-first w f (u .turn .past) (u .turn .here)
-            (deep-more (u .turn .child .below) 254 255 (deep-as 254 (u .turn .here) (u .readable .at) (u .readable .deep)) (omega arith));
+            (deep-more (u .turn .child .below) (maxBelow - 1) maxBelow (deep-as (maxBelow - 1) (u .turn .here) (u .readable .at) (u .readable .deep)) (omega arith));
       },
       (omega (arith, c .before .before .before .loop .inv .0, p .1 .0), omega (arith, p .1 .1), u .so-far .left .long),
     ))
@@ -126,7 +127,7 @@ rewrite-union-spec =
           let f = first _ _ _ (u .so-far) in
           let w = c .before .before .before .before .before .before .copy-renamed .ensures e (f .plan) (schema (union ps))
           (renames-first h f (u .turn .past) (u .turn .here)
-          (deep-more (u .turn .child .below) 254 255 (deep-as 254 (u .turn .here) (u .readable .at) (u .readable .deep)) (omega arith))) in
+          (deep-more (u .turn .child .below) (maxBelow - 1) maxBelow (deep-as (maxBelow - 1) (u .turn .here) (u .readable .at) (u .readable .deep)) (omega arith))) in
           rw (
             c .word-at2 .ensures .0,
             c .before .from-record .ensures,

@@ -3,6 +3,7 @@ use mathlib.Core.List.{[], _++_}
 use native.Mathlib.Omega.{arith}
 use borrow.Author.Needs.{needs}
 use lib.ListN.{length-append, length-map}
+use Rattle.image.specs.Limits.{maxDepth}
 use Rattle.plan.specs.Schema.{schema}
 use Rattle.plan.specs.Syntax.{join}
 use Rattle.plan.specs.Trees.{planTree, kidsP}
@@ -30,7 +31,7 @@ join-scope-spec =
     (rw (c .before .before .before .before .before .record-at .ensures) (j .first .here))
     (c .before .before .before .before .no-fields .ensures) in
     let both = c .before .schema-columns2 .ensures (p .rhs) (schema (p .lhs)) (rw (c .before .before .record-at2 .ensures) (j .second .here)) first in (
-      (256, rw (c .record-at3 .ensures) (plan-readable (j .standing))),
+      (maxDepth, rw (c .record-at3 .ensures) (plan-readable (j .standing))),
       names-fit both
           (join-short (p .kind) (p .lhs) (p .rhs) (p .keys) (p .condition) (j .rules)),
     ))

@@ -3,7 +3,7 @@ use borrow.Author.Needs.{needs}
 use borrow.Author.Tests.{eq-eqb, ne-eqb}
 use lib.Dec.{eqb}
 use Rattle.image.specs.Tree.{Label}
-use Rattle.image.proofs.Relinking.{recs}
+use Rattle.image.specs.Records.{recs}
 use Rattle.push_down_join.proofs.JoinParts.{wrote-when, wrote-unless}
 use Rattle.push_down_base.proofs.Windows.{wrote-tree}
 use Rattle.push_down_join.proofs.write_sides.copy_pair.Statement.{statement}

@@ -7,6 +7,7 @@ use borrow.Author.Needs.{needs}
 use borrow.Author.Tests.{not-true, not-false}
 use borrow.Fn.Kinds.{In}
 use borrow.Fn.PlainCycle.{Measures, is, falls, and}
+use Rattle.image.specs.Limits.{maxRecords}
 use Rattle.conjuncts.proofs.Listed.{lists-none, known-of}
 use Rattle.push_down_base.proofs.Steps.{filter-input, filter-predicate}
 use Rattle.push_down_rewrite.proofs.Merges.{made-shaped}
@@ -31,10 +32,10 @@ use Rattle.push_down_rewrite.proofs.filter.+merge_filter+rewrite_filter
 use Rattle.push_down_rewrite.proofs.filter.+merge_filter+rewrite_filter.Tie.{close}
 
 abbrev μ-merge-filter : Measures 3 merge-filter-kinds.ps ℕ
-μ-merge-filter κs a = (2048 - a .1 .1 .1 .0) + (2048 - a .1 .1 .1 .0)
+μ-merge-filter κs a = (maxRecords - a .1 .1 .1 .0) + (maxRecords - a .1 .1 .1 .0)
 
 abbrev μ-rewrite-filter : Measures 3 rewrite-filter-kinds.ps ℕ
-μ-rewrite-filter κs a = (2048 - a .1 .1 .1 .0) + (2048 - a .1 .1 .1 .0) + 1
+μ-rewrite-filter κs a = (maxRecords - a .1 .1 .1 .0) + (maxRecords - a .1 .1 .1 .0) + 1
 
 abbrev merge-filter-at : ℕ → In 3 merge-filter-kinds.ps
 merge-filter-at t = and 3 merge-filter-kinds.ps (is 3 merge-filter-kinds.ps μ-merge-filter t) merge-filter.Pre

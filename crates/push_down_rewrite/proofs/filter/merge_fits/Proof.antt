@@ -5,7 +5,8 @@ use borrow.Author.Needs.{needs}
 use Rattle.plan.specs.Syntax.{filter}
 use Rattle.plan.specs.Trees.{planTree}
 use Rattle.plan.specs.Measure.{sizeP}
-use Rattle.writing.proofs.Maps.{mapOf, plan-maps}
+use Rattle.writing.specs.Maps.{mapOf}
+use Rattle.writing.proofs.Maps.{plan-maps}
 use Rattle.writing.proofs.Pushing.{plan-readable}
 use Rattle.answers.proofs.Whole.{wrote-small}
 use Rattle.answers.proofs.Splice.{spliced}

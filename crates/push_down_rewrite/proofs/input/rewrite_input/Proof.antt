@@ -73,14 +73,7 @@ rewrite-input-spec =
     (λ c κs. let r = c .before .before .before .before .before .before .before .before .before .before .before .before .pre .0 in (
       over-union r (read-kind (c .before .before .before .before .before .before .before .before .record-at .ensures) (c .before .before .before
           .before .before .before .before .word-at .ensures .0) (r .rests .placed .standing)) (c .before .before .if5 .taken),
-      (
-        c .before .before
-            .before .before .before .before .before .before .before .before .before .before .pre .1 .0,
-        c .before .before .before .before .before .before
-            .before .before .before .before .before .before .pre .1 .1,
-        c .before .before .before .before .before .before .before .before .before .before
-            .before .before .pre .1 .2,
-      ),
+      c .before .before .before .before .before .before .before .before .before .before .before .before .pre .1,
     ))
     (λ c. search needs)
     (λ c. search needs)

@@ -1,10 +1,7 @@
 -- `stays::own_left_deep` meets its contract.
-use native.Mathlib.Omega.{arith}
-use lib.ListN.{length-drop}
 use borrow.Author.Needs.{needs}
-use Rattle.writing.proofs.Pushing.{plan-readable}
-use Rattle.push_down_join.proofs.JoinParts.{last-found, last-room, last-there}
-use Rattle.push_down_rewrite.proofs.Stayings.{last-deep, last-bare}
+use Rattle.push_down_join.proofs.JoinParts.{own-there}
+use Rattle.push_down_rewrite.proofs.Stayings.{own-deep, own-bare}
 use Rattle.push_down_rewrite.proofs.stays.own_left_deep.Statement.{statement}
 use Rattle.push_down_rewrite.proofs.stays.own_left_deep.Tie as tie
 
@@ -13,20 +10,8 @@ own-left-deep-spec =
     tie.close
     (tie.spec
     (λ c κs. search needs)
-    (λ c κs. rw (c .record-at .ensures) (plan-readable (c .before .before .pre .placed .standing)))
-    (λ c κs. let l = last-found (c .before .before .before .pre .placed) (c .before .record-at .ensures) (c .last-child .ensures) in omega
-    (arith, last-room l))
-    (λ c κs. let l = last-found (c .before .before .before .before .pre .placed) (c .before .before .record-at .ensures)
-    (c .before .last-child .ensures) in
-    rw (c .record-at2 .ensures, length-drop) (omega (arith, last-room l)))
-    (λ c κs. let p = c .before .before .before .before .before .before .pre .placed in
-    let l = last-found p (c .before .before .before .before .record-at .ensures) (c .before .before .before .last-child .ensures) in
-    let t = last-there l (rw (← c .before .before .record-at2 .ensures, ← c .before .word-at .ensures .0) (c .if1 .taken)) in
+    (λ c k l r on f h. own-bare (c .before .filter-of .ensures k l r on f h) (c .if1 .taken))
+    (λ c κs. let p = c .before .before .before .pre .placed in
+    let t = own-there (c .before .filter-of .ensures _ _ _ _ _ p) (c .if1 .left) in
     (t .0, p .short))
-    (λ c k l r on f h. last-deep (last-found h (c .before .before .before .before .before .record-at .ensures)
-    (c .before .before .before .before .last-child .ensures))
-    (rw (← c .before .before .before .record-at2 .ensures, ← c .before .before .word-at .ensures .0) (c .before .if1 .taken))
-    (c .left-deep-at .ensures))
-    (λ c k l r on f h. last-bare (last-found h (c .before .before .before .before .record-at .ensures)
-    (c .before .before .before .last-child .ensures))
-    (rw (← c .before .before .record-at2 .ensures, ← c .before .word-at .ensures .0) (c .if1 .left))))
+    (λ c k l r on f h. own-deep (c .before .before .filter-of .ensures k l r on f h) (c .before .if1 .left) (c .left-deep-at .ensures)))

@@ -58,7 +58,7 @@ pub +replace-cols-by-name-spec : {M : Type 1} → statement M
     Inv-loop
     μ-loop
     (λ c. λ e he t h. wrote-past _ _ _ (replaced e t) (c .before .before .before .before .pre .1 .1 .1 .1) (c .if1 .taken))
-    (λ c κs. let p = c .before .before .before .before .pre .1 in (omega (arith, p .0 .at .head .room), p .1 .0))
+    (λ c κs. let p = c .before .before .before .before .pre .1 in (omega (arith, p .0 .at .head .room), (_, p .1 .0)))
     (λ c κs. let e = c .before .before .before .before .before .before .pre .1 .1 .0 in
     let v = value (e .tree) (labelAt (c .before .before .before .before .before .before .args .s .now)) e (e .at)
     (c .before .value-for .ensures (e .tree) (e .at)) (c .if2 .taken) in
