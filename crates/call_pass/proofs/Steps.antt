@@ -27,7 +27,7 @@ use Rattle.push_down_rewrite.proofs.Marked.{plan-there, found-there, not-found}
 use Rattle.push_down_rewrite.proofs.Tested.{inside-of}
 use Rattle.push_down_rewrite.specs.Merging.{Inside}
 use Rattle.preservation.proofs.Granted.{granted-well}
-use Rattle.push_down_rewrite.proofs.Finishes.{no-yes}
+use Rattle.plan.proofs.Bools.{no-yes}
 use Rattle.push_down_rewrite.proofs.Images.{image-room}
 use Rattle.push_down_rewrite.specs.Found.{Found}
 use Rattle.push_down_rewrite.specs.Outcomes.{Image, Outcome, Outcomes, answer}

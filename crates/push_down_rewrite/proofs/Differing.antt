@@ -39,7 +39,7 @@ use Rattle.push_down_arms.proofs.Divisions.{aggregate-pushed, window-pushed, pr
 use Rattle.push_down_base.proofs.Plain.{split-plain, split-joined, new-plain}
 use Rattle.push_down_rewrite.proofs.Shorter.{new-few}
 use Rattle.push_down_rewrite.specs.Staying.{mayStay}
-use Rattle.push_down_rewrite.proofs.Finishes.{no-yes}
+use Rattle.plan.proofs.Bools.{no-yes}
 
 clash : {A : Type 0} → _≡_ {A = ℕ} 0 1 → A
 clash z = absurd (omega arith)

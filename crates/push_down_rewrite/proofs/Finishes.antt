@@ -2,7 +2,7 @@
 use Prim.Native.Nat.{ℕ, _-_, _*_, _≤_, _<_}
 use native.Mathlib.Omega.{arith}
 use mathlib.Core.Path.{_≡_, refl, sym, _∙_}
-use mathlib.Core.Bool.{Bool, true, false, not}
+use mathlib.Core.Bool.{Bool, true, false}
 use mathlib.Core.List.{List}
 use lib.Dec.{leb}
 use lib.Seq.{slice}
@@ -22,20 +22,9 @@ use Rattle.answers.proofs.Whole.{wrote-small}
 use Rattle.answers.proofs.Splice.{Begun, spliced}
 use Rattle.answers.proofs.Fitting.{list-back, fits-over, fits-long}
 use Rattle.push_down_base.specs.Arms.{Written}
+use Rattle.plan.proofs.Bools.{no-yes}
 use Rattle.push_down_rewrite.proofs.Tested.{few-records, fits-is}
 use Rattle.push_down_rewrite.specs.Outcomes.{Outcome, Replaces, Finishes}
-
-pub no-yes : {A : Type 0} → false ≡ true → A
-no-yes e = let z : _≡_ {A = ℕ} 0 1 = cc in absurd (omega arith)
-
--- a test that is negated
-pub told : {b : Bool} → not b ≡ false → b ≡ true
-told {b = true} e = refl
-told {b = false} e = no-yes (sym e)
-
-pub untold : {b : Bool} → not b ≡ true → b ≡ false
-untold {b = true} e = no-yes e
-untold {b = false} e = refl
 
 -- what does not fit is not asked for more
 pub unfit : {work : List ℕ} {r : Outcome} {b : Bool} {q : Plan} → r .fits ≡ false → r .flag ≡ b → false ≡ fits q → Finishes work r b q

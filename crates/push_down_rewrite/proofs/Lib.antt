@@ -18,3 +18,4 @@ pub mod Images
 pub mod Fronts
 pub mod Stayings
 pub mod Differing
+pub mod Nodes

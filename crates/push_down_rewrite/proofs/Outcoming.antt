@@ -31,7 +31,7 @@ use Rattle.push_down_rewrite.proofs.Tested.{few-records, stands-inside}
 use Rattle.push_down_rewrite.specs.Found.{JoinInside}
 use Rattle.push_down_rewrite.specs.Staying.{Stays}
 use Rattle.push_down_rewrite.specs.Outcomes.{Outcome, Finishes, answer, Outcomes}
-use Rattle.push_down_rewrite.proofs.Finishes.{no-yes}
+use Rattle.plan.proofs.Bools.{no-yes}
 use Rattle.push_down_rewrite.proofs.KindOf.{kind-there, when-filter, when-join}
 
 and-false : (b : Bool) → (b & false) ≡ false
@@ -61,21 +61,6 @@ finishes {c = c} m f = record {
 
 -- ---- a Filter
 
-pub record AFilter (p : Plan) : Type 0 where
-  pub expr : Expr
-  pub plan : Plan
-  pub is : p ≡ filter expr plan
-
-pub a-filter : (p : Plan) → labelP p .kind ≡ 33 → AFilter p
-a-filter p h = when-filter AFilter (λ e q. record { expr = e; plan = q; is = refl }) p h
-
--- what stands at the record of a Filter is one
-pub the-filter : {s : List ℕ} {node : ℕ} {w : Plan} {c : Focus} → FilterInside s node → Inside s node w c → AFilter (c .plan)
-unfolding labelP
-the-filter {c = c} f h =
-    a-filter (c .plan)
-    (sym (kind-there (stands-inside h)) ∙ kind-there (stands-inside (f .inside)) ∙ ap (λ p. labelP p .kind) (f .is))
-
 module _ {s : List ℕ} {rest : Rest} {c : Focus} {e : Expr} {q : Plan} (is : c .plan ≡ filter e q)
     (h : Settles s rest c (merges (filter e q)) (settle-first e q)) where
   fitting : rest .fits ≡ all (λ m. fits (c .back m)) (merges (c .plan))
@@ -92,32 +77,6 @@ module _ {s : List ℕ} {rest : Rest} {c : Focus} {e : Expr} {q : Plan} (is : c 
       finishes (sym fitting ∙ y) (subst (λ t. Finishes work r (t .transformed) (c .back (t .plan))) i f)
 
 -- ---- a Join
-
-pub record AJoin (p : Plan) : Type 0 where
-  pub kind : Kind
-  pub lhs : Plan
-  pub rhs : Plan
-  pub keys : List Pair
-  pub condition : Option Expr
-  pub is : p ≡ join kind lhs rhs keys condition
-
-pub a-join : (p : Plan) → labelP p .kind ≡ 35 → AJoin p
-a-join p h = when-join AJoin (λ k l r on f. record { kind = k; lhs = l; rhs = r; keys = on; condition = f; is = refl }) p h
-
-pub the-join : {s : List ℕ} {node : ℕ} {w : Plan} {c : Focus} → JoinInside s node → Inside s node w c → AJoin (c .plan)
-unfolding labelP
-the-join {c = c} f h =
-    a-join (c .plan)
-    (sym (kind-there (stands-inside h)) ∙ kind-there (stands-inside (f .inside)) ∙ ap (λ p. labelP p .kind) (f .is))
-
--- what was found, in its own place
-pub placed-inside : {s : List ℕ} {node : ℕ} {w : Plan} {c : Focus} {p : Plan} → Inside s node w c → c .plan ≡ p → Placed s node p
-placed-inside {s} {node} {w} {c} h e = subst (Placed s node) e (record {
-  short = h .short;
-  standing = stands-inside h;
-  rules = rule-there eqb node w c (h .there) (h .rules);
-  lists = le-trans (lists-there node w c (h .there)) (h .lists);
-})
 
 module _ {c : Focus} {k : Kind} {l q : Plan} {on : List Pair} {f : Option Expr} (is : c .plan ≡ join k l q on f) where
   pub join-outcomes : {work : List ℕ} {r : Outcome} {w : Plan}
@@ -156,22 +115,6 @@ read-fits {w = w} h =
     and-intro (le-leb (sizeP w) maxRecords (few-records h))
     (and-intro (deep-tested (planTree w) (h .root .deep)) (le-leb (listP w) maxList (h .lists)))
 
--- a plan that is neither
-unchanged : (p : Plan) → (labelP p .kind ≡ 33 → ⊥) → (labelP p .kind ≡ 35 → ⊥) → (rewrite p ≡ Transformed·no p) × (merges p ≡ [])
-unfolding rewrite merges labelP
-unchanged (scan t fs es) f j = (refl, refl)
-unchanged (filter e p) f j = absurd (f refl)
-unchanged (project es p) f j = (refl, refl)
-unchanged (join k l r on g) f j = absurd (j refl)
-unchanged (alias q p) f j = (refl, refl)
-unchanged (union ps) f j = (refl, refl)
-unchanged (distinct p) f j = (refl, refl)
-unchanged (sort n ks p) f j = (refl, refl)
-unchanged (repartition p) f j = (refl, refl)
-unchanged (limit n k p) f j = (refl, refl)
-unchanged (aggregate gs ags p) f j = (refl, refl)
-unchanged (window ws p) f j = (refl, refl)
-
 -- one that stays
 pub stays-outcomes : {work s : List ℕ} {b : Bool} {r : Outcome} {w : Plan} {node : ℕ} {c : Focus} → Inside s node w c → Stays b (c .plan) → b ≡ true
     → r .fits ≡ true → r .flag ≡ false → r .written ≡ false → Outcomes work r w c
@@ -188,9 +131,6 @@ stays-outcomes {w = w} {node = node} {c = c} h u t y f n =
       image = λ z e. no-yes (sym n ∙ e);
       same = λ z e. back;
     }
-
-pub other-stays : (p : Plan) → (labelP p .kind ≡ 33 → ⊥) → (labelP p .kind ≡ 35 → ⊥) → Stays true p
-other-stays p f j = let u = unchanged p f j in record { kept = record { yes = λ y. u .0; no = λ n. no-yes (sym n) }; unmerged = λ y. u .1 }
 
 -- ---- what is written for a plan that does not stay
 

@@ -42,7 +42,7 @@ use Rattle.push_down_arms.proofs.ScanShares.{scan-kept}
 use Rattle.push_down_rewrite.specs.Staying.{Kept, Stays, mayStay}
 use Rattle.push_down_rewrite.proofs.Differing.{itself, left-plain, scan-was, project-was, aggregate-was, window-was, over-join-was, join-was}
 use Rattle.push_down_rewrite.proofs.Differing.{may-not-stay, simple-was}
-use Rattle.push_down_rewrite.proofs.Finishes.{no-yes}
+use Rattle.plan.proofs.Bools.{no-yes}
 
 -- ---- tests
 

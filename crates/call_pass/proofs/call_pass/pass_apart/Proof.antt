@@ -2,7 +2,7 @@
 use mathlib.Core.Path.{_∙_}
 use native.Mathlib.Omega.{arith}
 use borrow.Author.Needs.{needs}
-use Rattle.push_down_rewrite.proofs.Finishes.{told, untold}
+use Rattle.plan.proofs.Bools.{told, untold}
 use Rattle.push_down_rewrite.proofs.Images.{image-room}
 use Rattle.call_pass.proofs.Reports.{refused-11, called}
 use Rattle.call_pass.proofs.call_pass.pass_apart.Statement.{statement}

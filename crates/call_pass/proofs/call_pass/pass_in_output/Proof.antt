@@ -5,7 +5,7 @@ use borrow.Author.Needs.{needs}
 use lib.ListN.{drop}
 use lib.Seq.{length-take-le, length-front}
 use Rattle.image.specs.Limits.{workBytes}
-use Rattle.push_down_rewrite.proofs.Finishes.{told, untold}
+use Rattle.plan.proofs.Bools.{told, untold}
 use Rattle.push_down_rewrite.proofs.Fronts.{front-long, front-cleared}
 use Rattle.call_pass.proofs.Reports.{refused-11, called, left-room, left-few, left-front}
 use Rattle.call_pass.proofs.call_pass.pass_in_output.Statement.{statement}

@@ -2,7 +2,7 @@
 use mathlib.Core.Path.{refl, sym, _∙_}
 use native.Mathlib.Omega.{arith}
 use borrow.Author.Needs.{needs}
-use Rattle.push_down_rewrite.proofs.Finishes.{no-yes, told, untold}
+use Rattle.plan.proofs.Bools.{no-yes, told, untold}
 use Rattle.call_pass.proofs.Steps.{next-well, next-image, same-image, visited-refused, visited-granted}
 use Rattle.call_pass.proofs.Steps.{counted, room-here, room-written, next-few}
 use Rattle.call_pass.proofs.visits.take_over.Statement.{statement}

@@ -1,7 +1,7 @@
 -- `call_rewrite::rewrite_apart` meets its contract.
 use mathlib.Core.Path.{refl, sym, _∙_}
 use borrow.Author.Needs.{needs}
-use Rattle.push_down_rewrite.proofs.Finishes.{told, untold}
+use Rattle.plan.proofs.Bools.{told, untold}
 use Rattle.push_down_rewrite.proofs.Images.{image-room, whole-image}
 use Rattle.call_rewrite.proofs.Calls.{refused-11, granted-call}
 use Rattle.call_rewrite.proofs.call_rewrite.rewrite_apart.Statement.{statement}

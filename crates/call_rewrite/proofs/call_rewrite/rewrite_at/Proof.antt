@@ -3,7 +3,7 @@ use mathlib.Core.Path.{refl, _∙_}
 use native.Mathlib.Omega.{arith}
 use lib.ListN.{length-drop}
 use borrow.Author.Needs.{needs}
-use Rattle.push_down_rewrite.proofs.Finishes.{told, untold}
+use Rattle.plan.proofs.Bools.{told, untold}
 use Rattle.push_down_rewrite.proofs.Images.{whole-image}
 use Rattle.call_rewrite.proofs.Calls.{refused-8, absent, no-plan, a-plan, stayed}
 use Rattle.call_rewrite.proofs.call_rewrite.rewrite_at.Statement.{statement}

@@ -4,7 +4,7 @@ use borrow.Author.Needs.{needs}
 use lib.ListN.{drop}
 use lib.Seq.{length-take-le, length-front}
 use Rattle.image.specs.Limits.{workBytes}
-use Rattle.push_down_rewrite.proofs.Finishes.{told, untold}
+use Rattle.plan.proofs.Bools.{told, untold}
 use Rattle.push_down_rewrite.proofs.Images.{image-room, whole-image}
 use Rattle.call_rewrite.proofs.Calls.{refused-11, granted-call}
 use Rattle.push_down_rewrite.proofs.Fronts.{front-cleared, image-front}

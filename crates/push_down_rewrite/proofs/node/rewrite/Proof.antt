@@ -1,7 +1,7 @@
 -- `node::rewrite` meets its contract.
 use mathlib.Core.Path.{refl}
 use borrow.Author.Needs.{needs}
-use Rattle.push_down_rewrite.proofs.Finishes.{no-yes}
+use Rattle.plan.proofs.Bools.{no-yes}
 use Rattle.push_down_rewrite.proofs.Outcoming.{stays-outcomes, changed}
 use Rattle.push_down_rewrite.proofs.node.rewrite.Statement.{statement}
 use Rattle.push_down_rewrite.proofs.node.rewrite.Tie as tie

@@ -4,7 +4,8 @@ use native.Mathlib.Omega.{arith}
 use borrow.Author.Needs.{needs}
 use Rattle.push_down_rewrite.proofs.Tested.{stands-inside}
 use Rattle.push_down_rewrite.proofs.Dispatches.{read-kind}
-use Rattle.push_down_rewrite.proofs.Outcoming.{a-filter, a-join, stays-outcomes, other-stays}
+use Rattle.push_down_rewrite.proofs.Nodes.{a-filter, a-join, other-stays}
+use Rattle.push_down_rewrite.proofs.Outcoming.{stays-outcomes}
 use Rattle.push_down_rewrite.proofs.node.rewrite_anew.Statement.{statement}
 use Rattle.push_down_rewrite.proofs.node.rewrite_anew.Tie as tie
 

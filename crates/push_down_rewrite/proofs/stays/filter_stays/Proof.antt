@@ -8,8 +8,8 @@ use Rattle.push_down_rewrite.proofs.FirstFilter.{first-standing, first-
 use Rattle.push_down_rewrite.proofs.Merges.{shaped-written}
 use Rattle.push_down_base.proofs.Steps.{filter-predicate}
 use Rattle.push_down_rewrite.specs.Staying.{mayStay}
-use Rattle.push_down_rewrite.proofs.Finishes.{told, untold}
-use Rattle.push_down_rewrite.proofs.Outcoming.{the-filter, placed-inside}
+use Rattle.plan.proofs.Bools.{told, untold}
+use Rattle.push_down_rewrite.proofs.Nodes.{the-filter, placed-inside}
 use Rattle.push_down_rewrite.proofs.Stayings.{kept-as, may-stay-other, filter-goes, filter-moves, filter-simple, rests-written}
 use Rattle.push_down_rewrite.proofs.stays.filter_stays.Statement.{statement}
 use Rattle.push_down_rewrite.proofs.stays.filter_stays.Tie as tie

@@ -1,7 +1,7 @@
 -- `stays::over_join_stays` meets its contract.
 use Rattle.rewrite.specs.Utils.{split-conjunction, split-conjunction?}
 use Rattle.push_down_join.proofs.JoinsUnder.{over-reads}
-use Rattle.push_down_rewrite.proofs.Finishes.{told, untold}
+use Rattle.plan.proofs.Bools.{told, untold}
 use Rattle.push_down_rewrite.proofs.Stayings.{says-as, over-join-kept, over-join-shallow, above-join-shallow}
 use Rattle.push_down_rewrite.proofs.stays.over_join_stays.Statement.{statement}
 use Rattle.push_down_rewrite.proofs.stays.over_join_stays.Tie as tie

@@ -4,7 +4,7 @@ use native.Mathlib.Omega.{arith}
 use borrow.Author.Needs.{needs}
 use Rattle.push_down_rewrite.proofs.Tested.{stands-inside}
 use Rattle.push_down_rewrite.proofs.Dispatches.{read-kind}
-use Rattle.push_down_rewrite.proofs.Outcoming.{a-filter, a-join, placed-inside, other-stays}
+use Rattle.push_down_rewrite.proofs.Nodes.{a-filter, a-join, placed-inside, other-stays}
 use Rattle.push_down_rewrite.proofs.Stayings.{join-stays-so}
 use Rattle.push_down_rewrite.proofs.stays.stays.Statement.{statement}
 use Rattle.push_down_rewrite.proofs.stays.stays.Tie as tie
