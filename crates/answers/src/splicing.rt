@@ -9,7 +9,7 @@ use image::records::record_at;
 use image::words::wide;
 ghost use mathlib.Core.Path.{_≡_};
 ghost use mathlib.Core.Option.{some};
-ghost use Prim.Native.Nat.{_*_, _-_, _<_, _≤_};
+ghost use Prim.Native.Nat.{_*_, _-_, _≤_};
 ghost use lib.ListN.{length};
 ghost use lib.Seq.{slice};
 ghost use Rattle.image.specs.Buffers.{Scratch};

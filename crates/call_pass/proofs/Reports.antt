@@ -17,14 +17,14 @@ use Rattle.check_image.specs.Answer.{verdictOf}
 use Rattle.check_image.specs.declared.Checked.{Checked}
 use Rattle.rewrite.specs.OnBytes.{planIn, isAccepted, zeros, filled, no-pass, reported, pass-bytes}
 use Rattle.rewrite.specs.Pass.{PassAnswer, pass-refused, pass, pass-with-room, pass-call}
-use Rattle.push_down_rewrite.proofs.Root.{image-short}
-use Rattle.push_down_rewrite.specs.Found.{Whole}
+use Rattle.push_down_merge.proofs.Root.{image-short}
+use Rattle.push_down_merge.specs.Found.{Whole}
 use Rattle.push_down_rewrite.specs.Outcomes.{Image}
 use Rattle.push_down_rewrite.proofs.Images.{image-room, records-are, whole-image}
 use Rattle.push_down_rewrite.proofs.Fronts.{image-front}
 use Rattle.call_pass.specs.Answer.{refusal}
-use Rattle.call_pass.specs.Walks.{Walk, Left}
-use Rattle.call_pass.proofs.Steps.{image-copied}
+use Rattle.pass.specs.Walks.{Walk, Left}
+use Rattle.pass.proofs.Steps.{image-copied}
 
 -- ---- test 12
 

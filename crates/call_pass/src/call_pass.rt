@@ -1,6 +1,4 @@
 // The call `pass` on any bytes, for any budget and any room: the image is checked, the pass made and its plan handed out, or it is refused.
-use crate::visits::Walk;
-use crate::visits::visit_all;
 use answers::handing_out::clear;
 use answers::handing_out::clear_from;
 use answers::handing_out::copy_bytes;
@@ -10,6 +8,8 @@ use image::limits::MAP_BYTES;
 use image::limits::MAX_BYTES;
 use image::limits::MAX_RECORDS;
 use image::limits::RECORD_BYTES;
+use pass::visits::Walk;
+use pass::visits::visit_all;
 ghost use mathlib.Core.Path.{_≡_};
 ghost use mathlib.Core.List.{List};
 ghost use Prim.Native.Nat.{_*_, _≤_, ℕ};
@@ -17,9 +17,9 @@ ghost use lib.ListN.{length};
 ghost use Rattle.image.specs.Limits.{maxRecords, workBytes};
 ghost use Rattle.rewrite.specs.OnBytes.{pass-bytes, planIn, reported};
 ghost use Rattle.rewrite.specs.Pass.{PassAnswer, pass, pass-call, pass-with-room};
-ghost use Rattle.push_down_rewrite.specs.Found.{Whole};
+ghost use Rattle.push_down_merge.specs.Found.{Whole};
+ghost use Rattle.pass.specs.Walks.{Ends, Left, Lent, Spared};
 ghost use Rattle.call_pass.specs.Answer.{Small, passedOf};
-ghost use Rattle.call_pass.specs.Walks.{Ends, Left, Lent, Spared};
 
 // Visits, flags raised, whether no plan is left to visit, and the number of records; or what stands against it: a test of the image, a
 // rewrite whose answer is too large, at this record of the plan as it then stood, an output that is too short.

@@ -1,3 +1,2 @@
-// The call `pass`: the rewrite at each plan of an image in turn, as far as a budget of visits goes.
+// The call `pass` on any bytes, for any budget and any room.
 pub mod call_pass;
-pub mod visits;

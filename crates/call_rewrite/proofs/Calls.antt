@@ -22,14 +22,14 @@ use Rattle.rewrite.specs.PushDownFilter.{rewrite}
 use Rattle.rewrite.specs.RewriteAt.{Focus, focus, granted, result-fits, rewrite-in, rewriteAt, with-room, rewrite-call}
 use Rattle.rewrite.proofs.PlanFrom.{focus-end}
 use Rattle.rewrite.proofs.Marks.{is-some}
-use Rattle.push_down_rewrite.proofs.Root.{standing-root}
+use Rattle.push_down_merge.proofs.Root.{standing-root}
 use Rattle.push_down_rewrite.proofs.Marked.{plan-there, found-there, not-found}
-use Rattle.push_down_rewrite.proofs.Tested.{inside-of}
+use Rattle.push_down_merge.proofs.Tested.{inside-of}
 use Rattle.call_rewrite.specs.Answer.{refusal}
-use Rattle.push_down_rewrite.specs.Found.{Whole, Here}
+use Rattle.push_down_merge.specs.Found.{Whole, Here}
 use Rattle.push_down_rewrite.proofs.Images.{records-are}
 use Rattle.push_down_rewrite.specs.Outcomes.{Image, answer}
-use Rattle.push_down_rewrite.specs.Staying.{Stays}
+use Rattle.push_down_stays.specs.Staying.{Stays}
 use Rattle.push_down_rewrite.proofs.Outcoming.{stays-outcomes}
 
 -- ---- test 12

@@ -13,7 +13,7 @@ use image::records::record_at;
 use image::words::word_at;
 use plan::kinds::is_plan;
 use push_down_rewrite::node::rewrite_anew;
-use push_down_rewrite::stays::stays;
+use push_down_stays::stays::stays;
 ghost use mathlib.Core.Path.{_≡_};
 ghost use mathlib.Core.List.{List};
 ghost use Prim.Native.Nat.{_*_, _≤_, ℕ};
@@ -23,7 +23,7 @@ ghost use Rattle.image.specs.Limits.{mapBytes, maxRecords, workBytes};
 ghost use Rattle.plan.specs.Syntax.{Plan};
 ghost use Rattle.rewrite.specs.OnBytes.{planIn, rewrite-bytes, rewritten};
 ghost use Rattle.rewrite.specs.RewriteAt.{granted, rewrite-call, with-room};
-ghost use Rattle.push_down_rewrite.specs.Found.{Here, Whole};
+ghost use Rattle.push_down_merge.specs.Found.{Here, Whole};
 ghost use Rattle.push_down_rewrite.specs.Outcomes.{Image};
 ghost use Rattle.call_rewrite.specs.Answer.{rewrittenOf};
 

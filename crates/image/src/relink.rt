@@ -9,9 +9,9 @@ ghost use mathlib.Core.List.{_++_, List};
 ghost use Prim.Native.Nat.{_*_, _+_, _<_, _≤_, ℕ};
 ghost use lib.ListN.{getD, length, set};
 ghost use lib.Seq.{sets};
-ghost use Rattle.image.specs.Limits.{maxBelow};
 ghost use Rattle.image.specs.Flat.{enc, flat, sizeT};
 ghost use Rattle.image.specs.Flattened.{Flattened};
+ghost use Rattle.image.specs.Limits.{maxBelow};
 ghost use Rattle.image.specs.Tree.{Deep, Tree};
 ghost use Rattle.image.specs.Word.{le, word};
 

@@ -29,7 +29,7 @@ use Rattle.rewrite.specs.Pass.{PassAnswer, passed, pass-refused, pass-call}
 use Rattle.rewrite.proofs.PassKeeps.{left-by-pass, pass-leaves}
 use Rattle.preservation.proofs.Granted.{granted-well}
 use Rattle.preservation.proofs.Images.{stands}
-use Rattle.push_down_rewrite.proofs.Root.{standing-root}
+use Rattle.push_down_merge.proofs.Root.{standing-root}
 use Rattle.answers.proofs.Whole.{begun-size, begun}
 use Rattle.listing.specs.Listing.{lines, counts, refusal, told, listing}
 use Rattle.listing.specs.Written.{flat-lines}

@@ -1,6 +1,5 @@
 // What the words of a record can hold, by name: operators, tests, join kinds, aggregates, types and marks.
 // ---- the operators of a BinaryExpr: p
-
 pub const AND: usize = 1;
 
 pub const OR: usize = 2;

@@ -9,8 +9,8 @@ use borrow.Author.Tests.{eqb-true}
 use Rattle.plan.specs.Syntax.{Expr, Plan}
 use Rattle.conjuncts.proofs.Listed.{lists-length}
 use Rattle.push_down_base.specs.Arms.{Placed, Rests}
-use Rattle.push_down_rewrite.specs.Merging.{is-filter, Rest, Comes, alone, resting}
-use Rattle.push_down_rewrite.specs.Settled.{Settled, gone, rests}
+use Rattle.push_down_merge.specs.Merging.{is-filter, Rest, Comes, alone, resting}
+use Rattle.push_down_merge.specs.Settled.{Settled, gone, rests}
 use Rattle.push_down_base.proofs.Plain.{split-some}
 use Rattle.push_down_base.proofs.Perhapsing.{is-gone, both}
 use Rattle.plan.proofs.Bools.{no-yes}

@@ -23,7 +23,7 @@ use Rattle.answers.proofs.Splice.{Begun, spliced}
 use Rattle.answers.proofs.Fitting.{list-back, fits-over, fits-long}
 use Rattle.push_down_base.specs.Arms.{Written}
 use Rattle.plan.proofs.Bools.{no-yes}
-use Rattle.push_down_rewrite.proofs.Tested.{few-records, fits-is}
+use Rattle.push_down_merge.proofs.Tested.{few-records, fits-is}
 use Rattle.push_down_rewrite.specs.Outcomes.{Outcome, Replaces, Finishes}
 
 -- what does not fit is not asked for more

@@ -16,8 +16,8 @@ use Rattle.acceptance.proofs.Accept.{accepted}
 use Rattle.acceptance.proofs.Converse.{same-tree}
 use Rattle.rewrite.specs.OnBytes.{planIn, planFromLinks}
 use Rattle.rewrite.proofs.OnBytes.{tree-length}
-use Rattle.push_down_rewrite.proofs.Root.{image-length}
-use Rattle.push_down_rewrite.specs.Found.{Whole}
+use Rattle.push_down_merge.proofs.Root.{image-length}
+use Rattle.push_down_merge.specs.Found.{Whole}
 use Rattle.push_down_rewrite.specs.Outcomes.{Image}
 
 -- an image has room for its records

@@ -22,17 +22,17 @@ use Rattle.push_down_base.specs.Arms.{Placed}
 use Rattle.answers.proofs.Depths.{deep-tested}
 use Rattle.push_down_base.specs.Paths.{Ways}
 use Rattle.push_down_base.proofs.Finding.{path-to}
-use Rattle.push_down_rewrite.specs.Merging.{Inside, FilterInside, Rest, Settles, settle-first}
-use Rattle.push_down_rewrite.specs.Settled.{rewrite-settled}
-use Rattle.push_down_rewrite.proofs.FirstFilter.{first-rewrite}
-use Rattle.push_down_rewrite.proofs.Naming.{rule-there}
-use Rattle.push_down_rewrite.proofs.Within.{lists-there}
-use Rattle.push_down_rewrite.proofs.Tested.{few-records, stands-inside}
-use Rattle.push_down_rewrite.specs.Found.{JoinInside}
-use Rattle.push_down_rewrite.specs.Staying.{Stays}
+use Rattle.push_down_merge.specs.Merging.{Inside, FilterInside, Rest, Settles, settle-first}
+use Rattle.push_down_merge.specs.Settled.{rewrite-settled}
+use Rattle.push_down_merge.proofs.FirstFilter.{first-rewrite}
+use Rattle.push_down_merge.proofs.Naming.{rule-there}
+use Rattle.push_down_merge.proofs.Within.{lists-there}
+use Rattle.push_down_merge.proofs.Tested.{few-records, stands-inside}
+use Rattle.push_down_merge.specs.Found.{JoinInside}
+use Rattle.push_down_stays.specs.Staying.{Stays}
 use Rattle.push_down_rewrite.specs.Outcomes.{Outcome, Finishes, answer, Outcomes}
 use Rattle.plan.proofs.Bools.{no-yes}
-use Rattle.push_down_rewrite.proofs.KindOf.{kind-there, when-filter, when-join}
+use Rattle.push_down_stays.proofs.KindOf.{kind-there, when-filter, when-join}
 
 and-false : (b : Bool) → (b & false) ≡ false
 unfolding _&_

@@ -1,5 +1,1 @@
-pub mod Settled
-pub mod Merging
-pub mod Found
 pub mod Outcomes
-pub mod Staying

@@ -14,7 +14,7 @@ use Rattle.rewrite.specs.RewriteAt.{Focus, result-fits}
 use Rattle.answers.specs.declared.splicing.Spot.{Spot}
 use Rattle.answers.specs.Splicing.{Before}
 use Rattle.push_down_base.specs.Arms.{Written, Answers}
-use Rattle.push_down_rewrite.specs.Merging.{Inside}
+use Rattle.push_down_merge.specs.Merging.{Inside}
 use Rattle.push_down_rewrite.specs.declared.node.Outcome as declared
 
 -- the struct of the code

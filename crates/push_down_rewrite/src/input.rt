@@ -1,5 +1,4 @@
 // The match on a Filter's input (834 to 1262), once the Filters below are merged into it.
-use crate::filter::Settled;
 use image::records::KIND;
 use image::records::record_at;
 use image::words::word_at;
@@ -21,16 +20,17 @@ use push_down_base::predicates::Predicate;
 use push_down_base::predicates::Written;
 use push_down_base::predicates::is_gone;
 use push_down_join::push_down_all_join::rewrite_join;
+use push_down_merge::filter::Settled;
 use writing::make_filter::copy_plan;
 ghost use mathlib.Core.Path.{_≡_};
 ghost use mathlib.Core.Bool.{false};
 ghost use Rattle.plan.specs.Syntax.{Expr, Plan};
 ghost use Rattle.rewrite.specs.PushDownFilter.{rewrite-filter};
 ghost use Rattle.push_down_base.specs.Arms.{Answers, ArmOver, Rests};
-ghost use Rattle.push_down_rewrite.specs.Found.{OnInput, SomeComes};
-ghost use Rattle.push_down_rewrite.specs.Merging.{Comes, is-filter};
-ghost use Rattle.push_down_rewrite.specs.Settled.{rewrite-settled};
-ghost use Rattle.push_down_rewrite.specs.Settled as S;
+ghost use Rattle.push_down_merge.specs.Found.{OnInput, SomeComes};
+ghost use Rattle.push_down_merge.specs.Merging.{Comes, is-filter};
+ghost use Rattle.push_down_merge.specs.Settled.{rewrite-settled};
+ghost use Rattle.push_down_merge.specs.Settled as S;
 
 // A predicate that rests on the plan at record x, which is no Filter.
 fn rewrite_input(

@@ -1,7 +1,5 @@
 // PushDownFilter::rewrite (785 to 798) of the plan at one record: a Filter by its input, a Join by its own filter, no other.
-use crate::filter::settle_filter;
 use crate::input::rewrite_settled;
-use crate::stays::stays;
 use answers::handing_out::is_shallow;
 use answers::splicing::Spot;
 use answers::splicing::write_before;
@@ -16,6 +14,8 @@ use plan::kinds::FILTER;
 use plan::kinds::JOIN;
 use push_down_base::predicates::Written;
 use push_down_join::push_down_all_join::push_down_join;
+use push_down_merge::filter::settle_filter;
+use push_down_stays::stays::stays;
 ghost use mathlib.Core.Path.{_≡_};
 ghost use mathlib.Core.Bool.{true};
 ghost use Prim.Native.Nat.{ℕ};
@@ -23,8 +23,8 @@ ghost use Rattle.image.specs.Buffers.{Scratch, ScratchMap};
 ghost use Rattle.plan.specs.Syntax.{Plan};
 ghost use Rattle.rewrite.specs.PushDownFilter.{Transformed};
 ghost use Rattle.rewrite.specs.RewriteAt.{Focus};
-ghost use Rattle.push_down_rewrite.specs.Found.{Found, JoinInside};
-ghost use Rattle.push_down_rewrite.specs.Merging.{FilterInside, Inside};
+ghost use Rattle.push_down_merge.specs.Found.{Found, JoinInside};
+ghost use Rattle.push_down_merge.specs.Merging.{FilterInside, Inside};
 ghost use Rattle.push_down_rewrite.specs.Outcomes.{Finishes, Outcomes, Replaced, Replaces, answer};
 
 // What a rewrite comes to: whether it is within the limits, and the flag; whether a new image was written, of so many records, or the one

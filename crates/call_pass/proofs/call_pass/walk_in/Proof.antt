@@ -2,7 +2,7 @@
 use mathlib.Core.Path.{refl}
 use native.Mathlib.Omega.{arith}
 use borrow.Author.Needs.{needs}
-use Rattle.call_pass.proofs.Steps.{lent-still}
+use Rattle.pass.proofs.Steps.{lent-still}
 use Rattle.call_pass.proofs.Reports.{short, copied}
 use Rattle.call_pass.proofs.call_pass.walk_in.Statement.{statement}
 use Rattle.call_pass.proofs.call_pass.walk_in.Tie as tie

@@ -2,9 +2,9 @@
 use mathlib.Core.Path.{_∙_}
 use native.Mathlib.Omega.{arith}
 use borrow.Author.Needs.{needs}
-use Rattle.push_down_rewrite.proofs.KindOf.{when-through}
-use Rattle.push_down_rewrite.proofs.Dispatches.{read-kind, over-scan, over-project, over-join, over-alias, over-union, over-aggregate, over-window}
-use Rattle.push_down_rewrite.proofs.Dispatches.{by-scan, by-project, by-join, by-alias, by-union, by-aggregate, by-window}
+use Rattle.push_down_stays.proofs.KindOf.{when-through}
+use Rattle.push_down_stays.proofs.Dispatches.{read-kind, over-scan, over-project, over-join, over-alias, over-union, over-aggregate, over-window}
+use Rattle.push_down_stays.proofs.Dispatches.{by-scan, by-project, by-join, by-alias, by-union, by-aggregate, by-window}
 use Rattle.push_down_rewrite.proofs.input.rewrite_input.Statement.{statement}
 use Rattle.push_down_rewrite.proofs.input.rewrite_input.Tie as tie
 

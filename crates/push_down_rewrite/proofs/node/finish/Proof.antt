@@ -5,7 +5,7 @@ use borrow.Author.Needs.{needs}
 use Rattle.plan.specs.Trees.{planTree}
 use Rattle.plan.specs.Measure.{sizeP}
 use Rattle.answers.proofs.Fitting.{begun-count, flattened, answered}
-use Rattle.push_down_rewrite.proofs.Tested.{few-records, all-records, end-within}
+use Rattle.push_down_merge.proofs.Tested.{few-records, all-records, end-within}
 use Rattle.plan.proofs.Bools.{told, untold}
 use Rattle.push_down_rewrite.proofs.Finishes.{unfit, next-small, too-many, begun, depth-decides}
 use Rattle.push_down_rewrite.proofs.node.finish.Statement.{statement}

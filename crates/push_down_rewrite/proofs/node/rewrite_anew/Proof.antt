@@ -2,9 +2,9 @@
 use mathlib.Core.Path.{refl, sym, _∙_}
 use native.Mathlib.Omega.{arith}
 use borrow.Author.Needs.{needs}
-use Rattle.push_down_rewrite.proofs.Tested.{stands-inside}
-use Rattle.push_down_rewrite.proofs.Dispatches.{read-kind}
-use Rattle.push_down_rewrite.proofs.Nodes.{a-filter, a-join, other-stays}
+use Rattle.push_down_merge.proofs.Tested.{stands-inside}
+use Rattle.push_down_stays.proofs.Dispatches.{read-kind}
+use Rattle.push_down_stays.proofs.Nodes.{a-filter, a-join, other-stays}
 use Rattle.push_down_rewrite.proofs.Outcoming.{stays-outcomes}
 use Rattle.push_down_rewrite.proofs.node.rewrite_anew.Statement.{statement}
 use Rattle.push_down_rewrite.proofs.node.rewrite_anew.Tie as tie

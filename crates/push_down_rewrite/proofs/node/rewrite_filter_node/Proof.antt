@@ -3,11 +3,11 @@ use mathlib.Core.Path.{refl, _∙_}
 use native.Mathlib.Omega.{arith}
 use borrow.Author.Needs.{needs}
 use Rattle.plan.specs.Measure.{sizeP}
-use Rattle.push_down_rewrite.specs.Settled.{rewrite-settled}
-use Rattle.push_down_rewrite.specs.Merging.{settle-first}
-use Rattle.push_down_rewrite.proofs.Tested.{few-records, sized, stands-inside, end-within, level-small}
+use Rattle.push_down_merge.specs.Settled.{rewrite-settled}
+use Rattle.push_down_merge.specs.Merging.{settle-first}
+use Rattle.push_down_merge.proofs.Tested.{few-records, sized, stands-inside, end-within, level-small}
 use Rattle.plan.proofs.Bools.{told, untold}
-use Rattle.push_down_rewrite.proofs.Nodes.{the-filter}
+use Rattle.push_down_stays.proofs.Nodes.{the-filter}
 use Rattle.push_down_rewrite.proofs.Outcoming.{refuses, merge-unfit, filter-outcomes}
 use Rattle.push_down_rewrite.proofs.node.rewrite_filter_node.Statement.{statement}
 use Rattle.push_down_rewrite.proofs.node.rewrite_filter_node.Tie as tie

@@ -8,8 +8,8 @@ use Rattle.rewrite.specs.PushDownFilter.{push-down-join}
 use Rattle.plan.specs.Lists.{anil}
 use Rattle.push_down_base.proofs.Scoping.{reads-none}
 use Rattle.push_down_join.proofs.JoinsUnder.{none-under}
-use Rattle.push_down_rewrite.proofs.Tested.{few-records, sized, stands-inside, end-within, level-small}
-use Rattle.push_down_rewrite.proofs.Nodes.{the-join, placed-inside}
+use Rattle.push_down_merge.proofs.Tested.{few-records, sized, stands-inside, end-within, level-small}
+use Rattle.push_down_stays.proofs.Nodes.{the-join, placed-inside}
 use Rattle.push_down_rewrite.proofs.Outcoming.{join-outcomes}
 use Rattle.push_down_rewrite.proofs.node.rewrite_join_node.Statement.{statement}
 use Rattle.push_down_rewrite.proofs.node.rewrite_join_node.Tie as tie

@@ -1,0 +1,128 @@
+-- What the merging of Filters is asked and answers: predicates that are simplified and merged, the plan after a merge, and where it comes
+-- to rest.
+use mathlib.Core.Path.{_≡_}
+use mathlib.Core.Bool.{Bool, true, false}
+use mathlib.Core.List.{List}
+use mathlib.Core.Option.{Option, none, some}
+use Prim.Native.Nat.{ℕ, _≤_}
+use lib.ListN.{length}
+use Rattle.image.specs.Limits.{workBytes, maxList}
+use Rattle.plan.specs.Syntax.{Expr, Plan, scan, filter, project, join, alias, union, distinct, sort, repartition, limit, aggregate, window}
+use Rattle.plan.specs.Lists.{all}
+use Rattle.acceptance.proofs.NamesRule.{ok}
+use Rattle.rewrite.specs.Utils.{split-conjunction, conjunction}
+use Rattle.rewrite.specs.Limits.{listP, fits}
+use Rattle.rewrite.specs.RewriteAt.{Focus, focus}
+use Rattle.rewrite.specs.PushDownFilter.{simplify-filter}
+use Rattle.conjuncts.specs.Standing.{StandingP}
+use Rattle.conjuncts.specs.Items.{Lists}
+use Rattle.push_down_base.specs.Predicates.{Predicate}
+use Rattle.push_down_base.specs.Arms.{Shaped, Placed, Rests}
+use Rattle.push_down_merge.specs.Settled.{Settled, gone, rests, settled-by, settle}
+use Rattle.push_down_merge.specs.declared.filter.Settled as declared
+
+-- ---- predicates
+
+-- what is left of a predicate: nothing, and then no conjunct; or an expression
+pub data Remains (s : List ℕ) (p : Predicate) : Option Expr → Type 0 where
+  nothing : p .written ≡ 0 → p .list .len ≡ 0 → Remains s p none
+  something : {e : Expr} → Shaped s p e → Remains s p (some e)
+
+-- the code's predicate p is e, its conjuncts joined anew; perhaps there are too many of them
+pub record Made (s : List ℕ) (p : Predicate) (e : Expr) : Type 0 where
+  pub anew : p .written ≡ 0
+  pub listed : Lists s (p .list) (split-conjunction e)
+  pub joined : conjunction (split-conjunction e) ≡ some e
+
+-- p is some predicate
+pub record Formed (s : List ℕ) (p : Predicate) : Type 0 where
+  pub expr : Expr
+  pub shaped : Shaped s p expr
+
+-- ---- plans
+
+-- the plan w is the image's, keeps the name rules and has no list that is too long, and c is the plan at record `node` of it
+pub record Inside (s : List ℕ) (node : ℕ) (w : Plan) (c : Focus) : Type 0 where
+  pub short : length s ≤ workBytes
+  pub root : StandingP s 0 w
+  pub rules : ok w ≡ true
+  pub lists : listP w ≤ maxList
+  pub there : focus node w ≡ some c
+
+-- a Filter stands at record x
+pub record FilterAt (s : List ℕ) (x : ℕ) : Type 0 where
+  pub expr : Expr
+  pub plan : Plan
+  pub standing : StandingP s x (filter expr plan)
+
+-- a predicate that was merged can stand over the plan at record x, in the place of record `node` of the whole
+pub record Mergeable (s : List ℕ) (node : ℕ) (p : Predicate) (x : ℕ) : Type 0 where
+  pub whole : Plan
+  pub spot : Focus
+  pub inside : Inside s node whole spot
+  pub expr : Expr
+  pub made : Made s p expr
+  pub plan : Plan
+  pub standing : StandingP s x plan
+
+-- a predicate rests on the plan at record x, below record `node` of the whole
+pub record Merging (s : List ℕ) (node : ℕ) (p : Predicate) (x : ℕ) : Type 0 where
+  pub whole : Plan
+  pub spot : Focus
+  pub inside : Inside s node whole spot
+  pub expr : Expr
+  pub plan : Plan
+  pub rests : Rests s x p expr plan
+
+-- the plan is a Filter, into which the predicate is merged
+pub record MergingInto (s : List ℕ) (node : ℕ) (p : Predicate) (x : ℕ) : Type 0 where
+  pub whole : Plan
+  pub spot : Focus
+  pub inside : Inside s node whole spot
+  pub expr : Expr
+  pub lower : Expr
+  pub plan : Plan
+  pub rests : Rests s x p expr (filter lower plan)
+
+-- a Filter stands at record `node` of the whole
+pub record FilterInside (s : List ℕ) (node : ℕ) : Type 0 where
+  pub whole : Plan
+  pub spot : Focus
+  pub inside : Inside s node whole spot
+  pub expr : Expr
+  pub plan : Plan
+  pub is : spot .plan ≡ filter expr plan
+
+-- ---- where merging comes to rest
+
+-- .. of a Filter as it is written: its predicate is simplified first
+abbrev pub settle-first : Expr → Plan → Settled
+settle-first e p = settled-by (simplify-filter e) (λ x. settle x p) p
+
+-- the struct of the code
+abbrev pub Rest : Type 0
+Rest = declared.Settled
+
+abbrev pub is-filter : Plan → Bool
+is-filter (filter e p) = true
+is-filter (scan t fs es) = false
+is-filter (project es p) = false
+is-filter (join k l r on f) = false
+is-filter (alias q p) = false
+is-filter (union ps) = false
+is-filter (distinct p) = false
+is-filter (sort f ks p) = false
+is-filter (repartition p) = false
+is-filter (limit n k p) = false
+is-filter (aggregate gs ags p) = false
+is-filter (window ws p) = false
+
+-- no predicate is left, and the plan stands at its record; or the predicate rests on a plan that is no Filter
+pub data Comes (s : List ℕ) (r : Rest) : Settled → Type 0 where
+  alone : {q : Plan} → Placed s (r .input) q → r .predicate .written ≡ 0 → r .predicate .list .len ≡ 0 → Comes s r (gone q)
+  resting : {e : Expr} {q : Plan} → Rests s (r .input) (r .predicate) e q → is-filter q ≡ false → Comes s r (rests e q)
+
+-- whether the plans after each merge fit, where each stands in the place of c's; and if they do, where merging comes to rest
+pub record Settles (s : List ℕ) (r : Rest) (c : Focus) (ms : List Plan) (t : Settled) : Type 0 where
+  pub fit : r .fits ≡ all (λ m. fits (c .back m)) ms
+  pub comes : r .fits ≡ true → Comes s r t

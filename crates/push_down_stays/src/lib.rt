@@ -1,0 +1,2 @@
+// Whether PushDownFilter::rewrite leaves a plan as it is, decided by reading alone.
+pub mod stays;
