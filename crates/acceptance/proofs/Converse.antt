@@ -21,7 +21,7 @@ use Rattle.image.specs.Limits.{maxRecords}
 use Rattle.plan.specs.Lists.{_&_}
 use Rattle.plan.specs.Kinds as K
 use Rattle.plan.specs.Kinds.{What, expr, plan, part, unknown, what}
-use Rattle.plan.specs.Words.{rowE, rowP, rowQ, any, unused, wordsOk, Worded}
+use Rattle.plan.specs.Words.{rowE, rowP, rowQ, anyWord, unused, wordsOk, Worded}
 use Rattle.image.specs.Lowest.{nothing, orElse, unless, alone}
 use Rattle.acceptance.specs.Check.{bufferOk, badWords, Links, tree, linked, verdict, at, checkPlan, checkTree, check}
 use Rattle.plan.specs.Syntax.{Plan}
@@ -109,10 +109,10 @@ small-e K.Between l e b = omega arith
 small-e K.InList l e b = omega arith
 small-e K.Function l e b = omega arith
 
-sort-high : (p lo : ℕ) → lo ≤ cond (eqb p 1) any unused .high → lo < 4294967296
+sort-high : (p lo : ℕ) → lo ≤ cond (eqb p 1) anyWord unused .high → lo < 4294967296
 sort-high p lo h = go (eqb p 1) h
   where
-    go : (b : Bool) → lo ≤ cond b any unused .high → lo < 4294967296
+    go : (b : Bool) → lo ≤ cond b anyWord unused .high → lo < 4294967296
     go true h = omega arith
     go false h = omega arith
 

@@ -5,11 +5,11 @@ use mathlib.Core.Option as O
 use mathlib.Core.Option.{Option, some}
 use Rattle.image.specs.Tree.{Label, Forest, none, node}
 use Rattle.image.specs.Lowest.{alone}
-use Rattle.plan.specs.Lists.{flat}
+use Rattle.plan.specs.Lists.{flatten}
 use Rattle.plan.specs.Syntax.{Expr, col, num, bool, nul, bin, neg, test, between, inlist, fn, Exprs, enil, econs, Pair, WinEntry, Plan}
 use Rattle.plan.specs.Syntax.{scan, filter, project, join, alias, union, distinct, sort, repartition, limit, aggregate, window, Plans, pnil}
 use Rattle.plan.specs.Syntax.{pcons}
-use Rattle.plan.specs.Trees.{labelE, kidsE, forestE, before, each, nothingBelow, fieldLabel, entryLabel, entryKids, pairLabel, pairKids}
+use Rattle.plan.specs.Trees.{labelE, kidsE, forestE, inFront, each, nothingBelow, fieldLabel, entryLabel, entryKids, pairLabel, pairKids}
 use Rattle.plan.specs.Trees.{keyLabel, keyKids, aggLabel, aggKids, winLabel, winKids, filterKids, labelP, kidsP, forestP, planTree}
 use Rattle.acceptance.specs.Marks.{marks-in, marks-in-all, marks-in?, Rules, entry-marks, pair-marks, key-marks, agg-marks, win-marks}
 use Rattle.acceptance.specs.Marks.{marks-of, marks-of-all}
@@ -57,8 +57,8 @@ expr?-labels (some e) = simp (expr-labels e, append-nil)
 
 -- a run of parts, in front of other trees
 run-labels : {A : Type 0} (f : A → List Label) (l : A → Label) (k : A → Forest) → ((x : A) → f x ≡ l x ∷ labels (k x))
-    → (xs : List A) (ns : Forest) → labels (each l k xs ns) ≡ flat f xs ++ labels ns
-unfolding each flat
+    → (xs : List A) (ns : Forest) → labels (each l k xs ns) ≡ flatten f xs ++ labels ns
+unfolding each flatten
 run-labels f l k h [] ns = refl
 run-labels f l k h (x ∷ xs) ns = simp (h x, run-labels f l k h xs ns, append-assoc)
 
@@ -67,7 +67,7 @@ unfolding each
 leaf-labels l [] ns = refl
 leaf-labels l (x ∷ xs) ns = simp (leaf-labels l xs ns)
 
-one-label : (l : Label) (e : Expr) → l ∷ marks-in labelE e ≡ l ∷ labels (before e none)
+one-label : (l : Label) (e : Expr) → l ∷ marks-in labelE e ≡ l ∷ labels (inFront e none)
 one-label l e = simp (expr-labels e, append-nil)
 
 pair-labels : (l r : Plan) (k : Pair) → pair-marks label-rules l r k ≡ pairLabel k ∷ labels (pairKids k)

@@ -8,7 +8,7 @@ use Rattle.image.specs.Tree.{Label, Forest, none, node}
 use Rattle.plan.specs.Lists.{_&_}
 use Rattle.plan.specs.Kinds as K
 use Rattle.plan.specs.Kinds.{expr, plan, among, whatOf}
-use Rattle.plan.specs.Words.{wordsOk, inside, fits, Worded}
+use Rattle.plan.specs.Words.{wordsOk, inRange, rowFits, Worded}
 use Rattle.acceptance.proofs.Opened.{checked}
 use Rattle.acceptance.specs.Check.{checkTree, verdict, check}
 use Rattle.image.specs.Flat.{enc}
@@ -90,7 +90,7 @@ unfolding checked
 scan-conjuncts-129 = refl
 
 tower-words : (n : ℕ) → Worded (tower n)
-unfolding wordsOk inside fits among whatOf _&_
+unfolding wordsOk inRange rowFits among whatOf _&_
 tower-words zero = (refl, tt, tt)
 tower-words (suc n) = (refl, tower-words n, tt)
 

@@ -10,11 +10,11 @@ use lib.ListN.{length, length-append}
 use Rattle.image.specs.Tree.{Label, Forest, none, size}
 use Rattle.image.specs.Flat.{sizeT}
 use Rattle.image.specs.Lowest.{nothing, orElse, unless, firstFalse}
-use Rattle.plan.specs.Lists.{_&_, all, flat}
+use Rattle.plan.specs.Lists.{_&_, all, flatten}
 use Rattle.plan.specs.Syntax.{Name, Expr, col, num, bool, nul, bin, neg, test, between, inlist, fn, Exprs, enil, econs, Field, Pair}
 use Rattle.plan.specs.Syntax.{WinEntry, Plan, scan, filter, project, join, alias, union, distinct, sort, repartition, limit, aggregate}
 use Rattle.plan.specs.Syntax.{window, Plans, pnil, pcons}
-use Rattle.plan.specs.Trees.{columnLabel, labelE, kidsE, forestE, before, each, nothingBelow, fieldLabel, entryLabel, entryKids, pairLabel}
+use Rattle.plan.specs.Trees.{columnLabel, labelE, kidsE, forestE, inFront, each, nothingBelow, fieldLabel, entryLabel, entryKids, pairLabel}
 use Rattle.plan.specs.Trees.{pairKids, keyLabel, keyKids, aggLabel, aggKids, winLabel, winKids, filterKids, kidsP, forestP, planTree}
 use Rattle.acceptance.specs.Marks.{marks-in, marks-in-all, marks-in?, Rules, entry-marks, pair-marks, key-marks, agg-marks, win-marks}
 use Rattle.acceptance.specs.Marks.{marks-of, marks-of-all}
@@ -63,8 +63,8 @@ module _ {M : Type 0} (rule : Expr → M) where
 
 -- a run of parts, in front of other trees
 run-length : {A M : Type 0} (f : A → List M) (l : A → Label) (k : A → Forest) → ((x : A) → length (f x) ≡ suc (size (k x)))
-    → (xs : List A) (ns : Forest) → size (each l k xs ns) ≡ length (flat f xs) + size ns
-unfolding each flat
+    → (xs : List A) (ns : Forest) → size (each l k xs ns) ≡ length (flatten f xs) + size ns
+unfolding each flatten
 run-length f l k h [] ns = omega arith
 run-length f l k h (x ∷ xs) ns = simp (length-append, h x, run-length f l k h xs ns) (omega arith)
 
@@ -80,7 +80,7 @@ fields-length g [] ns = omega arith
 fields-length g (f ∷ fs) ns = simp (fields-length g fs ns) (omega arith)
 
 module _ {M : Type 0} (R : Rules M) where
-  one-length : (p : Plan) (e : Expr) → suc (length (marks-in (R .over p) e)) ≡ suc (size (before e none))
+  one-length : (p : Plan) (e : Expr) → suc (length (marks-in (R .over p) e)) ≡ suc (size (inFront e none))
   one-length p e = simp (marks-in-length (R .over p)) (omega arith)
 
   pair-length : (l r : Plan) (k : Pair) → length (pair-marks R l r k) ≡ suc (size (pairKids k))

@@ -11,9 +11,9 @@ use Rattle.image.specs.Limits.{maxRecords}
 use Rattle.image.specs.Word.{word}
 use Rattle.image.specs.Tree.{Label, Forest, none, node, Tree, size, labelAt}
 use Rattle.image.specs.Flat.{sizeT}
-use Rattle.image.specs.Links.{Parsed, good, bad, joined, andThen, parse}
+use Rattle.image.specs.Links.{Parsed, good, bad, withNext, andThen, parse}
 use Rattle.image.specs.Lowest.{Found, nothing, found, orElse, unless, lowest, alone, firstFalse}
-use Rattle.image.proofs.Reading.{when-cases, Within, within}
+use Rattle.image.proofs.Reading.{cond-cases, Within, within}
 use Rattle.plan.specs.Syntax.{Plan}
 use Rattle.plan.specs.Types.{scans}
 use Rattle.plan.specs.Trees.{planTree}
@@ -69,7 +69,7 @@ owned-then : (n i : ℕ) (l : Label) (p : Parsed) (rest : ℕ → Parsed)
     → Owned n p → Within n i p → ((j : ℕ) → j ≤ n → Owned n (rest j)) → Owned n (andThen l p rest)
 owned-then n i l (good cs j) rest o w k = go (rest j) (k j (w .1))
   where
-    go : (q : Parsed) → Owned n q → Owned n (joined l cs q)
+    go : (q : Parsed) → Owned n q → Owned n (withNext l cs q)
     go (good ns m) h = tt
     go (bad r) h = h
 owned-then n i l (bad r) rest o w k = o
@@ -78,9 +78,9 @@ owned : (k : ℕ) (s : List ℕ) (n i link owner : ℕ) → i ≤ n → owner �
 unfolding parse
 owned zero s n i link owner h o = o
 owned (suc k) s n i link owner h o =
-    when-cases (Owned n) (eqb link 0) (λ e. tt)
-    (λ e. when-cases (Owned n) (eqb link i)
-    (λ e. when-cases (Owned n) (leb n i) (λ e. o)
+    cond-cases (Owned n) (eqb link 0) (λ e. tt)
+    (λ e. cond-cases (Owned n) (eqb link i)
+    (λ e. cond-cases (Owned n) (leb n i) (λ e. o)
     (λ e. let g = leb-false n i e in
     owned-then n (i + 1) _ (parse k s n (i + 1) (word s (32 * i + 24)) i) (λ j. parse k s n j (word s (32 * i + 28)) i)
     (owned k s n (i + 1) (word s (32 * i + 24)) i (omega arith) h)

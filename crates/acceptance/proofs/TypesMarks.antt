@@ -8,7 +8,7 @@ use mathlib.Core.Option.{Option, none, some}
 use lib.Dec.{eqb}
 use borrow.Author.Tests.{eqb-true, eq-eqb}
 use Rattle.image.specs.Lowest.{nothing}
-use Rattle.plan.specs.Lists.{_&_, all, flat}
+use Rattle.plan.specs.Lists.{_&_, all, flatten}
 use Rattle.plan.proofs.Lists.{and-l, and-r, and-intro, and-assoc, and-true, true-and, and-sort, all-append, all-flat, all-map, all-true}
 use Rattle.plan.proofs.Lists.{all-and}
 use Rattle.plan.specs.Syntax.{Expr, col, num, bool, nul, bin, neg, test, between, inlist, fn, Exprs, enil, econs, Field, Plan, scan, filter}
@@ -54,7 +54,7 @@ unfolding boolean
 all-boolean τ es = all-and (is-boolean τ) (well τ) es
 
 scan-kept : (τ : Types) (a : Bool) (fs : List Field) (es : List Expr)
-    → (all (is-boolean τ) es & a) & kept (map (λ (f : Field). true) fs ++ flat (types-in τ) es) ≡ all (boolean τ) es & (a & true)
+    → (all (is-boolean τ) es & a) & kept (map (λ (f : Field). true) fs ++ flatten (types-in τ) es) ≡ all (boolean τ) es & (a & true)
 scan-kept τ a fs es = simp (all-append, all-map, all-true, all-flat, well-kept, all-boolean, and-sort)
 
 -- the conjunctions below, regrouped: b of a predicate's type, w of what is below it, t and s of an input's types and scans

@@ -2,7 +2,7 @@
 -- and the record that the test names is the first whose mark is false. That the order is the image's: `in-order` of proofs/InOrder.antt.
 use mathlib.Core.List.{List, [], _∷_, _++_, map}
 use mathlib.Core.Option.{Option, none, some}
-use Rattle.plan.specs.Lists.{flat}
+use Rattle.plan.specs.Lists.{flatten}
 use Rattle.plan.specs.Syntax.{Expr, col, num, bool, nul, bin, neg, test, between, inlist, fn, Exprs, enil, econs, Field, Entry, Pair, Key}
 use Rattle.plan.specs.Syntax.{AggEntry, WinEntry, Plan, scan, filter, project, join, alias, union, distinct, sort, repartition, limit}
 use Rattle.plan.specs.Syntax.{aggregate, window, Plans, pnil, pcons}
@@ -68,19 +68,19 @@ module _ {M : Type 0} (R : Rules M) where
   -- the filters of a scan stand over its own fields, a join's filter over both inputs, all else over the one input
   unfoldable mutual
     pub marks-of : Plan → List M
-    marks-of (scan t fs es) = R .plan (scan t fs es) ∷ (map (R .field) fs ++ flat (marks-in (R .over (scan t fs es))) es)
+    marks-of (scan t fs es) = R .plan (scan t fs es) ∷ (map (R .field) fs ++ flatten (marks-in (R .over (scan t fs es))) es)
     marks-of (filter e p) = R .plan (filter e p) ∷ (marks-in (R .over p) e ++ marks-of p)
-    marks-of (project es p) = R .plan (project es p) ∷ (flat (entry-marks p) es ++ marks-of p)
+    marks-of (project es p) = R .plan (project es p) ∷ (flatten (entry-marks p) es ++ marks-of p)
     marks-of (join k l r on f) =
-        R .plan (join k l r on f) ∷ (marks-of l ++ marks-of r ++ flat (pair-marks l r) on ++ marks-in? (R .both l r) f)
+        R .plan (join k l r on f) ∷ (marks-of l ++ marks-of r ++ flatten (pair-marks l r) on ++ marks-in? (R .both l r) f)
     marks-of (alias q p) = R .plan (alias q p) ∷ marks-of p
     marks-of (union ps) = R .plan (union ps) ∷ marks-of-all ps
     marks-of (distinct p) = R .plan (distinct p) ∷ marks-of p
-    marks-of (sort f ks p) = R .plan (sort f ks p) ∷ (flat (key-marks p) ks ++ marks-of p)
+    marks-of (sort f ks p) = R .plan (sort f ks p) ∷ (flatten (key-marks p) ks ++ marks-of p)
     marks-of (repartition p) = R .plan (repartition p) ∷ marks-of p
     marks-of (limit n k p) = R .plan (limit n k p) ∷ marks-of p
-    marks-of (aggregate gs ags p) = R .plan (aggregate gs ags p) ∷ (flat (entry-marks p) gs ++ flat (agg-marks p) ags ++ marks-of p)
-    marks-of (window ws p) = R .plan (window ws p) ∷ (flat (win-marks p) ws ++ marks-of p)
+    marks-of (aggregate gs ags p) = R .plan (aggregate gs ags p) ∷ (flatten (entry-marks p) gs ++ flatten (agg-marks p) ags ++ marks-of p)
+    marks-of (window ws p) = R .plan (window ws p) ∷ (flatten (win-marks p) ws ++ marks-of p)
 
     pub marks-of-all : Plans → List M
     marks-of-all pnil = []

@@ -25,7 +25,7 @@ use Rattle.plan.specs.Lists.{_&_}
 use Rattle.plan.specs.Syntax.{Plan}
 use Rattle.plan.specs.Trees.{planTree}
 use Rattle.plan.specs.Measure.{depthT, sizeP, depthP}
-use Rattle.rewrite.specs.Limits.{listP, listPs, fits}
+use Rattle.rewrite.specs.Limits.{listP, listPs, within-limits}
 use Rattle.rewrite.specs.Utils.{split-conjunction, split-conjunction?}
 use Rattle.rewrite.specs.RewriteAt.{Focus, focus}
 use Rattle.answers.proofs.Depths.{tested-deep}
@@ -94,24 +94,24 @@ and-false true = refl
 and-false false = refl
 
 -- too many records
-pub fits-over : {out : List ℕ} {n : ℕ} (p : Plan) → Begun out n (planTree p) → maxRecords < n → fits p ≡ false
-unfolding fits sizeP _&_ cap
+pub fits-over : {out : List ℕ} {n : ℕ} (p : Plan) → Begun out n (planTree p) → maxRecords < n → within-limits p ≡ false
+unfolding within-limits sizeP _&_ cap
 fits-over {n = n} p h many = rw (lt-leb (sizeT (planTree p)) maxRecords (omega (arith, h .count)))
 
 -- too deep
-pub fits-deep : (p : Plan) → leb (depthT (planTree p)) maxDepth ≡ false → fits p ≡ false
-unfolding fits depthP _&_
+pub fits-deep : (p : Plan) → leb (depthT (planTree p)) maxDepth ≡ false → within-limits p ≡ false
+unfolding within-limits depthP _&_
 fits-deep p h = rw (h, and-false (leb (sizeP p) maxRecords))
 
 -- too long a list
-pub fits-long : (p : Plan) → leb (listP p) maxList ≡ false → fits p ≡ false
-unfolding fits
+pub fits-long : (p : Plan) → leb (listP p) maxList ≡ false → within-limits p ≡ false
+unfolding within-limits
 fits-long p h = rw (h, and-false (leb (depthP p) maxDepth), and-false (leb (sizeP p) maxRecords))
 
 -- within all limits
 pub fits-all : {out : List ℕ} {n : ℕ} (p : Plan) → Begun out n (planTree p) → n ≤ maxRecords → leb (depthT (planTree p)) maxDepth ≡ true
-    → leb (listP p) maxList ≡ true → fits p ≡ true
-unfolding fits sizeP depthP _&_
+    → leb (listP p) maxList ≡ true → within-limits p ≡ true
+unfolding within-limits sizeP depthP _&_
 fits-all {n = n} p h few deep lists = rw (deep, lists, le-leb (sizeT (planTree p)) maxRecords (counted _ n (h .count) few))
 
 -- ---- what was written

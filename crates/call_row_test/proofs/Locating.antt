@@ -24,7 +24,7 @@ use Rattle.plan.specs.Trees.{filterKids, labelP, kidsP, forestP, planTree, labe
 use Rattle.plan.proofs.Measure.{size-filter, size-project, size-join, size-alias, size-union, size-distinct, size-sort, size-repartition}
 use Rattle.plan.proofs.Measure.{size-limit, size-aggregate, size-window, size-pcons, size-each}
 use Rattle.acceptance.proofs.NamesRule.{rule, rule-all}
-use Rattle.rewrite.specs.RewriteAt.{Focus, FocusAll, here, inside, inside-all, first-of, later-of, focus, focus-all}
+use Rattle.rewrite.specs.RewriteAt.{Focus, FocusAll, here, focusIn, inside-all, first-of, later-of, focus, focus-all}
 use Rattle.call_row_test.specs.Standing.{levelsBelow, Sound}
 use Rattle.call_row_test.proofs.Quiet.{Other, NoPlan, OtherAt, region, region-each, past-each, far, later-at, other-e, no-plan-e, no-plan-scan}
 use Rattle.call_row_test.proofs.Quiet.{no-plan-join, other-entry, other-key, other-agg, other-win, below-entry, below-key, below-agg, below-win}
@@ -92,7 +92,7 @@ module _ (s : List ℕ) (b m n : ℕ) (l : m ≤ n) where
         go true e = rest (leb-true k (n - m) e) t
         go false e = later-at s m n l (h (leb-false k (n - m) e))
 
-    behind : (f : Plan → Plan) {o : Option Focus} → Place (drop (32 * m) s) (b + m) (n - m) k o → Place s b n total (inside f o)
+    behind : (f : Plan → Plan) {o : Option Focus} → Place (drop (32 * m) s) (b + m) (n - m) k o → Place s b n total (focusIn f o)
     behind f (there {c} o h) = there o (moved (c .plan) h)
     behind f (nowhere h) = nowhere (other h)
 
@@ -135,7 +135,7 @@ module _ {A : Type 0} (l : A → Label) (k : A → Forest) (is : (x : A) → Oth
 -- found in the input, or in front of it
 module _ (q p : Plan) (s : List ℕ) (b n m total : ℕ) (o : Sound q) (h : At (planTree q) s b) (v : Behind s b m p) (z : 0 < m) (t : total ≡ m + sizeP p)
     (f : Plan → Plan) {r : Option Focus} (in-input : Place (drop (32 * m) s) (b + m) (n - m) (sizeP p) r) where
-  past-run : Place s b n total (choose (eqb n 0) (here q) (choose (leb m n) (inside f r) none))
+  past-run : Place s b n total (choose (eqb n 0) (here q) (choose (leb m n) (focusIn f r) none))
   past-run =
       either (eqb n 0) (λ e. itself q s b n total o h (eqb-true n 0 e))
       (λ e. either (leb m n)
@@ -146,7 +146,7 @@ module _ (q p : Plan) (s : List ℕ) (b n m total : ℕ) (o : Sound q) (h : At (
       positive i j = omega arith
 
 straight : (q p : Plan) (s : List ℕ) (b n total : ℕ) → Sound q → At (planTree q) s b → total ≡ 1 + sizeP p → (f : Plan → Plan) {r : Option Focus}
-    → Place (drop 32 s) (b + 1) (n - 1) (sizeP p) r → Place s b n total (choose (eqb n 0) (here q) (inside f r))
+    → Place (drop 32 s) (b + 1) (n - 1) (sizeP p) r → Place s b n total (choose (eqb n 0) (here q) (focusIn f r))
 straight q p s b n total o h t f w =
     either (eqb n 0) (λ e. itself q s b n total o h (eqb-true n 0 e))
     (λ e. let l : 1 ≤ n = omega (arith, eqb-false n 0 e) in behind s b 1 n l (λ j k. absurd (omega arith)) f w)

@@ -20,7 +20,7 @@ use Rattle.plan.specs.Kinds.{planW, what, whatOf, among}
 use Rattle.plan.specs.Measure.{sizes}
 use Rattle.plan.specs.Syntax.{Expr, col, num, bool, nul, bin, neg, test, between, inlist, fn, Exprs, enil, econs, Field, Entry, Pair, Key}
 use Rattle.plan.specs.Syntax.{AggEntry, WinEntry}
-use Rattle.plan.specs.Trees.{labelE, kidsE, forestE, before, each, nothingBelow, columnLabel, fieldLabel, entryLabel, entryKids, pairLabel}
+use Rattle.plan.specs.Trees.{labelE, kidsE, forestE, inFront, each, nothingBelow, columnLabel, fieldLabel, entryLabel, entryKids, pairLabel}
 use Rattle.plan.specs.Trees.{pairKids, keyLabel, keyKids, aggLabel, aggKids, winLabel, winKids, filterKids}
 use Rattle.plan.proofs.Written.{expr-what}
 
@@ -56,7 +56,7 @@ mutual
   no-plan-es enil = tt
   no-plan-es (econs x xs) = (other-e x, no-plan-e x, no-plan-es xs)
 
-pub no-plan-before : (e : Expr) (ns : Forest) → NoPlan ns → NoPlan (before e ns)
+pub no-plan-before : (e : Expr) (ns : Forest) → NoPlan ns → NoPlan (inFront e ns)
 no-plan-before e ns h = (other-e e, no-plan-e e, h)
 
 -- each part of a run, with what is below it
@@ -165,7 +165,7 @@ no-plan-filter (some e) = no-plan-before e none tt
 -- what a join has after its inputs
 pub no-plan-join : (on : List Pair) (f : Option Expr) → NoPlan (each pairLabel pairKids on (filterKids f))
 no-plan-join on f =
-    no-plan-each pairLabel pairKids other-pair (λ k. no-plan-before (k .lhs) (before (k .rhs) none) (no-plan-before (k .rhs) none tt)) on
+    no-plan-each pairLabel pairKids other-pair (λ k. no-plan-before (k .lhs) (inFront (k .rhs) none) (no-plan-before (k .rhs) none tt)) on
     (filterKids f) (no-plan-filter f)
 
 -- what a scan has

@@ -13,7 +13,7 @@ use Rattle.image.specs.Tree.{Label, labelAt}
 use Rattle.image.specs.Lowest.{nothing, found, orElse, unless}
 use Rattle.plan.specs.Lists.{_&_}
 use Rattle.plan.specs.Kinds.{What, expr, plan, part, unknown, whatOf, among, exprW, planW, partW, numberE, numberP, numberQ, Column, TableScan, Sort, FieldPart}
-use Rattle.plan.specs.Words.{Row, _to_, inside, fits, wordsBy, wordsOk}
+use Rattle.plan.specs.Words.{WordRow, _to_, inRange, rowFits, wordsBy, wordsOk}
 use Rattle.acceptance.specs.Check.{badWords}
 use Rattle.check_form.specs.Rows.{rangeOf, decoded, rowBy}
 use Rattle.plan.proofs.Bools.{both, and-left, and-right}
@@ -70,13 +70,13 @@ row-unknown k p h = rw h
 
 -- ---- the words of a record
 
-none-inside : (x : ℕ) (b : Bool) → (inside (1 to 0) x & b) ≡ false
-unfolding inside _&_
+none-inside : (x : ℕ) (b : Bool) → (inRange (1 to 0) x & b) ≡ false
+unfolding inRange _&_
 none-inside zero b = refl
 none-inside (suc x) b = rw (le-leb 1 (suc x) (omega arith), lt-leb (suc x) 0 (omega arith))
 
-fits-row : (w : What) (l : Label) → fits (rowBy w (l .p)) l ≡ wordsBy w l
-unfolding fits
+fits-row : (w : What) (l : Label) → rowFits (rowBy w (l .p)) l ≡ wordsBy w l
+unfolding rowFits
 fits-row (expr k) l = refl
 fits-row (plan k) l = refl
 fits-row (part k) l = refl
@@ -84,15 +84,15 @@ fits-row unknown l = none-inside (l .p) _
 
 -- each word is in the range that the row says
 pub words-are : (l : Label) (n : ℕ) {p q r lo hi : Bool} → decoded n ≡ rowBy (whatOf (l .kind)) (l .p)
-    → p ≡ inside (rangeOf (n / 10000 % 10)) (l .p)
-    → q ≡ inside (rangeOf (n / 1000 % 10)) (l .q)
-    → r ≡ inside (rangeOf (n / 100 % 10)) (l .r)
-    → lo ≡ inside (rangeOf (n / 10 % 10)) (l .lo)
-    → hi ≡ inside (rangeOf (n % 10)) (l .hi)
+    → p ≡ inRange (rangeOf (n / 10000 % 10)) (l .p)
+    → q ≡ inRange (rangeOf (n / 1000 % 10)) (l .q)
+    → r ≡ inRange (rangeOf (n / 100 % 10)) (l .r)
+    → lo ≡ inRange (rangeOf (n / 10 % 10)) (l .lo)
+    → hi ≡ inRange (rangeOf (n % 10)) (l .hi)
     → (p && (q && (r && (lo && hi)))) ≡ wordsOk l
-unfolding fits decoded wordsOk
+unfolding rowFits decoded wordsOk
 words-are l n h e₁ e₂ e₃ e₄ e₅ =
-    rw (e₁, e₂, e₃, e₄, e₅) (simp both (ap (λ (w : Row). fits w l) h ∙ fits-row (whatOf (l .kind)) l))
+    rw (e₁, e₂, e₃, e₄, e₅) (simp both (ap (λ (w : WordRow). rowFits w l) h ∙ fits-row (whatOf (l .kind)) l))
 
 -- ---- the loop over the records: those before record i have the words of their kinds
 

@@ -23,7 +23,7 @@ ghost use Prim.Native.Nat.{_*_, _<_, _≤_};
 ghost use lib.ListN.{length};
 ghost use Rattle.image.specs.Places.{placeOf};
 ghost use Rattle.plan.specs.Kinds.{whatOf};
-ghost use Rattle.plan.specs.Words.{inside, wordsOk};
+ghost use Rattle.plan.specs.Words.{inRange, wordsOk};
 ghost use Rattle.acceptance.specs.Check.{badWords};
 ghost use Rattle.check_form.specs.Rows.{decoded, rangeOf, rowBy};
 
@@ -49,7 +49,7 @@ fn row_of(kind: usize, p: usize) -> usize
 // Whether x is in the range with the number.
 fn in_range(x: usize, range: usize) -> bool
     requires { ⌜ range < 10 ⌝ }
-    ensures { λ r. ⌜ r ≡ inside (rangeOf range) x ⌝ }
+    ensures { λ r. ⌜ r ≡ inRange (rangeOf range) x ⌝ }
 {
     (LOW[range] <= x) & (x <= HIGH[range])
 }

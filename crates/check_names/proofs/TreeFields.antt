@@ -14,7 +14,7 @@ use Rattle.plan.specs.Schema.{lookD, schema, schema-first, sides}
 use Rattle.plan.specs.Syntax.{Name, nm, Expr, col, num, bool, nul, bin, neg, test, between, inlist, fn, Field, Entry, Key, AggEntry}
 use Rattle.plan.specs.Syntax.{WinEntry, Kind, inner, left, right, full, leftSemi, rightSemi, leftAnti, rightAnti, Plan, scan, filter}
 use Rattle.plan.specs.Syntax.{project, join, alias, union, distinct, sort, repartition, limit, aggregate, window, Plans, pnil, pcons}
-use Rattle.plan.specs.Trees.{joinNumber, labelE, kidsE, before, each, nothingBelow, fieldLabel, entryLabel, entryKids, pairLabel, pairKids}
+use Rattle.plan.specs.Trees.{joinNumber, labelE, kidsE, inFront, each, nothingBelow, fieldLabel, entryLabel, entryKids, pairLabel, pairKids}
 use Rattle.plan.specs.Trees.{keyLabel, keyKids, aggLabel, aggKids, winLabel, winKids, filterKids, labelP, kidsP, forestP, planTree}
 use Rattle.plan.specs.Types.{type-of, types, types-first, side-types, field-types, both-types}
 use Rattle.plan.proofs.Written.{name-back, expr-what}
@@ -92,7 +92,7 @@ plan-what (limit n k p) = (K.Limit, refl)
 plan-what (aggregate gs ags p) = (K.Aggregate, refl)
 plan-what (window ws p) = (K.Window, refl)
 
-pub inputs-expr : (e : Expr) (ns : Forest) → inputs (before e ns) ≡ inputs ns
+pub inputs-expr : (e : Expr) (ns : Forest) → inputs (inFront e ns) ≡ inputs ns
 unfolding inputs
 inputs-expr e ns = rw (expr-what e .1)
 

@@ -9,11 +9,11 @@ use Rattle.image.specs.Tree.{Label, Forest, none, node}
 use Rattle.image.specs.Lowest.{lowest, firstFalse, alone}
 use Rattle.image.proofs.Lowest.{marks, lowest-is}
 use Rattle.plan.specs.Kinds.{whatOf, among}
-use Rattle.plan.specs.Lists.{flat}
+use Rattle.plan.specs.Lists.{flatten}
 use Rattle.plan.specs.Syntax.{Name, Expr, col, num, bool, nul, bin, neg, test, between, inlist, fn, Exprs, enil, econs, Field, Entry, Pair}
 use Rattle.plan.specs.Syntax.{Key, AggEntry, WinEntry, Plan, scan, filter, project, join, alias, union, distinct, sort, repartition, limit}
 use Rattle.plan.specs.Syntax.{aggregate, window, Plans, pnil, pcons}
-use Rattle.plan.specs.Trees.{columnLabel, labelE, kidsE, forestE, before, each, nothingBelow, fieldLabel, entryLabel, entryKids, pairLabel}
+use Rattle.plan.specs.Trees.{columnLabel, labelE, kidsE, forestE, inFront, each, nothingBelow, fieldLabel, entryLabel, entryKids, pairLabel}
 use Rattle.plan.specs.Trees.{pairKids, keyLabel, keyKids, aggLabel, aggKids, winLabel, winKids, filterKids, labelP, kidsP, forestP}
 use Rattle.plan.specs.Trees.{planTree}
 use Rattle.plan.proofs.Written.{expr-what}
@@ -94,7 +94,7 @@ module _ (rule : Scope → Label → Forest → Bool) where
 
   module _ (c : Scope) (g : Expr → Bool) (h : (e : Expr) → rule c (labelE e) (kidsE e) ≡ g e) where
     -- an expression's own mark, the marks below it, and those of other trees
-    own-marks : (after : Scope) (e : Expr) (ns : Forest) → marks rule hand c after (before e ns) ≡ g e ∷ (beside c (kidsE e) ++ beside after ns)
+    own-marks : (after : Scope) (e : Expr) (ns : Forest) → marks rule hand c after (inFront e ns) ≡ g e ∷ (beside c (kidsE e) ++ beside after ns)
     own-marks after e ns = rw (h e, hand-expr c e)
 
     mutual
@@ -105,13 +105,13 @@ module _ (rule : Scope → Label → Forest → Bool) where
       below-marks (num z) = refl
       below-marks (bool b) = refl
       below-marks (nul t) = refl
-      below-marks (bin o a b) = rw (own-marks c a (before b none), own-marks c b none, append-nil, ← below-marks a, ← below-marks b)
+      below-marks (bin o a b) = rw (own-marks c a (inFront b none), own-marks c b none, append-nil, ← below-marks a, ← below-marks b)
       below-marks (neg a) = rw (own-marks c a none, append-nil, ← below-marks a)
       below-marks (test t a) = rw (own-marks c a none, append-nil, ← below-marks a)
       below-marks (between n a l u) =
           rw (
-            own-marks c a (before l (before u none)),
-            own-marks c l (before u none),
+            own-marks c a (inFront l (inFront u none)),
+            own-marks c l (inFront u none),
             own-marks c u none,
             append-nil,
             append-assoc (marks-in g a) (marks-in g l) (marks-in g u),
@@ -127,18 +127,18 @@ module _ (rule : Scope → Label → Forest → Bool) where
       exprs-marks (econs x xs) = rw (own-marks c x (forestE xs), ← below-marks x, exprs-marks xs)
 
     -- an expression in front of other trees
-    expr-marks : (after : Scope) (e : Expr) (ns : Forest) → marks rule hand c after (before e ns) ≡ marks-in g e ++ beside after ns
+    expr-marks : (after : Scope) (e : Expr) (ns : Forest) → marks rule hand c after (inFront e ns) ≡ marks-in g e ++ beside after ns
     expr-marks after e ns = own-marks after e ns ∙ rw (← below-marks e)
 
   -- ---- runs of parts, in front of other trees
 
   run-marks : {A : Type 0} (c : Scope) (f : A → List Bool) (l : A → Label) (k : A → Forest)
       → ((x : A) (ns : Forest) → beside c (node (l x) (k x) ns) ≡ f x ++ beside c ns)
-      → (xs : List A) (ns : Forest) → beside c (each l k xs ns) ≡ flat f xs ++ beside c ns
-  unfolding each flat
+      → (xs : List A) (ns : Forest) → beside c (each l k xs ns) ≡ flatten f xs ++ beside c ns
+  unfolding each flatten
   run-marks c f l k h [] ns = refl
   run-marks c f l k h (x ∷ xs) ns =
-      h x (each l k xs ns) ∙ ap (f x ++_) (run-marks c f l k h xs ns) ∙ sym (append-assoc (f x) (flat f xs) (beside c ns))
+      h x (each l k xs ns) ∙ ap (f x ++_) (run-marks c f l k h xs ns) ∙ sym (append-assoc (f x) (flatten f xs) (beside c ns))
 
   leaf-marks : {A : Type 0} (c : Scope) (g : A → Bool) (l : A → Label) → ((x : A) → rule c (l x) none ≡ g x)
       → (xs : List A) (ns : Forest) → beside c (each l nothingBelow xs ns) ≡ map g xs ++ beside c ns
@@ -153,29 +153,29 @@ module _ (rule : Scope → Label → Forest → Bool) where
 
   module _ (R : Rules Bool) (a : Agrees rule R) where
     over-marks : (p : Plan) (after : Scope) (e : Expr) (ns : Forest)
-        → marks rule hand (over-one p) after (before e ns) ≡ marks-in (R .over p) e ++ beside after ns
+        → marks rule hand (over-one p) after (inFront e ns) ≡ marks-in (R .over p) e ++ beside after ns
     over-marks p = expr-marks (over-one p) (R .over p) (a .one p)
 
-    alone-marks : (p : Plan) (e : Expr) → beside (over-one p) (before e none) ≡ marks-in (R .over p) e
+    alone-marks : (p : Plan) (e : Expr) → beside (over-one p) (inFront e none) ≡ marks-in (R .over p) e
     alone-marks p e = over-marks p (over-one p) e none ∙ append-nil (marks-in (R .over p) e)
 
     module _ (p : Plan) where
       entries-marks : (es : List Entry) (ns : Forest)
-          → beside (over-one p) (each entryLabel entryKids es ns) ≡ flat (entry-marks R p) es ++ beside (over-one p) ns
+          → beside (over-one p) (each entryLabel entryKids es ns) ≡ flatten (entry-marks R p) es ++ beside (over-one p) ns
       unfolding hand whatOf among
       entries-marks =
           run-marks (over-one p) (entry-marks R p) entryLabel entryKids
           (λ e. part-marks (over-one p) (entryLabel e) (entryKids e) _ _ (a .entry (over-one p) e) (alone-marks p (e .expr)))
 
       keys-marks : (ks : List Key) (ns : Forest)
-          → beside (over-one p) (each keyLabel keyKids ks ns) ≡ flat (key-marks R p) ks ++ beside (over-one p) ns
+          → beside (over-one p) (each keyLabel keyKids ks ns) ≡ flatten (key-marks R p) ks ++ beside (over-one p) ns
       unfolding hand whatOf among
       keys-marks =
           run-marks (over-one p) (key-marks R p) keyLabel keyKids
           (λ k. part-marks (over-one p) (keyLabel k) (keyKids k) _ _ (a .key (over-one p) k) (alone-marks p (k .expr)))
 
       aggs-marks : (ags : List AggEntry) (ns : Forest)
-          → beside (over-one p) (each aggLabel aggKids ags ns) ≡ flat (agg-marks R p) ags ++ beside (over-one p) ns
+          → beside (over-one p) (each aggLabel aggKids ags ns) ≡ flatten (agg-marks R p) ags ++ beside (over-one p) ns
       unfolding hand whatOf among
       aggs-marks =
           run-marks (over-one p) (agg-marks R p) aggLabel aggKids
@@ -187,7 +187,7 @@ module _ (rule : Scope → Label → Forest → Bool) where
       column-marks xs = leaf-marks (over-one p) (λ x. R .over p (col x)) columnLabel (λ x. a .one p (col x)) xs none ∙ append-nil _
 
       wins-marks : (ws : List WinEntry) (ns : Forest)
-          → beside (over-one p) (each winLabel winKids ws ns) ≡ flat (win-marks R p) ws ++ beside (over-one p) ns
+          → beside (over-one p) (each winLabel winKids ws ns) ≡ flatten (win-marks R p) ws ++ beside (over-one p) ns
       unfolding hand whatOf among
       wins-marks =
           run-marks (over-one p) (win-marks R p) winLabel winKids
@@ -198,12 +198,12 @@ module _ (rule : Scope → Label → Forest → Bool) where
     module _ (l r : Plan) where
       -- a pair's first expression stands over the left input, its second over the right
       pairs-marks : (on : List Pair) (ns : Forest)
-          → beside (over-both l r) (each pairLabel pairKids on ns) ≡ flat (pair-marks R l r) on ++ beside (over-both l r) ns
+          → beside (over-both l r) (each pairLabel pairKids on ns) ≡ flatten (pair-marks R l r) on ++ beside (over-both l r) ns
       unfolding hand whatOf among
       pairs-marks =
           run-marks (over-both l r) (pair-marks R l r) pairLabel pairKids
           (λ k. part-marks (over-both l r) (pairLabel k) (pairKids k) _ _ (a .pair l r k)
-          (over-marks l (over-one r) (k .lhs) (before (k .rhs) none) ∙ ap (marks-in (R .over l) (k .lhs) ++_) (alone-marks r (k .rhs))))
+          (over-marks l (over-one r) (k .lhs) (inFront (k .rhs) none) ∙ ap (marks-in (R .over l) (k .lhs) ++_) (alone-marks r (k .rhs))))
 
       filter-marks : (f : Option Expr) → beside (over-both l r) (filterKids f) ≡ marks-in? (R .both l r) f
       filter-marks O.none = refl
@@ -237,14 +237,14 @@ module _ (rule : Scope → Label → Forest → Bool) where
       below-plan (project es p) =
           ap (R .plan (project es p) ∷_)
           (entries-marks p es (stand p none)
-          ∙ ap (flat (entry-marks R p) es ++_) (plan-alone (over-one p) p (below-plan p)))
+          ∙ ap (flatten (entry-marks R p) es ++_) (plan-alone (over-one p) p (below-plan p)))
       below-plan (join k l r on f) =
           let rest = each pairLabel pairKids on (filterKids f) in
           ap (R .plan (join k l r on f) ∷_)
           (plan-front (over-both l r) l (below-plan l) (stand r rest)
           ∙ ap (marks-of R l ++_)
           (plan-front (over-both l r) r (below-plan r) rest
-          ∙ ap (marks-of R r ++_) (pairs-marks l r on (filterKids f) ∙ ap (flat (pair-marks R l r) on ++_) (filter-marks l r f)))
+          ∙ ap (marks-of R r ++_) (pairs-marks l r on (filterKids f) ∙ ap (flatten (pair-marks R l r) on ++_) (filter-marks l r f)))
           ∙ simp append-assoc)
       below-plan (alias q p) = ap (R .plan (alias q p) ∷_) (plan-alone (over-one p) p (below-plan p))
       below-plan (union ps) = ap (R .plan (union ps) ∷_) (below-plans ps)
@@ -252,19 +252,19 @@ module _ (rule : Scope → Label → Forest → Bool) where
       below-plan (sort f ks p) =
           ap (R .plan (sort f ks p) ∷_)
           (keys-marks p ks (stand p none)
-          ∙ ap (flat (key-marks R p) ks ++_) (plan-alone (over-one p) p (below-plan p)))
+          ∙ ap (flatten (key-marks R p) ks ++_) (plan-alone (over-one p) p (below-plan p)))
       below-plan (repartition p) = ap (R .plan (repartition p) ∷_) (plan-alone (over-one p) p (below-plan p))
       below-plan (limit n k p) = ap (R .plan (limit n k p) ∷_) (plan-alone (over-one p) p (below-plan p))
       below-plan (aggregate gs ags p) =
           ap (R .plan (aggregate gs ags p) ∷_)
           (entries-marks p gs (each aggLabel aggKids ags (stand p none))
-          ∙ ap (flat (entry-marks R p) gs ++_)
-          (aggs-marks p ags (stand p none) ∙ ap (flat (agg-marks R p) ags ++_) (plan-alone (over-one p) p (below-plan p)))
+          ∙ ap (flatten (entry-marks R p) gs ++_)
+          (aggs-marks p ags (stand p none) ∙ ap (flatten (agg-marks R p) ags ++_) (plan-alone (over-one p) p (below-plan p)))
           ∙ simp append-assoc)
       below-plan (window ws p) =
           ap (R .plan (window ws p) ∷_)
           (wins-marks p ws (stand p none)
-          ∙ ap (flat (win-marks R p) ws ++_) (plan-alone (over-one p) p (below-plan p)))
+          ∙ ap (flatten (win-marks R p) ws ++_) (plan-alone (over-one p) p (below-plan p)))
 
       below-plans : (ps : Plans) → beside (over [] []) (forestP ps) ≡ marks-of-all R ps
       below-plans pnil = refl

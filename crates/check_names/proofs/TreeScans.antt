@@ -16,7 +16,7 @@ use Rattle.plan.specs.Lists.{_&_}
 use Rattle.plan.specs.Syntax.{Name, Expr, col, num, bool, nul, bin, neg, test, between, inlist, fn, Exprs, enil, econs, Field, Entry, Pair}
 use Rattle.plan.specs.Syntax.{WinEntry, Plan, scan, filter, project, join, alias, union, distinct, sort, repartition, limit, aggregate}
 use Rattle.plan.specs.Syntax.{window, Plans, pnil, pcons}
-use Rattle.plan.specs.Trees.{columnLabel, labelE, kidsE, forestE, before, each, nothingBelow, fieldLabel, entryLabel, entryKids, pairLabel}
+use Rattle.plan.specs.Trees.{columnLabel, labelE, kidsE, forestE, inFront, each, nothingBelow, fieldLabel, entryLabel, entryKids, pairLabel}
 use Rattle.plan.specs.Trees.{pairKids, keyLabel, keyKids, aggLabel, aggKids, winLabel, winKids, filterKids, labelP, kidsP, forestP}
 use Rattle.plan.specs.Trees.{planTree}
 use Rattle.plan.specs.Types.{Scanned, scans, scans-all}
@@ -67,7 +67,7 @@ module _ (t : ℕ) where
   no-scan : (e : Expr) → isKind (plan K.TableScan) (labelE e) ≡ false
   no-scan e = no-part-e e (K.numberP K.TableScan) (omega arith)
 
-  ahead : (e : Expr) (ns : Forest) → Scanless (kidsE e) → Scanless ns → Scanless (before e ns)
+  ahead : (e : Expr) (ns : Forest) → Scanless (kidsE e) → Scanless ns → Scanless (inFront e ns)
   ahead e ns h k d = past-tree (labelE e) (kidsE e) ns (no-scan e) h d ∙ k d
 
   mutual
@@ -78,11 +78,11 @@ module _ (t : ℕ) where
     below-expr (num z) = none-scanned
     below-expr (bool b) = none-scanned
     below-expr (nul n) = none-scanned
-    below-expr (bin o a b) = ahead a (before b none) (below-expr a) (ahead b none (below-expr b) none-scanned)
+    below-expr (bin o a b) = ahead a (inFront b none) (below-expr a) (ahead b none (below-expr b) none-scanned)
     below-expr (neg a) = ahead a none (below-expr a) none-scanned
     below-expr (test o a) = ahead a none (below-expr a) none-scanned
     below-expr (between n a l u) =
-        ahead a (before l (before u none)) (below-expr a) (ahead l (before u none) (below-expr l) (ahead u none (below-expr u) none-scanned))
+        ahead a (inFront l (inFront u none)) (below-expr a) (ahead l (inFront u none) (below-expr l) (ahead u none (below-expr u) none-scanned))
     below-expr (inlist n a xs) = ahead a (forestE xs) (below-expr a) (in-exprs xs)
     below-expr (fn p q r xs) = in-exprs xs
 
@@ -90,10 +90,10 @@ module _ (t : ℕ) where
     in-exprs enil = none-scanned
     in-exprs (econs x xs) = ahead x (forestE xs) (below-expr x) (in-exprs xs)
 
-  in-front : (e : Expr) (ns : Forest) → Scanless ns → Scanless (before e ns)
+  in-front : (e : Expr) (ns : Forest) → Scanless ns → Scanless (inFront e ns)
   in-front e ns = ahead e ns (below-expr e)
 
-  one-expr : (e : Expr) → Scanless (before e none)
+  one-expr : (e : Expr) → Scanless (inFront e none)
   one-expr e = in-front e none none-scanned
 
   columns-scanless : (xs : List Name) → Scanless (each columnLabel nothingBelow xs none)
@@ -108,7 +108,7 @@ module _ (t : ℕ) where
 
   keys-scanless : (on : List Pair) (f : Option Expr) → Scanless (each pairLabel pairKids on (filterKids f))
   keys-scanless on f d =
-      past-run pairLabel pairKids (λ x. refl) (λ x. in-front (x .lhs) (before (x .rhs) none) (one-expr (x .rhs))) on (filterKids f) d
+      past-run pairLabel pairKids (λ x. refl) (λ x. in-front (x .lhs) (inFront (x .rhs) none) (one-expr (x .rhs))) on (filterKids f) d
       ∙ filter-scanless f d
 
   scan-scanless : (fs : List Field) (es : List Expr) → Scanless (each fieldLabel nothingBelow fs (each labelE kidsE es none))

@@ -18,7 +18,7 @@ use Rattle.plan.specs.Syntax.{Op, and, or, cmp, eq, ne, lt, le, gt, ge, Test, i
 use Rattle.plan.specs.Syntax.{isNotFalse, isNotUnknown, Expr, col, num, bool, nul, bin, neg, test, between, inlist, fn, Exprs, enil, econs}
 use Rattle.plan.specs.Syntax.{Pair, Agg, count, min, max, AggEntry, WinEntry, Plan, scan, filter, project, join, alias, union, distinct}
 use Rattle.plan.specs.Syntax.{sort, repartition, limit, aggregate, window, Plans, pnil, pcons}
-use Rattle.plan.specs.Trees.{opNumber, testNumber, aggNumber, columnLabel, labelE, kidsE, forestE, before, each, nothingBelow, fieldLabel}
+use Rattle.plan.specs.Trees.{opNumber, testNumber, aggNumber, columnLabel, labelE, kidsE, forestE, inFront, each, nothingBelow, fieldLabel}
 use Rattle.plan.specs.Trees.{pairLabel, pairKids, aggLabel, aggKids, winLabel, winKids, filterKids, labelP, kidsP, planTree}
 use Rattle.plan.specs.Types.{type-of, types, types-first, field-types, both-types, Scanned, scans}
 use Rattle.plan.proofs.Written.{expr-what}
@@ -86,7 +86,7 @@ takes-by max t = refl
 -- ---- the types of the expressions among a record's children
 
 types-expr : (c after : Scope) (e : Expr) (ns : Forest)
-    → typesOf c after (before e ns) ≡ type-of (typeIn (seen c)) e ∷ typesOf after after ns
+    → typesOf c after (inFront e ns) ≡ type-of (typeIn (seen c)) e ∷ typesOf after after ns
 unfolding typesOf put
 types-expr c after e ns = rw (expr-what e .1, type-label (seen c) e)
 
@@ -119,11 +119,11 @@ module _ (root : Forest) where
   type-expr c (num z) = refl
   type-expr c (bool b) = refl
   type-expr c (nul t) = refl
-  type-expr c (bin o a b) = rw (types-expr c c a (before b none), types-expr c c b none, types-none c c) (operands-by o _ _)
+  type-expr c (bin o a b) = rw (types-expr c c a (inFront b none), types-expr c c b none, types-none c c) (operands-by o _ _)
   type-expr c (neg a) = rw (types-expr c c a none, types-none c c) (one-boolean _)
   type-expr c (test t a) = rw (types-expr c c a none, types-none c c, any-by t) (ap (any-type t ||_) (one-boolean _))
   type-expr c (between n a l u) =
-      rw (types-expr c c a (before l (before u none)), types-expr c c l (before u none), types-expr c c u none, types-none c c)
+      rw (types-expr c c a (inFront l (inFront u none)), types-expr c c l (inFront u none), types-expr c c u none, types-none c c)
       (three-alike _ _ _)
   type-expr c (inlist n a xs) = rw (types-expr c c a (forestE xs)) (alike-exprs c _ xs)
   type-expr c (fn p q r xs) = refl
@@ -210,7 +210,7 @@ module _ (root : Forest) (ss : List Scanned) (h : (t : ℕ) → scanTypes t [] r
   unfolding typeOk hand whatOf among
   type-pair l r k =
       rw (
-        types-expr (over-one l) (over-one r) (k .lhs) (before (k .rhs) none),
+        types-expr (over-one l) (over-one r) (k .lhs) (inFront (k .rhs) none),
         types-expr (over-one r) (over-one r) (k .rhs) none,
         types-none (over-one r) (over-one r),
         one-typed l,

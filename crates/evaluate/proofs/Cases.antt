@@ -9,7 +9,7 @@ use Rattle.plan.specs.Lists.{_&_}
 use Rattle.plan.specs.Syntax.{null, truth, Cmp}
 use Rattle.plan.specs.Values.{caseOf, caseNull, caseKind, caseCode}
 use Rattle.plan.specs.declared.values.Case.{Case}
-use Rattle.meaning.specs.Meaning.{holds, comparable, compare}
+use Rattle.meaning.specs.Meaning.{holds, comparable, compared}
 use Rattle.meaning.proofs.Cases.{null-case, kind-case, code-case}
 
 neither : (n e : Bool) → not n & e ≡ not (n || not e)
@@ -22,9 +22,9 @@ module _ (c : Cmp) (x y : Case) {n : Bool} {k l : ℕ} (e : n ≡ caseNull x) (f
   alike : comparable (caseOf x) (caseOf y) ≡ not (n || not (eqb k l))
   alike = rw (← null-case x, ← kind-case x, ← kind-case y, ← e, ← f, ← g) (neither n (eqb k l))
 
-  pub not-compared : (n || not (eqb k l)) ≡ true → null ≡ compare c (caseOf x) (caseOf y)
+  pub not-compared : (n || not (eqb k l)) ≡ true → null ≡ compared c (caseOf x) (caseOf y)
   not-compared h = rw (alike, h)
 
   pub compared : {i j : ℤ} → (n || not (eqb k l)) ≡ false → i ≡ caseCode x → j ≡ caseCode y
-      → truth (holds c i j) ≡ compare c (caseOf x) (caseOf y)
+      → truth (holds c i j) ≡ compared c (caseOf x) (caseOf y)
   compared h u v = rw (alike, h, ← code-case x, ← code-case y, ← u, ← v)

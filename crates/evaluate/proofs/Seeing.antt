@@ -13,7 +13,7 @@ use Rattle.plan.specs.Lists.{any}
 use Rattle.plan.specs.Read.{nth, ops, tests}
 use Rattle.plan.specs.Syntax.{Value, null, truth, eq, and, isNull}
 use Rattle.plan.specs.Values.{ValueRecord, caseOf}
-use Rattle.meaning.specs.Meaning.{tri, isT, isF, isN, and3, or3, not3, negate, binary, compare, tested, within}
+use Rattle.meaning.specs.Meaning.{tri, isT, isF, isN, and3, or3, not3, negate, binary, compared, tested, within}
 use Rattle.evaluate.specs.Operators.{cmpOf, operated, Sees}
 use Rattle.evaluate.specs.declared.operands.Seen.{Seen}
 use Rattle.evaluate.proofs.TruthLaws.{of-value, of-value-f, other-op, some-cmp}
@@ -46,11 +46,11 @@ module _ {s : Seen} (v : ValueRecord) where
 
   -- the item is compared with the first
   equal-more : (a : Value) (vs : List Value) → Sees s (a ∷ vs)
-      → (s .equal || isT (compare eq (caseOf (s .first .case)) (caseOf (v .case))))
-      ≡ any (λ w. isT (compare eq a w)) (vs ++ (caseOf (v .case) ∷ []))
-  equal-more a vs h = rw (any-snoc (λ w. isT (compare eq a w)) vs (caseOf (v .case)), h .equal, h .first)
+      → (s .equal || isT (compared eq (caseOf (s .first .case)) (caseOf (v .case))))
+      ≡ any (λ w. isT (compared eq a w)) (vs ++ (caseOf (v .case) ∷ []))
+  equal-more a vs h = rw (any-snoc (λ w. isT (compared eq a w)) vs (caseOf (v .case)), h .equal, h .first)
 
-  module _ (e : Bool) (is : e ≡ (s .equal || isT (compare eq (caseOf (s .first .case)) (caseOf (v .case))))) where
+  module _ (e : Bool) (is : e ≡ (s .equal || isT (compared eq (caseOf (s .first .case)) (caseOf (v .case))))) where
     pub seen-second : (vs : List Value) → Sees s vs → s .count ≡ 1 → Sees (saw 2 (s .first) v (s .third) e) (vs ++ (caseOf (v .case) ∷ []))
     seen-second [] h z = absurd (omega (arith, h .count))
     seen-second (a ∷ []) h z =
@@ -100,7 +100,7 @@ module _ (p : ℕ) (v w : Value) {x y : Value} (a : x ≡ tri (isT v) (isF v)) (
       let o : nth and ops (p - 1) ≡ and = other-op (p - 1) (λ e. m (omega arith)) (λ l r. outside (le-leb 3 p (omega arith)) (le-leb p 8 (omega arith)) n) in
       rw (o, a, b, of-value v, of-value w, of-value-f v, of-value-f w)
 
-pub as-cmp : (p : ℕ) (v w : Value) → (leb 3 p && leb p 8) ≡ true → compare (cmpOf p) v w ≡ binary (nth and ops (p - 1)) v w
+pub as-cmp : (p : ℕ) (v w : Value) → (leb 3 p && leb p 8) ≡ true → compared (cmpOf p) v w ≡ binary (nth and ops (p - 1)) v w
 as-cmp p v w e =
     let l : 3 ≤ p = leb-true 3 p (left-of (leb 3 p) (leb p 8) e) in
     let r : p ≤ 8 = leb-true p 8 (right-of (leb 3 p) (leb p 8) e) in

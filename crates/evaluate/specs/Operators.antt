@@ -13,7 +13,7 @@ use Rattle.plan.specs.Read.{nth, ops, tests, exprBy, exprsOf}
 use Rattle.plan.specs.Syntax.{Value, Expr, null, truth, Cmp, eq, ne, lt, le, gt, ge, and, cmp, isNull}
 use Rattle.plan.specs.Trees.{bitOf, opNumber}
 use Rattle.plan.specs.Values.{caseOf}
-use Rattle.meaning.specs.Meaning.{isT, compare, binary, not3, negate, tested, within, in-list}
+use Rattle.meaning.specs.Meaning.{isT, compared, binary, not3, negate, tested, within, in-list}
 use Rattle.evaluate.specs.declared.operands.Seen.{Seen}
 
 -- the comparison with this number; Eq for the number of none
@@ -53,7 +53,7 @@ pub record Sees (s : Seen) (vs : List Value) : Type 0 where
   pub first : caseOf (s .first .case) ≡ operand 0 vs
   pub second : caseOf (s .second .case) ≡ operand 1 vs
   pub third : caseOf (s .third .case) ≡ operand 2 vs
-  pub equal : s .equal ≡ any (λ v. isT (compare eq (operand 0 vs) v)) (drop 1 vs)
+  pub equal : s .equal ≡ any (λ v. isT (compared eq (operand 0 vs) v)) (drop 1 vs)
 
 -- ---- the expression that a tree of records is
 

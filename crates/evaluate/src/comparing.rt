@@ -54,7 +54,7 @@ fn holds(p: usize, a: i64, b: i64) -> bool
 
 // Two values of one type are compared; with NULL a comparison is UNKNOWN.
 pub fn compare(p: usize, a: Value, b: Value) -> Truth
-    ensures { λ r. ⌜ valueOf r ≡ M.compare (cmpOf p) (caseOf (a .case)) (caseOf (b .case)) ⌝ }
+    ensures { λ r. ⌜ valueOf r ≡ M.compared (cmpOf p) (caseOf (a .case)) (caseOf (b .case)) ⌝ }
 {
     if is_null(a) | (kind_of(a) != kind_of(b)) {
         return Truth::Unknown;
@@ -71,7 +71,7 @@ pub fn within(operand: Value, low: Value, high: Value) -> Truth
 
 // Whether the item of a list equals the operand: a NULL equals nothing.
 pub fn equals(operand: Value, item: Value) -> bool
-    ensures { λ r. ⌜ r ≡ isT (M.compare eq (caseOf (operand .case)) (caseOf (item .case))) ⌝ }
+    ensures { λ r. ⌜ r ≡ isT (M.compared eq (caseOf (operand .case)) (caseOf (item .case))) ⌝ }
 {
     let t = compare(EQ, operand, item);
     match t {

@@ -4,7 +4,7 @@
 --     Says, ..        what a call of the code says of it
 -- Assumes nothing.
 use mathlib.Core.Path.{_≡_, refl, sym, _∙_}
-use mathlib.Core.Bool.{Bool, true, false}
+use mathlib.Core.Bool.{Bool, true, false, cond}
 use mathlib.Core.List.{List}
 use Prim.Native.Nat.{ℕ, zero, suc, _+_, _-_, _*_, _≤_, _<_}
 use native.Mathlib.Nat.{le-refl}
@@ -17,7 +17,7 @@ use Rattle.image.specs.Word.{word}
 use Rattle.image.specs.Tree.{Label, Forest, none, labelAt}
 use Rattle.image.specs.declared.links.Walk.{Walk}
 use Rattle.image.specs.declared.links.Walk.the-variants.{Next, Bad}
-use Rattle.image.specs.Links.{Parsed, good, bad, outcome, when, joined, andThen, parse}
+use Rattle.image.specs.Links.{Parsed, good, bad, outcome, withNext, andThen, parse}
 
 -- `link`, a link of `owner`, where i is the next unread record of n
 module _ (s : List ℕ) (n i link owner : ℕ) where
@@ -50,9 +50,9 @@ module _ (s : List ℕ) (n i link owner : ℕ) where
   p-node (suc k) h e f g = let q : suc k - 1 ≡ k = omega arith in rw (q, ne-eqb link 0 e, eq-eqb link i f, lt-leb n i g)
 
 -- what holds of both arms holds of a test
-pub when-cases : (P : Parsed → Type 0) {x y : Parsed} (b : Bool) → (b ≡ true → P x) → (b ≡ false → P y) → P (when b x y)
-when-cases P true f g = f refl
-when-cases P false f g = g refl
+pub cond-cases : (P : Parsed → Type 0) {x y : Parsed} (b : Bool) → (b ≡ true → P x) → (b ≡ false → P y) → P (cond b x y)
+cond-cases P true f g = f refl
+cond-cases P false f g = g refl
 
 -- the next unread record is no earlier, and there is one at most
 abbrev pub Within : ℕ → ℕ → Parsed → Type 0
@@ -60,7 +60,7 @@ Within n i (good f j) = (i ≤ j) × (j ≤ n)
 Within n i (bad r) = Unit {0}
 
 -- so it is after siblings
-within-joined : (n i j : ℕ) (l : Label) (cs : Forest) (p : Parsed) → i ≤ j → Within n j p → Within n i (joined l cs p)
+within-joined : (n i j : ℕ) (l : Label) (cs : Forest) (p : Parsed) → i ≤ j → Within n j p → Within n i (withNext l cs p)
 within-joined n i j l cs (good f m) h k = omega arith
 within-joined n i j l cs (bad r) h k = tt
 
@@ -75,9 +75,9 @@ pub within : (k : ℕ) (s : List ℕ) (n i link owner : ℕ) → i ≤ n → Wit
 unfolding parse
 within zero s n i link owner h = tt
 within (suc k) s n i link owner h =
-    when-cases (Within n i) (eqb link 0) (λ _. (le-refl i, h))
-    (λ _. when-cases (Within n i) (eqb link i)
-    (λ _. when-cases (Within n i) (leb n i) (λ _. tt)
+    cond-cases (Within n i) (eqb link 0) (λ _. (le-refl i, h))
+    (λ _. cond-cases (Within n i) (eqb link i)
+    (λ _. cond-cases (Within n i) (leb n i) (λ _. tt)
     (λ e. within-then n i _ (parse k s n (i + 1) (word s (32 * i + 24)) i) (λ j. parse k s n j (word s (32 * i + 28)) i)
     (within k s n (i + 1) (word s (32 * i + 24)) i (add-one-le (leb-false n i e))) (λ j l. within k s n j (word s (32 * i + 28)) i l)))
     (λ _. tt))
@@ -93,7 +93,7 @@ was-bad (good f m) r e = let z : _≡_ {A = ℕ} 0 1 = cc in absurd (omega arith
 was-bad (bad x) r e = cc
 
 -- the outcome is that of what is read last
-pub outcome-joined : (l : Label) (cs : Forest) (p : Parsed) → outcome (joined l cs p) ≡ outcome p
+pub outcome-joined : (l : Label) (cs : Forest) (p : Parsed) → outcome (withNext l cs p) ≡ outcome p
 outcome-joined l cs (good f j) = refl
 outcome-joined l cs (bad r) = refl
 

@@ -11,8 +11,8 @@ use lib.Seq.{drop-drop, getD-drop}
 use borrow.Author.Tests.{eqb-true, leb-false}
 use Rattle.image.specs.Word.{word}
 use Rattle.image.specs.Tree.{Forest, size, link, labelAt, Stands}
-use Rattle.image.specs.Links.{Parsed, good, bad, joined, andThen, parse}
-use Rattle.image.proofs.Reading.{when-cases}
+use Rattle.image.specs.Links.{Parsed, good, bad, withNext, andThen, parse}
+use Rattle.image.proofs.Reading.{cond-cases}
 
 -- a word of a part is a word of the whole
 pub word-drop : (s : List ℕ) (a k : ℕ) → word (drop a s) k ≡ word s (a + k)
@@ -37,7 +37,7 @@ module _ (s : List ℕ) (n i : ℕ) (long : 32 * n ≤ length s) where
   node-of : (cs : Forest) (j : ℕ) (p : Parsed)
       → Read s n (i + 1) (word s (32 * i + 24)) cs j
       → Reads s n j (word s (32 * i + 28)) p
-      → Reads s n i i (joined (labelAt (drop (32 * i) s)) cs p)
+      → Reads s n i i (withNext (labelAt (drop (32 * i) s)) cs p)
   node-of cs j (bad r) h k = tt
   node-of cs j (good ns m) h k =
       let e : 32 * i + 32 * suc (size cs) ≡ 32 * (i + 1 + size cs) = omega arith in
@@ -72,9 +72,9 @@ pub reads : (k : ℕ) (s : List ℕ) (n i link′ owner : ℕ) → 32 * n ≤ le
 unfolding parse
 reads zero s n i link′ owner long h = tt
 reads (suc k) s n i link′ owner long h =
-    when-cases (Reads s n i link′) (eqb link′ 0) (λ e. record { next = omega arith; linked = eqb-true link′ 0 e; within = h; stands = tt })
-    (λ _. when-cases (Reads s n i link′) (eqb link′ i)
-    (λ e. when-cases (Reads s n i link′) (leb n i) (λ _. tt)
+    cond-cases (Reads s n i link′) (eqb link′ 0) (λ e. record { next = omega arith; linked = eqb-true link′ 0 e; within = h; stands = tt })
+    (λ _. cond-cases (Reads s n i link′) (eqb link′ i)
+    (λ e. cond-cases (Reads s n i link′) (leb n i) (λ _. tt)
     (λ l. let lt : i + 1 ≤ n = omega (arith, leb-false n i l) in
     let below = parse k s n (i + 1) (word s (32 * i + 24)) i in
     let rest : ℕ → Parsed = λ j. parse k s n j (word s (32 * i + 28)) i in

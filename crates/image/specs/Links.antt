@@ -1,5 +1,5 @@
 -- The forest that a link leads to, read parents first.
-use mathlib.Core.Bool.{Bool, true, false}
+use mathlib.Core.Bool.{cond}
 use mathlib.Core.List.{List}
 use Prim.Native.Nat.{ℕ, zero, suc, _+_, _*_}
 use lib.Dec.{eqb, leb}
@@ -19,28 +19,23 @@ abbrev pub outcome : Parsed → Walk
 outcome (good f j) = Next j
 outcome (bad r) = Bad r
 
--- the first if the test holds, and else the second
-abbrev pub when : Bool → Parsed → Parsed → Parsed
-when true a b = a
-when false a b = b
-
 -- the forest goes on with the siblings of a tree whose children have been read
-abbrev pub joined : Label → Forest → Parsed → Parsed
-joined l cs (good ns j) = good (node l cs ns) j
-joined l cs (bad r) = bad r
+abbrev pub withNext : Label → Forest → Parsed → Parsed
+withNext l cs (good ns j) = good (node l cs ns) j
+withNext l cs (bad r) = bad r
 
 -- the children are read, and then the siblings from where they end
 abbrev pub andThen : Label → Parsed → (ℕ → Parsed) → Parsed
-andThen l (good cs j) rest = joined l cs (rest j)
+andThen l (good cs j) rest = withNext l cs (rest j)
 andThen l (bad r) rest = bad r
 
 -- what `link`, a link of `owner`, leads to, where i is the next unread record of n, by at most k records
 unfoldable pub parse : ℕ → List ℕ → ℕ → ℕ → ℕ → ℕ → Parsed
 parse zero s n i link owner = bad owner
 parse (suc k) s n i link owner =
-    when (eqb link 0) (good none i)
-    (when (eqb link i)
-    (when (leb n i) (bad owner)
+    cond (eqb link 0) (good none i)
+    (cond (eqb link i)
+    (cond (leb n i) (bad owner)
     (andThen (labelAt (drop (32 * i) s))
     (parse k s n (i + 1) (word s (32 * i + 24)) i)
     (λ j. parse k s n j (word s (32 * i + 28)) i)))

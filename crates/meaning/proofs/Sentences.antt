@@ -5,19 +5,19 @@ use mathlib.Core.Bool.{Bool, true, false}
 use mathlib.Core.List.{List, [], _∷_, _++_, map}
 use lib.ListN.{length, take, drop}
 use lib.IntN.{ℤ, pos}
-use Rattle.plan.specs.Lists.{_&_, keep, flat}
+use Rattle.plan.specs.Lists.{_&_, keep, flatten}
 use Rattle.plan.specs.Syntax.{Value, null, int, truth, Name, Cmp, le, and, cmp, Expr, bin, between, inlist, Exprs, AggEntry, count, min}
 use Rattle.plan.specs.Syntax.{max, left, full, rightAnti, Plan, limit, repartition, union, pnil, pcons}
-use Rattle.meaning.specs.Meaning.{World, Row, Env, compare, before, sameV, nulls, joined, aggregated, grouped, eval, rows}
+use Rattle.meaning.specs.Meaning.{World, Row, Env, compared, sortsBefore, sameV, nulls, joined, aggregated, grouped, eval, rows}
 
 -- ---- expressions
 
 -- a comparison with NULL is UNKNOWN, on either side
-pub null-compared : (c : Cmp) (v : Value) → compare c null v ≡ null
+pub null-compared : (c : Cmp) (v : Value) → compared c null v ≡ null
 unfolding _&_
 null-compared c v = refl
 
-pub compared-null : (c : Cmp) (v : Value) → compare c v null ≡ null
+pub compared-null : (c : Cmp) (v : Value) → compared c v null ≡ null
 unfolding _&_
 compared-null c null = refl
 compared-null c (int z) = refl
@@ -41,12 +41,12 @@ module _ (W : World) (ρ : Env) where
 module _ (m : Row → Row → Bool) (nl nr : ℕ) (rs : List Row) where
   -- a left row without a match has NULL for the missing side
   pub left-missing : (l : Row) → keep (m l) rs ≡ [] → joined left m nl nr (l ∷ []) rs ≡ (l ++ nulls nr) ∷ []
-  unfolding flat
+  unfolding flatten
   left-missing l h = rw h
 
   -- a left row that matches one right row and no other
   pub left-matched : (l r : Row) → keep (m l) rs ≡ r ∷ [] → joined left m nl nr (l ∷ []) rs ≡ (l ++ r) ∷ []
-  unfolding flat
+  unfolding flatten
   left-matched l r h = rw h
 
   -- Full adds unmatched right rows last, with NULL for the missing left side
@@ -55,12 +55,12 @@ module _ (m : Row → Row → Bool) (nl nr : ℕ) (rs : List Row) where
   full-adds ls = refl
 
 -- Sort puts NULL last, ascending and descending
-pub null-last : (desc : Bool) (z : ℤ) → before desc (int z) null ≡ true
-unfolding before _&_
+pub null-last : (desc : Bool) (z : ℤ) → sortsBefore desc (int z) null ≡ true
+unfolding sortsBefore _&_
 null-last desc z = refl
 
-pub null-not-first : (desc : Bool) (v : Value) → before desc null v ≡ false
-unfolding before _&_
+pub null-not-first : (desc : Bool) (v : Value) → sortsBefore desc null v ≡ false
+unfolding sortsBefore _&_
 null-not-first desc v = refl
 
 -- NULL is equal to NULL in groups, partitions and Distinct

@@ -12,7 +12,7 @@ use lib.Dec.{eqb}
 use lib.IntN.{ℤ, pos}
 use lib.Signed.{ltZ, leZ}
 use Rattle.plan.specs.Schema.{lookD, schema}
-use Rattle.plan.specs.Lists.{_&_, keep, all, any, flat}
+use Rattle.plan.specs.Lists.{_&_, keep, all, any, flatten}
 use Rattle.plan.specs.Syntax.{Value, null, int, truth, Name, Cmp, eq, ne, lt, le, gt, ge, Op, and, or, cmp, Test, isNull, isNotNull, isTrue}
 use Rattle.plan.specs.Syntax.{isFalse, isUnknown, isNotTrue, isNotFalse, isNotUnknown, Expr, col, num, bool, nul, bin, neg, test, between}
 use Rattle.plan.specs.Syntax.{inlist, fn, Exprs, enil, econs, Field, Entry, Pair, Key, Agg, count, min, max, AggEntry, WinEntry, Kind}
@@ -114,23 +114,23 @@ abbrev pub comparable : Value → Value → Bool
 comparable a b = not (isN a) & eqb (kindOf a) (kindOf b)
 
 -- "A comparison with NULL is UNKNOWN."
-abbrev pub compare : Cmp → Value → Value → Value
-compare c a b = cond (comparable a b) (truth (holds c (code a) (code b))) null
+abbrev pub compared : Cmp → Value → Value → Value
+compared c a b = cond (comparable a b) (truth (holds c (code a) (code b))) null
 
 -- "Between is low <= operand AND operand <= high."
 abbrev pub within : Value → Value → Value → Value
-within operand low high = and3 (compare le low operand) (compare le operand high)
+within operand low high = and3 (compared le low operand) (compared le operand high)
 
 -- "InList is UNKNOWN for a NULL operand, TRUE if an item equals it, else FALSE."
 abbrev pub in-list : Value → List Value → Value
-in-list operand items = cond (isN operand) null (truth (any (λ item. isT (compare eq operand item)) items))
+in-list operand items = cond (isN operand) null (truth (any (λ item. isT (compared eq operand item)) items))
 
 -- ---- expressions
 
 abbrev pub binary : Op → Value → Value → Value
 binary and a b = and3 a b
 binary or a b = or3 a b
-binary (cmp c) a b = compare c a b
+binary (cmp c) a b = compared c a b
 
 module _ (W : World) where
   unfoldable mutual
@@ -182,12 +182,12 @@ or-else d (x ∷ xs) = x ∷ xs
 
 -- a loop over `xs`: "each takes its matches in the other side's order", put together by `f`; one without a match gives `d`
 abbrev pub outer : {A B C : Type 0} → (A → B → Bool) → (A → B → C) → (A → C) → List A → List B → List C
-outer m f d xs ys = flat (λ x. or-else (d x) (map (f x) (keep (m x) ys))) xs
+outer m f d xs ys = flatten (λ x. or-else (d x) (map (f x) (keep (m x) ys))) xs
 
 -- "Right, RightSemi and RightAnti loop over right rows, other joins over left rows"; "a semi join gives a row of its own side once if any
 -- row matches, an anti join once if none does, with that side's fields only; Full adds unmatched right rows last"
 abbrev pub joined : Kind → (Row → Row → Bool) → ℕ → ℕ → List Row → List Row → List Row
-joined inner m nl nr ls rs = flat (λ l. map (l ++_) (keep (m l) rs)) ls
+joined inner m nl nr ls rs = flatten (λ l. map (l ++_) (keep (m l) rs)) ls
 joined left m nl nr ls rs = outer m _++_ (_++ nulls nr) ls rs
 joined right m nl nr ls rs = outer (λ r l. m l r) (λ r l. l ++ r) (nulls nl ++_) rs ls
 joined full m nl nr ls rs =
@@ -201,7 +201,7 @@ joined rightAnti m nl nr ls rs = keep (λ r. not (any (λ l. m l r) ls)) rs
 module _ (W : World) where
   -- "Rows match in a join if Eq of every key pair .. TRUE"
   abbrev pub keys-match : List Name → List Name → List Pair → Row → Row → Bool
-  keys-match s t on l r = all (λ (k : Pair). isT (compare eq (eval W (look s l) (k .lhs)) (eval W (look t r) (k .rhs)))) on
+  keys-match s t on l r = all (λ (k : Pair). isT (compared eq (eval W (look s l) (k .lhs)) (eval W (look t r) (k .rhs)))) on
 
   -- "Rows match in a join if Eq of every key pair and the filter are TRUE", the filter over the fields of both sides
   abbrev pub matching : List Name → List Name → List Pair → Option Expr → Row → Row → Bool
@@ -227,8 +227,8 @@ first-occurrences (r ∷ rs) = r ∷ keep (λ s. not (sameRow r s)) (first-occur
 -- ---- Sort
 
 -- "NULL last", descending too: `a` stands strictly before `b` under one key
-unfoldable pub before : Bool → Value → Value → Bool
-before desc a b = not (isN a) & (isN b || cond desc (ltZ (code b) (code a)) (ltZ (code a) (code b)))
+unfoldable pub sortsBefore : Bool → Value → Value → Bool
+sortsBefore desc a b = not (isN a) & (isN b || cond desc (ltZ (code b) (code a)) (ltZ (code a) (code b)))
 
 -- by the one order, and where it does not tell the two apart, by the other
 unfoldable pub lex : {A : Type 0} → (A → A → Bool) → (A → A → Bool) → A → A → Bool
@@ -239,17 +239,17 @@ module _ (W : World) where
   abbrev pub sorts-before : List Name → List Key → Row → Row → Bool
   sorts-before s [] a b = false
   sorts-before s (k ∷ ks) a b =
-      lex (λ a b. before (k .desc) (eval W (look s a) (k .expr)) (eval W (look s b) (k .expr))) (sorts-before s ks) a b
+      lex (λ a b. sortsBefore (k .desc) (eval W (look s a) (k .expr)) (eval W (look s b) (k .expr))) (sorts-before s ks) a b
 
 module _ {A : Type 0} (under : A → A → Bool) where
   -- "Sort is stable": `x` goes in front of the first that does not stand strictly before it, so that equals keep their order
-  abbrev pub insert : A → List A → List A
-  insert x [] = x ∷ []
-  insert x (y ∷ ys) = cond (under y x) (y ∷ insert x ys) (x ∷ y ∷ ys)
+  abbrev pub insertRow : A → List A → List A
+  insertRow x [] = x ∷ []
+  insertRow x (y ∷ ys) = cond (under y x) (y ∷ insertRow x ys) (x ∷ y ∷ ys)
 
   abbrev pub sorted : List A → List A
   sorted [] = []
-  sorted (x ∷ xs) = insert x (sorted xs)
+  sorted (x ∷ xs) = insertRow x (sorted xs)
 
 -- "then takes its fetch"
 abbrev pub fetched : {A : Type 0} → Option ℕ → List A → List A

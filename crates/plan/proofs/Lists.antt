@@ -3,7 +3,7 @@
 use mathlib.Core.Path.{_≡_, refl, sym, ap, ap₂, _∙_}
 use mathlib.Core.Bool.{Bool, true, false, not}
 use mathlib.Core.List.{List, [], _∷_, _++_, map}
-use Rattle.plan.specs.Lists.{_&_, put, when, keep, all, flat, All, anil, acons}
+use Rattle.plan.specs.Lists.{_&_, put, when, keep, all, flatten, All, anil, acons}
 
 -- ---- Booleans
 
@@ -152,8 +152,8 @@ module _ {A : Type 0} where
   keep-when f false xs = refl
 
 module _ {A B : Type 0} where
-  pub flat-cong : (f g : A → List B) {xs : List A} → All (λ x. f x ≡ g x) xs → flat f xs ≡ flat g xs
-  unfolding flat
+  pub flat-cong : (f g : A → List B) {xs : List A} → All (λ x. f x ≡ g x) xs → flatten f xs ≡ flatten g xs
+  unfolding flatten
   flat-cong f g anil = refl
   flat-cong f g (acons h hs) = rw (h, flat-cong f g hs)
 
@@ -167,28 +167,28 @@ module _ {A B : Type 0} where
   all-map t f [] = refl
   all-map t f (x ∷ xs) = ap (t (f x) &_) (all-map t f xs)
 
-  pub all-flat : (t : B → Bool) (f : A → List B) (xs : List A) → all t (flat f xs) ≡ all (λ x. all t (f x)) xs
-  unfolding all flat
+  pub all-flat : (t : B → Bool) (f : A → List B) (xs : List A) → all t (flatten f xs) ≡ all (λ x. all t (f x)) xs
+  unfolding all flatten
   all-flat t f [] = refl
-  all-flat t f (x ∷ xs) = all-append t (f x) (flat f xs) ∙ ap (all t (f x) &_) (all-flat t f xs)
+  all-flat t f (x ∷ xs) = all-append t (f x) (flatten f xs) ∙ ap (all t (f x) &_) (all-flat t f xs)
 
   pub keep-map : (p : B → Bool) (f : A → B) (xs : List A) → keep p (map f xs) ≡ map f (keep (λ x. p (f x)) xs)
   unfolding keep put
   keep-map p f [] = refl
   keep-map p f (x ∷ xs) = rw (keep-map p f xs, map-put f (p (f x)))
 
-  pub keep-flat : (p : B → Bool) (f : A → List B) (xs : List A) → keep p (flat f xs) ≡ flat (λ x. keep p (f x)) xs
-  unfolding keep flat put
+  pub keep-flat : (p : B → Bool) (f : A → List B) (xs : List A) → keep p (flatten f xs) ≡ flatten (λ x. keep p (f x)) xs
+  unfolding keep flatten put
   keep-flat p f [] = refl
   keep-flat p f (x ∷ xs) = rw (keep-append p (f x), keep-flat p f xs)
 
-  flat-put : (f : A → List B) (b : Bool) (x : A) (xs : List A) → flat f (put b x xs) ≡ when b (f x) ++ flat f xs
-  unfolding put when flat
+  flat-put : (f : A → List B) (b : Bool) (x : A) (xs : List A) → flatten f (put b x xs) ≡ when b (f x) ++ flatten f xs
+  unfolding put when flatten
   flat-put f true x xs = refl
   flat-put f false x xs = refl
 
-  pub flat-keep : (f : A → List B) (p : A → Bool) (xs : List A) → flat f (keep p xs) ≡ flat (λ x. when (p x) (f x)) xs
-  unfolding when keep flat put
+  pub flat-keep : (f : A → List B) (p : A → Bool) (xs : List A) → flatten f (keep p xs) ≡ flatten (λ x. when (p x) (f x)) xs
+  unfolding when keep flatten put
   flat-keep f p [] = refl
   flat-keep f p (x ∷ xs) = rw (flat-put f (p x), flat-keep f p xs)
 
@@ -196,7 +196,7 @@ module _ {A B : Type 0} where
   All-mapped f anil = anil
   All-mapped f (acons h hs) = acons h (All-mapped f hs)
 
-  pub All-flat : {P : B → Type 0} {Q : A → Type 0} (f : A → List B) {xs : List A} → ((x : A) → Q x → All P (f x)) → All Q xs → All P (flat f xs)
-  unfolding flat
+  pub All-flat : {P : B → Type 0} {Q : A → Type 0} (f : A → List B) {xs : List A} → ((x : A) → Q x → All P (f x)) → All Q xs → All P (flatten f xs)
+  unfolding flatten
   All-flat f h anil = anil
   All-flat f h (acons {x = x} k ks) = All-append (h x k) (All-flat f h ks)

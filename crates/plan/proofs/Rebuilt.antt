@@ -15,11 +15,11 @@ use Rattle.image.specs.Tree.{Label, Forest, none, node}
 use Rattle.plan.proofs.Lists.{and-l, and-r}
 use Rattle.plan.specs.Kinds as K
 use Rattle.plan.specs.Kinds.{What, expr, plan, part, unknown, what, whatOf, among, numberOf, exprW, planW, isExpr, isPlan, isKind}
-use Rattle.plan.specs.Words.{Range, Row, rowE, rowP, rowQ, inside, fits, wordsBy, wordsOk, Worded}
+use Rattle.plan.specs.Words.{Range, WordRow, rowE, rowP, rowQ, inRange, rowFits, wordsBy, wordsOk, Worded}
 use Rattle.plan.specs.Form.{end, one, past, perhaps, childrenE, childrenP, childrenQ, childrenBy, formOk}
 use Rattle.plan.specs.Syntax.{and, Test, isNull, Exprs, enil, econs, count, inner, Plans}
 use Rattle.plan.specs.Trees.{lowHalf, highHalf, bitOf, opNumber, testNumber, joinNumber, aggNumber, columnLabel, labelE, kidsE}
-use Rattle.plan.specs.Trees.{forestE, before, each, nothingBelow, fieldLabel, entryLabel, entryKids, pairLabel, pairKids, keyLabel}
+use Rattle.plan.specs.Trees.{forestE, inFront, each, nothingBelow, fieldLabel, entryLabel, entryKids, pairLabel, pairKids, keyLabel}
 use Rattle.plan.specs.Trees.{keyKids, aggLabel, aggKids, winLabel, winKids, fetchBit, fetchOf, filterKids, labelP, kidsP, forestP}
 use Rattle.plan.specs.Read.{signed, nth, ops, tests, joins, aggs, headE, tailE, listE, perhapsE, exprOf, exprBy, exprsOf, fieldOf}
 use Rattle.plan.specs.Read.{entryOf, pairOf, keyOf, aggOf, columnOf, run, rest, winOf, headP, tailP, isField, isEntry, isPair, isKey}
@@ -101,7 +101,7 @@ plan-is l h = go (what l) refl h
 -- ---- words
 
 -- the bounds of the words
-pub record Bounds (w : Row) (l : Label) : Type 0 where
+pub record Bounds (w : WordRow) (l : Label) : Type 0 where
   pub p₀ : w .p .low ≤ l .p
   pub p₁ : l .p ≤ w .p .high
   pub q₀ : w .q .low ≤ l .q
@@ -113,16 +113,16 @@ pub record Bounds (w : Row) (l : Label) : Type 0 where
   pub hi₀ : w .hi .low ≤ l .hi
   pub hi₁ : l .hi ≤ w .hi .high
 
-low-of : (r : Range) (x : ℕ) → inside r x ≡ true → r .low ≤ x
-unfolding inside
+low-of : (r : Range) (x : ℕ) → inRange r x ≡ true → r .low ≤ x
+unfolding inRange
 low-of r x h = leb-true (r .low) x (and-l _ _ h)
 
-high-of : (r : Range) (x : ℕ) → inside r x ≡ true → x ≤ r .high
-unfolding inside
+high-of : (r : Range) (x : ℕ) → inRange r x ≡ true → x ≤ r .high
+unfolding inRange
 high-of r x h = leb-true x (r .high) (and-r _ _ h)
 
-pub bounds : (w : Row) (l : Label) → fits w l ≡ true → Bounds w l
-unfolding fits
+pub bounds : (w : WordRow) (l : Label) → rowFits w l ≡ true → Bounds w l
+unfolding rowFits
 bounds w l h =
     let a = and-l _ _ h in
     let h₁ = and-r _ _ h in
@@ -251,14 +251,14 @@ unfolding one
 head is then none h = absurd (false≢true h)
 head is then (node l cs ns) h = record { label = l; below = cs; after = ns; whole = refl; is-so = and-l _ _ h; then-so = and-r _ _ h }
 
-one-kid : (cs : Forest) → one isExpr end cs ≡ true → forestE (exprsOf cs) ≡ cs → before (headE (exprsOf cs)) none ≡ cs
+one-kid : (cs : Forest) → one isExpr end cs ≡ true → forestE (exprsOf cs) ≡ cs → inFront (headE (exprsOf cs)) none ≡ cs
 unfolding one end kidsE forestE exprsOf
 one-kid none h ih = absurd (false≢true h)
 one-kid (node a x none) h ih = ih
 one-kid (node a x (node b y ns)) h ih = absurd (false≢true (and-r _ _ h))
 
 two-kids : (cs : Forest) → one isExpr (one isExpr end) cs ≡ true → forestE (exprsOf cs) ≡ cs
-    → before (headE (exprsOf cs)) (before (headE (tailE (exprsOf cs))) none) ≡ cs
+    → inFront (headE (exprsOf cs)) (inFront (headE (tailE (exprsOf cs))) none) ≡ cs
 unfolding one end kidsE forestE exprsOf
 two-kids none h ih = absurd (false≢true h)
 two-kids (node a x none) h ih = absurd (false≢true (and-r _ _ h))
@@ -266,7 +266,7 @@ two-kids (node a x (node b y none)) h ih = ih
 two-kids (node a x (node b y (node c z ns))) h ih = absurd (false≢true (and-r _ _ (and-r _ _ h)))
 
 three-kids : (cs : Forest) → one isExpr (one isExpr (one isExpr end)) cs ≡ true → forestE (exprsOf cs) ≡ cs
-    → before (headE (exprsOf cs)) (before (headE (tailE (exprsOf cs))) (before (headE (tailE (tailE (exprsOf cs)))) none)) ≡ cs
+    → inFront (headE (exprsOf cs)) (inFront (headE (tailE (exprsOf cs))) (inFront (headE (tailE (tailE (exprsOf cs)))) none)) ≡ cs
 unfolding one end kidsE forestE exprsOf
 three-kids none h ih = absurd (false≢true h)
 three-kids (node a x none) h ih = absurd (false≢true (and-r _ _ h))
@@ -275,7 +275,7 @@ three-kids (node a x (node b y (node c z none))) h ih = ih
 three-kids (node a x (node b y (node c z (node d v ns)))) h ih = absurd (false≢true (and-r _ _ (and-r _ _ (and-r _ _ h))))
 
 some-kids : (cs : Forest) → one isExpr (λ f. one isExpr (λ g. end (past isExpr g)) f) cs ≡ true → forestE (exprsOf cs) ≡ cs
-    → before (headE (exprsOf cs)) (forestE (tailE (exprsOf cs))) ≡ cs
+    → inFront (headE (exprsOf cs)) (forestE (tailE (exprsOf cs))) ≡ cs
 unfolding one kidsE forestE exprsOf
 some-kids none h ih = absurd (false≢true h)
 some-kids (node a x ns) h ih = ih
@@ -327,7 +327,7 @@ form-at l cs w e h = rw e at (and-l _ _ h)
 
 -- the expression of a record, in front of other trees
 expr-node : (l : Label) (cs y : Forest) → isExpr l ≡ true → wordsOk l ≡ true → formOk l cs ≡ true
-    → (Tops isExpr cs → forestE (exprsOf cs) ≡ cs) → before (exprBy (what l) l (exprsOf cs)) y ≡ node l cs y
+    → (Tops isExpr cs → forestE (exprsOf cs) ≡ cs) → inFront (exprBy (what l) l (exprsOf cs)) y ≡ node l cs y
 expr-node l cs y h w f ih =
     let k = expr-is l h .0 in
     let e : what l ≡ expr k = expr-is l h .1 in
@@ -461,11 +461,11 @@ fetch-bit p lo h = go (eqb p 1) refl
     go true e = sym (eqb-true p 1 e)
     go false e = omega (arith, eqb-false p 1 e)
 
-fetch-is : (p lo : ℕ) → lo ≤ cond (eqb p 1) (Rattle.plan.specs.Words.any) Rattle.plan.specs.Words.unused .high
+fetch-is : (p lo : ℕ) → lo ≤ cond (eqb p 1) (Rattle.plan.specs.Words.anyWord) Rattle.plan.specs.Words.unused .high
     → fetchOf (cond (eqb p 1) (some lo) O.none) ≡ lo
 fetch-is p lo h = go (eqb p 1) h
   where
-    go : (b : Bool) → lo ≤ cond b (Rattle.plan.specs.Words.any) Rattle.plan.specs.Words.unused .high
+    go : (b : Bool) → lo ≤ cond b (Rattle.plan.specs.Words.anyWord) Rattle.plan.specs.Words.unused .high
         → fetchOf (cond b (some lo) O.none) ≡ lo
     go true h = refl
     go false h = omega arith
@@ -543,7 +543,7 @@ own-kids (node l cs none) w o h = expr-node l cs none (and-l _ _ h) (w .0) (o .0
 own-kids (node l cs (node a x ns)) w o h = absurd (false≢true (and-r _ _ h))
 
 filter-kids : (f : Forest) → Worded f → Formed f → Rebuilds f → one isExpr (one isPlan end) f ≡ true
-    → before (headE (exprsOf f)) (node (labelP (headP (plansOf f))) (kidsP (headP (plansOf f))) none) ≡ f
+    → inFront (headE (exprsOf f)) (node (labelP (headP (plansOf f))) (kidsP (headP (plansOf f))) none) ≡ f
 unfolding one exprsOf plansOf
 filter-kids none w o r h = absurd (false≢true h)
 filter-kids (node l cs ns) w o r h = rw (expr-is l (and-l _ _ h) .1, one-plan ns (and-r _ _ h) (r .1))

@@ -22,7 +22,7 @@ use Rattle.plan.specs.Syntax.{left, right, full, leftSemi, rightSemi, le
 use Rattle.plan.specs.Syntax.{union, distinct, sort, repartition, limit, aggregate, window, Plans, pnil, pcons}
 use Rattle.plan.specs.Integers.{FitsE, FitsEs, Every, Fits?, FitsP, FitsPs, FitsZ}
 use Rattle.plan.specs.Trees.{lowHalf, highHalf, bitOf, qualifier, ident, opNumber, testNumber, joinNumber, aggNumber, columnLabel}
-use Rattle.plan.specs.Trees.{labelE, kidsE, forestE, before, each, nothingBelow, fieldLabel, entryLabel, entryKids, pairLabel}
+use Rattle.plan.specs.Trees.{labelE, kidsE, forestE, inFront, each, nothingBelow, fieldLabel, entryLabel, entryKids, pairLabel}
 use Rattle.plan.specs.Trees.{pairKids, keyLabel, keyKids, aggLabel, aggKids, winLabel, winKids, fetchBit, fetchOf, filterKids, labelP}
 use Rattle.plan.specs.Trees.{kidsP, forestP, planTree}
 use Rattle.plan.specs.Read.{signed, nth, ops, tests, joins, aggs, headE, listE, perhapsE, exprBy, exprsOf, fieldOf, entryOf, pairOf}
@@ -196,7 +196,7 @@ expr-what (fn p q r xs) = (K.Function, refl)
 
 -- ---- parts
 
-first-back : (e : Expr) (ns : Forest) → FitsE e → headE (exprsOf (before e ns)) ≡ e
+first-back : (e : Expr) (ns : Forest) → FitsE e → headE (exprsOf (inFront e ns)) ≡ e
 unfolding exprsOf
 first-back e ns h = expr-back e h
 

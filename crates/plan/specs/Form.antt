@@ -96,23 +96,23 @@ exprsIn none = 0
 exprsIn (node l cs ns) = cond (isExpr l) 1 0 + exprsIn ns
 
 -- the list of a plan: the filters of a scan, the conjuncts of a Filter's or a join's one expression
-abbrev pub listP : PlanKind → Forest → ℕ
-listP TableScan f = exprsIn f
-listP Filter f = conjuncts f
-listP Projection f = 0
-listP Join f = conjuncts f
-listP SubqueryAlias f = 0
-listP Union f = 0
-listP Distinct f = 0
-listP Sort f = 0
-listP Repartition f = 0
-listP Limit f = 0
-listP Aggregate f = 0
-listP Window f = 0
+abbrev pub listOf : PlanKind → Forest → ℕ
+listOf TableScan f = exprsIn f
+listOf Filter f = conjuncts f
+listOf Projection f = 0
+listOf Join f = conjuncts f
+listOf SubqueryAlias f = 0
+listOf Union f = 0
+listOf Distinct f = 0
+listOf Sort f = 0
+listOf Repartition f = 0
+listOf Limit f = 0
+listOf Aggregate f = 0
+listOf Window f = 0
 
 abbrev pub listBy : What → Forest → ℕ
 listBy (expr k) f = 0
-listBy (plan k) f = listP k f
+listBy (plan k) f = listOf k f
 listBy (part k) f = 0
 listBy unknown f = 0
 

@@ -40,9 +40,9 @@ module _ {A : Type 0} where
   any f (x ∷ xs) = f x || any f xs
 
 -- the lists of all elements, one after another
-unfoldable pub flat : {A B : Type 0} → (A → List B) → List A → List B
-flat f [] = []
-flat f (x ∷ xs) = f x ++ flat f xs
+unfoldable pub flatten : {A B : Type 0} → (A → List B) → List A → List B
+flatten f [] = []
+flatten f (x ∷ xs) = f x ++ flatten f xs
 
 -- what holds of every element
 pub data All {A : Type 0} (P : A → Type 0) : List A → Type 0 where

@@ -111,8 +111,8 @@ abbrev pub exprTree : Expr → Tree
 exprTree e = record { label = labelE e; below = kidsE e }
 
 -- the expression in front of other trees
-abbrev pub before : Expr → Forest → Forest
-before e ns = node (labelE e) (kidsE e) ns
+abbrev pub inFront : Expr → Forest → Forest
+inFront e ns = node (labelE e) (kidsE e) ns
 
 -- ---- trees of parts
 
@@ -131,31 +131,31 @@ abbrev pub entryLabel : Entry → Label
 entryLabel e = label (part K.EntryPart) (qualifier (e .name)) (ident (e .name)) 0 0 0
 
 abbrev pub entryKids : Entry → Forest
-entryKids e = before (e .expr) none
+entryKids e = inFront (e .expr) none
 
 abbrev pub pairLabel : Pair → Label
 pairLabel k = label (part K.PairPart) 0 0 0 0 0
 
 abbrev pub pairKids : Pair → Forest
-pairKids k = before (k .lhs) (before (k .rhs) none)
+pairKids k = inFront (k .lhs) (inFront (k .rhs) none)
 
 abbrev pub keyLabel : Key → Label
 keyLabel k = label (part K.KeyPart) (bitOf (k .desc)) 0 0 0 0
 
 abbrev pub keyKids : Key → Forest
-keyKids k = before (k .expr) none
+keyKids k = inFront (k .expr) none
 
 abbrev pub aggLabel : AggEntry → Label
 aggLabel a = label (part K.AggPart) (qualifier (a .name)) (ident (a .name)) (aggNumber (a .fun)) 0 0
 
 abbrev pub aggKids : AggEntry → Forest
-aggKids a = before (a .expr) none
+aggKids a = inFront (a .expr) none
 
 abbrev pub winLabel : WinEntry → Label
 winLabel w = label (part K.WinPart) (qualifier (w .name)) (ident (w .name)) (aggNumber (w .fun)) 0 0
 
 abbrev pub winKids : WinEntry → Forest
-winKids w = before (w .expr) (each columnLabel nothingBelow (w .parts) none)
+winKids w = inFront (w .expr) (each columnLabel nothingBelow (w .parts) none)
 
 -- ---- trees of plans
 
@@ -169,7 +169,7 @@ fetchOf (some n) = n
 
 abbrev pub filterKids : Option Expr → Forest
 filterKids O.none = none
-filterKids (some e) = before e none
+filterKids (some e) = inFront e none
 
 unfoldable pub labelP : Plan → Label
 labelP (scan t fs es) = label (plan K.TableScan) t 0 0 0 0
@@ -188,7 +188,7 @@ labelP (window ws p) = label (plan K.Window) 0 0 0 0 0
 unfoldable mutual
   pub kidsP : Plan → Forest
   kidsP (scan t fs es) = each fieldLabel nothingBelow fs (each labelE kidsE es none)
-  kidsP (filter e p) = before e (node (labelP p) (kidsP p) none)
+  kidsP (filter e p) = inFront e (node (labelP p) (kidsP p) none)
   kidsP (project es p) = each entryLabel entryKids es (node (labelP p) (kidsP p) none)
   kidsP (join k l r on f) = node (labelP l) (kidsP l) (node (labelP r) (kidsP r) (each pairLabel pairKids on (filterKids f)))
   kidsP (alias q p) = node (labelP p) (kidsP p) none

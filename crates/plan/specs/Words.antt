@@ -21,18 +21,18 @@ abbrev pub _to_ : ℕ → ℕ → Range
 a to b = record { low = a; high = b }
 
 -- the ranges of the words p, q, r, lo, hi
-pub record Row : Type 0 where
+pub record WordRow : Type 0 where
   pub p : Range
   pub q : Range
   pub r : Range
   pub lo : Range
   pub hi : Range
 
-abbrev pub row : Range → Range → Range → Range → Range → Row
+abbrev pub row : Range → Range → Range → Range → Range → WordRow
 row p q r lo hi = record { p = p; q = q; r = r; lo = lo; hi = hi }
 
-abbrev pub any : Range
-any = 0 to maxWord
+abbrev pub anyWord : Range
+anyWord = 0 to maxWord
 
 abbrev pub unused : Range
 unused = 0 to 0
@@ -47,9 +47,9 @@ bit = 0 to 1
 abbrev pub type : Range
 type = integerType to booleanType
 
-abbrev pub rowE : ExprKind → Row
-rowE Column = row any name unused unused unused
-rowE Integer = row unused unused unused any any
+abbrev pub rowE : ExprKind → WordRow
+rowE Column = row anyWord name unused unused unused
+rowE Integer = row unused unused unused anyWord anyWord
 rowE Boolean = row bit unused unused unused unused
 rowE Null = row type unused unused unused unused
 rowE Binary = row (1 to 8) unused unused unused unused
@@ -57,41 +57,41 @@ rowE Not = row unused unused unused unused unused
 rowE Test = row (1 to 8) unused unused unused unused
 rowE Between = row bit unused unused unused unused
 rowE InList = row bit unused unused unused unused
-rowE Function = row any (0 to 3) type unused unused
+rowE Function = row anyWord (0 to 3) type unused unused
 
 -- by p, which says whether a Sort has a fetch
-abbrev pub rowP : PlanKind → ℕ → Row
-rowP TableScan p = row any unused unused unused unused
+abbrev pub rowP : PlanKind → ℕ → WordRow
+rowP TableScan p = row anyWord unused unused unused unused
 rowP Filter p = row unused unused unused unused unused
 rowP Projection p = row unused unused unused unused unused
 rowP Join p = row (1 to 8) unused unused unused unused
 rowP SubqueryAlias p = row name unused unused unused unused
 rowP Union p = row unused unused unused unused unused
 rowP Distinct p = row unused unused unused unused unused
-rowP Sort p = row bit unused unused (cond (eqb p 1) any unused) unused
+rowP Sort p = row bit unused unused (cond (eqb p 1) anyWord unused) unused
 rowP Repartition p = row unused unused unused unused unused
-rowP Limit p = row unused unused unused any any
+rowP Limit p = row unused unused unused anyWord anyWord
 rowP Aggregate p = row unused unused unused unused unused
 rowP Window p = row unused unused unused unused unused
 
-abbrev pub rowQ : PartKind → Row
-rowQ FieldPart = row any name type bit unused
-rowQ EntryPart = row any name unused unused unused
+abbrev pub rowQ : PartKind → WordRow
+rowQ FieldPart = row anyWord name type bit unused
+rowQ EntryPart = row anyWord name unused unused unused
 rowQ PairPart = row unused unused unused unused unused
 rowQ KeyPart = row bit unused unused unused unused
-rowQ AggPart = row any name (1 to 3) unused unused
-rowQ WinPart = row any name (1 to 3) unused unused
+rowQ AggPart = row anyWord name (1 to 3) unused unused
+rowQ WinPart = row anyWord name (1 to 3) unused unused
 
-unfoldable pub inside : Range → ℕ → Bool
-inside r x = leb (r .low) x & leb x (r .high)
+unfoldable pub inRange : Range → ℕ → Bool
+inRange r x = leb (r .low) x & leb x (r .high)
 
-unfoldable pub fits : Row → Label → Bool
-fits w l = inside (w .p) (l .p) & inside (w .q) (l .q) & inside (w .r) (l .r) & inside (w .lo) (l .lo) & inside (w .hi) (l .hi)
+unfoldable pub rowFits : WordRow → Label → Bool
+rowFits w l = inRange (w .p) (l .p) & inRange (w .q) (l .q) & inRange (w .r) (l .r) & inRange (w .lo) (l .lo) & inRange (w .hi) (l .hi)
 
 abbrev pub wordsBy : What → Label → Bool
-wordsBy (expr k) l = fits (rowE k) l
-wordsBy (plan k) l = fits (rowP k (l .p)) l
-wordsBy (part k) l = fits (rowQ k) l
+wordsBy (expr k) l = rowFits (rowE k) l
+wordsBy (plan k) l = rowFits (rowP k (l .p)) l
+wordsBy (part k) l = rowFits (rowQ k) l
 wordsBy unknown l = false
 
 -- the rule of a record's words

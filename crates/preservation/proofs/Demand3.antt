@@ -18,7 +18,7 @@ use Rattle.acceptance.specs.Accepted.{WellFormed}
 use Rattle.rewrite.specs.RewriteAt.{Focus, focus, Answer, granted, refused, result-fits, rewrite-in, rewriteAt, with-room, rewrite-call}
 use Rattle.rewrite.specs.OnBytes.{imageOf, planIn, isAccepted, no-rewrite, rewritten, asked-of, rewrite-bytes}
 use Rattle.preservation.specs.Volatile.{NoVolatile}
-use Rattle.preservation.specs.Statement.{left, Step, after, Image, Fits, Preserved, Preserves, Call, left-by, call, calls, rows-of, Demand3}
+use Rattle.preservation.specs.Statement.{leaves, Step, after, Image, Fits, Preserved, Preserves, Call, left-by, call, calls, rows-of, Demand3}
 use Rattle.preservation.proofs.Images.{plan-in-image, stands, image-of, without-zeros}
 use Rattle.preservation.proofs.Granted.{Granted, granted-keeps}
 
@@ -97,7 +97,7 @@ preserved-granted s q g =
 
 left-preserves : (s : List ℕ) (room : ℕ) → Image s → NoVolatile (planIn s) → {a : Answer} → Left (planIn s) a
     → Preserved s (left-by s (rewritten room a))
-unfolding left left-by rewritten no-rewrite choose
+unfolding leaves left-by rewritten no-rewrite choose
 left-preserves s room h v (new {q = q} g) = rw (without-zeros room q) (preserved-granted s q g)
 left-preserves s room h v (same {k = k} pos) = rw (ne-eqb k 0 (λ e. omega arith)) (preserved-self s h v)
 

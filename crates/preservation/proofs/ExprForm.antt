@@ -14,7 +14,7 @@ use Rattle.plan.specs.Kinds.{expr, part, what, whatOf, among, exprW, isExpr}
 use Rattle.plan.specs.Form.{end, one, past, many, childrenE, childrenQ, isAnd, conjuncts, formOk}
 use Rattle.plan.specs.Syntax.{eq, ne, lt, le, gt, ge, and, or, cmp, Expr, col, num, bool, nul, bin, neg, test, between, inlist, fn, Exprs}
 use Rattle.plan.specs.Syntax.{enil, econs}
-use Rattle.plan.specs.Trees.{labelE, kidsE, forestE, before}
+use Rattle.plan.specs.Trees.{labelE, kidsE, forestE, inFront}
 use Rattle.rewrite.specs.Utils.{split-conjunction}
 use Rattle.preservation.proofs.Everywhere.{Tests, countE, good, good-all}
 use Rattle.preservation.proofs.Rules.{passed, below, beside, sound}
@@ -64,7 +64,7 @@ pub form-q-is : (q : K.PartKind) (l : Label) (cs : Forest) → what l ≡ part q
 unfolding formOk
 form-q-is q l cs h = rw h (and-true _)
 
-pub one-expr : (rest : Forest → Bool) (e : Expr) (ns : Forest) → one isExpr rest (before e ns) ≡ rest ns
+pub one-expr : (rest : Forest → Bool) (e : Expr) (ns : Forest) → one isExpr rest (inFront e ns) ≡ rest ns
 unfolding one
 one-expr rest e ns = passed (is-expr e)
 
@@ -128,7 +128,7 @@ mutual
   form-es (econs y xs) = beside _ (form-e y _) (form-es xs)
 
 -- an expression that stands last
-pub last-e : (e : Expr) → sound formOk (before e none) ≡ good Runs e
+pub last-e : (e : Expr) → sound formOk (inFront e none) ≡ good Runs e
 unfolding sound
 last-e e = form-e e true ∙ and-true _
 
@@ -169,7 +169,7 @@ is-and (between n a l h) = refl
 is-and (inlist n a xs) = refl
 is-and (fn p q r xs) = refl
 
-conjuncts-is : (e : Expr) (ns : Forest) → conjuncts (before e ns) ≡ cond (splits e) (conjuncts (kidsE e)) 1 + conjuncts ns
+conjuncts-is : (e : Expr) (ns : Forest) → conjuncts (inFront e ns) ≡ cond (splits e) (conjuncts (kidsE e)) 1 + conjuncts ns
 unfolding conjuncts
 conjuncts-is e ns = rw (is-expr e, is-and e)
 
@@ -177,17 +177,17 @@ pub conjuncts-none : conjuncts none ≡ 0
 unfolding conjuncts
 conjuncts-none = refl
 
-conjuncts-and : (a b : Expr) → conjuncts (kidsE (bin and a b)) ≡ conjuncts (before a (before b none))
+conjuncts-and : (a b : Expr) → conjuncts (kidsE (bin and a b)) ≡ conjuncts (inFront a (inFront b none))
 unfolding kidsE
 conjuncts-and a b = refl
 
-pub conjuncts-split : (e : Expr) (ns : Forest) → conjuncts (before e ns) ≡ length (split-conjunction e) + conjuncts ns
+pub conjuncts-split : (e : Expr) (ns : Forest) → conjuncts (inFront e ns) ≡ length (split-conjunction e) + conjuncts ns
 unfolding split-conjunction
 conjuncts-split (bin and a b) ns =
     conjuncts-is (bin and a b) ns
     ∙ rw (
       conjuncts-and a b,
-      conjuncts-split a (before b none),
+      conjuncts-split a (inFront b none),
       conjuncts-split b none,
       length-append (split-conjunction a) (split-conjunction b),
       conjuncts-none,

@@ -113,7 +113,7 @@ what-p (window ws p) = refl
 is-plan : (p : Plan) → isPlan (labelP p) ≡ true
 is-plan p = ap planW (what-p p)
 
-form-p-is : (p : Plan) (cs : Forest) → formOk (labelP p) cs ≡ childrenP (kindP p) cs & leb (Form.listP (kindP p) cs) maxList
+form-p-is : (p : Plan) (cs : Forest) → formOk (labelP p) cs ≡ childrenP (kindP p) cs & leb (Form.listOf (kindP p) cs) maxList
 unfolding formOk
 form-p-is p cs = rw (what-p p)
 
@@ -254,7 +254,7 @@ own-list (limit n k p) = 0
 own-list (aggregate gs ags p) = 0
 own-list (window ws p) = 0
 
-list-is : (p : Plan) → Form.listP (kindP p) (kidsP p) ≡ own-list p
+list-is : (p : Plan) → Form.listOf (kindP p) (kidsP p) ≡ own-list p
 unfolding kidsP
 list-is (scan t fs es) = fields-apart fs _ ∙ filters-in es
 list-is (filter e p) = conjuncts-split e _ ∙ rw (plan-apart p, conjuncts-none) (omega arith)

@@ -12,7 +12,7 @@ use Rattle.acceptance.proofs.NamesRule.{ok, ok-names}
 use Rattle.acceptance.proofs.TypesRule.{types-ok, names-typed-ok}
 use Rattle.acceptance.proofs.NamesMarks.{names-iff}
 use Rattle.acceptance.proofs.TypesMarks.{types-iff}
-use Rattle.rewrite.specs.Limits.{fits}
+use Rattle.rewrite.specs.Limits.{within-limits}
 use Rattle.rewrite.specs.RewriteAt.{granted, rewriteAt}
 use Rattle.rewrite.proofs.Rewrite.{Keeps}
 use Rattle.rewrite.proofs.AtRecord.{Leaves, Answered, was-granted, rewriteAt-answered, types-ok-again}
@@ -48,7 +48,7 @@ module _ (n : ℕ) (p : Plan) (w : WellFormed p) (f : Bool) (q : Plan) (e : rewr
 
   -- ACCEPTANCE IS KEPT, also of plans with volatile functions
   pub granted-well : WellFormed q
-  unfolding fits sizeP
+  unfolding within-limits sizeP
   granted-well = record {
     records = leb-true (sizeP q) maxRecords (and-l _ _ (left .fitting));
     words = words-ok-law q .0 words-again .0;

@@ -14,7 +14,7 @@ use Rattle.plan.proofs.Lists.{and-true, true-and}
 use Rattle.plan.specs.Syntax.{Name, Expr, col, num, bool, nul, bin, neg, test, between, inlist, fn, Exprs, enil, econs, Field, Entry, Pair}
 use Rattle.plan.specs.Syntax.{Key, AggEntry, WinEntry, Plan, scan, filter, project, join, alias, union, distinct, sort, repartition, limit}
 use Rattle.plan.specs.Syntax.{aggregate, window, Plans, pnil, pcons}
-use Rattle.plan.specs.Trees.{columnLabel, labelE, kidsE, forestE, before, each, nothingBelow, fieldLabel, entryLabel, entryKids, pairLabel}
+use Rattle.plan.specs.Trees.{columnLabel, labelE, kidsE, forestE, inFront, each, nothingBelow, fieldLabel, entryLabel, entryKids, pairLabel}
 use Rattle.plan.specs.Trees.{pairKids, keyLabel, keyKids, aggLabel, aggKids, winLabel, winKids, filterKids, labelP, kidsP, forestP}
 use Rattle.plan.specs.Trees.{planTree}
 use Rattle.preservation.proofs.Everywhere.{Tests, countE, countP, good, good-all, good?, good-field, good-entry, good-pair, good-key}
@@ -45,7 +45,7 @@ module _ (T : Tests) (any-number : (z : ℤ) → T .number z ≡ true) (any-leng
     words-es (econs y xs) = beside _ (words-e y _) (words-es xs)
 
   -- an expression that stands last
-  last-e : (e : Expr) → words (before e none) ≡ good T e
+  last-e : (e : Expr) → words (inFront e none) ≡ good T e
   unfolding sound
   last-e e = words-e e true ∙ and-true _
 

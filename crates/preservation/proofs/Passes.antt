@@ -14,7 +14,7 @@ use Rattle.plan.specs.Syntax.{Plan}
 use Rattle.plan.specs.Measure.{sizeP, depthP}
 use Rattle.plan.specs.Trees.{bitOf}
 use Rattle.acceptance.specs.Accepted.{WellFormed}
-use Rattle.rewrite.specs.Limits.{fits}
+use Rattle.rewrite.specs.Limits.{within-limits}
 use Rattle.rewrite.specs.RewriteAt.{focus, Answer, granted, refused, rewriteAt}
 use Rattle.rewrite.specs.Pass.{PassAnswer, passed, pass-refused, pass, pass-with-room, pass-call}
 use Rattle.rewrite.specs.OnBytes.{planIn, no-pass, reported, pass-bytes}
@@ -24,7 +24,7 @@ use Rattle.rewrite.proofs.PassByRecords.{plan-from, visits, pass-by-records}
 use Rattle.rewrite.proofs.PassAgrees.{pass-agrees}
 use Rattle.rewrite.proofs.PassKeeps as K
 use Rattle.preservation.specs.Volatile.{NoVolatile}
-use Rattle.preservation.specs.Statement.{left, Image, Preserved, Preserves, left-by-pass, pass-through}
+use Rattle.preservation.specs.Statement.{leaves, Image, Preserved, Preserves, left-by-pass, pass-through}
 use Rattle.preservation.proofs.Depth.{deep-enough}
 use Rattle.preservation.proofs.FormTest.{formed-law}
 use Rattle.preservation.proofs.Granted.{Granted, well-ok, granted-keeps}
@@ -32,8 +32,8 @@ use Rattle.preservation.proofs.Images.{stands, without-zeros}
 use Rattle.preservation.proofs.Demand3.{numbered, preserved-self, preserved-granted, accepted-is}
 
 -- a well-formed plan is within the limits of an answer
-well-fits : (p : Plan) → WellFormed p → fits p ≡ true
-unfolding fits sizeP
+well-fits : (p : Plan) → WellFormed p → within-limits p ≡ true
+unfolding within-limits sizeP
 well-fits p w =
     and-intro (le-leb (sizeP p) maxRecords (w .records))
     (and-intro (le-leb (depthP p) maxDepth (deep-enough p (w .depth))) (and-r _ _ (formed-law p .0 (w .form))))
@@ -87,7 +87,7 @@ pass-granted budget room p w v =
 
 left-preserves : (s : List ℕ) (room : ℕ) → Image s → NoVolatile (planIn s) → (a : PassAnswer) → Numbered a
     → Granted (K.left-by-pass (planIn s) a) (planIn s) → Preserved s (left-by-pass s (reported room a))
-unfolding left left-by-pass reported no-pass choose
+unfolding leaves left-by-pass reported no-pass choose
 left-preserves s room h v (passed n c f q) k g = rw (without-zeros room q) (preserved-granted s q g)
 left-preserves s room h v (pass-refused k r) pos g = rw (ne-eqb k 0 (λ e. omega arith)) (preserved-self s h v)
 

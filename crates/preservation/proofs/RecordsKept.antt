@@ -11,7 +11,7 @@ use Rattle.plan.specs.Syntax.{Plan, scan, filter, project, join, alias, union, 
 use Rattle.plan.specs.Syntax.{pnil, pcons}
 use Rattle.plan.specs.Trees.{labelP}
 use Rattle.rewrite.specs.PushDownFilter.{rewrite}
-use Rattle.rewrite.specs.RewriteAt.{Focus, FocusAll, here, inside, inside-all, first-of, later-of, focus, focus-all, granted, refused}
+use Rattle.rewrite.specs.RewriteAt.{Focus, FocusAll, here, focusIn, inside-all, first-of, later-of, focus, focus-all, granted, refused}
 use Rattle.rewrite.specs.RewriteAt.{result-fits, rewrite-in, rewriteAt}
 use Rattle.preservation.proofs.Everywhere.{Tests, Closed, countP, everywhere, everywhere-all}
 use Rattle.preservation.proofs.PlansKept.{Passes, rewrite-kept}
@@ -35,7 +35,7 @@ module _ (T : Tests) (c : Closed T) where
   focus-here : (p : Plan) → Passes T p → Focused (here p)
   focus-here p o = found (record { there = o; put-back = λ q k. k })
 
-  focus-inside : {o : Option Focus} (f : Plan → Plan) → ((q : Plan) → Passes T q → Passes T (f q)) → Focused o → Focused (inside f o)
+  focus-inside : {o : Option Focus} (f : Plan → Plan) → ((q : Plan) → Passes T q → Passes T (f q)) → Focused o → Focused (focusIn f o)
   focus-inside f step not-there = not-there
   focus-inside f step (found h) = found (record { there = h .there; put-back = λ q k. step _ (h .put-back q k) })
 

@@ -11,7 +11,7 @@ use Rattle.plan.specs.Lists.{_&_}
 use Rattle.plan.proofs.Lists.{and-l, and-r, and-intro}
 use Rattle.plan.specs.Schema.{requalify}
 use Rattle.plan.specs.Kinds.{among, whatOf}
-use Rattle.plan.specs.Words.{any, unused, name, inside, fits, wordsOk, Worded}
+use Rattle.plan.specs.Words.{anyWord, unused, name, inRange, rowFits, wordsOk, Worded}
 use Rattle.plan.specs.Syntax.{Name, nm, eq, ne, lt, le, gt, ge, Op, and, or, cmp, Expr, bin, Field, Entry, AggEntry, WinEntry, Plan, alias}
 use Rattle.plan.specs.Integers.{FitsP}
 use Rattle.plan.specs.Trees.{qualifier, ident, columnLabel, labelE, fieldLabel, entryLabel, aggLabel, winLabel, labelP, planTree}
@@ -42,7 +42,7 @@ words-ok-law p = both (rw (words-tree Words (λ z. refl) (λ m n. refl) p) at (w
 -- ---- what the rewrite adds has good words
 
 operator-words : (o : Op) (a b : Expr) → wordsOk (labelE (bin o a b)) ≡ true
-unfolding wordsOk labelE whatOf among fits inside _&_
+unfolding wordsOk labelE whatOf among rowFits inRange _&_
 operator-words and a b = refl
 operator-words or a b = refl
 operator-words (cmp eq) a b = refl
@@ -52,39 +52,39 @@ operator-words (cmp le) a b = refl
 operator-words (cmp gt) a b = refl
 operator-words (cmp ge) a b = refl
 
-unused-words : inside unused 0 & (inside unused 0 & inside unused 0) ≡ true
-unfolding inside _&_
+unused-words : inRange unused 0 & (inRange unused 0 & inRange unused 0) ≡ true
+unfolding inRange _&_
 unused-words = refl
 
 -- a column may have the name of any record that begins with a qualifier and a name
-name-words : (x : Name) (r : Bool) → inside any (qualifier x) & (inside name (ident x) & r) ≡ true → wordsOk (columnLabel x) ≡ true
-unfolding wordsOk whatOf among fits
+name-words : (x : Name) (r : Bool) → inRange anyWord (qualifier x) & (inRange name (ident x) & r) ≡ true → wordsOk (columnLabel x) ≡ true
+unfolding wordsOk whatOf among rowFits
 name-words x r h = and-intro (and-l _ _ h) (and-intro (and-l _ _ (and-r _ _ h)) unused-words)
 
 -- and the qualifier of an alias
 alias-words : (q : ℕ) (p : Plan) (x : Name) → wordsOk (labelP (alias q p)) ≡ true → wordsOk (columnLabel x) ≡ true
     → wordsOk (columnLabel (requalify q x)) ≡ true
-unfolding wordsOk whatOf among fits inside labelP
+unfolding wordsOk whatOf among rowFits inRange labelP
 alias-words q p (nm r n) h k = and-intro (and-intro (le-leb 0 q (omega arith)) (and-r _ _ (and-l _ _ h))) (and-r _ _ k)
 
 field-name : (f : Field) → wordsOk (fieldLabel f) ≡ true → wordsOk (columnLabel (f .name)) ≡ true
-unfolding wordsOk whatOf among fits
+unfolding wordsOk whatOf among rowFits
 field-name f h = name-words (f .name) _ h
 
 entry-name : (e : Entry) → wordsOk (entryLabel e) ≡ true → wordsOk (columnLabel (e .name)) ≡ true
-unfolding wordsOk whatOf among fits
+unfolding wordsOk whatOf among rowFits
 entry-name e h = name-words (e .name) _ h
 
 agg-name : (a : AggEntry) → wordsOk (aggLabel a) ≡ true → wordsOk (columnLabel (a .name)) ≡ true
-unfolding wordsOk whatOf among fits
+unfolding wordsOk whatOf among rowFits
 agg-name a h = name-words (a .name) _ h
 
 win-name : (w : WinEntry) → wordsOk (winLabel w) ≡ true → wordsOk (columnLabel (w .name)) ≡ true
-unfolding wordsOk whatOf among fits
+unfolding wordsOk whatOf among rowFits
 win-name w h = name-words (w .name) _ h
 
 pub words-closed : Closed Words
-unfolding wordsOk whatOf among fits inside labelE labelP _&_
+unfolding wordsOk whatOf among rowFits inRange labelE labelP _&_
 words-closed = record {
   binary = operator-words;
   false-literal = refl;

@@ -61,12 +61,12 @@ pub record Call : Type 0 where
   pub room : ℕ
 
 -- "A granted call leaves its answer, without the zeros after it, a refused one the plan it got."
-unfoldable pub left : ℕ → ℕ → List ℕ → List ℕ → List ℕ
-left number records output got = choose (eqb number 0) (take (recordBytes * records) output) got
+unfoldable pub leaves : ℕ → ℕ → List ℕ → List ℕ → List ℕ
+leaves number records output got = choose (eqb number 0) (take (recordBytes * records) output) got
 
 -- what a call of rewrite leaves
 unfoldable pub left-by : List ℕ → Rewritten → List ℕ
-left-by s r = left (r .number) (r .records) (r .output) s
+left-by s r = leaves (r .number) (r .records) (r .output) s
 
 unfoldable pub call : Call → Step
 call c s = left-by s (rewrite-bytes s (c .node) (c .room))
@@ -84,7 +84,7 @@ Demand3 = (cs : List Call) (s : List ℕ) → Image s → NoVolatile (planIn s) 
 -- ---- a pass is such a step too
 
 unfoldable pub left-by-pass : List ℕ → Passed → List ℕ
-left-by-pass s r = left (r .number) (r .records) (r .output) s
+left-by-pass s r = leaves (r .number) (r .records) (r .output) s
 
 -- a pass with a budget and an output length
 unfoldable pub pass-through : ℕ → ℕ → Step

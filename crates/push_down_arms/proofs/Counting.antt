@@ -16,7 +16,7 @@ use borrow.Author.Tests.{ltb-true, ltb-false}
 use Rattle.image.specs.Tree.{Tree, At, labelAt}
 use Rattle.image.specs.Limits.{workBytes, maxList, maxBelow}
 use Rattle.image.proofs.Walking.{only}
-use Rattle.plan.specs.Lists.{flat}
+use Rattle.plan.specs.Lists.{flatten}
 use Rattle.plan.specs.Schema.{same}
 use Rattle.plan.specs.Syntax.{Name, Expr, col, num, bool, nul, bin, neg, test, between, inlist, fn, Exprs, enil, econs, Entry}
 use Rattle.plan.specs.Syntax.{Plan, scan, filter, project, join, alias, union, distinct, sort, repartition, limit, aggregate, window}
@@ -171,7 +171,7 @@ module _ {s : List ℕ} {σ : Name → Expr} {es : List Expr} where
 
   pub counted-next : {c r : Conjuncts} (i : ℕ) → i < length es → (h : Counted s c σ es i)
       → Counts s r (h .done + length (split-conjunction (replace-cols σ (getD es i FALSE)))) → Counted s r σ es (i + 1)
-  unfolding flat
+  unfolding flatten
   counted-next i lt h k =
       let e : parts σ (drop i es) ≡ length (split-conjunction (replace-cols σ (getD es i FALSE))) + parts σ (drop (i + 1) es) =
       ap (parts σ) (next es i lt) ∙ length-append (split-conjunction (replace-cols σ (getD es i FALSE))) _ in
@@ -179,7 +179,7 @@ module _ {s : List ℕ} {σ : Name → Expr} {es : List Expr} where
 
   -- it is too long exactly if the count is
   pub counted-all : {r : Conjuncts} (i : ℕ) → length es ≤ i → Counted s r σ es i → ltb maxList (r .len) ≡ ltb maxList (parts σ es)
-  unfolding flat
+  unfolding flatten
   counted-all {r} i le h =
       let z : parts σ (drop i es) ≡ 0 = ap (parts σ) (at-end es i le) in
       let n : length (h .counts .exprs) ≡ parts σ es = omega (arith, h .counts .count, h .is) in

@@ -12,7 +12,7 @@ use lib.Dec.{eqb}
 use lib.ListN.{length}
 use borrow.Author.Tests.{ne-eqb}
 use Rattle.image.specs.Limits.{maxList}
-use Rattle.plan.specs.Lists.{flat, anil, acons}
+use Rattle.plan.specs.Lists.{flatten, anil, acons}
 use Rattle.plan.specs.Syntax.{Name, Expr, bin, and, Plan}
 use Rattle.rewrite.specs.Limits.{listP}
 use Rattle.rewrite.specs.Utils.{replace-cols, split-conjunction, conjoin, conjunction, with-filters, is-empty}
@@ -30,29 +30,29 @@ use Rattle.push_down_arms.proofs.Changes.{pushes-small, map-count}
 
 -- ---- the conjuncts of a list that is joined
 
-joined-parts : (e : Expr) (es : List Expr) → split-conjunction (conjoin e es) ≡ split-conjunction e ++ flat split-conjunction es
-unfolding conjoin split-conjunction flat
+joined-parts : (e : Expr) (es : List Expr) → split-conjunction (conjoin e es) ≡ split-conjunction e ++ flatten split-conjunction es
+unfolding conjoin split-conjunction flatten
 joined-parts e [] = sym (append-nil (split-conjunction e))
-joined-parts e (x ∷ xs) = joined-parts (bin and e x) xs ∙ append-assoc (split-conjunction e) (split-conjunction x) (flat split-conjunction xs)
+joined-parts e (x ∷ xs) = joined-parts (bin and e x) xs ∙ append-assoc (split-conjunction e) (split-conjunction x) (flatten split-conjunction xs)
 
-pub filters-list : (es : List Expr) (p : Plan) → listP (with-filters es p) ≡ larger (length (flat split-conjunction es)) (listP p)
-unfolding listP with-filters flat
+pub filters-list : (es : List Expr) (p : Plan) → listP (with-filters es p) ≡ larger (length (flatten split-conjunction es)) (listP p)
+unfolding listP with-filters flatten
 filters-list [] p = omega arith
 filters-list (e ∷ es) p = ap (λ l. larger (length l) (listP p)) (joined-parts e es)
 
-replaced-parts : (σ : Name → Expr) (es : List Expr) → length (flat split-conjunction (map (replace-cols σ) es)) ≡ parts σ es
-unfolding flat
+replaced-parts : (σ : Name → Expr) (es : List Expr) → length (flatten split-conjunction (map (replace-cols σ) es)) ≡ parts σ es
+unfolding flatten
 replaced-parts σ es = ap length (go es)
   where
-    go : (es : List Expr) → flat split-conjunction (map (replace-cols σ) es) ≡ flat (λ e. split-conjunction (replace-cols σ e)) es
+    go : (es : List Expr) → flatten split-conjunction (map (replace-cols σ) es) ≡ flatten (λ e. split-conjunction (replace-cols σ e)) es
     go [] = refl
     go (e ∷ es) = ap (split-conjunction (replace-cols σ e) ++_) (go es)
 
 -- those that are none are as many as they are
-single-parts : {es : List Expr} → Singles es → length (flat split-conjunction es) ≡ length es
-unfolding flat
+single-parts : {es : List Expr} → Singles es → length (flatten split-conjunction es) ≡ length es
+unfolding flatten
 single-parts anil = refl
-single-parts (acons {xs = xs} h hs) = ap (λ l. length (l ++ flat split-conjunction xs)) h ∙ ap suc (single-parts hs)
+single-parts (acons {xs = xs} h hs) = ap (λ l. length (l ++ flatten split-conjunction xs)) h ∙ ap suc (single-parts hs)
 
 -- ---- the lists of the answer
 

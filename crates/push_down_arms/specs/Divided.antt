@@ -5,7 +5,7 @@ use mathlib.Core.List.{List, [], _∷_, map}
 use Prim.Native.Nat.{ℕ, _≤_}
 use lib.ListN.{length}
 use Rattle.image.specs.Limits.{maxList}
-use Rattle.plan.specs.Lists.{flat, All}
+use Rattle.plan.specs.Lists.{flatten, All}
 use Rattle.plan.specs.Syntax.{Name, Expr, Entry, AggEntry, WinEntry, Plan, project, aggregate, window}
 use Rattle.rewrite.specs.Utils.{replace-cols, split-conjunction, with-filters, is-empty}
 use Rattle.rewrite.specs.PushDownFilter.{Transformed}
@@ -51,7 +51,7 @@ pub record Dividing (s : List ℕ) (x : ℕ) (d : Divided) : Type 0 where
 
 -- how many conjuncts a list has, once its columns are replaced
 abbrev pub parts : (Name → Expr) → List Expr → ℕ
-parts σ es = length (flat (λ e. split-conjunction (replace-cols σ e)) es)
+parts σ es = length (flatten (λ e. split-conjunction (replace-cols σ e)) es)
 
 -- the list c has k items, or `tooMany` where k is more
 pub record Counts (s : List ℕ) (c : Conjuncts) (k : ℕ) : Type 0 where

@@ -19,7 +19,7 @@ use Rattle.image.specs.Room.{Wrote}
 use Rattle.image.specs.Tree as T
 use Rattle.image.specs.Tree.{Label, node, At, Deep, Readable, labelAt}
 use Rattle.plan.specs.Columns.{on-cols}
-use Rattle.plan.specs.Lists.{when, flat}
+use Rattle.plan.specs.Lists.{when, flatten}
 use Rattle.plan.specs.Measure.{sizeE}
 use Rattle.plan.specs.Schema.{has}
 use Rattle.plan.specs.Syntax.{Name, Op, and, or, cmp, eq, ne, lt, le, gt, ge, Expr, col, num, bool, nul, bin, neg, test, between, inlist, fn}
@@ -467,7 +467,7 @@ or-whole c e {k} h = go (is-or e) h
     go false h = never h
 
 -- the clauses of a list, one conjunct after another
-pub clauses-each : (c : Name → Bool) (es : List Expr) → extract-or-clauses-for-join c es ≡ flat (λ e. listed (or-clause c e)) es
+pub clauses-each : (c : Name → Bool) (es : List Expr) → extract-or-clauses-for-join c es ≡ flatten (λ e. listed (or-clause c e)) es
 unfolding extract-or-clauses-for-join when listed
 clauses-each c es = flat-keep (λ e. listed (extract-or-clause c e)) is-or es
     ∙ flat-cong _ _ (all-of (λ e. each (is-or e) (extract-or-clause c e)) es)

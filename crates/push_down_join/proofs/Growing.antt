@@ -10,24 +10,24 @@ use lib.ListN.{length, take}
 use lib.Seq.{take-all}
 use Rattle.image.specs.Tree.{Forest}
 use Rattle.plan.specs.Syntax.{Name, nm}
-use Rattle.rewrite.specs.PushDownFilter.{nothing}
+use Rattle.rewrite.specs.PushDownFilter.{no-partner}
 use Rattle.utils.specs.Fields.{Fields, Names}
 use Rattle.utils.specs.Masks.{nameAt, Masks}
 use Rattle.push_down_join.specs.Partners.{Column, Swapped, Told, partnerIn, orSelf, Swaps}
 use Rattle.push_down_base.proofs.Masking.{Marks, one-more, masks-start, masks-step, masks-end}
 
-told-nothing : {c : Column} {o : Option Name} → Told c o → not (c .is) ≡ nothing o
-unfolding nothing
+told-nothing : {c : Column} {o : Option Name} → Told c o → not (c .is) ≡ no-partner o
+unfolding no-partner
 told-nothing {c} h = rw (← h .is) (go (c .is))
   where
-    go : (b : Bool) → not b ≡ nothing (cond b (some (nm (c .q) (c .n))) O.none)
+    go : (b : Bool) → not b ≡ no-partner (cond b (some (nm (c .q) (c .n))) O.none)
     go true = refl
     go false = refl
 
 -- the first i are passed
 pub record Swapping (to : Fields) (alone : ℕ) (f : Forest) (ns : List Name) (i : ℕ) : Type 0 where
   pub names : Names to (map (λ x. orSelf x (partnerIn x f)) (take i ns))
-  pub masks : Masks alone (take i ns) (λ x. nothing (partnerIn x f))
+  pub masks : Masks alone (take i ns) (λ x. no-partner (partnerIn x f))
 
 module _ {f : Forest} {ns : List Name} where
   pub swap-start : {to : Fields} → Names to [] → Swapping to 0 f ns 0
@@ -42,7 +42,7 @@ module _ {f : Forest} {ns : List Name} where
       rw (← e) (add _ _ (h .names) t) in
       record {
         names = rw (one-more ns i lt, map-append) n;
-        masks = masks-step i (not (c .is)) ns (λ x. nothing (partnerIn x f)) mark lt (told-nothing t′) (h .masks);
+        masks = masks-step i (not (c .is)) ns (λ x. no-partner (partnerIn x f)) mark lt (told-nothing t′) (h .masks);
       }
 
   pub swap-end : {r : Swapped} {i : ℕ} → length ns ≤ i → Swapping (r .to) (r .alone) f ns i → Swaps r f ns

@@ -18,7 +18,7 @@ use Rattle.plan.specs.Syntax.{Name, Expr, col, num, bool, nul, bin, neg, test, 
 use Rattle.plan.proofs.Lists.{and-l, and-r, all-of, keep-cong, keep-map, keep-append}
 use Rattle.rewrite.specs.Utils.{replace-cols, replace-cols-all}
 use Rattle.rewrite.specs.PushDownFilter.{left-preserved, right-preserved, on-left-preserved, on-right-preserved, is-inner, partner, to-partner}
-use Rattle.rewrite.specs.PushDownFilter.{swap-keys, nothing, infer-join-predicates, push-to, push-not, rest, if-list, left-push, right-push}
+use Rattle.rewrite.specs.PushDownFilter.{swap-keys, no-partner, infer-join-predicates, push-to, push-not, rest, if-list, left-push, right-push}
 use Rattle.rewrite.specs.PushDownFilter.{extract-or-clauses-for-join, ren}
 use Rattle.push_down_join.specs.Partners.{orSelf}
 use Rattle.push_down_join.specs.Parts.{Part, Parted, Wholes}
@@ -28,7 +28,7 @@ use Rattle.push_down_base.proofs.Scoping.{known-reads}
 -- ---- those of which others are inferred
 
 module _ (b : Bool) (on : List Pair) (es : List Expr) where
-  pub keyed-inner : b ≡ true → keyed b on es ≡ keep (λ e. not (on-cols (λ x. nothing (partner on x)) e)) es
+  pub keyed-inner : b ≡ true → keyed b on es ≡ keep (λ e. not (on-cols (λ x. no-partner (partner on x)) e)) es
   keyed-inner e = rw e
 
   pub keyed-other : b ≡ false → keyed b on es ≡ []
@@ -108,7 +108,7 @@ module _ (on : List Pair) where
   unfolding push-to infer-join-predicates keep
   inferred-left false l P G = refl
   inferred-left true l P G =
-      let f : Expr → Bool = λ e. not (on-cols (λ x. nothing (partner on x)) e) in
+      let f : Expr → Bool = λ e. not (on-cols (λ x. no-partner (partner on x)) e) in
       let g : Expr → Bool = λ e. on-cols (λ x. has l (swap on x)) e in
       keep-inferred (λ e. on-cols (has l) e) g (cols-inferred (has l)) (keep f (P ++ G))
       ∙ ap (map inferred) (ap (keep g) (keep-append f P G) ∙ keep-append g (keep f P) (keep f G))
@@ -119,7 +119,7 @@ module _ (on : List Pair) where
   unfolding push-to push-not infer-join-predicates keep
   inferred-right false l r P G = refl
   inferred-right true l r P G =
-      let f : Expr → Bool = λ e. not (on-cols (λ x. nothing (partner on x)) e) in
+      let f : Expr → Bool = λ e. not (on-cols (λ x. no-partner (partner on x)) e) in
       let n : Expr → Bool = λ e. not (on-cols (λ x. has l (swap on x)) e) in
       let g : Expr → Bool = λ e. on-cols (λ x. has r (swap on x)) e in
       ap (keep (λ e. on-cols (has r) e)) (keep-inferred (λ e. not (on-cols (has l) e)) n (λ e. ap not (cols-inferred (has l) e)) (keep f (P ++ G)))

@@ -15,7 +15,7 @@ use lib.ListN.{length, take, drop, getD}
 use lib.Seq.{take-suc, take-all}
 use Rattle.image.specs.Limits.{maxRecords, maxList}
 use Rattle.plan.specs.Columns.{on-cols}
-use Rattle.plan.specs.Lists.{put, keep, flat}
+use Rattle.plan.specs.Lists.{put, keep, flatten}
 use Rattle.plan.specs.Schema.{has}
 use Rattle.plan.specs.Syntax.{Name, Expr}
 use Rattle.rewrite.specs.Utils.{replace-cols}
@@ -128,28 +128,28 @@ module _ {s : List ℕ} {σ : Name → Expr} {ns : List Name} {t : Name → Bool
 -- ---- the clauses of a list
 
 -- one by one
-pub clauses-each : (t : Name → Bool) (es : List Expr) → extract-or-clauses-for-join t es ≡ flat (λ e. P.listed (or-clause t e)) es
-unfolding extract-or-clauses-for-join flat keep put P.listed
+pub clauses-each : (t : Name → Bool) (es : List Expr) → extract-or-clauses-for-join t es ≡ flatten (λ e. P.listed (or-clause t e)) es
+unfolding extract-or-clauses-for-join flatten keep put P.listed
 clauses-each t [] = refl
 clauses-each t (e ∷ es) = go (is-or e) (clauses-each t es)
   where
-    go : (b : Bool) → flat (λ e. P.listed (extract-or-clause t e)) (keep is-or es) ≡ flat (λ e. P.listed (or-clause t e)) es
-        → flat (λ e. P.listed (extract-or-clause t e)) (put b e (keep is-or es))
-        ≡ P.listed (cond b (extract-or-clause t e) O.none) ++ flat (λ e. P.listed (or-clause t e)) es
+    go : (b : Bool) → flatten (λ e. P.listed (extract-or-clause t e)) (keep is-or es) ≡ flatten (λ e. P.listed (or-clause t e)) es
+        → flatten (λ e. P.listed (extract-or-clause t e)) (put b e (keep is-or es))
+        ≡ P.listed (cond b (extract-or-clause t e) O.none) ++ flatten (λ e. P.listed (or-clause t e)) es
     go true h = ap (P.listed (extract-or-clause t e) ++_) h
     go false h = h
 
 -- the next one
 pub flat-next : (f : Expr → List Expr) (es : List Expr) (i : ℕ) → i < length es
-    → flat f (drop i es) ≡ f (getD es i FALSE) ++ flat f (drop (i + 1) es)
-unfolding flat
+    → flatten f (drop i es) ≡ f (getD es i FALSE) ++ flatten f (drop (i + 1) es)
+unfolding flatten
 flat-next f es i lt = rw (next es i lt)
 
 -- those of the first i are appended to es
 pub record Clauses (s : List ℕ) (σ : Name → Expr) (ns : List Name) (t : Name → Bool) (r : Conjuncts) (es fs : List Expr) (i : ℕ) : Type 0 where
   pub done : List Expr
   pub sides : Sides s σ ns t r done
-  pub is : done ++ flat (λ e. P.listed (or-clause t e)) (drop i fs) ≡ es ++ flat (λ e. P.listed (or-clause t e)) fs
+  pub is : done ++ flatten (λ e. P.listed (or-clause t e)) (drop i fs) ≡ es ++ flatten (λ e. P.listed (or-clause t e)) fs
 
 module _ {s : List ℕ} {σ : Name → Expr} {ns : List Name} {t : Name → Bool} {es : List Expr} where
   pub clauses-start : {r : Conjuncts} (fs : List Expr) → Sides s σ ns t r es → Clauses s σ ns t r es fs 0
@@ -160,23 +160,23 @@ module _ {s : List ℕ} {σ : Name → Expr} {ns : List Name} {t : Name → Bool
   clauses-step {fs = fs} i lt h f = record {
     done = h .done ++ P.listed (or-clause t (getD fs i FALSE));
     sides = f (h .done) (h .sides);
-    is = append-assoc (h .done) (P.listed (or-clause t (getD fs i FALSE))) (flat (λ e. P.listed (or-clause t e)) (drop (i + 1) fs))
+    is = append-assoc (h .done) (P.listed (or-clause t (getD fs i FALSE))) (flatten (λ e. P.listed (or-clause t e)) (drop (i + 1) fs))
         ∙ ap (h .done ++_) (sym (flat-next (λ e. P.listed (or-clause t e)) fs i lt)) ∙ h .is;
   }
 
   pub clauses-end : {r : Conjuncts} {fs : List Expr} (i : ℕ) → length fs ≤ i → Clauses s σ ns t r es fs i
       → Sides s σ ns t r (es ++ extract-or-clauses-for-join t fs)
-  unfolding flat
+  unfolding flatten
   clauses-end {fs = fs} i le h =
-      let e : h .done ≡ es ++ flat (λ e. P.listed (or-clause t e)) fs = sym (append-nil (h .done)) ∙ (rw (at-end fs i le) at (h .is)) in
+      let e : h .done ≡ es ++ flatten (λ e. P.listed (or-clause t e)) fs = sym (append-nil (h .done)) ∙ (rw (at-end fs i le) at (h .is)) in
       rw (clauses-each t fs, ← e) (h .sides)
 
 -- ---- the list of a side, in order
 
-flat-append : {A B : Type 0} (f : A → List B) (xs ys : List A) → flat f (xs ++ ys) ≡ flat f xs ++ flat f ys
-unfolding flat
+flat-append : {A B : Type 0} (f : A → List B) (xs ys : List A) → flatten f (xs ++ ys) ≡ flatten f xs ++ flatten f ys
+unfolding flatten
 flat-append f [] ys = refl
-flat-append f (x ∷ xs) ys = ap (f x ++_) (flat-append f xs ys) ∙ sym (append-assoc (f x) (flat f xs) (flat f ys))
+flat-append f (x ∷ xs) ys = ap (f x ++_) (flat-append f xs ys) ∙ sym (append-assoc (f x) (flatten f xs) (flatten f ys))
 
 clauses-append : (t : Name → Bool) (u v : List Expr)
     → extract-or-clauses-for-join t (u ++ v) ≡ extract-or-clauses-for-join t u ++ extract-or-clauses-for-join t v

@@ -10,7 +10,7 @@ use Rattle.image.specs.Tree.{Label, Forest, none, node}
 use Rattle.plan.specs.Kinds as K
 use Rattle.plan.specs.Kinds.{numberE, numberQ, PairPart}
 use Rattle.plan.specs.Syntax.{Name, nm}
-use Rattle.rewrite.specs.PushDownFilter.{pair-of, nothing}
+use Rattle.rewrite.specs.PushDownFilter.{pair-of, no-partner}
 use Rattle.utils.specs.Fields.{Names}
 use Rattle.utils.specs.Masks.{Masks}
 use Rattle.push_down_join.specs.declared.infer_join_predicates.Column as column
@@ -61,4 +61,4 @@ orSelf x (some y) = y
 -- the fields of ns with each key's partner in its place, and the places of those that have none
 pub record Swaps (r : Swapped) (f : Forest) (ns : List Name) : Type 0 where
   pub to : Names (r .to) (map (λ x. orSelf x (partnerIn x f)) ns)
-  pub alone : Masks (r .alone) ns (λ x. nothing (partnerIn x f))
+  pub alone : Masks (r .alone) ns (λ x. no-partner (partnerIn x f))

@@ -11,7 +11,7 @@ use Rattle.plan.specs.Syntax.{Name, Expr, Pair, Kind, Plan, join}
 use mathlib.Core.Option.{Option}
 use Rattle.acceptance.proofs.NamesRule.{ok}
 use Rattle.conjuncts.specs.Standing.{StandingP}
-use Rattle.rewrite.specs.PushDownFilter.{partner, nothing, if-list, swap-keys}
+use Rattle.rewrite.specs.PushDownFilter.{partner, no-partner, if-list, swap-keys}
 use Rattle.conjuncts.specs.Items.{Conjuncts}
 use Rattle.utils.specs.Fields.{Names}
 use Rattle.utils.specs.Masks.{Masks}
@@ -34,7 +34,7 @@ pub record Scopes (sc : Scope) (l r : List Name) (on : List Pair) : Type 0 where
   pub to : Names (sc .to) (map (swap on) (l ++ r))
   pub left : Masks (sc .left) (l ++ r) (has l)
   pub right : Masks (sc .right) (l ++ r) (has r)
-  pub alone : Masks (sc .alone) (l ++ r) (λ x. nothing (partner on x))
+  pub alone : Masks (sc .alone) (l ++ r) (λ x. no-partner (partner on x))
   pub leftward : Masks (sc .leftward) (l ++ r) (λ x. has l (swap on x))
   pub rightward : Masks (sc .rightward) (l ++ r) (λ x. has r (swap on x))
 
@@ -49,7 +49,7 @@ pub record Asked (s : List ℕ) (sc : Scope) (c : Conjuncts) : Type 0 where
 
 -- those of which others are inferred, if the join is Inner
 abbrev pub keyed : Bool → List Pair → List Expr → List Expr
-keyed b on es = if-list b (keep (λ e. not (on-cols (λ x. nothing (partner on x)) e)) es)
+keyed b on es = if-list b (keep (λ e. not (on-cols (λ x. no-partner (partner on x)) e)) es)
 
 -- .. and those are over the left input
 abbrev pub keyed-left : Bool → List Name → List Pair → List Expr → List Expr

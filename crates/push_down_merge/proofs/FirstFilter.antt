@@ -15,7 +15,7 @@ use Rattle.plan.specs.Schema.{schema}
 use Rattle.plan.proofs.Lists.{and-l}
 use Rattle.acceptance.proofs.NamesRule.{reads, reads?, rule, ok}
 use Rattle.rewrite.specs.Utils.{split-conjunction}
-use Rattle.rewrite.specs.Limits.{listP, fits}
+use Rattle.rewrite.specs.Limits.{listP, within-limits}
 use Rattle.rewrite.specs.RewriteAt.{Focus}
 use Rattle.rewrite.specs.PushDownFilter.{simplify-filter, merges, merges-under, resume, rewrite-filter, rewrite}
 use Rattle.rewrite.proofs.SimplifyFilter.{simplify-filter-reads}

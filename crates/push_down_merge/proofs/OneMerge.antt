@@ -19,7 +19,7 @@ use Rattle.plan.specs.Schema.{schema}
 use Rattle.plan.proofs.Lists.{and-l, and-r}
 use Rattle.acceptance.proofs.NamesRule.{reads, reads?, rule, ok}
 use Rattle.rewrite.specs.Utils.{split-conjunction, conjunction, unique}
-use Rattle.rewrite.specs.Limits.{listP, fits}
+use Rattle.rewrite.specs.Limits.{listP, within-limits}
 use Rattle.rewrite.specs.RewriteAt.{Focus}
 use Rattle.rewrite.specs.PushDownFilter.{simplify-filter, merged, simplify-merged, merges-under}
 use Rattle.conjuncts.specs.Standing.{StandingP}
@@ -106,7 +106,7 @@ module _ {s : List ℕ} {x : ℕ} {p : Predicate} {e b : Expr} {q : Plan} (h : R
 
 module _ (c : Focus) (e b m : Expr) (q : Plan) (i : conjunction (merged e b) ≡ some m) where
   abbrev test : Plan → Bool
-  test n = fits (c .back n)
+  test n = within-limits (c .back n)
 
   -- the merged Filter does not fit
   pub merge-over : test (filter m q) ≡ false → all test (merges-under e (filter b q)) ≡ false
@@ -134,7 +134,7 @@ module _ (c : Focus) (e b m : Expr) (q : Plan) (i : conjunction (merged e b) ≡
 
 -- where the merged Filter fits, its conjuncts are few enough
 pub merge-few : {s : List ℕ} {node : ℕ} {w : Plan} {c : Focus} {p : Predicate} {m : Expr} (q : Plan) → Inside s node w c → Made s p m
-    → fits (c .back (filter m q)) ≡ true → p .list .len ≤ maxList
+    → within-limits (c .back (filter m q)) ≡ true → p .list .len ≤ maxList
 merge-few {p = p} q h k t = go (leb (p .list .len) maxList) refl
   where
     go : (d : Bool) → leb (p .list .len) maxList ≡ d → p .list .len ≤ maxList
@@ -225,12 +225,12 @@ merge-some e b = go (joined? (merged e b) (merged-plain e b)) refl
 module _ {s : List ℕ} {x : ℕ} {p : Predicate} {e b : Expr} {q : Plan} {m : Expr} {c : Focus} (h : Rests s x p e (filter b q))
     (i : conjunction (merged e b) ≡ some m) where
   -- the merged Filter does not fit
-  pub settles-over : {r : Rest} → r .fits ≡ false → fits (c .back (filter m q)) ≡ false
+  pub settles-over : {r : Rest} → r .fits ≡ false → within-limits (c .back (filter m q)) ≡ false
       → Settles s r c (merges-under e (filter b q)) (settle e (filter b q))
   settles-over f t = record { fit = f ∙ sym (merge-over c e b m q i t); comes = λ y. absurd (no-yes (sym y ∙ f)) }
 
   -- nothing is left of it
-  pub settles-gone : {y : ℕ} {left : Predicate} → fits (c .back (filter m q)) ≡ true → Remains s left (simplify-filter m) → is-gone left ≡ true
+  pub settles-gone : {y : ℕ} {left : Predicate} → within-limits (c .back (filter m q)) ≡ true → Remains s left (simplify-filter m) → is-gone left ≡ true
       → x < y → StandingP s y q
       → Settles s (record { fits = true; input = y; predicate = left }) c (merges-under e (filter b q)) (settle e (filter b q))
   settles-gone {left = left} t k g past l =
@@ -244,7 +244,7 @@ module _ {s : List ℕ} {x : ℕ} {p : Predicate} {e b : Expr} {q : Plan} {m : E
       }
 
   -- something is left, and is rewritten again
-  pub settles-on : {r : Rest} {e′ : Expr} → fits (c .back (filter m q)) ≡ true → simplify-filter m ≡ some e′
+  pub settles-on : {r : Rest} {e′ : Expr} → within-limits (c .back (filter m q)) ≡ true → simplify-filter m ≡ some e′
       → Settles s r c (merges-under e′ q) (settle e′ q) → Settles s r c (merges-under e (filter b q)) (settle e (filter b q))
   settles-on t j k =
       record { fit = k .fit ∙ sym (merge-on c e b m q i t j); comes = λ y. rw (settle-on c e b m q i j) (k .comes y) }

@@ -16,7 +16,7 @@ use Rattle.plan.proofs.Lists.{and-r, and-intro}
 use Rattle.acceptance.specs.Accepted.{WellFormed, Accepted}
 use Rattle.acceptance.proofs.Converse.{stands-alone}
 use Rattle.acceptance.proofs.NamesRule.{ok}
-use Rattle.rewrite.specs.Limits.{listP, fits}
+use Rattle.rewrite.specs.Limits.{listP, within-limits}
 use Rattle.rewrite.proofs.OnBytes.{tree-length}
 use Rattle.preservation.proofs.Depth.{deep-enough}
 use Rattle.preservation.proofs.FormTest.{formed-law}
@@ -36,8 +36,8 @@ module _ (p : Plan) (w : WellFormed p) where
   pub lists-fit : listP p ≤ maxList
   lists-fit = leb-true (listP p) maxList (and-r _ _ (formed-law p .0 (w .form)))
 
-  pub plan-fits : fits p ≡ true
-  unfolding fits sizeP
+  pub plan-fits : within-limits p ≡ true
+  unfolding within-limits sizeP
   plan-fits =
       and-intro (le-leb (sizeP p) maxRecords (w .records))
       (and-intro (le-leb (depthP p) maxDepth (deep-enough p (w .depth))) (le-leb (listP p) maxList lists-fit))

@@ -17,7 +17,7 @@ use Rattle.plan.specs.Trees.{planTree}
 use Rattle.plan.specs.Measure.{depthT, sizeP}
 use Rattle.acceptance.specs.Accepted.{Accepted}
 use Rattle.rewrite.specs.Utils.{split-conjunction, conjunction}
-use Rattle.rewrite.specs.Limits.{listP, fits}
+use Rattle.rewrite.specs.Limits.{listP, within-limits}
 use Rattle.rewrite.specs.RewriteAt.{Focus, focus}
 use Rattle.conjuncts.specs.Standing.{StandingP}
 use Rattle.conjuncts.specs.Items.{Lists}
@@ -79,7 +79,7 @@ module _ {s : List ℕ} {node : ℕ} {w : Plan} {c : Focus} (h : Inside s node w
 
   module _ {p : Predicate} {e : Expr} (m : Made s p e) where
     -- too many conjuncts
-    pub too-long : (q : Plan) → maxList < p .list .len → fits (c .back (filter e q)) ≡ false
+    pub too-long : (q : Plan) → maxList < p .list .len → within-limits (c .back (filter e q)) ≡ false
     unfolding listP
     too-long q many =
         fits-long (c .back (filter e q))
@@ -102,9 +102,9 @@ module _ {s : List ℕ} {node : ℕ} {w : Plan} {c : Focus} (h : Inside s node w
 
 -- where its records and its lists are within the limits, a plan fits exactly if its depth is
 pub fits-is : {out : List ℕ} {n : ℕ} (p : Plan) → Begun out n (planTree p) → n ≤ maxRecords → leb (listP p) maxList ≡ true
-    → leb (depthT (planTree p)) maxDepth ≡ fits p
+    → leb (depthT (planTree p)) maxDepth ≡ within-limits p
 fits-is p b few lists = go (leb (depthT (planTree p)) maxDepth) refl
   where
-    go : (d : Bool) → leb (depthT (planTree p)) maxDepth ≡ d → d ≡ fits p
+    go : (d : Bool) → leb (depthT (planTree p)) maxDepth ≡ d → d ≡ within-limits p
     go true e = sym (fits-all p b few e lists)
     go false e = sym (fits-deep p e)

@@ -11,7 +11,7 @@ use Rattle.plan.specs.Syntax.{Expr, Plan, scan, filter, project, join, alias, u
 use Rattle.plan.specs.Lists.{all}
 use Rattle.acceptance.proofs.NamesRule.{ok}
 use Rattle.rewrite.specs.Utils.{split-conjunction, conjunction}
-use Rattle.rewrite.specs.Limits.{listP, fits}
+use Rattle.rewrite.specs.Limits.{listP, within-limits}
 use Rattle.rewrite.specs.RewriteAt.{Focus, focus}
 use Rattle.rewrite.specs.PushDownFilter.{simplify-filter}
 use Rattle.conjuncts.specs.Standing.{StandingP}
@@ -124,5 +124,5 @@ pub data Comes (s : List ℕ) (r : Rest) : Settled → Type 0 where
 
 -- whether the plans after each merge fit, where each stands in the place of c's; and if they do, where merging comes to rest
 pub record Settles (s : List ℕ) (r : Rest) (c : Focus) (ms : List Plan) (t : Settled) : Type 0 where
-  pub fit : r .fits ≡ all (λ m. fits (c .back m)) ms
+  pub fit : r .fits ≡ all (λ m. within-limits (c .back m)) ms
   pub comes : r .fits ≡ true → Comes s r t

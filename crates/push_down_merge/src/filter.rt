@@ -27,7 +27,7 @@ ghost use lib.ListN.{length};
 ghost use Rattle.image.specs.Buffers.{Scratch};
 ghost use Rattle.image.specs.Limits.{maxList, workBytes};
 ghost use Rattle.plan.specs.Syntax.{Expr, Plan, filter};
-ghost use Rattle.rewrite.specs.Limits.{fits, listP};
+ghost use Rattle.rewrite.specs.Limits.{within-limits, listP};
 ghost use Rattle.rewrite.specs.PushDownFilter.{merged, merges, merges-under, simplify-filter};
 ghost use Rattle.rewrite.specs.RewriteAt.{Focus};
 ghost use Rattle.rewrite.specs.Utils.{conjunction, split-conjunction};
@@ -108,7 +108,7 @@ fn merge_fits(
     requires { ⌜ Mergeable (now s) node p x ⌝ }
     requires { ⌜ Scratch (now work) (now levels) ⌝ }
     ensures { λ r. ⌜ ((w : Plan) (c : Focus) → Inside (now (s .entry)) node w c → (e : Expr) (q : Plan) → Made (now (s .entry)) p e →
-        StandingP (now (s .entry)) x q → listP q ≤ maxList → r ≡ fits (c .back (filter e q))) ⌝ }
+        StandingP (now (s .entry)) x q → listP q ≤ maxList → r ≡ within-limits (c .back (filter e q))) ⌝ }
 {
     let list = p.list;
     if MAX_LIST < list.len {

@@ -13,7 +13,7 @@ use Rattle.image.specs.Room.{cap}
 use Rattle.plan.specs.Syntax.{Plan}
 use Rattle.plan.specs.Trees.{planTree}
 use Rattle.plan.specs.Measure.{depthT}
-use Rattle.rewrite.specs.Limits.{listP, fits}
+use Rattle.rewrite.specs.Limits.{listP, within-limits}
 use Rattle.rewrite.specs.PushDownFilter.{Transformed}
 use Rattle.rewrite.specs.RewriteAt.{Focus}
 use Rattle.answers.specs.declared.splicing.Spot.{Spot}
@@ -27,7 +27,7 @@ use Rattle.push_down_merge.proofs.Tested.{few-records, fits-is}
 use Rattle.push_down_rewrite.specs.Outcomes.{Outcome, Replaces, Finishes}
 
 -- what does not fit is not asked for more
-pub unfit : {work : List ℕ} {r : Outcome} {b : Bool} {q : Plan} → r .fits ≡ false → r .flag ≡ b → false ≡ fits q → Finishes work r b q
+pub unfit : {work : List ℕ} {r : Outcome} {b : Bool} {q : Plan} → r .fits ≡ false → r .flag ≡ b → false ≡ within-limits q → Finishes work r b q
 unfit e f g = record { fit = e ∙ g; flag = f; written = λ y. no-yes (sym e ∙ y); image = λ y. no-yes (sym e ∙ y) }
 
 module _ {s levels work : List ℕ} {spot : Spot} {new : Written} {node : ℕ} {w : Plan} {c : Focus} {t : Transformed}
@@ -49,10 +49,10 @@ module _ {s levels work : List ℕ} {spot : Spot} {new : Written} {node : ℕ} {
     lists-back : leb (listP (c .back (t .plan))) maxList ≡ leb (listP (t .plan)) maxList
     lists-back = list-back w node c (h .inside .there) (t .plan) maxList (h .inside .lists)
 
-    pub too-many : maxRecords < n → false ≡ fits (c .back (t .plan))
+    pub too-many : maxRecords < n → false ≡ within-limits (c .back (t .plan))
     too-many many = go (leb (listP (t .plan)) maxList) refl
       where
-        go : (b : Bool) → leb (listP (t .plan)) maxList ≡ b → false ≡ fits (c .back (t .plan))
+        go : (b : Bool) → leb (listP (t .plan)) maxList ≡ b → false ≡ within-limits (c .back (t .plan))
         go true e = rw (fits-over (c .back (t .plan)) (begun-of (leb-true (listP (t .plan)) maxList e)) many)
         go false e = rw (fits-long (c .back (t .plan)) (lists-back ∙ e))
 
@@ -69,5 +69,5 @@ module _ {s levels work : List ℕ} {spot : Spot} {new : Written} {node : ℕ} {
       begun = begun-of lists-small
 
       -- then it fits exactly if its depth does
-      pub depth-decides : leb (depthT (planTree (c .back (t .plan)))) maxDepth ≡ fits (c .back (t .plan))
+      pub depth-decides : leb (depthT (planTree (c .back (t .plan)))) maxDepth ≡ within-limits (c .back (t .plan))
       depth-decides = fits-is (c .back (t .plan)) begun few (lists-back ∙ le-leb (listP (t .plan)) maxList lists-small)

@@ -15,7 +15,7 @@ use Rattle.plan.specs.Trees.{labelP, planTree}
 use Rattle.image.specs.Limits.{maxRecords, maxList}
 use borrow.Author.Tests.{le-leb}
 use Rattle.plan.proofs.Lists.{and-true, and-intro}
-use Rattle.rewrite.specs.Limits.{listP, fits}
+use Rattle.rewrite.specs.Limits.{listP, within-limits}
 use Rattle.rewrite.specs.PushDownFilter.{Transformed, Transformed·no, rewrite, merges, push-down-join}
 use Rattle.rewrite.specs.RewriteAt.{Focus, result-fits}
 use Rattle.push_down_base.specs.Arms.{Placed}
@@ -49,11 +49,11 @@ refuses e f = record {
 }
 
 -- the answer is written
-pub finishes : {work : List ℕ} {r : Outcome} {w : Plan} {c : Focus} → all (λ m. fits (c .back m)) (merges (c .plan)) ≡ true
+pub finishes : {work : List ℕ} {r : Outcome} {w : Plan} {c : Focus} → all (λ m. within-limits (c .back m)) (merges (c .plan)) ≡ true
     → Finishes work r (rewrite (c .plan) .transformed) (answer c) → Outcomes work r w c
 unfolding result-fits
 finishes {c = c} m f = record {
-  fit = f .fit ∙ sym (ap (λ b. fits (answer c) & b) m ∙ and-true (fits (answer c)));
+  fit = f .fit ∙ sym (ap (λ b. within-limits (answer c) & b) m ∙ and-true (within-limits (answer c)));
   flag = λ y. f .flag;
   image = λ y z. f .image y;
   same = λ y z. no-yes (sym z ∙ f .written y);
@@ -63,12 +63,12 @@ finishes {c = c} m f = record {
 
 module _ {s : List ℕ} {rest : Rest} {c : Focus} {e : Expr} {q : Plan} (is : c .plan ≡ filter e q)
     (h : Settles s rest c (merges (filter e q)) (settle-first e q)) where
-  fitting : rest .fits ≡ all (λ m. fits (c .back m)) (merges (c .plan))
-  fitting = h .fit ∙ ap (λ p. all (λ m. fits (c .back m)) (merges p)) (sym is)
+  fitting : rest .fits ≡ all (λ m. within-limits (c .back m)) (merges (c .plan))
+  fitting = h .fit ∙ ap (λ p. all (λ m. within-limits (c .back m)) (merges p)) (sym is)
 
   pub merge-unfit : rest .fits ≡ false → false ≡ result-fits c
   unfolding result-fits
-  merge-unfit n = sym (ap (λ b. fits (answer c) & b) (sym fitting ∙ n) ∙ and-false (fits (answer c)))
+  merge-unfit n = sym (ap (λ b. within-limits (answer c) & b) (sym fitting ∙ n) ∙ and-false (within-limits (answer c)))
 
   pub filter-outcomes : {work : List ℕ} {r : Outcome} {w : Plan} → rest .fits ≡ true
       → Finishes work r (rewrite-settled (settle-first e q) .transformed) (c .back (rewrite-settled (settle-first e q) .plan)) → Outcomes work r w c
@@ -84,7 +84,7 @@ module _ {c : Focus} {k : Kind} {l q : Plan} {on : List Pair} {f : Option Expr} 
   unfolding rewrite merges all
   join-outcomes {work} {r} h =
       let i : push-down-join k l q on f [] ≡ rewrite (c .plan) = ap rewrite (sym is) in
-      finishes (ap (λ p. all (λ m. fits (c .back m)) (merges p)) is) (subst (λ t. Finishes work r (t .transformed) (c .back (t .plan))) i h)
+      finishes (ap (λ p. all (λ m. within-limits (c .back m)) (merges p)) is) (subst (λ t. Finishes work r (t .transformed) (c .back (t .plan))) i h)
 
 -- ---- any other plan
 
@@ -109,8 +109,8 @@ ways = record {
 }
 
 -- the image that was read is within the limits
-read-fits : {s : List ℕ} {node : ℕ} {w : Plan} {c : Focus} → Inside s node w c → fits w ≡ true
-unfolding fits depthP
+read-fits : {s : List ℕ} {node : ℕ} {w : Plan} {c : Focus} → Inside s node w c → within-limits w ≡ true
+unfolding within-limits depthP
 read-fits {w = w} h =
     and-intro (le-leb (sizeP w) maxRecords (few-records h))
     (and-intro (deep-tested (planTree w) (h .root .deep)) (le-leb (listP w) maxList (h .lists)))
@@ -125,7 +125,7 @@ stays-outcomes {w = w} {node = node} {c = c} h u t y f n =
     record {
       fit =
           y
-          ∙ sym (ap (λ ms. fits (answer c) & all (λ m. fits (c .back m)) ms) (u .unmerged t) ∙ and-true (fits (answer c)) ∙ ap fits back
+          ∙ sym (ap (λ ms. within-limits (answer c) & all (λ m. within-limits (c .back m)) ms) (u .unmerged t) ∙ and-true (within-limits (answer c)) ∙ ap within-limits back
           ∙ read-fits h);
       flag = λ z. f ∙ sym (ap (λ (t : Transformed). t .transformed) k);
       image = λ z e. no-yes (sym n ∙ e);

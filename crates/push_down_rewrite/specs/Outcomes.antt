@@ -7,7 +7,7 @@ use lib.ListN.{length, take}
 use Rattle.image.specs.Limits.{workBytes}
 use Rattle.plan.specs.Syntax.{Plan}
 use Rattle.plan.specs.Measure.{sizeP}
-use Rattle.rewrite.specs.Limits.{fits}
+use Rattle.rewrite.specs.Limits.{within-limits}
 use Rattle.rewrite.specs.OnBytes.{imageOf}
 use Rattle.rewrite.specs.PushDownFilter.{Transformed, rewrite}
 use Rattle.rewrite.specs.RewriteAt.{Focus, result-fits}
@@ -45,7 +45,7 @@ pub record Image (work : List ℕ) (records : ℕ) (q : Plan) : Type 0 where
 
 -- the plan q was written, if it is within the limits
 pub record Finishes (work : List ℕ) (r : Outcome) (raised : Bool) (q : Plan) : Type 0 where
-  pub fit : r .fits ≡ fits q
+  pub fit : r .fits ≡ within-limits q
   pub flag : r .flag ≡ raised
   pub written : r .fits ≡ true → r .written ≡ true
   pub image : r .fits ≡ true → Image work (r .records) q

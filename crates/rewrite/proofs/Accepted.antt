@@ -2,10 +2,10 @@
 use mathlib.Core.Bool.{Bool}
 use Rattle.plan.specs.Lists.{_&_}
 use Rattle.plan.specs.Syntax.{Plan}
-use Rattle.rewrite.specs.Limits.{fits}
+use Rattle.rewrite.specs.Limits.{within-limits}
 use Rattle.acceptance.proofs.NamesRule.{names-rule}
 use Rattle.acceptance.proofs.TypesRule.{types-ok}
 
 -- the tests of the places Buffer (the records), Depth, Form (the lists), Name and Type
 unfoldable pub accepted : Plan → Bool
-accepted p = fits p & (names-rule p & types-ok p)
+accepted p = within-limits p & (names-rule p & types-ok p)

@@ -16,8 +16,8 @@ use Rattle.meaning.specs.Tables.{ScansFit, TablesFit}
 use Rattle.meaning.proofs.Tables.{fit-left, fit-right, fit-same}
 use Rattle.plan.specs.Schema.{schema, schema-first}
 use Rattle.rewrite.specs.PushDownFilter.{rewrite}
-use Rattle.rewrite.specs.Limits.{fits}
-use Rattle.rewrite.specs.RewriteAt.{Focus, FocusAll, here, inside, inside-all, first-of, later-of, focus, focus-all, Answer, granted}
+use Rattle.rewrite.specs.Limits.{within-limits}
+use Rattle.rewrite.specs.RewriteAt.{Focus, FocusAll, here, focusIn, inside-all, first-of, later-of, focus, focus-all, Answer, granted}
 use Rattle.rewrite.specs.RewriteAt.{refused, result-fits, rewrite-in, rewriteAt}
 use Rattle.acceptance.proofs.NamesRule.{ok, ok-all, rule, ok-names}
 use Rattle.plan.specs.Types.{types, types-first, scans, scans-all}
@@ -236,7 +236,7 @@ focus-here : {p : Plan} → ok p ≡ true → Focused p (here p)
 focus-here o = found (record { there = o; put-back = λ q k. k })
 
 focus-inside : {p r : Plan} {o : Option Focus} (f : Plan → Plan)
-    → ((q : Plan) → Keeps q p → Keeps (f q) r) → Focused p o → Focused r (inside f o)
+    → ((q : Plan) → Keeps q p → Keeps (f q) r) → Focused p o → Focused r (focusIn f o)
 focus-inside f step not-there = not-there
 focus-inside f step (found h) = found (record { there = h .there; put-back = λ q k. step _ (h .put-back q k) })
 
@@ -268,12 +268,12 @@ either-all false h k = k
 
 -- a plan r over one input p: the record is r's own, or one of p's
 focus-input : (here? : Bool) {p r : Plan} {o : Option Focus} (f : Plan → Plan) → ok r ≡ true
-    → ((q : Plan) → Keeps q p → Keeps (f q) r) → Focused p o → Focused r (choose here? (here r) (inside f o))
+    → ((q : Plan) → Keeps q p → Keeps (f q) r) → Focused p o → Focused r (choose here? (here r) (focusIn f o))
 focus-input here? f o step h = either here? (focus-here o) (focus-inside f step h)
 
 -- the same where the records of r's parts stand between
 focus-behind : (here? past? : Bool) {p r : Plan} {o : Option Focus} (f : Plan → Plan) → ok r ≡ true
-    → ((q : Plan) → Keeps q p → Keeps (f q) r) → Focused p o → Focused r (choose here? (here r) (choose past? (inside f o) none))
+    → ((q : Plan) → Keeps q p → Keeps (f q) r) → Focused p o → Focused r (choose here? (here r) (choose past? (focusIn f o) none))
 focus-behind here? past? f o step h = either here? (focus-here o) (either past? (focus-inside f step h) not-there)
 
 mutual
@@ -308,7 +308,7 @@ mutual
 
 pub record Leaves (q p : Plan) : Type 0 where
   pub keeps : Keeps q p
-  pub fitting : fits q ≡ true
+  pub fitting : within-limits q ≡ true
 
 pub data Answered (p : Plan) : Answer → Type 0 where
   was-granted : {f : Bool} {q : Plan} → Leaves q p → Answered p (granted f q)
@@ -336,7 +336,7 @@ pub record Kept (q p : Plan) : Type 0 where
   pub same-scans : scans q ≡ scans p
   pub accepted-again : accepted q ≡ true
 
-pub leaves-self : {p : Plan} → ok p ≡ true → fits p ≡ true → Leaves p p
+pub leaves-self : {p : Plan} → ok p ≡ true → within-limits p ≡ true → Leaves p p
 leaves-self o f = record { keeps = keeps-self o; fitting = f }
 
 pub accepted-ok : (p : Plan) → accepted p ≡ true → ok p ≡ true

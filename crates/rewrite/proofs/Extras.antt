@@ -10,11 +10,11 @@ use lib.Dec.{leb}
 use lib.IntN.{ℤ, pos, negsuc}
 use lib.Signed.{leZ}
 use borrow.Author.Tests.{leb-true}
-use Rattle.plan.specs.Lists.{_&_, keep, all, flat, All, anil, acons}
+use Rattle.plan.specs.Lists.{_&_, keep, all, flatten, All, anil, acons}
 use Rattle.plan.proofs.Lists.{and-l, and-r, All-append, all-cong, all-parts, all-append, all-map, all-of, and-intro}
 use Rattle.plan.specs.Syntax.{Value, null, int, truth, eq, Name, Expr, col, num, bool, nul, bin, and, or, cmp, neg, test, between, inlist}
 use Rattle.plan.specs.Syntax.{fn, Pair}
-use Rattle.meaning.specs.Meaning.{World, Env, isT, compare, eval}
+use Rattle.meaning.specs.Meaning.{World, Env, isT, compared, eval}
 use Rattle.meaning.proofs.Logic.{isT-tri}
 use Rattle.plan.specs.Schema.{same}
 use Rattle.plan.proofs.Names.{same-eq}
@@ -22,7 +22,7 @@ use Rattle.plan.specs.Columns.{on-cols}
 use Rattle.rewrite.specs.Utils.{replace-cols}
 use Rattle.rewrite.specs.SimplifyPredicates.{as-column}
 use Rattle.rewrite.specs.PushDownFilter.{both-or, either-and, guarded, extract-or-clause, is-or, listed, extract-or-clauses-for-join}
-use Rattle.rewrite.specs.PushDownFilter.{pair-of, partner, to-partner, swap-keys, nothing, infer-join-predicates, rest}
+use Rattle.rewrite.specs.PushDownFilter.{pair-of, partner, to-partner, swap-keys, no-partner, infer-join-predicates, rest}
 use Rattle.rewrite.proofs.Exprs.{eval-sub}
 
 -- ---- clauses out of ORs
@@ -103,8 +103,8 @@ module _ (c : Name → Bool) where
   one-holds W ρ e none f h = refl
   one-holds W ρ e (some x) f h = rw (f .implied W ρ h)
 
-  over-flat : (es : List Expr) → All (λ x. on-cols c x ≡ true) (flat (λ e. listed (extract-or-clause c e)) es)
-  unfolding flat
+  over-flat : (es : List Expr) → All (λ x. on-cols c x ≡ true) (flatten (λ e. listed (extract-or-clause c e)) es)
+  unfolding flatten
   over-flat [] = anil
   over-flat (e ∷ es) = All-append (one-over e _ (found e)) (over-flat es)
 
@@ -118,8 +118,8 @@ module _ (c : Name → Bool) where
   all-part t f es h = and-l _ _ (all-parts t f es ∙ h)
 
   holds-flat : (W : World) (ρ : Env) (es : List Expr) → all (λ x. isT (eval W ρ x)) es ≡ true
-      → all (λ x. isT (eval W ρ x)) (flat (λ e. listed (extract-or-clause c e)) es) ≡ true
-  unfolding flat all
+      → all (λ x. isT (eval W ρ x)) (flatten (λ e. listed (extract-or-clause c e)) es) ≡ true
+  unfolding flatten all
   holds-flat W ρ [] h = refl
   holds-flat W ρ (e ∷ es) h =
       all-append _ (listed (extract-or-clause c e)) _
@@ -144,7 +144,7 @@ eqZ (negsuc a) (pos b) h = cc (and-r _ _ h)
 eqZ (negsuc a) (negsuc b) h = ap negsuc (le-eq a b (and-r _ _ h) (and-l _ _ h))
 
 -- two values of which Eq is TRUE are one value
-pub eq-true : (a b : Value) → isT (compare eq a b) ≡ true → a ≡ b
+pub eq-true : (a b : Value) → isT (compared eq a b) ≡ true → a ≡ b
 unfolding _&_
 eq-true null b h = cc
 eq-true (int z) null h = cc
@@ -195,7 +195,7 @@ module _ (W : World) (ρ : Env) where
 
   module _ (on : List Pair) where
     keys-hold : Bool
-    keys-hold = all (λ (k : Pair). isT (compare eq (eval W ρ (k .lhs)) (eval W ρ (k .rhs)))) on
+    keys-hold = all (λ (k : Pair). isT (compared eq (eval W ρ (k .lhs)) (eval W ρ (k .rhs)))) on
 
   partner-ok : (on : List Pair) → keys-hold on ≡ true → (x : Name) → Agrees x (partner on x)
   unfolding keys-hold partner Agrees all
@@ -215,10 +215,10 @@ module _ (W : World) (ρ : Env) where
       eval-sub W (swap-keys on) ρ e ∙ ap (λ (τ : Env). eval W τ e) (fun-ext (λ x. to-partner-ok x _ (partner-ok on h x)))
 
   -- where the keys match, what is inferred is TRUE where the list is
-  pub inferred-hold : (on : List Pair) → all (λ (k : Pair). isT (compare eq (eval W ρ (k .lhs)) (eval W ρ (k .rhs)))) on ≡ true
+  pub inferred-hold : (on : List Pair) → all (λ (k : Pair). isT (compared eq (eval W ρ (k .lhs)) (eval W ρ (k .rhs)))) on ≡ true
       → (es : List Expr) → all (λ x. isT (eval W ρ x)) es ≡ true → all (λ x. isT (eval W ρ x)) (infer-join-predicates on es) ≡ true
   unfolding infer-join-predicates keys-hold
   inferred-hold on h es k =
-      all-map _ _ (keep (λ e. not (on-cols (λ x. nothing (partner on x)) e)) es)
+      all-map _ _ (keep (λ e. not (on-cols (λ x. no-partner (partner on x)) e)) es)
       ∙ all-cong _ _ (all-of (λ e. ap isT (swapped on h e)) _)
       ∙ all-part (λ x. true) _ _ es k

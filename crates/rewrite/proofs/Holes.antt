@@ -16,10 +16,10 @@ use Rattle.plan.proofs.Measure.{size-repartition, size-limit, size-aggregate, s
 use Rattle.plan.proofs.Measure.{deep-project, deep-left, deep-right, deep-alias, deep-union, deep-distinct, deep-sort, deep-repartition}
 use Rattle.plan.proofs.Measure.{deep-limit, deep-aggregate, deep-window, deep-first, deep-later}
 use Rattle.plan.specs.Trees.{entryKids, keyKids, aggKids, winKids}
-use Rattle.rewrite.specs.RewriteAt.{Focus, FocusAll, here, inside, inside-all, first-of, later-of, focus, focus-all}
+use Rattle.rewrite.specs.RewriteAt.{Focus, FocusAll, here, focusIn, inside-all, first-of, later-of, focus, focus-all}
 
 pub record Holed (n level : ℕ) (C : Plan → Plan) : Type 0 where
-  pub found : (m : ℕ) (t : Plan) → m < sizeP t → focus (n + m) (C t) ≡ inside C (focus m t)
+  pub found : (m : ℕ) (t : Plan) → m < sizeP t → focus (n + m) (C t) ≡ focusIn C (focus m t)
   pub room : (t : Plan) → n + sizeP t ≤ sizeP (C t)
   pub deep : (t : Plan) → level + depthP t ≤ depthP (C t)
 
@@ -49,31 +49,31 @@ focus-start (window ws p) = refl
 pub found-here : {n level : ℕ} {C : Plan → Plan} → Holed n level C → (t : Plan) → focus n (C t) ≡ some (record { plan = t; back = C })
 found-here {n} {level} {C} h t =
     let e : n ≡ n + 0 = omega arith in
-    ap (λ i. focus i (C t)) e ∙ h .found 0 t (one-record t) ∙ ap (inside C) (focus-start t)
+    ap (λ i. focus i (C t)) e ∙ h .found 0 t (one-record t) ∙ ap (focusIn C) (focus-start t)
 
 -- ---- the whole, and one within another
 
-inside-self : (o : Option Focus) → o ≡ inside (λ q. q) o
+inside-self : (o : Option Focus) → o ≡ focusIn (λ q. q) o
 inside-self none = refl
 inside-self (some c) = refl
 
-inside-twice : (f g : Plan → Plan) (o : Option Focus) → inside f (inside g o) ≡ inside (λ q. f (g q)) o
+inside-twice : (f g : Plan → Plan) (o : Option Focus) → focusIn f (focusIn g o) ≡ focusIn (λ q. f (g q)) o
 inside-twice f g none = refl
 inside-twice f g (some c) = refl
 
 pub whole : Holed 0 0 (λ q. q)
 whole = record { found = λ m t h. at-zero m t; room = λ t. omega arith; deep = λ t. omega arith }
   where
-    at-zero : (m : ℕ) (t : Plan) → focus (0 + m) t ≡ inside (λ q. q) (focus m t)
+    at-zero : (m : ℕ) (t : Plan) → focus (0 + m) t ≡ focusIn (λ q. q) (focus m t)
     at-zero m t = let e : 0 + m ≡ m = omega arith in ap (λ i. focus i t) e ∙ inside-self (focus m t)
 
 module _ {n k a b : ℕ} (i l : ℕ) (C D : Plan → Plan) (h : Holed n a C) (g : Holed k b D) (e : i ≡ n + k) (f : l ≡ a + b) where
-  within-found : (m : ℕ) (t : Plan) → m < sizeP t → focus (i + m) (C (D t)) ≡ inside (λ q. C (D q)) (focus m t)
+  within-found : (m : ℕ) (t : Plan) → m < sizeP t → focus (i + m) (C (D t)) ≡ focusIn (λ q. C (D q)) (focus m t)
   within-found m t s =
       let j : i + m ≡ n + (k + m) = omega arith in
       ap (λ x. focus x (C (D t))) j
       ∙ h .found (k + m) (D t) (omega (arith, g .room t))
-      ∙ ap (inside C) (g .found m t s)
+      ∙ ap (focusIn C) (g .found m t s)
       ∙ inside-twice C D (focus m t)
 
   pub within : Holed i l (λ q. C (D q))
@@ -83,7 +83,7 @@ module _ {n k a b : ℕ} (i l : ℕ) (C D : Plan → Plan) (h : Holed n a C) (g 
 
 -- a plan's input: none of the records before it is found, and it is found at `k`
 after-parts : (k m : ℕ) (p : Plan) (f : Plan → Plan) (o : ℕ → Option Focus)
-    → choose (eqb (suc k + m) 0) (here p) (choose (leb (suc k) (suc k + m)) (inside f (o (suc k + m - suc k))) none) ≡ inside f (o m)
+    → choose (eqb (suc k + m) 0) (here p) (choose (leb (suc k) (suc k + m)) (focusIn f (o (suc k + m - suc k))) none) ≡ focusIn f (o m)
 unfolding choose
 after-parts k m p f o =
     let e : suc k + m - suc k ≡ m = omega arith in
@@ -115,7 +115,7 @@ pub in-alias : (q : ℕ) → Holed 1 1 (alias q)
 unfolding focus
 in-alias q =
     record {
-      found = λ m t h. right-behind m (alias q t) (λ i. inside (alias q) (focus i t));
+      found = λ m t h. right-behind m (alias q t) (λ i. focusIn (alias q) (focus i t));
       room = λ t. omega (arith, size-alias q t);
       deep = λ t. deep-alias q t;
     }
@@ -124,7 +124,7 @@ pub in-distinct : Holed 1 1 distinct
 unfolding focus
 in-distinct =
     record {
-      found = λ m t h. right-behind m (distinct t) (λ i. inside distinct (focus i t));
+      found = λ m t h. right-behind m (distinct t) (λ i. focusIn distinct (focus i t));
       room = λ t. omega (arith, size-distinct t);
       deep = λ t. deep-distinct t;
     }
@@ -142,7 +142,7 @@ pub in-repartition : Holed 1 1 repartition
 unfolding focus
 in-repartition =
     record {
-      found = λ m t h. right-behind m (repartition t) (λ i. inside repartition (focus i t));
+      found = λ m t h. right-behind m (repartition t) (λ i. focusIn repartition (focus i t));
       room = λ t. omega (arith, size-repartition t);
       deep = λ t. deep-repartition t;
     }
@@ -151,7 +151,7 @@ pub in-limit : (n k : ℕ) → Holed 1 1 (limit n k)
 unfolding focus
 in-limit n k =
     record {
-      found = λ m t h. right-behind m (limit n k t) (λ i. inside (limit n k) (focus i t));
+      found = λ m t h. right-behind m (limit n k t) (λ i. focusIn (limit n k) (focus i t));
       room = λ t. omega (arith, size-limit n k t);
       deep = λ t. deep-limit n k t;
     }
@@ -192,7 +192,7 @@ pub in-left : (k : Kind) (r : Plan) (on : List Pair) (g : Option Expr) → Holed
 unfolding focus
 in-left k r on g =
     record {
-      found = λ m t h. before-right (sizeP t) m (join k t r on g) _ (λ i. inside (λ q. join k q r on g) (focus i t)) h;
+      found = λ m t h. before-right (sizeP t) m (join k t r on g) _ (λ i. focusIn (λ q. join k q r on g) (focus i t)) h;
       room = λ t. omega (arith, size-join k t r on g);
       deep = λ t. deep-left k t r on g;
     }
@@ -201,18 +201,18 @@ pub in-right : (k : Kind) (l : Plan) (on : List Pair) (g : Option Expr) → Hole
 unfolding focus
 in-right k l on g =
     record {
-      found = λ m t h. from-right (sizeP l) m (join k l t on g) (λ i. inside (λ q. join k l q on g) (focus i t)) _;
+      found = λ m t h. from-right (sizeP l) m (join k l t on g) (λ i. focusIn (λ q. join k l q on g) (focus i t)) _;
       room = λ t. omega (arith, size-join k l t on g);
       deep = λ t. deep-right k l t on g;
     }
 
 -- ---- the inputs of a Union: the first of a run, and the run behind it
 
-all-inside : (C : Plan → Plan) (o : Option FocusAll) → inside C (inside-all union o) ≡ inside-all (λ ps. C (union ps)) o
+all-inside : (C : Plan → Plan) (o : Option FocusAll) → focusIn C (inside-all union o) ≡ inside-all (λ ps. C (union ps)) o
 all-inside C none = refl
 all-inside C (some c) = refl
 
-first-inside : (C : Plans → Plan) (ps : Plans) (o : Option Focus) → inside-all C (first-of ps o) ≡ inside (λ q. C (pcons q ps)) o
+first-inside : (C : Plans → Plan) (ps : Plans) (o : Option Focus) → inside-all C (first-of ps o) ≡ focusIn (λ q. C (pcons q ps)) o
 first-inside C ps none = refl
 first-inside C ps (some c) = refl
 
@@ -227,7 +227,7 @@ module _ {n a : ℕ} (i l : ℕ) (C : Plan → Plan) (h : Holed n a C) (e : i �
       let j : i + m ≡ n + (1 + m) = omega arith in
       ap (λ x. focus x (C (union ts))) j
       ∙ h .found (1 + m) (union ts) (omega (arith, size-union ts))
-      ∙ ap (inside C) (right-behind m (union ts) (λ i. inside-all union (focus-all i ts)))
+      ∙ ap (focusIn C) (right-behind m (union ts) (λ i. inside-all union (focus-all i ts)))
       ∙ all-inside C (focus-all m ts)
 
   pub in-union : HoledAll i l (λ ps. C (union ps))
@@ -247,7 +247,7 @@ unfolding focus choose
 focus-later m p ts = let d : sizeP p + m - sizeP p ≡ m = omega arith in rw (le-leb (sizeP p) (sizeP p + m) (omega arith), d)
 
 module _ {n a : ℕ} (C : Plans → Plan) (h : HoledAll n a C) where
-  first-found : (ps : Plans) (m : ℕ) (t : Plan) → m < sizeP t → focus (n + m) (C (pcons t ps)) ≡ inside (λ q. C (pcons q ps)) (focus m t)
+  first-found : (ps : Plans) (m : ℕ) (t : Plan) → m < sizeP t → focus (n + m) (C (pcons t ps)) ≡ focusIn (λ q. C (pcons q ps)) (focus m t)
   first-found ps m t s =
       h .found m (pcons t ps) (omega (arith, size-pcons t ps))
       ∙ ap (inside-all C) (focus-first m t ps s)

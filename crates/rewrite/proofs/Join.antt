@@ -7,7 +7,7 @@ use lib.ListN.{length, length-replicate}
 use Rattle.plan.specs.Lists.{_&_, all, All}
 use Rattle.plan.proofs.Lists.{and-left-comm, and-sort, All-map, all-cong}
 use Rattle.plan.specs.Syntax.{null, eq, Name, Expr, Pair, Kind, inner, left, right, leftSemi, rightSemi, leftAnti, rightAnti, Plan, join}
-use Rattle.meaning.specs.Meaning.{World, Env, Row, isT, compare, look, eval, sats, sat?, keys-match, matching, nulls, rows}
+use Rattle.meaning.specs.Meaning.{World, Env, Row, isT, compared, look, eval, sats, sat?, keys-match, matching, nulls, rows}
 use Rattle.plan.specs.Schema.{schema, has, nodup}
 use Rattle.plan.proofs.Names.{apart}
 use Rattle.meaning.proofs.Names.{look-left, look-right}
@@ -42,7 +42,7 @@ module _ (W : World) where
   holds-all ρ es = all (λ e. isT (eval W ρ e)) es
 
   abbrev pub keys-in : Env → List Pair → Bool
-  keys-in ρ on = all (λ (k : Pair). isT (compare eq (eval W ρ (k .lhs)) (eval W ρ (k .rhs)))) on
+  keys-in ρ on = all (λ (k : Pair). isT (compared eq (eval W ρ (k .lhs)) (eval W ρ (k .rhs)))) on
 
   pub sat?-conj : (s : List Name) (es : List Expr) (r : Row) → sat? W s (conjunction es) r ≡ sats W s es r
   unfolding conjunction all
@@ -66,7 +66,7 @@ module _ (W : World) where
         → All (λ (k : Pair). (on-cols (has s) (k .lhs) ≡ true) × (on-cols (has t) (k .rhs) ≡ true)) on
         → keys-match W s t on a b ≡ keys-in (look (s ++ t) (a ++ b)) on
     keys-match-in h =
-        all-cong _ _ (All-map (λ (k : Pair) hk. ap isT (ap₂ (compare eq) (left-eval (k .lhs) (hk .0)) (right-eval (k .rhs) (hk .1)))) h)
+        all-cong _ _ (All-map (λ (k : Pair) hk. ap isT (ap₂ (compared eq) (left-eval (k .lhs) (hk .0)) (right-eval (k .rhs) (hk .1)))) h)
 
   -- a pair of rows as an environment; what stands above the join says of the pair; that the pair matches under a filter
   module _ (l r : Plan) where

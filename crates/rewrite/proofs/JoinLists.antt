@@ -3,7 +3,7 @@
 use mathlib.Core.Path.{_≡_, refl, sym, ap, ap₂, _∙_}
 use mathlib.Core.Bool.{Bool, true, false, not, _||_}
 use mathlib.Core.List.{List, [], _∷_, map}
-use Rattle.plan.specs.Lists.{_&_, put, when, keep, any, flat, All, anil, acons}
+use Rattle.plan.specs.Lists.{_&_, put, when, keep, any, flatten, All, anil, acons}
 use Rattle.plan.proofs.Lists.{and-comm, and-sort, All-map, All-mapped, All-keep, keep-keep, keep-map, keep-flat}
 use Rattle.plan.proofs.Lists.{keep-cong, keep-when, flat-cong, flat-keep}
 use Rattle.meaning.specs.Meaning.{outer, or-else}
@@ -52,7 +52,7 @@ module _ {A B : Type 0} (m m′ : A → B → Bool) (a : A → Bool) (b : B → 
     -- Inner: tests of a pair move freely between above, the join and both sides
     pub inner-law : {xs : List A} {ys : List B}
         → All (λ x. All (λ y. m x y & p (f x y) ≡ (a x & (b y & m′ x y)) & k (f x y)) ys) xs
-        → keep p (flat (λ x. map (f x) (keep (m x) ys)) xs) ≡ keep k (flat (λ x. map (f x) (keep (m′ x) (keep b ys))) (keep a xs))
+        → keep p (flatten (λ x. map (f x) (keep (m x) ys)) xs) ≡ keep k (flatten (λ x. map (f x) (keep (m′ x) (keep b ys))) (keep a xs))
     inner-law {xs} {ys} h =
         simp (keep-flat, keep-map, keep-keep, flat-keep, ← map-when, ← keep-and)
         (flat-cong _ _ (All-map (λ x hx. ap (map (f x)) (keep-cong _ _ hx)) h))

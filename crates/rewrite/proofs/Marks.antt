@@ -16,11 +16,11 @@ use Rattle.plan.specs.Syntax.{Name, Expr, col, num, bool, nul, bin, neg, test, 
 use Rattle.plan.specs.Syntax.{Key, AggEntry, WinEntry, Kind, Plans, pnil, pcons, Plan, scan, filter, project, join, alias, union, distinct}
 use Rattle.plan.specs.Syntax.{sort, repartition, limit, aggregate, window}
 use Rattle.plan.specs.Kinds.{isPlan, whatOf, among}
-use Rattle.plan.specs.Trees.{columnLabel, labelE, kidsE, forestE, before, each, nothingBelow, fieldLabel, entryLabel, entryKids, pairLabel}
+use Rattle.plan.specs.Trees.{columnLabel, labelE, kidsE, forestE, inFront, each, nothingBelow, fieldLabel, entryLabel, entryKids, pairLabel}
 use Rattle.plan.specs.Trees.{pairKids, keyLabel, keyKids, aggLabel, aggKids, winLabel, winKids, filterKids, labelP, kidsP, forestP}
 use Rattle.plan.specs.Measure.{sizeE, sizeP, sizes}
 use Rattle.plan.proofs.KindRanges.{plan-number, plan-range}
-use Rattle.rewrite.specs.RewriteAt.{Focus, FocusAll, here, inside, inside-all, first-of, later-of, focus, focus-all}
+use Rattle.rewrite.specs.RewriteAt.{Focus, FocusAll, here, focusIn, inside-all, first-of, later-of, focus, focus-all}
 use Rattle.rewrite.proofs.PassByRecords.{plan-records, plan-records-all}
 
 -- which records hold plans, in reading order
@@ -97,7 +97,7 @@ plain-all l cs ns h k j =
     plain l cs ns h k ∙ ap (falses (suc (size cs)) ++_) j ∙ sym (falses-add (suc (size cs)) (size ns)) ∙ ap falses e
 
 plain-before : (e : Expr) (ns : Forest) → marks (kidsE e) ≡ falses (size (kidsE e)) → marks ns ≡ falses (size ns)
-    → marks (before e ns) ≡ falses (size (before e ns))
+    → marks (inFront e ns) ≡ falses (size (inFront e ns))
 plain-before e ns h k = plain-all (labelE e) (kidsE e) ns (expr-mark e) h k
 
 mutual
@@ -108,11 +108,11 @@ mutual
   plainE (num z) = refl
   plainE (bool b) = refl
   plainE (nul t) = refl
-  plainE (bin o a b) = plain-before a (before b none) (plainE a) (plain-before b none (plainE b) refl)
+  plainE (bin o a b) = plain-before a (inFront b none) (plainE a) (plain-before b none (plainE b) refl)
   plainE (neg a) = plain-before a none (plainE a) refl
   plainE (test t a) = plain-before a none (plainE a) refl
   plainE (between n a l u) =
-      plain-before a (before l (before u none)) (plainE a) (plain-before l (before u none) (plainE l) (plain-before u none (plainE u) refl))
+      plain-before a (inFront l (inFront u none)) (plainE a) (plain-before l (inFront u none) (plainE l) (plain-before u none (plainE u) refl))
   plainE (inlist n a xs) = plain-before a (forestE xs) (plainE a) (plainEs xs)
   plainE (fn p q r xs) = plainEs xs
 
@@ -120,7 +120,7 @@ mutual
   plainEs enil = refl
   plainEs (econs x xs) = plain-before x (forestE xs) (plainE x) (plainEs xs)
 
-plain-expr : (e : Expr) (ns : Forest) → marks ns ≡ falses (size ns) → marks (before e ns) ≡ falses (size (before e ns))
+plain-expr : (e : Expr) (ns : Forest) → marks ns ≡ falses (size ns) → marks (inFront e ns) ≡ falses (size (inFront e ns))
 plain-expr e ns h = plain-before e ns (plainE e) h
 
 module _ {A : Type 0} (l : A → Label) (k : A → Forest) (h : (x : A) → isPlan (l x) ≡ false) (j : (x : A) → marks (k x) ≡ falses (size (k x))) where
@@ -138,13 +138,13 @@ one-plan : (p : Plan) → marks (node (labelP p) (kidsP p) none) ≡ plan-marks 
 unfolding marks plan-marks
 one-plan p = ap (isPlan (labelP p) ∷_) (append-nil (marks (kidsP p)))
 
-partE : {A : Type 0} (f : A → Expr) (x : A) → marks (before (f x) none) ≡ falses (size (before (f x) none))
+partE : {A : Type 0} (f : A → Expr) (x : A) → marks (inFront (f x) none) ≡ falses (size (inFront (f x) none))
 unfolding marks falses
 partE f x = plain-expr (f x) none refl
 
 plain-pair : (k : Pair) → marks (pairKids k) ≡ falses (size (pairKids k))
 unfolding marks falses
-plain-pair k = plain-expr (k .lhs) (before (k .rhs) none) (plain-expr (k .rhs) none refl)
+plain-pair k = plain-expr (k .lhs) (inFront (k .rhs) none) (plain-expr (k .rhs) none refl)
 
 plain-columns : (xs : List Name) → marks (each columnLabel nothingBelow xs none) ≡ falses (size (each columnLabel nothingBelow xs none))
 unfolding each marks falses whatOf among
@@ -366,7 +366,7 @@ at-two xs ys m k w (suc n) =
     (getD-append xs (ys ++ falses m) n
     ∙ ap₂ (λ j b. choose (leb j n) b (getD xs n false)) w (getD-end ys m (n - length xs) ∙ ap (λ j. getD ys (n - j) false) w))
 
-some-inside : (f : Plan → Plan) (o : Option Focus) → is-some (inside f o) ≡ is-some o
+some-inside : (f : Plan → Plan) (o : Option Focus) → is-some (focusIn f o) ≡ is-some o
 some-inside f O.none = refl
 some-inside f (some c) = refl
 
@@ -389,14 +389,14 @@ some-choose false x y = refl
 
 -- one input behind `m` records, or right behind the plan's own
 inside-behind : (m n : ℕ) (xs : List Bool) (p : Plan) (f : Plan → Plan) (o : Option Focus) → is-some o ≡ getD xs (n - suc m) false
-    → is-some (choose (eqb n 0) (here p) (choose (leb (suc m) n) (inside f o) O.none)) ≡ getD (true ∷ (falses m ++ xs)) n false
+    → is-some (choose (eqb n 0) (here p) (choose (leb (suc m) n) (focusIn f o) O.none)) ≡ getD (true ∷ (falses m ++ xs)) n false
 inside-behind m n xs p f o h =
     some-choose (eqb n 0) (here p) _
-    ∙ ap (choose (eqb n 0) true) (some-choose (leb (suc m) n) (inside f o) O.none ∙ ap (λ b. choose (leb (suc m) n) b false) (some-inside f o ∙ h))
+    ∙ ap (choose (eqb n 0) true) (some-choose (leb (suc m) n) (focusIn f o) O.none ∙ ap (λ b. choose (leb (suc m) n) b false) (some-inside f o ∙ h))
     ∙ sym (at-behind m xs n)
 
 inside-next : (n : ℕ) (xs : List Bool) (p : Plan) (f : Plan → Plan) (o : Option Focus) → is-some o ≡ getD xs (n - 1) false
-    → is-some (choose (eqb n 0) (here p) (inside f o)) ≡ getD (true ∷ xs) n false
+    → is-some (choose (eqb n 0) (here p) (focusIn f o)) ≡ getD (true ∷ xs) n false
 inside-next n xs p f o h = some-choose (eqb n 0) (here p) _ ∙ ap (choose (eqb n 0) true) (some-inside f o ∙ h) ∙ sym (at-next xs n)
 
 mutual

@@ -18,8 +18,8 @@ use Rattle.rewrite.specs.PushDownFilter.{rewrite}
 use Rattle.plan.specs.Measure.{sizeE, sizes, sizeP, depthP}
 use Rattle.plan.proofs.Measure.{sizePs, size-filter, size-project, size-join, size-alias, size-union, size-distinct, size-sort}
 use Rattle.plan.proofs.Measure.{size-repartition, size-limit, size-aggregate, size-window, size-pnil, size-pcons, one-record, one-level}
-use Rattle.rewrite.specs.Limits.{fits}
-use Rattle.rewrite.specs.RewriteAt.{Focus, here, inside, focus, Answer, granted, refused, result-fits, rewrite-in, rewriteAt}
+use Rattle.rewrite.specs.Limits.{within-limits}
+use Rattle.rewrite.specs.RewriteAt.{Focus, here, focusIn, focus, Answer, granted, refused, result-fits, rewrite-in, rewriteAt}
 use Rattle.rewrite.specs.Pass.{inputs, first-input, of-focus, at-record, Walk, walking, spent, failed, and-then, each-input, visit}
 use Rattle.rewrite.specs.Pass.{PassAnswer, passed, pass-refused, report, pass, plans}
 use Rattle.rewrite.proofs.PassByRecords.{plan-from, visits, pass-by-records}
@@ -32,7 +32,7 @@ use Rattle.rewrite.proofs.Inputs.{inputs-aggregate, inputs-window}
 
 -- `r`, what the pass by records answers, seen from a walk through what stands in `C` at record `n`
 data Reached {A : Type 0} (size : A → ℕ) (n : ℕ) (C : A → Plan) (r : PassAnswer) : Walk → Type 0 where
-  goes-on : {b v c : ℕ} (a : A) → fits (C a) ≡ true → r ≡ visits b (plan-from (n + size a) (C a)) (C a) v c → Reached size n C r (walking (C a) b v c)
+  goes-on : {b v c : ℕ} (a : A) → within-limits (C a) ≡ true → r ≡ visits b (plan-from (n + size a) (C a)) (C a) v c → Reached size n C r (walking (C a) b v c)
   stops : {q : Plan} {v c : ℕ} → r ≡ passed v c 0 q → Reached size n C r (spent q v c)
   fails : {k i : ℕ} → r ≡ pass-refused k i → Reached size n C r (failed k i)
 
@@ -45,7 +45,7 @@ rewritten size n C e (fails h) = fails (e ∙ h)
 module _ {A B : Type 0} (sizeA : A → ℕ) (sizeB : B → ℕ) (n m : ℕ) (C : A → Plan) (D : B → Plan) where
   -- a walk, and then another
   then-reached : {r : PassAnswer} {w : Walk} (g : Plan → ℕ → ℕ → ℕ → Walk)
-      → ((a : A) (b v c : ℕ) → fits (C a) ≡ true → r ≡ visits b (plan-from (n + sizeA a) (C a)) (C a) v c → Reached sizeB m D r (g (C a) b v c))
+      → ((a : A) (b v c : ℕ) → within-limits (C a) ≡ true → r ≡ visits b (plan-from (n + sizeA a) (C a)) (C a) v c → Reached sizeB m D r (g (C a) b v c))
       → Reached sizeA n C r w → Reached sizeB m D r (and-then w g)
   then-reached g k (goes-on a f h) = k a _ _ _ f h
   then-reached g k (stops h) = stops h
@@ -66,7 +66,7 @@ gap {n} C h t zero i s f = let e : n + i ≡ n + (i + 0) = omega arith in ap (λ
 gap {n} C h t (suc count) i s f =
     let e : suc (n + i) ≡ n + suc i = omega arith in
     let e' : n + (suc i + count) ≡ n + (i + suc count) = omega arith in
-    from-later (n + i) (C t) (h .found i t (omega arith) ∙ ap (inside C) (f i (omega arith) (omega arith)))
+    from-later (n + i) (C t) (h .found i t (omega arith) ∙ ap (focusIn C) (f i (omega arith) (omega arith)))
     ∙ ap (λ x. plan-from x (C t)) e
     ∙ gap C h t count (suc i) (omega arith) (λ m j l. f m (omega arith) (omega arith))
     ∙ ap (λ x. plan-from x (C t)) e'
@@ -88,20 +88,20 @@ unfolding choose
 not-first m p h = rw (ne-eqb m 0 (λ e. omega arith))
 
 right-end : (m l : ℕ) (p : Plan) (f : Plan → Plan) (r : Plan) (x : Option Focus) → suc l ≤ m → sizeP r ≤ m - suc l
-    → choose (eqb m 0) (here p) (choose (leb (suc l) m) (inside f (focus (m - suc l) r)) x) ≡ none
+    → choose (eqb m 0) (here p) (choose (leb (suc l) m) (focusIn f (focus (m - suc l) r)) x) ≡ none
 unfolding choose
 right-end m l p f r x i j = rw (ne-eqb m 0 (λ e. omega arith), le-leb (suc l) m i, focus-end (m - suc l) r j)
 
 -- ---- the inputs of a plan that stands in `C` at record `n`, if the visits one level below agree
 
 module _ (d level : ℕ)
-    (below : (n : ℕ) (C : Plan → Plan) → Holed n (suc level) C → (t : Plan) → fits (C t) ≡ true → (b v c : ℕ)
+    (below : (n : ℕ) (C : Plan → Plan) → Holed n (suc level) C → (t : Plan) → within-limits (C t) ≡ true → (b v c : ℕ)
     → Reached sizeP n C (visits b (some n) (C t) v c) (visit d n (C t) b v c))
     {n : ℕ} (C : Plan → Plan) (h : Holed n level C) where
   -- one input, the only one or the last
   last-input : {k : ℕ} (i : ℕ) (F : Plan → Plan) → Holed k 1 F → i ≡ n + k
       → ((s : Plan) → plan-from (i + sizeP s) (C (F s)) ≡ plan-from (n + sizeP (F s)) (C (F s)))
-      → (s : Plan) → fits (C (F s)) ≡ true → (b v c : ℕ)
+      → (s : Plan) → within-limits (C (F s)) ≡ true → (b v c : ℕ)
       → Reached sizeP n C (visits b (plan-from i (C (F s))) (C (F s)) v c) (each-input (visit d) 1 i (C (F s)) b v c)
   unfolding each-input
   last-input i F g e tail s f b v c =
@@ -114,7 +114,7 @@ module _ (d level : ℕ)
   one-input : (k : ℕ) (F : Plan → Plan) → Holed (suc k) 1 F
       → ((s : Plan) → sizeP (F s) ≡ suc (k + sizeP s))
       → ((s : Plan) (m : ℕ) → 0 < m → m < suc k → focus m (F s) ≡ none)
-      → (s : Plan) → fits (C (F s)) ≡ true → (b v c : ℕ)
+      → (s : Plan) → within-limits (C (F s)) ≡ true → (b v c : ℕ)
       → Reached sizeP n C (visits b (plan-from (suc n) (C (F s))) (C (F s)) v c) (each-input (visit d) 1 (n + suc k) (C (F s)) b v c)
   one-input k F g exact empty s f b v c =
       let e : suc n ≡ n + 1 = omega arith in
@@ -129,11 +129,11 @@ module _ (d level : ℕ)
       s f b v c)
 
   -- right behind it
-  next-input : (F : Plan → Plan) → Holed 1 1 F → ((s : Plan) → sizeP (F s) ≡ suc (sizeP s)) → (s : Plan) → fits (C (F s)) ≡ true → (b v c : ℕ)
+  next-input : (F : Plan → Plan) → Holed 1 1 F → ((s : Plan) → sizeP (F s) ≡ suc (sizeP s)) → (s : Plan) → within-limits (C (F s)) ≡ true → (b v c : ℕ)
       → Reached sizeP n C (visits b (plan-from (suc n) (C (F s))) (C (F s)) v c) (each-input (visit d) 1 (n + 1) (C (F s)) b v c)
   next-input F g exact s f b v c = one-input 0 F g (λ s. omega (arith, exact s)) (λ s m i l. absurd (omega arith)) s f b v c
 
-  no-input : (t : Plan) → ((m : ℕ) → 0 < m → focus m t ≡ none) → fits (C t) ≡ true → (b v c : ℕ)
+  no-input : (t : Plan) → ((m : ℕ) → 0 < m → focus m t ≡ none) → within-limits (C t) ≡ true → (b v c : ℕ)
       → Reached sizeP n C (visits b (plan-from (suc n) (C t)) (C t) v c) (walking (C t) b v c)
   no-input t empty f b v c =
       let e : suc n ≡ n + 1 = omega arith in
@@ -156,7 +156,7 @@ module _ (d level : ℕ)
       ∙ gap C h t (sizeP t - i) i (omega arith) (λ m s u. right-end m (sizeP l) t _ r _ (omega arith) (omega arith))
       ∙ ap (λ x. plan-from x (C t)) e'
 
-  right-input : (k : Kind) (on : List Pair) (g : Option Expr) (l r : Plan) (b v c : ℕ) → fits (C (join k l r on g)) ≡ true
+  right-input : (k : Kind) (on : List Pair) (g : Option Expr) (l r : Plan) (b v c : ℕ) → within-limits (C (join k l r on g)) ≡ true
       → {x : PassAnswer} → x ≡ visits b (plan-from (n + 1 + sizeP l) (C (join k l r on g))) (C (join k l r on g)) v c
       → Holed (n + 1) (suc level) (λ q. C (join k q r on g))
       → Reached sizeP n C x (each-input (visit d) 1 (n + 1 + at-record sizeP (n + 1) (C (join k l r on g))) (C (join k l r on g)) b v c)
@@ -164,7 +164,7 @@ module _ (d level : ℕ)
       rw (at-hole (λ q. C (join k q r on g)) w sizeP l)
       (rewritten sizeP n C e (last-input (n + 1 + sizeP l) (λ q. join k l q on g) (in-right k l on g) (omega arith) (join-tail k on g l) r f b v c))
 
-  two-inputs : (k : Kind) (l r : Plan) (on : List Pair) (g : Option Expr) → fits (C (join k l r on g)) ≡ true → (b v c : ℕ)
+  two-inputs : (k : Kind) (l r : Plan) (on : List Pair) (g : Option Expr) → within-limits (C (join k l r on g)) ≡ true → (b v c : ℕ)
       → Reached sizeP n C (visits b (plan-from (suc n) (C (join k l r on g))) (C (join k l r on g)) v c)
       (each-input (visit d) 2 (n + 1) (C (join k l r on g)) b v c)
   unfolding each-input
@@ -177,7 +177,7 @@ module _ (d level : ℕ)
       (rewritten sizeP (n + 1) L (ap (λ o. visits b o (L l) v c) (ap (λ x. plan-from x (L l)) e ∙ enter L w l)) (below (n + 1) L w l f b v c))
 
   -- a run of inputs of a Union
-  run-of-inputs : (ps : Plans) (i : ℕ) (K : Plans → Plan) → HoledAll i (suc level) K → fits (K ps) ≡ true → (b v c : ℕ)
+  run-of-inputs : (ps : Plans) (i : ℕ) (K : Plans → Plan) → HoledAll i (suc level) K → within-limits (K ps) ≡ true → (b v c : ℕ)
       → {r : PassAnswer} → r ≡ visits b (plan-from i (K ps)) (K ps) v c
       → Reached sizePs i K r (each-input (visit d) (plans (forestP ps)) i (K ps) b v c)
   unfolding each-input
@@ -195,7 +195,7 @@ module _ (d level : ℕ)
       (run-of-inputs ps (i + sizeP a) (λ ts. K (pcons a ts)) (in-later K w a) f b v c e)))
       (rewritten sizeP i F (e ∙ ap (λ o. visits b o (F p) v c) (enter F u p)) (below i F u p f b v c)))
 
-  union-inputs : (ps : Plans) → fits (C (union ps)) ≡ true → (b v c : ℕ)
+  union-inputs : (ps : Plans) → within-limits (C (union ps)) ≡ true → (b v c : ℕ)
       → Reached sizeP n C (visits b (plan-from (suc n) (C (union ps))) (C (union ps)) v c)
       (each-input (visit d) (plans (forestP ps)) (n + 1) (C (union ps)) b v c)
   union-inputs ps f b v c =
@@ -210,7 +210,7 @@ module _ (d level : ℕ)
       → Reached sizeP n C r (each-input (visit d) (inputs t) (n + first-input t) (C t) b v c)
   standing i b v c h = rw (i .count, i .first) h
 
-  inputs-reached : (t : Plan) → fits (C t) ≡ true → (b v c : ℕ)
+  inputs-reached : (t : Plan) → within-limits (C t) ≡ true → (b v c : ℕ)
       → Reached sizeP n C (visits b (plan-from (suc n) (C t)) (C t) v c) (each-input (visit d) (inputs t) (n + first-input t) (C t) b v c)
   unfolding focus each-input
   inputs-reached (scan t fs es) f b v c = rw (no-inputs t fs es) (no-input (scan t fs es) (λ m i. not-first m _ i) f b v c)
@@ -239,13 +239,13 @@ module _ (d level : ℕ)
 
 -- ---- a visit, and the pass
 
-fits-deep : (p : Plan) → fits p ≡ true → depthP p ≤ maxDepth
-unfolding fits
+fits-deep : (p : Plan) → within-limits p ≡ true → depthP p ≤ maxDepth
+unfolding within-limits
 fits-deep p h = leb-true (depthP p) maxDepth (and-l _ _ (and-r _ _ h))
 
 -- a granted rewrite puts another plan that fits into the same place
 data Changed (C : Plan → Plan) : Answer → Type 0 where
-  changed : {flag : Bool} (t : Plan) → fits (C t) ≡ true → Changed C (granted flag (C t))
+  changed : {flag : Bool} (t : Plan) → within-limits (C t) ≡ true → Changed C (granted flag (C t))
   unchanged : {k r : ℕ} → Changed C (refused k r)
 
 rewrite-changed : {n level : ℕ} (C : Plan → Plan) → Holed n level C → (t : Plan) → Changed C (rewriteAt n (C t))
@@ -258,7 +258,7 @@ rewrite-changed {n} C h t = rw (found-here h t) (go (result-fits (record { plan 
     go false e = unchanged
 
 module _ (d level : ℕ)
-    (below : (n : ℕ) (C : Plan → Plan) → Holed n (suc level) C → (t : Plan) → fits (C t) ≡ true → (b v c : ℕ)
+    (below : (n : ℕ) (C : Plan → Plan) → Holed n (suc level) C → (t : Plan) → within-limits (C t) ≡ true → (b v c : ℕ)
     → Reached sizeP n C (visits b (some n) (C t) v c) (visit d n (C t) b v c))
     {n : ℕ} (C : Plan → Plan) (h : Holed n level C) where
   changed-reached : {a : Answer} → Changed C a → (b v c : ℕ)
@@ -271,7 +271,7 @@ module _ (d level : ℕ)
   changed-reached (changed t f) b v c = rw (at-hole C h inputs t, at-hole C h first-input t) (inputs-reached d level below C h t f b _ _)
   changed-reached unchanged b v c = fails refl
 
-visit-reached : (d level : ℕ) → level + d ≡ maxDepth → (n : ℕ) (C : Plan → Plan) → Holed n level C → (t : Plan) → fits (C t) ≡ true → (b v c : ℕ)
+visit-reached : (d level : ℕ) → level + d ≡ maxDepth → (n : ℕ) (C : Plan → Plan) → Holed n level C → (t : Plan) → within-limits (C t) ≡ true → (b v c : ℕ)
     → Reached sizeP n C (visits b (some n) (C t) v c) (visit d n (C t) b v c)
 unfolding visit visits
 visit-reached zero level e n C h t f b v c = absurd (omega (arith, h .deep t, one-level t, fits-deep (C t) f))
@@ -289,6 +289,6 @@ reported (goes-on {b = b} {v = v} {c = c} t f h) = sym (h ∙ ap (λ o. visits b
 reported (stops h) = sym h
 reported (fails h) = sym h
 
-pub pass-agrees : (budget : ℕ) (p : Plan) → fits p ≡ true → pass budget p ≡ pass-by-records budget p
+pub pass-agrees : (budget : ℕ) (p : Plan) → within-limits p ≡ true → pass budget p ≡ pass-by-records budget p
 unfolding pass pass-by-records
 pass-agrees budget p f = reported (visit-reached maxDepth 0 (omega arith) 0 (λ q. q) whole p f budget 0 0)

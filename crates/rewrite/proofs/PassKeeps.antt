@@ -9,7 +9,7 @@ use Rattle.plan.proofs.Lists.{and-l, and-r}
 use Rattle.plan.specs.Trees.{bitOf}
 use Rattle.plan.specs.Syntax.{Plan}
 use Rattle.plan.specs.Measure.{sizeP}
-use Rattle.rewrite.specs.Limits.{fits}
+use Rattle.rewrite.specs.Limits.{within-limits}
 use Rattle.rewrite.specs.RewriteAt.{Answer, granted, refused, rewriteAt}
 use Rattle.rewrite.specs.Pass.{inputs, first-input, at-record, Walk, walking, spent, failed, and-then, each-input, visit, PassAnswer}
 use Rattle.rewrite.specs.Pass.{passed, pass-refused, report, pass, pass-with-room, pass-call}
@@ -102,7 +102,7 @@ pub pass-keeps-rows : (budget room : ℕ) (p : Plan) → accepted p ≡ true →
 unfolding accepted
 pass-keeps-rows budget room p h =
     kept
-    (pass-leaves (λ p. (ok p ≡ true) × (fits p ≡ true)) Leaves (λ p g. leaves-self (g .0) (g .1)) (λ q p l. (l .keeps .well, l .fitting))
+    (pass-leaves (λ p. (ok p ≡ true) × (within-limits p ≡ true)) Leaves (λ p g. leaves-self (g .0) (g .1)) (λ q p l. (l .keeps .well, l .fitting))
     (λ r q p l k. record { keeps = keeps-trans (l .keeps) (k .keeps); fitting = l .fitting })
     (λ n p g f q e. granted-is (subst (Answered p) e (rewriteAt-answered n p (g .0))))
     budget room p (accepted-ok p h, and-l _ _ h))

@@ -4,7 +4,7 @@ use mathlib.Core.Bool.{Bool, true, false, cond}
 use mathlib.Core.List.{List, [], _∷_, _++_}
 use lib.ListN.{length}
 use mathlib.Core.Option.{Option, none, some}
-use Rattle.plan.specs.Lists.{_&_, put, keep, all, flat, All}
+use Rattle.plan.specs.Lists.{_&_, put, keep, all, flatten, All}
 use Rattle.plan.proofs.Lists.{and-left-comm, and-l, and-r, and-intro, All-map, All-append, All-keep, all-parts, all-append}
 use Rattle.plan.specs.Syntax.{Name, Expr, Pair, Kind, inner, left, right, full, leftSemi, rightSemi, leftAnti, rightAnti, Plan, join}
 use Rattle.meaning.specs.Meaning.{World, Env, Row, isT, eval, look, sat?, matching, joined, keys-match, rows}
@@ -258,7 +258,7 @@ unfolding push-not keep
 no-nil p s = refl
 
 clauses-nil : (c : Name → Bool) → extract-or-clauses-for-join c [] ≡ []
-unfolding extract-or-clauses-for-join keep flat
+unfolding extract-or-clauses-for-join keep flatten
 clauses-nil c = refl
 
 -- nothing moves out of or into a Full join

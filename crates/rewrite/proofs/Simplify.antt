@@ -10,14 +10,14 @@ use lib.Dec.{eqb, ltb, leb}
 use borrow.Author.Tests.{ltb-true, ltb-false, le-leb, lt-leb, eqb-true, eq-eqb}
 use lib.IntN.{ℤ, pos, negsuc}
 use lib.Signed.{ltZ, leZ}
-use Rattle.plan.specs.Lists.{_&_, choose, all, flat, All, anil, acons}
+use Rattle.plan.specs.Lists.{_&_, choose, all, flatten, All, anil, acons}
 use Rattle.plan.proofs.Literals.{literal-cases}
 use Rattle.plan.specs.Values.{ValueRecord, literalIs, literalIn, literal?}
 use Rattle.plan.proofs.Lists.{and-l, and-r, and-intro, and-assoc, and-comm, and-left-comm, and-true, All-append}
 use Rattle.plan.proofs.Lists.{All-mapped, All-flat, all-of, all-append, all-map, all-cong, All-map}
 use Rattle.plan.specs.Syntax.{Value, null, int, truth, Name, Cmp, eq, ne, lt, le, gt, ge, Expr, col, num, bool, nul, bin, and, or, cmp, neg}
 use Rattle.plan.specs.Syntax.{test, between, inlist, fn}
-use Rattle.meaning.specs.Meaning.{World, Env, isT, isN, kindOf, code, comparable, holds, compare, sameV, eval}
+use Rattle.meaning.specs.Meaning.{World, Env, isT, isN, kindOf, code, comparable, holds, compared, sameV, eval}
 use Rattle.plan.specs.Schema.{same}
 use Rattle.plan.proofs.Names.{same-eq}
 use Rattle.plan.specs.Columns.{on-cols}
@@ -39,7 +39,7 @@ bey past false x a = not (past x a)
 
 -- what it says of the column's value
 abbrev meets : Rel → Value → Value → Bool
-meets same-as c v = isT (compare eq c v)
+meets same-as c v = isT (compared eq c v)
 meets (above s) c v = comparable c v & bey ltZ s (code c) (code v)
 meets (below s) c v = comparable c v & bey gtZ s (code c) (code v)
 
@@ -69,7 +69,7 @@ comparable-comm (truth a) null = refl
 comparable-comm (truth a) (int w) = refl
 comparable-comm (truth a) (truth b) = refl
 
-isT-compare : (o : Cmp) (a b : Value) → isT (compare o a b) ≡ comparable a b & holds o (code a) (code b)
+isT-compare : (o : Cmp) (a b : Value) → isT (compared o a b) ≡ comparable a b & holds o (code a) (code b)
 unfolding _&_
 isT-compare o a b = go (comparable a b)
   where
@@ -82,7 +82,7 @@ module _ (W : World) (ρ : Env) where
   unfolding eval
   lit-eval l = literal-cases (λ e v. eval W ρ e ≡ v) (λ z. refl) (λ b. refl) (λ t. refl) l
 
-  eq-comm : (a b : Value) → isT (compare eq a b) ≡ isT (compare eq b a)
+  eq-comm : (a b : Value) → isT (compared eq a b) ≡ isT (compared eq b a)
   eq-comm a b = isT-compare eq a b ∙ ap₂ _&_ (comparable-comm a b) (and-comm _ _) ∙ sym (isT-compare eq b a)
 
   -- a bound is TRUE where the column's value meets it
@@ -297,7 +297,7 @@ absorb false b x h = rw (← h)
 
 -- an equality is TRUE for the value c
 abbrev eqs-to : Value → Side → Bool
-eqs-to c d = isT (compare eq c (val d))
+eqs-to c d = isT (compared eq c (val d))
 
 -- where the literals agree, each equality says the same
 final-meets : (c : Value) (d : Side) (l : List Side) → all (λ e. sameV (val d) (val e)) l ≡ true
@@ -306,7 +306,7 @@ unfolding all
 final-meets c d [] h = and-true _
 final-meets c d (e ∷ l) h =
     let q : val d ≡ val e = sameV-eq (val d) (val e) (and-l _ _ h) in
-    absorb (eqs-to c d) (eqs-to c e) (all (eqs-to c) l) (ap (λ v. isT (compare eq c v)) q)
+    absorb (eqs-to c d) (eqs-to c e) (all (eqs-to c) l) (ap (λ v. isT (compared eq c v)) q)
     ∙ final-meets c e l (rw (sym q) (and-r _ _ h))
 
 -- where all are TRUE, the literals agree
@@ -503,8 +503,8 @@ module _ (W : World) (ρ : Env) where
       go (some i) h = ap (all (τ W ρ) (sort-out es .others) &_) (enter-true i (sort-out es .groups)) ∙ and-left-comm _ _ _
           ∙ ap (λ x. τ W ρ x & (all (τ W ρ) (sort-out es .others) & all (group-true W ρ) (sort-out es .groups))) h
 
-  flat-true : (gs : List Group) → all (τ W ρ) (flat simplify-column-predicates gs) ≡ all (group-true W ρ) gs
-  unfolding all flat
+  flat-true : (gs : List Group) → all (τ W ρ) (flatten simplify-column-predicates gs) ≡ all (group-true W ρ) gs
+  unfolding all flatten
   flat-true [] = refl
   flat-true (g ∷ gs) = all-append _ (simplify-column-predicates g) _ ∙ ap₂ _&_ (group-exprs-true W ρ g) (flat-true gs)
 

@@ -14,7 +14,7 @@ use borrow.Author.Tests.{ltb-true, ltb-false, le-ltb}
 use Rattle.plan.specs.Lists.{_&_, put, keep, All, anil, acons}
 use Rattle.plan.proofs.Lists.{All-map, All-keep}
 use Rattle.plan.specs.Syntax.{Value, Name, Expr, Key, Plan, filter, sort}
-use Rattle.meaning.specs.Meaning.{World, isN, code, before, lex, insert, sorted, sorts-before, rows}
+use Rattle.meaning.specs.Meaning.{World, isN, code, sortsBefore, lex, insertRow, sorted, sorts-before, rows}
 use Rattle.plan.specs.Schema.{schema}
 
 -- a strict order whose ties are an equivalence
@@ -25,11 +25,11 @@ record Order {A : Type 0} (u : A → A → Bool) : Type 0 where
 -- ---- filtering a sorted list
 
 module _ {A : Type 0} {P : A → Type 0} (u : A → A → Bool) where
-  pub All-insert : (x : A) {ys : List A} → P x → All P ys → All P (insert u x ys)
+  pub All-insert : (x : A) {ys : List A} → P x → All P ys → All P (insertRow u x ys)
   All-insert x h anil = acons h anil
   All-insert x h (acons {x = y} {xs = ys} k ks) = go (u y x) (All-insert x h ks)
     where
-      go : (b : Bool) → All P (insert u x ys) → All P (cond b (y ∷ insert u x ys) (x ∷ y ∷ ys))
+      go : (b : Bool) → All P (insertRow u x ys) → All P (cond b (y ∷ insertRow u x ys) (x ∷ y ∷ ys))
       go true hs = acons k hs
       go false hs = acons h (acons k ks)
 
@@ -39,38 +39,38 @@ data Sorted {A : Type 0} (u : A → A → Bool) : List A → Type 0 where
 
 module _ {A : Type 0} (u : A → A → Bool) (O : Order u) (p : A → Bool) where
   -- an element that fails the test leaves no trace
-  skip : (x : A) (ys : List A) → p x ≡ false → keep p (insert u x ys) ≡ keep p ys
+  skip : (x : A) (ys : List A) → p x ≡ false → keep p (insertRow u x ys) ≡ keep p ys
   unfolding keep put
   skip x [] h = rw h
   skip x (y ∷ ys) h = go (u y x) (skip x ys h)
     where
-      go : (b : Bool) → keep p (insert u x ys) ≡ keep p ys → keep p (cond b (y ∷ insert u x ys) (x ∷ y ∷ ys)) ≡ keep p (y ∷ ys)
+      go : (b : Bool) → keep p (insertRow u x ys) ≡ keep p ys → keep p (cond b (y ∷ insertRow u x ys) (x ∷ y ∷ ys)) ≡ keep p (y ∷ ys)
       go true k = ap (put (p y) y) k
       go false k = rw h
 
   -- nothing in the list stands before `x`
-  ahead : (x : A) {ys : List A} → All (λ y. u y x ≡ false) ys → insert u x ys ≡ x ∷ ys
+  ahead : (x : A) {ys : List A} → All (λ y. u y x ≡ false) ys → insertRow u x ys ≡ x ∷ ys
   ahead x anil = refl
   ahead x (acons h hs) = rw h
 
   -- an element that passes it goes to the same place among those that do
-  stay : (x : A) {ys : List A} → Sorted u ys → p x ≡ true → keep p (insert u x ys) ≡ insert u x (keep p ys)
+  stay : (x : A) {ys : List A} → Sorted u ys → p x ≡ true → keep p (insertRow u x ys) ≡ insertRow u x (keep p ys)
   unfolding keep put
   stay x snil h = rw h
   stay x (scons {x = y} {xs = ys} a s) h = go (u y x) refl (p y) refl (stay x s h)
     where
-      go : (b : Bool) → u y x ≡ b → (c : Bool) → p y ≡ c → keep p (insert u x ys) ≡ insert u x (keep p ys)
-          → keep p (cond b (y ∷ insert u x ys) (x ∷ y ∷ ys)) ≡ insert u x (put c y (keep p ys))
+      go : (b : Bool) → u y x ≡ b → (c : Bool) → p y ≡ c → keep p (insertRow u x ys) ≡ insertRow u x (keep p ys)
+          → keep p (cond b (y ∷ insertRow u x ys) (x ∷ y ∷ ys)) ≡ insertRow u x (put c y (keep p ys))
       go true e true q k = rw (q, e, k)
       go true e false q k = rw q k
       go false e true q k = rw (h, q, e)
       go false e false q k = rw (h, q) (sym (ahead x (All-keep p (All-map (λ z hz. O .trans z y x hz e) a))))
 
-  insert-sorted : (x : A) {ys : List A} → Sorted u ys → Sorted u (insert u x ys)
+  insert-sorted : (x : A) {ys : List A} → Sorted u ys → Sorted u (insertRow u x ys)
   insert-sorted x snil = scons anil snil
   insert-sorted x (scons {x = y} {xs = ys} a s) = go (u y x) refl (insert-sorted x s)
     where
-      go : (b : Bool) → u y x ≡ b → Sorted u (insert u x ys) → Sorted u (cond b (y ∷ insert u x ys) (x ∷ y ∷ ys))
+      go : (b : Bool) → u y x ≡ b → Sorted u (insertRow u x ys) → Sorted u (cond b (y ∷ insertRow u x ys) (x ∷ y ∷ ys))
       go true e k = scons (All-insert u x (O .asym y x e) a) k
       go false e k = scons (acons e (All-map (λ z hz. O .trans z y x hz e) a)) (scons a s)
 
@@ -84,8 +84,8 @@ module _ {A : Type 0} (u : A → A → Bool) (O : Order u) (p : A → Bool) wher
   keep-sorted (x ∷ xs) = go (p x) refl (keep-sorted xs)
     where
       go : (b : Bool) → p x ≡ b → keep p (sorted u xs) ≡ sorted u (keep p xs)
-          → keep p (insert u x (sorted u xs)) ≡ sorted u (put b x (keep p xs))
-      go true e k = stay x (sorted-sorted xs) e ∙ ap (insert u x) k
+          → keep p (insertRow u x (sorted u xs)) ≡ sorted u (put b x (keep p xs))
+      go true e k = stay x (sorted-sorted xs) e ∙ ap (insertRow u x) k
       go false e k = skip x (sorted u xs) e ∙ k
 
 -- ---- the keys' order
@@ -114,8 +114,8 @@ dir-trans : (d : Bool) (a b c : ℤ) → cond d (ltZ b a) (ltZ a b) ≡ false �
 dir-trans true a b c h k = ltZ-trans c b a k h
 dir-trans false a b c h k = ltZ-trans a b c h k
 
-before-asym : (d : Bool) (a b : Value) → before d a b ≡ true → before d b a ≡ false
-unfolding before _&_
+before-asym : (d : Bool) (a b : Value) → sortsBefore d a b ≡ true → sortsBefore d b a ≡ false
+unfolding sortsBefore _&_
 before-asym d a b h = go (isN a) (isN b) h
   where
     go : (m n : Bool) → not m & (n || cond d (ltZ (code b) (code a)) (ltZ (code a) (code b))) ≡ true
@@ -124,8 +124,8 @@ before-asym d a b h = go (isN a) (isN b) h
     go false true h = refl
     go false false h = dir-asym d (code a) (code b) h
 
-before-trans : (d : Bool) (a b c : Value) → before d a b ≡ false → before d b c ≡ false → before d a c ≡ false
-unfolding before _&_
+before-trans : (d : Bool) (a b c : Value) → sortsBefore d a b ≡ false → sortsBefore d b c ≡ false → sortsBefore d a c ≡ false
+unfolding sortsBefore _&_
 before-trans d a b c h k = go (isN a) (isN b) (isN c) h k
   where
     go : (l m n : Bool) → not l & (m || cond d (ltZ (code b) (code a)) (ltZ (code a) (code b))) ≡ false

@@ -6,7 +6,7 @@ use mathlib.Core.Option.{Option, none, some}
 use Prim.Native.Nat.{ℕ}
 use native.Mathlib.Omega.{arith}
 use lib.ListN.{length}
-use Rattle.plan.specs.Lists.{_&_, put, keep, flat}
+use Rattle.plan.specs.Lists.{_&_, put, keep, flatten}
 use Rattle.plan.specs.Schema.{schema}
 use Rattle.plan.specs.Syntax.{Name, Expr, Pair, Kind, inner, left, right, full, leftSemi, rightSemi, leftAnti, rightAnti}
 use Rattle.plan.specs.Syntax.{Plan, filter, join}
@@ -126,7 +126,7 @@ module _ (k : Kind) (l r : Plan) (on : List Pair) (f : Option Expr) (own : conju
 
 -- a Join without a filter of its own
 bare-unmoved : (k : Kind) (s t : List Name) (on : List Pair) → nothing-moves k s t on [] [] ≡ true
-unfolding _&_ keep flat push-to push-not infer-join-predicates extract-or-clauses-for-join
+unfolding _&_ keep flatten push-to push-not infer-join-predicates extract-or-clauses-for-join
 bare-unmoved inner s t on = refl
 bare-unmoved left s t on = refl
 bare-unmoved right s t on = refl

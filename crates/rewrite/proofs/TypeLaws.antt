@@ -7,7 +7,7 @@ use mathlib.Core.Option.{Option, none, some}
 use lib.ListN.{length}
 use lib.Dec.{eqb}
 use borrow.Author.Tests.{eqb-true, eq-eqb}
-use Rattle.plan.specs.Lists.{_&_, choose, any, all, flat, All, anil, acons}
+use Rattle.plan.specs.Lists.{_&_, choose, any, all, flatten, All, anil, acons}
 use Rattle.plan.proofs.Literals.{literal-cases}
 use Rattle.plan.specs.Values.{ValueRecord, literalIs}
 use Rattle.plan.proofs.Lists.{and-l, and-r, and-intro, All-both, All-append, All-keep, All-mapped}
@@ -262,8 +262,8 @@ module _ (τ : Types) where
   listed-boolean no-clause = anil
   listed-boolean (a-clause h) = acons h anil
 
-  flat-boolean : (c : Name → Bool) {es : List Expr} → Bools τ es → Bools τ (flat (λ e. listed (extract-or-clause c e)) es)
-  unfolding flat
+  flat-boolean : (c : Name → Bool) {es : List Expr} → Bools τ es → Bools τ (flatten (λ e. listed (extract-or-clause c e)) es)
+  unfolding flatten
   flat-boolean c anil = anil
   flat-boolean c (acons {x = e} h hs) = All-append (listed-boolean (extract-boolean c e h)) (flat-boolean c hs)
 

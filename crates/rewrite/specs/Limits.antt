@@ -31,8 +31,8 @@ unfoldable mutual
   listPs (pcons p ps) = larger (listP p) (listPs ps)
 
 -- test 11: "over 2,048 records, depth 256 or 128 in a list"
-unfoldable pub fits : Plan → Bool
-fits p =
+unfoldable pub within-limits : Plan → Bool
+within-limits p =
     leb (sizeP p) maxRecords
     & leb (depthP p) maxDepth
     & leb (listP p) maxList

@@ -6,7 +6,7 @@ use mathlib.Core.List.{List, [], _∷_, _++_, map}
 use mathlib.Core.Option.{Option, none, some}
 use lib.ListN.{length}
 use lib.Dec.{eqb}
-use Rattle.plan.specs.Lists.{_&_, choose, keep, all, any, flat}
+use Rattle.plan.specs.Lists.{_&_, choose, keep, all, any, flatten}
 use Rattle.plan.specs.Syntax.{Name, Expr, col, num, bool, nul, bin, and, or, cmp, neg, test, between, inlist, fn, Field, Entry, Pair}
 use Rattle.plan.specs.Syntax.{AggEntry, WinEntry, Kind, inner, left, right, full, leftSemi, rightSemi, leftAnti, rightAnti, Plan, scan}
 use Rattle.plan.specs.Syntax.{filter, project, join, alias, union, distinct, sort, repartition, limit, aggregate, window, Plans, pnil}
@@ -146,7 +146,7 @@ listed (some e) = e ∷ []
 -- the clauses of those that are an OR at their top
 unfoldable pub extract-or-clauses-for-join : (Name → Bool) → List Expr → List Expr
 unfolding is-or listed
-extract-or-clauses-for-join c es = flat (λ e. listed (extract-or-clause c e)) (keep is-or es)
+extract-or-clauses-for-join c es = flatten (λ e. listed (extract-or-clause c e)) (keep is-or es)
 
 -- ---- infer_join_predicates (D5: of Inner joins only, so no predicate is tested for NULLs)
 
@@ -173,14 +173,14 @@ unfolding to-partner
 swap-keys on x = to-partner x (partner on x)
 
 -- the column has no partner
-unfoldable pub nothing : Option Name → Bool
-nothing none = true
-nothing (some x) = false
+unfoldable pub no-partner : Option Name → Bool
+no-partner none = true
+no-partner (some x) = false
 
 -- those that read a key column, with each key column replaced by its partner
 unfoldable pub infer-join-predicates : List Pair → List Expr → List Expr
-unfolding nothing
-infer-join-predicates on es = map (replace-cols (swap-keys on)) (keep (λ e. not (on-cols (λ x. nothing (partner on x)) e)) es)
+unfolding no-partner
+infer-join-predicates on es = map (replace-cols (swap-keys on)) (keep (λ e. not (on-cols (λ x. no-partner (partner on x)) e)) es)
 
 -- ---- push_down_all_join, push_down_join
 

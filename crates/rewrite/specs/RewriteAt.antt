@@ -10,7 +10,7 @@ use Rattle.rewrite.specs.PushDownFilter.{rewrite, merges}
 use Rattle.image.specs.Limits.{recordBytes}
 use Rattle.plan.specs.Trees.{entryKids, keyKids, aggKids, winKids}
 use Rattle.plan.specs.Measure.{sizeE, sizeP, sizes}
-use Rattle.rewrite.specs.Limits.{fits}
+use Rattle.rewrite.specs.Limits.{within-limits}
 
 -- ---- the plan that stands at a record
 
@@ -29,9 +29,9 @@ abbrev pub here : Plan → Option Focus
 here p = some (record { plan = p; back = λ q. q })
 
 -- what is found in an input, seen from the plan above it
-abbrev pub inside : (Plan → Plan) → Option Focus → Option Focus
-inside f none = none
-inside f (some c) = some (record { plan = c .plan; back = λ q. f (c .back q) })
+abbrev pub focusIn : (Plan → Plan) → Option Focus → Option Focus
+focusIn f none = none
+focusIn f (some c) = some (record { plan = c .plan; back = λ q. f (c .back q) })
 
 -- .. seen from the Union above its inputs
 abbrev pub inside-all : (Plans → Plan) → Option FocusAll → Option Focus
@@ -54,7 +54,7 @@ own-or n p o = choose (eqb n 0) (here p) o
 
 -- an input that stands behind `k` records
 abbrev pub behind : ℕ → ℕ → (Plan → Plan) → Option Focus → Option Focus
-behind k n f o = choose (leb k n) (inside f o) none
+behind k n f o = choose (leb k n) (focusIn f o) none
 
 -- the plan at the record `n`, counted from the plan's own record; none where no record or no plan stands there
 unfoldable mutual
@@ -65,13 +65,13 @@ unfoldable mutual
   focus n (join k l r on g) =
       let m = suc (sizeP l) in
       own-or n (join k l r on g)
-      (choose (leb m n) (inside (λ q. join k l q on g) (focus (n - m) r)) (inside (λ q. join k q r on g) (focus (n - 1) l)))
-  focus n (alias q p) = own-or n (alias q p) (inside (alias q) (focus (n - 1) p))
+      (choose (leb m n) (focusIn (λ q. join k l q on g) (focus (n - m) r)) (focusIn (λ q. join k q r on g) (focus (n - 1) l)))
+  focus n (alias q p) = own-or n (alias q p) (focusIn (alias q) (focus (n - 1) p))
   focus n (union ps) = own-or n (union ps) (inside-all union (focus-all (n - 1) ps))
-  focus n (distinct p) = own-or n (distinct p) (inside distinct (focus (n - 1) p))
+  focus n (distinct p) = own-or n (distinct p) (focusIn distinct (focus (n - 1) p))
   focus n (sort f ks p) = let k = suc (sizes keyKids ks) in own-or n (sort f ks p) (behind k n (sort f ks) (focus (n - k) p))
-  focus n (repartition p) = own-or n (repartition p) (inside repartition (focus (n - 1) p))
-  focus n (limit i j p) = own-or n (limit i j p) (inside (limit i j) (focus (n - 1) p))
+  focus n (repartition p) = own-or n (repartition p) (focusIn repartition (focus (n - 1) p))
+  focus n (limit i j p) = own-or n (limit i j p) (focusIn (limit i j) (focus (n - 1) p))
   focus n (aggregate gs ags p) =
       let k = suc (sizes entryKids gs + sizes aggKids ags) in
       own-or n (aggregate gs ags p) (behind k n (aggregate gs ags) (focus (n - k) p))
@@ -90,7 +90,7 @@ pub data Answer : Type 0 where
 
 -- test 11: the answer and the plan after each merge of Filters are within the limits
 unfoldable pub result-fits : Focus → Bool
-result-fits c = fits (c .back (rewrite (c .plan) .plan)) & all (λ m. fits (c .back m)) (merges (c .plan))
+result-fits c = within-limits (c .back (rewrite (c .plan) .plan)) & all (λ m. within-limits (c .back m)) (merges (c .plan))
 
 -- test 8: no plan stands there; else the rewrite of what does, or test 11
 unfoldable pub rewrite-in : ℕ → Option Focus → Answer

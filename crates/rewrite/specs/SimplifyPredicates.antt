@@ -6,7 +6,7 @@ use mathlib.Core.Option.{Option, none, some}
 use lib.Dec.{eqb, ltb}
 use lib.IntN.{ℤ}
 use lib.Signed.{ltZ}
-use Rattle.plan.specs.Lists.{_&_, choose, all, flat}
+use Rattle.plan.specs.Lists.{_&_, choose, all, flatten}
 use Rattle.plan.specs.Syntax.{Value, Name, nm, Cmp, eq, ne, lt, le, gt, ge, Expr, col, num, bool, nul, bin, and, or, cmp, neg, test}
 use Rattle.plan.specs.Syntax.{between, inlist, fn}
 use Rattle.meaning.specs.Meaning.{isN, kindOf, code, sameV}
@@ -244,4 +244,4 @@ sort-out (e ∷ es) = add e (view e) (sort-out es)
 -- simplify_predicates: "All others come first, in order; then columns ascending"
 unfoldable pub simplify-predicates : List Expr → List Expr
 unfolding bound-of
-simplify-predicates es = let s = sort-out es in s .others ++ flat simplify-column-predicates (s .groups)
+simplify-predicates es = let s = sort-out es in s .others ++ flatten simplify-column-predicates (s .groups)

@@ -17,7 +17,7 @@ use Rattle.plan.specs.Lists.{choose, put, keep, All, anil, acons}
 use Rattle.plan.proofs.Lists.{All-map, All-keep, All-both, keep-cong}
 use Rattle.plan.proofs.Names.{same-eq, same-refl}
 use Rattle.rewrite.specs.SimplifyPredicates.{Side, Item, Group, name-under, put-in, fresh, enter, view, add, sort-out}
-use Rattle.simplify_expressions.specs.Classes.{after, before, lesser, least}
+use Rattle.simplify_expressions.specs.Classes.{after, precedes, lesser, least}
 use Rattle.simplify_expressions.proofs.Names.{under-trans, under-self, under-asym, under-else, under-apart}
 use Rattle.simplify_expressions.proofs.Grouped.{collect, whole, key-put, fresh-key}
 
@@ -72,7 +72,7 @@ headKey [] = none
 headKey (g ∷ gs) = some (g .key)
 
 -- what comes before all comes before the first
-not-before : (x : Name) {gs : List Group} → All (λ h. name-under x (h .key) ≡ true) gs → before (headKey gs) x ≡ false
+not-before : (x : Name) {gs : List Group} → All (λ h. name-under x (h .key) ≡ true) gs → precedes (headKey gs) x ≡ false
 not-before x anil = refl
 not-before x (acons {x = g} h hs) = under-asym x (g .key) h
 
@@ -100,7 +100,7 @@ enter-head last i (g ∷ gs) h = go (same (g .key) (i .key)) refl (name-under (i
 
     first : All (λ k. name-under (i .key) (k .key) ≡ true) (g ∷ gs) → (b : Bool) → after last (i .key) ≡ b
         → headKey (put b (fresh i) (rest last (g ∷ gs)))
-        ≡ choose b (choose (before (headKey (rest last (g ∷ gs))) (i .key)) (headKey (rest last (g ∷ gs))) (some (i .key))) (headKey (rest last (g ∷ gs)))
+        ≡ choose b (choose (precedes (headKey (rest last (g ∷ gs))) (i .key)) (headKey (rest last (g ∷ gs))) (some (i .key))) (headKey (rest last (g ∷ gs)))
     first l true f = rw (not-before (i .key) (All-keep (λ k. after last (k .key)) l)) (ap some (fresh-key i))
     first l false f = refl
 

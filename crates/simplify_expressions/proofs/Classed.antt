@@ -24,7 +24,7 @@ use Rattle.simplify_expressions.specs.declared.simplify_predicates.Compa
 use Rattle.simplify_expressions.specs.declared.simplify_predicates.Compared.the-variants.{Of, Not}
 use Rattle.simplify_expressions.specs.declared.simplify_predicates.Bound.{Bound}
 use Rattle.simplify_expressions.specs.Seen.{named, relOf, seen, strictR, sideOf?, sideIn, Spelled}
-use Rattle.simplify_expressions.specs.Classes.{isOf, isOther, isName, inClass, ofClass, after, before, lesser, least}
+use Rattle.simplify_expressions.specs.Classes.{isOf, isOther, isName, inClass, ofClass, after, precedes, lesser, least}
 use Rattle.simplify_expressions.specs.declared.simplify_predicates.Class.{Class}
 use Rattle.simplify_expressions.specs.declared.simplify_predicates.Class.the-variants.{Equality, Lower, Upper, Other}
 
@@ -140,12 +140,12 @@ module _ {x : Compared} (last best : Option Name) where
   unfolding lesser choose
   lesser-out e a = rw (e, a)
 
-  pub lesser-held : {b : Bound} → x ≡ Of b → after last (named (b .column)) ≡ true → before best (named (b .column)) ≡ true
+  pub lesser-held : {b : Bound} → x ≡ Of b → after last (named (b .column)) ≡ true → precedes best (named (b .column)) ≡ true
       → best ≡ lesser last (seen x) best
   unfolding lesser choose
   lesser-held e a h = rw (e, a, h)
 
-  pub lesser-new : {b : Bound} → x ≡ Of b → after last (named (b .column)) ≡ true → before best (named (b .column)) ≡ false
+  pub lesser-new : {b : Bound} → x ≡ Of b → after last (named (b .column)) ≡ true → precedes best (named (b .column)) ≡ false
       → some (named (b .column)) ≡ lesser last (seen x) best
   unfolding lesser choose
   lesser-new e a h = rw (e, a, h)

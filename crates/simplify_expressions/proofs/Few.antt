@@ -13,7 +13,7 @@ use lib.Signed.{ltZ}
 use lib.ListN.{length, length-append, length-map}
 use Rattle.plan.specs.Syntax.{Expr, Name, bool}
 use Rattle.plan.specs.Schema.{same}
-use Rattle.plan.specs.Lists.{choose, any, put, keep, all, flat}
+use Rattle.plan.specs.Lists.{choose, any, put, keep, all, flatten}
 use Rattle.meaning.specs.Meaning.{sameV}
 use Rattle.rewrite.specs.Utils.{is-volatile}
 use Rattle.rewrite.specs.ReorderPredicates.{Reordered, is-cheap-predicate, needs-reorder, unchanged, cheap-first, reorder-predicates}
@@ -80,11 +80,11 @@ total : List Group → ℕ
 total [] = 0
 total (g ∷ gs) = sides g + total gs
 
-flat-few : (gs : List Group) → length (flat simplify-column-predicates gs) ≤ total gs
-unfolding flat total
+flat-few : (gs : List Group) → length (flatten simplify-column-predicates gs) ≤ total gs
+unfolding flatten total
 flat-few [] = omega arith
 flat-few (g ∷ gs) =
-    rw (length-append (simplify-column-predicates g) (flat simplify-column-predicates gs)) (omega (arith, column-few g, flat-few gs))
+    rw (length-append (simplify-column-predicates g) (flatten simplify-column-predicates gs)) (omega (arith, column-few g, flat-few gs))
 
 put-sides : (i : Item) (g : Group) → sides (put-in i g) ≡ suc (sides g)
 unfolding sides
@@ -123,5 +123,5 @@ sorted-total (e ∷ es) = go (view e) (sorted-total es)
 pub simplified-few : (es : List Expr) → length (simplify-predicates es) ≤ length es
 unfolding simplify-predicates
 simplified-few es =
-    rw (length-append (sort-out es .others) (flat simplify-column-predicates (sort-out es .groups)))
+    rw (length-append (sort-out es .others) (flatten simplify-column-predicates (sort-out es .groups)))
     (omega (arith, flat-few (sort-out es .groups), sorted-total es))

@@ -13,7 +13,7 @@ use lib.Signed.{ltZ}
 use lib.ListN.{length, getD, drop}
 use Rattle.image.specs.Limits.{maxList}
 use Rattle.plan.specs.Syntax.{Expr, Name, nm}
-use Rattle.plan.specs.Lists.{choose, all, keep, flat}
+use Rattle.plan.specs.Lists.{choose, all, keep, flatten}
 use Rattle.plan.proofs.Lists.{keep-all}
 use Rattle.meaning.specs.Meaning.{sameV}
 use Rattle.rewrite.specs.SimplifyPredicates.{Rel, same-as, above, below, bound-of, Side, val, Item, Group, eq-expr, up-expr, down-expr}
@@ -84,12 +84,12 @@ alone x l f (below s) =
     ap (map (down-expr x)) (either-way (all (of-kind (first-kind d)) d) d)
 
 pub one-simplified : (es : List Expr) → length es ≤ 1 → simplify-predicates es ≡ es
-unfolding simplify-predicates sort-out enter flat
+unfolding simplify-predicates sort-out enter flatten
 one-simplified [] h = refl
 one-simplified (e ∷ d ∷ es) h = absurd (omega arith)
 one-simplified (e ∷ []) h = go (view e) refl
   where
-    go : (o : Option Item) → view e ≡ o → let s = add e o (sort-out []) in s .others ++ flat simplify-column-predicates (s .groups) ≡ e ∷ []
+    go : (o : Option Item) → view e ≡ o → let s = add e o (sort-out []) in s .others ++ flatten simplify-column-predicates (s .groups) ≡ e ∷ []
     go none v = refl
     go (some i) v =
         append-nil (simplify-column-predicates (fresh i))
@@ -102,7 +102,7 @@ pub record Going (s : List ℕ) (r : Conjuncts) (es : List Expr) (key : Option N
   pub last : Option Name
   pub done : List Expr
   pub lists : Lists s r done
-  pub is : done ++ flat simplify-column-predicates (rest last (sort-out es .groups)) ≡ simplify-predicates es
+  pub is : done ++ flatten simplify-column-predicates (rest last (sort-out es .groups)) ≡ simplify-predicates es
   pub next : key ≡ least last es
   pub few : length (rest last (sort-out es .groups)) ≤ left
 
@@ -115,7 +115,7 @@ module _ {s : List ℕ} {r : Conjuncts} (es : List Expr) where
 
   pub going-next : {r′ : Conjuncts} {key key′ : Option Name} {left : ℕ} (q n : ℕ) (k : Going s r es key left) → key ≡ some (nm q n)
       → Lists s r′ (k .done ++ simplify-column-predicates (groupOf q n es)) → key′ ≡ least (some (nm q n)) es → Going s r′ es key′ (left - 1)
-  unfolding flat
+  unfolding flatten
   going-next q n k t h e =
       let gs = sort-out es .groups in
       let m : rest (k .last) gs ≡ whole (nm q n) gs ∷ rest (some (nm q n)) gs =
@@ -125,16 +125,16 @@ module _ {s : List ℕ} {r : Conjuncts} (es : List Expr) where
         done = k .done ++ simplify-column-predicates (groupOf q n es);
         lists = h;
         is =
-            append-assoc (k .done) (simplify-column-predicates (groupOf q n es)) (flat simplify-column-predicates (rest (some (nm q n)) gs))
-            ∙ (ap (λ (g : Group). k .done ++ (simplify-column-predicates g ++ flat simplify-column-predicates (rest (some (nm q n)) gs)))
+            append-assoc (k .done) (simplify-column-predicates (groupOf q n es)) (flatten simplify-column-predicates (rest (some (nm q n)) gs))
+            ∙ (ap (λ (g : Group). k .done ++ (simplify-column-predicates g ++ flatten simplify-column-predicates (rest (some (nm q n)) gs)))
             (group-is q n es)
-            ∙ (ap (λ (l : List Group). k .done ++ flat simplify-column-predicates l) (sym m) ∙ k .is));
+            ∙ (ap (λ (l : List Group). k .done ++ flatten simplify-column-predicates l) (sym m) ∙ k .is));
         next = e;
         few = omega (arith, k .few, ap length m);
       }
 
   ended : {key : Option Name} {left : ℕ} (k : Going s r es key left) → rest (k .last) (sort-out es .groups) ≡ [] → Lists s r (simplify-predicates es)
-  unfolding flat
+  unfolding flatten
   ended k e =
       let d : k .done ≡ simplify-predicates es = sym (append-nil (k .done)) ∙ (rw e at (k .is)) in
       rw (← d) (k .lists)

@@ -68,14 +68,14 @@ after none x = true
 after (some l) x = name-under l x
 
 -- one column comes before another; none does
-abbrev pub before : Option Name → Name → Bool
-before none x = false
-before (some b) x = name-under b x
+abbrev pub precedes : Option Name → Name → Bool
+precedes none x = false
+precedes (some b) x = name-under b x
 
 -- the first of two columns, if the one that an item compares comes after the last
 unfoldable pub lesser : Option Name → Option Item → Option Name → Option Name
 lesser last none best = best
-lesser last (some i) best = choose (after last (i .key)) (choose (before best (i .key)) best (some (i .key))) best
+lesser last (some i) best = choose (after last (i .key)) (choose (precedes best (i .key)) best (some (i .key))) best
 
 -- the first column after the last that a predicate compares
 unfoldable pub least : Option Name → List Expr → Option Name

@@ -44,7 +44,7 @@ ghost use Rattle.rewrite.specs.SimplifyPredicates.{Side, eq-expr, eq-part, find
 ghost use Rattle.rewrite.specs.SimplifyPredicates.{lit-val, make, most-restrictive, name-under, of-kind, simplify-column-predicates};
 ghost use Rattle.rewrite.specs.SimplifyPredicates.{simplify-predicates, sort-out, val, view};
 ghost use Rattle.conjuncts.specs.Items.{FALSE, Known, Lists};
-ghost use Rattle.simplify_expressions.specs.Classes.{after, before, groupOf, inClass, isOf, isOther, keyOf, least, lesser, ofClass};
+ghost use Rattle.simplify_expressions.specs.Classes.{after, precedes, groupOf, inClass, isOf, isOther, keyOf, least, lesser, ofClass};
 ghost use Rattle.simplify_expressions.specs.Seen.{Reading, Spelled, matchedIn, named, operandOf, pastOf, relNo, relOf, seen};
 ghost use Rattle.simplify_expressions.specs.Seen.{sideIn, sideOf, strictR};
 ghost use Rattle.plan.specs.Syntax as S;
@@ -221,7 +221,7 @@ fn comes_after(last: Key, x: Name) -> bool
 
 // Whether `best` comes before the column x, as none does.
 fn comes_before(best: Key, x: Name) -> bool
-    ensures { λ r. ⌜ r ≡ before (keyOf best) (named x) ⌝ }
+    ensures { λ r. ⌜ r ≡ precedes (keyOf best) (named x) ⌝ }
 {
     let Key::At(column) = best else {
         return false;

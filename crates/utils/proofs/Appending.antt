@@ -19,7 +19,7 @@ use Rattle.plan.specs.Trees.{labelP, kidsP, planTree, joinNumber}
 use Rattle.plan.specs.Kinds.{numberP, Join, SubqueryAlias, Window}
 use Rattle.conjuncts.specs.Standing.{StandingP}
 use Rattle.utils.specs.Fields.{Fields, Names}
-use Rattle.utils.specs.Inputs.{makesAll, own, below, called, made, plansIn, Below, nothing, Input, PlanHere, isAlias, isWindow, joinsBoth}
+use Rattle.utils.specs.Inputs.{makesAll, own, below, called, made, plansIn, Below, noTree, Input, PlanHere, isAlias, isWindow, joinsBoth}
 use Rattle.utils.proofs.Making.{called-append}
 use Rattle.utils.proofs.Shapes.{Rest, nothing-more, parts, second, Shape, own-parts, no-input, over, shape, deep-plan}
 
@@ -42,7 +42,7 @@ pub record Found (p : Plan) (s : List ℕ) (b n d : ℕ) (Q : Plan → Type 0) :
 
 module _ (p : Plan) {s : List ℕ} {b n : ℕ} (d : ℕ) where
   found : (place : ℕ) (i : Plan) → Input s b (kidsP p) place n → place < length (plansIn (kidsP p))
-      → getD (plansIn (kidsP p)) place nothing ≡ planTree i → (Q : Plan → Type 0) → Q i → Found p s b n d Q
+      → getD (plansIn (kidsP p)) place noTree ≡ planTree i → (Q : Plan → Type 0) → Q i → Found p s b n d Q
   found place i h l e Q q = record {
     input = i;
     stands = rw e at (h .found l);

@@ -14,7 +14,7 @@ use Rattle.image.specs.Word.{word}
 use Rattle.image.proofs.Walking.{Turn}
 use Rattle.plan.specs.Lists.{put}
 use Rattle.plan.specs.Kinds.{isPlan}
-use Rattle.utils.specs.Inputs.{plansIn, nothing, Input}
+use Rattle.utils.specs.Inputs.{plansIn, noTree, Input}
 
 pub less-some : (n : ℕ) (b : Bool) → (b && ltb 0 n) ≡ true → 1 ≤ n
 less-some n true h = ltb-true 0 n h
@@ -36,7 +36,7 @@ plans-node t after b e = rw e
 
 -- The tree with this place is looked for in the list `all`. In what is left of it, it has the place `to`.
 pub record Seek (all : List Tree) (place : ℕ) (rest : List Tree) (to : ℕ) : Type 0 where
-  pub found : place < length all → (to < length rest) × (getD all place nothing ≡ getD rest to nothing)
+  pub found : place < length all → (to < length rest) × (getD all place noTree ≡ getD rest to noTree)
   pub absent : length all ≤ place → length rest ≤ to
 
 pub seek-start : (all : List Tree) (place : ℕ) → Seek all place all place
@@ -54,12 +54,12 @@ seek-next to false t xs h e = h
 
 -- it is
 pub seek-here : (all : List Tree) (place to : ℕ) (b : Bool) (t : Tree) (xs : List Tree) → Seek all place (put b t xs) to
-    → (b && eqb to 0) ≡ true → (getD all place nothing ≡ t) × (place < length all)
+    → (b && eqb to 0) ≡ true → (getD all place noTree ≡ t) × (place < length all)
 unfolding put
 seek-here all place to false t xs h e = let z : _≡_ {A = ℕ} 0 1 = cc in absurd (omega arith)
 seek-here all place to true t xs h e = go (leb (length all) place) refl
   where
-    go : (b : Bool) → leb (length all) place ≡ b → (getD all place nothing ≡ t) × (place < length all)
+    go : (b : Bool) → leb (length all) place ≡ b → (getD all place noTree ≡ t) × (place < length all)
     go true l = absurd (omega (arith, h .absent (leb-true (length all) place l), eqb-true to 0 e))
     go false l =
         let k : place < length all = leb-false (length all) place l in

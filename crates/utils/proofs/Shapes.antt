@@ -16,11 +16,11 @@ use Rattle.plan.specs.Schema.{schema, schema-first}
 use Rattle.plan.specs.Syntax.{Name, nm, Expr, col, num, bool, nul, bin, neg, test, between, inlist, fn, Field, Entry, Pair, AggEntry}
 use Rattle.plan.specs.Syntax.{WinEntry, Kind, inner, left, right, full, leftSemi, rightSemi, leftAnti, rightAnti, Plan, scan, filter}
 use Rattle.plan.specs.Syntax.{project, join, alias, union, distinct, sort, repartition, limit, aggregate, window, pnil, pcons}
-use Rattle.plan.specs.Trees.{labelE, kidsE, before, each, nothingBelow, fieldLabel, entryLabel, entryKids, pairLabel, pairKids, keyLabel}
+use Rattle.plan.specs.Trees.{labelE, kidsE, inFront, each, nothingBelow, fieldLabel, entryLabel, entryKids, pairLabel, pairKids, keyLabel}
 use Rattle.plan.specs.Trees.{keyKids, aggLabel, aggKids, winLabel, winKids, filterKids, labelP, kidsP, forestP, planTree}
 use Rattle.plan.specs.Kinds.{whatOf, among, isPlan}
 use Rattle.plan.proofs.Written.{name-back}
-use Rattle.utils.specs.Inputs.{makesField, makesAll, isAlias, isWindow, joinsBoth, own, called, made, plansIn, nothing}
+use Rattle.utils.specs.Inputs.{makesField, makesAll, isAlias, isWindow, joinsBoth, own, called, made, plansIn, noTree}
 
 -- ---- expressions and parts are no inputs, and only parts make fields
 
@@ -60,7 +60,7 @@ plans-plan : (p : Plan) (ns : Forest) → plansIn (stand p ns) ≡ planTree p �
 unfolding plansIn put
 plans-plan p ns = rw (plan-kind p .0)
 
-plans-expr : (e : Expr) (ns : Forest) → plansIn (before e ns) ≡ plansIn ns
+plans-expr : (e : Expr) (ns : Forest) → plansIn (inFront e ns) ≡ plansIn ns
 unfolding plansIn put
 plans-expr e ns = rw (expr-kind e .0)
 
@@ -94,20 +94,20 @@ pub data Rest (p i : Plan) : Type 0 where
       → schema p ≡ called (isAlias (labelP p)) (labelP p .p) (schema i) → Rest p i
   parts : isWindow (labelP p) ≡ true → isAlias (labelP p) ≡ false → schema p ≡ schema i ++ made (kidsP p) → Rest p i
   second : isWindow (labelP p) ≡ false → isAlias (labelP p) ≡ false → joinsBoth (labelP p) ≡ true
-      → (j : Plan) → 1 < length (plansIn (kidsP p)) → getD (plansIn (kidsP p)) 1 nothing ≡ planTree j → schema p ≡ schema i ++ schema j
+      → (j : Plan) → 1 < length (plansIn (kidsP p)) → getD (plansIn (kidsP p)) 1 noTree ≡ planTree j → schema p ≡ schema i ++ schema j
       → Rest p i
 
 pub data Shape (p : Plan) : Type 0 where
   own-parts : makesAll (labelP p .kind) ≡ true → schema p ≡ made (kidsP p) → Shape p
   no-input : makesAll (labelP p .kind) ≡ false → length (plansIn (kidsP p)) ≤ own (labelP p .kind) (labelP p .p) → schema p ≡ [] → Shape p
   over : makesAll (labelP p .kind) ≡ false → (i : Plan) → own (labelP p .kind) (labelP p .p) < length (plansIn (kidsP p))
-      → getD (plansIn (kidsP p)) (own (labelP p .kind) (labelP p .p)) nothing ≡ planTree i → Rest p i → Shape p
+      → getD (plansIn (kidsP p)) (own (labelP p .kind) (labelP p .p)) noTree ≡ planTree i → Rest p i → Shape p
 
 -- an input is found at its place
-there : {xs rest : List Tree} {t : Tree} → xs ≡ t ∷ rest → (0 < length xs) × (getD xs 0 nothing ≡ t)
+there : {xs rest : List Tree} {t : Tree} → xs ≡ t ∷ rest → (0 < length xs) × (getD xs 0 noTree ≡ t)
 there e = rw e (omega arith, refl)
 
-there-second : {xs rest : List Tree} {t u : Tree} → xs ≡ t ∷ u ∷ rest → (1 < length xs) × (getD xs 1 nothing ≡ u)
+there-second : {xs rest : List Tree} {t u : Tree} → xs ≡ t ∷ u ∷ rest → (1 < length xs) × (getD xs 1 noTree ≡ u)
 there-second e = rw e (omega arith, refl)
 
 plans-none : plansIn none ≡ []
@@ -143,8 +143,8 @@ join-shape : (k : Kind) (l r : Plan) (on : List Pair) (f : Option Expr) → Shap
 unfolding labelP schema
 join-shape k l r on f = go k (there (plans-join k l r on f)) (there-second (plans-join k l r on f))
   where
-    go : (k : Kind) → (0 < length (plansIn (kidsP (join k l r on f)))) × (getD (plansIn (kidsP (join k l r on f))) 0 nothing ≡ planTree l)
-        → (1 < length (plansIn (kidsP (join k l r on f)))) × (getD (plansIn (kidsP (join k l r on f))) 1 nothing ≡ planTree r)
+    go : (k : Kind) → (0 < length (plansIn (kidsP (join k l r on f)))) × (getD (plansIn (kidsP (join k l r on f))) 0 noTree ≡ planTree l)
+        → (1 < length (plansIn (kidsP (join k l r on f)))) × (getD (plansIn (kidsP (join k l r on f))) 1 noTree ≡ planTree r)
         → Shape (join k l r on f)
     go inner h g = over refl l (h .0) (h .1) (second refl refl refl r (g .0) (g .1) refl)
     go left h g = over refl l (h .0) (h .1) (second refl refl refl r (g .0) (g .1) refl)
@@ -187,14 +187,14 @@ shape (window ws p) =
 -- ---- depth
 
 -- a plan among the trees of a forest is one level less deep
-pub deep-plan : (f : Forest) (i d : ℕ) → i < length (plansIn f) → Deep f d → (0 < d) × Deep (getD (plansIn f) i nothing .below) (d - 1)
+pub deep-plan : (f : Forest) (i d : ℕ) → i < length (plansIn f) → Deep f d → (0 < d) × Deep (getD (plansIn f) i noTree .below) (d - 1)
 unfolding plansIn put
 deep-plan none i d l h = absurd (omega arith)
 deep-plan (node m cs ns) i d l h = go (isPlan m) i l (λ j k. deep-plan ns j d k (h .2))
   where
     go : (b : Bool) (i : ℕ) → i < length (put b (record { label = m; below = cs }) (plansIn ns))
-        → ((j : ℕ) → j < length (plansIn ns) → (0 < d) × Deep (getD (plansIn ns) j nothing .below) (d - 1))
-        → (0 < d) × Deep (getD (put b (record { label = m; below = cs }) (plansIn ns)) i nothing .below) (d - 1)
+        → ((j : ℕ) → j < length (plansIn ns) → (0 < d) × Deep (getD (plansIn ns) j noTree .below) (d - 1))
+        → (0 < d) × Deep (getD (put b (record { label = m; below = cs }) (plansIn ns)) i noTree .below) (d - 1)
     go true zero l rest = (h .0, h .1)
     go true (suc i) l rest = rest i (omega arith)
     go false i l rest = rest i l

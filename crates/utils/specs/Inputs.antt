@@ -68,12 +68,12 @@ pub record Below (s : List ℕ) (b r : ℕ) (t : Tree) : Type 0 where
   pub here : At t (drop (32 * (r - b)) s) r
 
 -- no tree
-abbrev pub nothing : Tree
-nothing = record { label = record { kind = 0; p = 0; q = 0; r = 0; lo = 0; hi = 0 }; below = none }
+abbrev pub noTree : Tree
+noTree = record { label = record { kind = 0; p = 0; q = 0; r = 0; lo = 0; hi = 0 }; below = none }
 
 -- r is the record of the plan with this place in the forest f, or 0
 pub record Input (s : List ℕ) (b : ℕ) (f : Forest) (place r : ℕ) : Type 0 where
-  pub found : place < length (plansIn f) → Below s b r (getD (plansIn f) place nothing)
+  pub found : place < length (plansIn f) → Below s b r (getD (plansIn f) place noTree)
   pub absent : length (plansIn f) ≤ place → r ≡ 0
 
 -- some plan stands at the start of s, no deeper than d

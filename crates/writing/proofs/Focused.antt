@@ -15,7 +15,7 @@ use Rattle.plan.specs.Syntax.{Expr, Entry, Pair, Key, AggEntry, WinEntry, Kind,
 use Rattle.plan.specs.Syntax.{sort, repartition, limit, aggregate, window, Plans, pnil, pcons}
 use Rattle.plan.specs.Trees.{entryKids, keyKids, aggKids, winKids}
 use Rattle.plan.specs.Measure.{sizeE, sizeP, sizes}
-use Rattle.rewrite.specs.RewriteAt.{Focus, FocusAll, here, inside, inside-all, first-of, later-of, own-or, behind, focus, focus-all}
+use Rattle.rewrite.specs.RewriteAt.{Focus, FocusAll, here, focusIn, inside-all, first-of, later-of, own-or, behind, focus, focus-all}
 
 -- a plan over one input, which stands behind k records
 pub data Way : ℕ → (Plan → Plan) → Type 0 where
@@ -63,7 +63,7 @@ finds-here : (n : ℕ) (p : Plan) → n ≡ 0 → Finds n p (here p)
 finds-here n p z = rw z (found (itself p))
 
 -- in an input
-finds-inside : {n m k : ℕ} {p : Plan} {o : Option Focus} (f : Plan → Plan) → Way k f → n ≡ k + m → Finds m p o → Finds n (f p) (inside f o)
+finds-inside : {n m k : ℕ} {p : Plan} {o : Option Focus} (f : Plan → Plan) → Way k f → n ≡ k + m → Finds m p o → Finds n (f p) (focusIn f o)
 finds-inside f w e nowhere = nowhere
 finds-inside f w e (found h) = rw e (found (below w h))
 

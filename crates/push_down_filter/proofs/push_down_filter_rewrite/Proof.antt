@@ -14,7 +14,7 @@ use Rattle.plan.specs.Lists.{choose}
 use Rattle.plan.specs.Measure.{sizeP}
 use Rattle.plan.proofs.Lists.{and-l}
 use Rattle.acceptance.proofs.Places.{place-within}
-use Rattle.rewrite.specs.Limits.{fits}
+use Rattle.rewrite.specs.Limits.{within-limits}
 use Rattle.rewrite.specs.OnBytes.{Rewritten, isAccepted, planIn, no-rewrite, rewritten, asked-of, rewrite-bytes}
 use Rattle.rewrite.specs.RewriteAt.{Focus, focus, Answer, granted, refused, result-fits, rewrite-in, rewriteAt, with-room, rewrite-call}
 use Rattle.call_rewrite.specs.Answer.{rewrittenOf}
@@ -49,7 +49,7 @@ roomy room (refused k r) h = h
 
 module _ (n : ℕ) (l : n < 4294967296) where
   in-place : (o : Option Focus) → SmallAnswer (rewrite-in n o)
-  unfolding rewrite-in result-fits fits
+  unfolding rewrite-in result-fits within-limits
   in-place none = l
   in-place (some c) = either SmallAnswer (result-fits c) _ _ (λ e. leb-true _ maxRecords (and-l _ _ (and-l _ _ e))) l
 

@@ -3,7 +3,7 @@ use mathlib.Core.List.{_++_}
 use borrow.Author.Needs.{needs}
 use lib.Dec.{ltb}
 use Rattle.plan.specs.Schema.{has}
-use Rattle.rewrite.specs.PushDownFilter.{nothing}
+use Rattle.rewrite.specs.PushDownFilter.{no-partner}
 use Rattle.utils.specs.Fields.{placeIn}
 use Rattle.utils.specs.Masks.{nameAt, Masks}
 use Rattle.utils.proofs.Marking.{masks-same, masks-left, masks-right, has-at}
@@ -37,7 +37,7 @@ scope-of-spec =
       to = rw (← map-same (λ x. ap (orSelf x) (p x)) ns) (w .to);
       left = left;
       right = masks-right l r n (c .before .all-but .ensures ns (has l) (sym count) left);
-      alone = masks-same (λ i lt. ap nothing (p (nameAt ns i))) (w .alone);
+      alone = masks-same (λ i lt. ap no-partner (p (nameAt ns i))) (w .alone);
       leftward = leftward;
       rightward = masks-same (λ i lt. other-side l r n (swap on (nameAt ns i)) (q (nameAt ns i) (has-at ns i lt)))
           (c .all-but2 .ensures ns _ (sym count) leftward);
