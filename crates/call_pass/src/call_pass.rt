@@ -14,11 +14,12 @@ ghost use mathlib.Core.Path.{_≡_};
 ghost use mathlib.Core.List.{List};
 ghost use Prim.Native.Nat.{_*_, _≤_, ℕ};
 ghost use lib.ListN.{length};
+ghost use Rattle.image.specs.Buffers.{ScratchMap};
 ghost use Rattle.image.specs.Limits.{maxRecords, workBytes};
 ghost use Rattle.rewrite.specs.OnBytes.{pass-bytes, planIn, reported};
 ghost use Rattle.rewrite.specs.Pass.{PassAnswer, pass, pass-call, pass-with-room};
 ghost use Rattle.push_down_merge.specs.Found.{Whole};
-ghost use Rattle.pass.specs.Walks.{Ends, Left, Lent, Spared};
+ghost use Rattle.pass.specs.Walks.{Ends, Left, Lent};
 ghost use Rattle.call_pass.specs.Answer.{Small, passedOf};
 
 // Visits, flags raised, whether no plan is left to visit, and the number of records; or what stands against it: a test of the image, a
@@ -104,7 +105,7 @@ fn pass_short(
     out: &mut [u8],
 ) -> Answer
     requires { ⌜ Whole (now image) ⌝ }
-    requires { ⌜ Spared (now m) (now work) (now levels) ⌝ }
+    requires { ⌜ ScratchMap (now m) (now work) (now levels) ⌝ }
     ensures { λ r. ⌜ Small r × (passedOf r (now (out .exit))
         ≡ reported (length (now (out .entry))) (pass-call budget (length (now (out .entry))) (planIn (now (image .entry))))) ⌝ }
 {
@@ -122,7 +123,7 @@ fn pass_in_output(
     out: &mut [u8],
 ) -> Answer
     requires { ⌜ Whole (now image) ⌝ }
-    requires { ⌜ Spared (now m) (now work) (now levels) × (workBytes ≤ length (now out)) ⌝ }
+    requires { ⌜ ScratchMap (now m) (now work) (now levels) × (workBytes ≤ length (now out)) ⌝ }
     ensures { λ r. ⌜ Small r × (passedOf r (now (out .exit))
         ≡ reported (length (now (out .entry))) (pass-call budget (length (now (out .entry))) (planIn (now (image .entry))))) ⌝ }
 {
@@ -144,7 +145,7 @@ fn pass_within(
     out: &mut [u8],
 ) -> Answer
     requires { ⌜ Whole (now image) ⌝ }
-    requires { ⌜ Spared (now m) (now work) (now levels) ⌝ }
+    requires { ⌜ ScratchMap (now m) (now work) (now levels) ⌝ }
     ensures { λ r. ⌜ Small r × (passedOf r (now (out .exit))
         ≡ reported (length (now (out .entry))) (pass-call budget (length (now (out .entry))) (planIn (now (image .entry))))) ⌝ }
 {

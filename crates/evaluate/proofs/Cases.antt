@@ -25,6 +25,6 @@ module _ (c : Cmp) (x y : Case) {n : Bool} {k l : ℕ} (e : n ≡ caseNull x) (f
   pub not-compared : (n || not (eqb k l)) ≡ true → null ≡ compared c (caseOf x) (caseOf y)
   not-compared h = rw (alike, h)
 
-  pub compared : {i j : ℤ} → (n || not (eqb k l)) ≡ false → i ≡ caseCode x → j ≡ caseCode y
+  pub two-compared : {i j : ℤ} → (n || not (eqb k l)) ≡ false → i ≡ caseCode x → j ≡ caseCode y
       → truth (holds c i j) ≡ compared c (caseOf x) (caseOf y)
-  compared h u v = rw (alike, h, ← code-case x, ← code-case y, ← u, ← v)
+  two-compared h u v = rw (alike, h, ← code-case x, ← code-case y, ← u, ← v)

@@ -9,7 +9,6 @@ use lib.ListN.{length}
 use Rattle.image.specs.Limits.{workBytes, maxRecords, mapBytes}
 use Rattle.plan.specs.Lists.{choose}
 use Rattle.plan.specs.Syntax.{Plan}
-use Rattle.image.specs.Limits.{maxRecords}
 use Rattle.plan.specs.Measure.{sizeP}
 use Rattle.plan.specs.Trees.{bitOf}
 use Rattle.acceptance.specs.Accepted.{WellFormed}
@@ -40,12 +39,6 @@ pub record Next (q : Plan) (from r : ℕ) : Type 0 where
 -- the space that is lent: for the image as it stands, for a rewrite's scratch image, for what it writes, for the levels of its records
 pub record Lent (image m work levels : List ℕ) : Type 0 where
   pub image-long : length image ≡ workBytes
-  pub m-long : mapBytes ≤ length m
-  pub work-long : length work ≡ workBytes
-  pub levels-long : length levels ≡ maxRecords
-
--- the same without the first, where the output serves for it
-pub record Spared (m work levels : List ℕ) : Type 0 where
   pub m-long : mapBytes ≤ length m
   pub work-long : length work ≡ workBytes
   pub levels-long : length levels ≡ maxRecords

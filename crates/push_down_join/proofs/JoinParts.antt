@@ -41,7 +41,7 @@ use Rattle.conjuncts.proofs.Listed.{known-of}
 use Rattle.push_down_base.specs.Around.{WroteAll}
 use Rattle.push_down_base.specs.Arms.{Placed}
 use Rattle.push_down_base.specs.Inputs.{lastOf}
-use Rattle.push_down_join.specs.JoinPlans.{pairRecs, FilterOf, bare, own}
+use Rattle.push_down_join.specs.JoinPlans.{pairRecs, FilterOf, has-none, has-one}
 use Rattle.push_down_base.specs.Parting.{Reads}
 use Rattle.push_down_base.proofs.Steps.{On, rest-trees, children, expr-first, right-input}
 use Rattle.push_down_base.proofs.Windows.{wrote-none, wrote-then, wrote-tree}
@@ -131,23 +131,23 @@ module _ {s : List ℕ} {n : ℕ} where
 
   pub last-own : {f : Option Expr} → Last s n f → word (drop (32 * n) s) 0 < 32 → FilterOf s n f
   last-own (no-filter room kind) lt = absurd (omega arith)
-  last-own (a-filter h pos kind) lt = own h pos
+  last-own (a-filter h pos kind) lt = has-one h pos
 
   pub last-bare : {f : Option Expr} → Last s n f → 32 ≤ word (drop (32 * n) s) 0 → FilterOf s 0 f
-  last-bare (no-filter room kind) le = bare refl
+  last-bare (no-filter room kind) le = has-none refl
   last-bare (a-filter h pos kind) le = absurd (omega arith)
 
   pub own-there : {f : Option Expr} → FilterOf s n f → (n ≡ 0 → ⊥) → There s n × (0 < n)
-  own-there (bare e) nz = absurd (nz e)
-  own-there (own {e} h pos) nz = (record { expr = e; standing = h }, pos)
+  own-there (has-none e) nz = absurd (nz e)
+  own-there (has-one {e} h pos) nz = (record { expr = e; standing = h }, pos)
 
 -- what is split at the filter
 pub own-reads : {s : List ℕ} {x n : ℕ} {k : Kind} {l r : Plan} {on : List Pair} {f : Option Expr} {z : Conjuncts} → Placed s x (join k l r on f)
     → FilterOf s n f → (n ≡ 0 → ⊥) → ((e : Expr) → Standing s n e → Lists s z (split-conjunction e))
     → Reads s (schema l ++ schema r) z (split-conjunction? f)
 unfolding split-conjunction? rule listP
-own-reads p (bare e) nz g = absurd (nz e)
-own-reads {l = l} {r} p (own {e} h pos) nz g = record {
+own-reads p (has-none e) nz g = absurd (nz e)
+own-reads {l = l} {r} p (has-one {e} h pos) nz g = record {
   lists = g e h;
   over = split-cols (has (schema l ++ schema r)) e (and-l _ _ (and-r _ _ (and-r _ _ (p .rules))));
   most = known-of (g e h) (le-trans (le-max-left (length (split-conjunction e)) _) (p .lists)) .most;
@@ -157,8 +157,8 @@ own-reads {l = l} {r} p (own {e} h pos) nz g = record {
 pub own-none : {s : List ℕ} {n : ℕ} {f : Option Expr} {ns : List Name} {z : Conjuncts} → FilterOf s n f → n ≡ 0 → Reads s ns z []
     → Reads s ns z (split-conjunction? f)
 unfolding split-conjunction?
-own-none (bare e) z h = h
-own-none (own t pos) z h = absurd (omega arith)
+own-none (has-none e) z h = h
+own-none (has-one t pos) z h = absurd (omega arith)
 
 -- ---- the keys
 

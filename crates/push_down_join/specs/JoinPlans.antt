@@ -40,8 +40,8 @@ pub record JoinHere (s : List ℕ) (x : ℕ) : Type 0 where
 
 -- the filter of a join stands at record n, or n is 0 and it has none
 pub data FilterOf (s : List ℕ) (n : ℕ) : Option Expr → Type 0 where
-  bare : n ≡ 0 → FilterOf s n O.none
-  own : {e : Expr} → Standing s n e → 0 < n → FilterOf s n (some e)
+  has-none : n ≡ 0 → FilterOf s n O.none
+  has-one : {e : Expr} → Standing s n e → 0 < n → FilterOf s n (some e)
 
 -- .. and the conjuncts c are over its inputs
 pub record JoinUnder (s : List ℕ) (x : ℕ) (c : Conjuncts) : Type 0 where

@@ -1,14 +1,13 @@
 -- Why a plan that stays does: the laws that the decision cites.
-use Prim.Native.Nat.{ℕ, _*_, _≤_, _<_}
+use Prim.Native.Nat.{ℕ, _<_}
 use native.Mathlib.Omega.{arith}
 use mathlib.Core.Path.{_≡_, refl, sym, ap, subst, _∙_}
 use mathlib.Core.Bool.{Bool, true, false}
 use mathlib.Core.List.{List, []}
 use mathlib.Core.Option.{Option, none, some}
 use lib.Dec.{eqb}
-use lib.ListN.{length, drop}
+use lib.ListN.{length}
 use borrow.Author.Tests.{eq-eqb, ne-eqb, eqb-true, eqb-false}
-use Rattle.image.specs.Word.{word}
 use Rattle.image.proofs.Walking.{only}
 use Rattle.plan.specs.Columns.{on-cols}
 use Rattle.plan.specs.Lists.{_&_}
@@ -34,7 +33,7 @@ use Rattle.push_down_arms.specs.Movable.{mayMove}
 use Rattle.push_down_base.specs.Predicates.{Predicate}
 use Rattle.push_down_arms.specs.Through.{takesNone}
 use Rattle.push_down_arms.proofs.Divisions.{aggregate-pushed, window-pushed, project-kept}
-use Rattle.push_down_join.specs.JoinPlans.{FilterOf, bare, own}
+use Rattle.push_down_join.specs.JoinPlans.{FilterOf, has-none, has-one}
 use Rattle.push_down_join.proofs.MovedLists.{counts-none}
 use Rattle.push_down_merge.proofs.OneMerge.{input-placed, stays}
 use Rattle.push_down_base.proofs.Plain.{split-some}
@@ -66,14 +65,14 @@ module _ {s : List ℕ} {n : ℕ} where
   pub own-deep : {f : Option Expr} {b : Bool} → FilterOf s n f → (n ≡ 0 → ⊥) → ((e : Expr) → Standing s n e → Says b (LeftDeep e))
       → Says b (conjunction (split-conjunction? f) ≡ f)
   unfolding split-conjunction?
-  own-deep (bare e) nz g = absurd (nz e)
-  own-deep (own {e} h pos) nz g = g e h
+  own-deep (has-none e) nz g = absurd (nz e)
+  own-deep (has-one {e} h pos) nz g = g e h
 
   -- there is none
   pub own-bare : {f : Option Expr} → FilterOf s n f → n ≡ 0 → Says true (conjunction (split-conjunction? f) ≡ f)
   unfolding split-conjunction? conjunction
-  own-bare (bare e) z = says-so refl
-  own-bare (own h pos) z = absurd (omega arith)
+  own-bare (has-none e) z = says-so refl
+  own-bare (has-one h pos) z = absurd (omega arith)
 
 no-conjuncts : (f : Option Expr) → length (split-conjunction? f) ≡ 0 → f ≡ none
 unfolding split-conjunction?

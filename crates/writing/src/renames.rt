@@ -1,5 +1,5 @@
 // Renames: names by place for other names, written as an image whose first record has an entry for each, with a column below it.
-// `replacing::copy_replaced` takes it as it takes a Projection.
+// `replace_cols_by_name` takes it as it takes a Projection.
 use image::records::Label;
 use image::records::put_record;
 use plan::kinds::COLUMN;

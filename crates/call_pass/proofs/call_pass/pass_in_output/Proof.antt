@@ -23,9 +23,9 @@ pass-in-output-spec =
       p .0,
       record {
         image-long = length-take-le workBytes (c .before .before .before .before .before .before .before .before .before .args .out .now) (p .1 .1);
-        m-long = l .m-long;
-        work-long = l .work-long;
-        levels-long = l .levels-long;
+        m-long = l .0;
+        work-long = l .1;
+        levels-long = l .2;
       },
     ))
     (λ c κs. search needs)

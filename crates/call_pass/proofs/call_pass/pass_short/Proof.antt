@@ -9,7 +9,7 @@ pass-short-spec =
     (tie.spec
     (λ c. search needs)
     (λ c κs. let p = c .before .before .before .before .before .before .before .before .before .before .pre in
-    (p .0, record { image-long = search needs; m-long = p .1 .m-long; work-long = p .1 .work-long; levels-long = p .1 .levels-long }))
+    (p .0, record { image-long = search needs; m-long = p .1 .0; work-long = p .1 .1; levels-long = p .1 .2 }))
     (λ c. search needs)
     (λ c. search needs)
     (λ c. search needs)

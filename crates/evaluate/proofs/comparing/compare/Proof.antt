@@ -4,7 +4,7 @@ use lib.IntN.{ℤ}
 use Rattle.plan.specs.Syntax.{Value, truth, Cmp}
 use Rattle.meaning.specs.Meaning.{holds}
 use Rattle.evaluate.specs.Operators.{cmpOf}
-use Rattle.evaluate.proofs.Cases.{not-compared, compared}
+use Rattle.evaluate.proofs.Cases.{not-compared, two-compared}
 use borrow.Author.Needs.{needs}
 use Rattle.evaluate.proofs.comparing.compare.Statement.{statement}
 use Rattle.evaluate.proofs.comparing.compare.Tie as tie
@@ -29,6 +29,6 @@ compare-spec =
     (λ c κs. search needs)
     (λ c. let a = c .before .before .before .before .before .before .before .before .args in
     c .known .ensures ∙ ap truth (c .before .holds .ensures) ∙ as-held (cmpOf (a .p)) (search needs) (search needs)
-    (compared (cmpOf (a .p)) (a .a .case) (a .b .case) (c .before .before .before .before .before .before .before .is-null .ensures)
+    (two-compared (cmpOf (a .p)) (a .a .case) (a .b .case) (c .before .before .before .before .before .before .before .is-null .ensures)
     (c .before .before .before .before .before .before .kind-of .ensures) (c .before .before .before .before .before .kind-of2 .ensures)
     (c .before .before .before .before .if1 .left) (c .before .before .before .code-of .ensures) (c .before .before .code-of2 .ensures))))
