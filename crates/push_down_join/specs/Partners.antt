@@ -14,20 +14,30 @@ use Rattle.rewrite.specs.PushDownFilter.{pair-of, no-partner}
 use Rattle.utils.specs.Fields.{Names}
 use Rattle.utils.specs.Masks.{Masks}
 use Rattle.push_down_join.specs.declared.infer_join_predicates.Column as column
+use Rattle.push_down_join.specs.declared.infer_join_predicates.Column.the-variants.{Is, Nothing}
 use Rattle.push_down_join.specs.declared.infer_join_predicates.Swapped as swapped
 
--- the structs of the code
+-- the types of the code
 abbrev pub Column : Type 0
 Column = column.Column
 
 abbrev pub Swapped : Type 0
 Swapped = swapped.Swapped
 
+-- the name of the code's column
+abbrev pub nameOf : Column → Option Name
+nameOf (Is q n) = some (nm q n)
+nameOf Nothing = O.none
+
+-- 32 bits hold both parts of it
+abbrev pub SmallColumn : Column → Type 0
+SmallColumn (Is q n) = (q < 4294967296) × (n < 4294967296)
+SmallColumn Nothing = Unit {0}
+
 -- the code's column is this name, or none
 pub record Told (c : Column) (o : Option Name) : Type 0 where
-  pub is : cond (c .is) (some (nm (c .q) (c .n))) O.none ≡ o
-  pub q : c .q < 4294967296
-  pub n : c .n < 4294967296
+  pub is : nameOf c ≡ o
+  pub small : SmallColumn c
 
 -- the name of a record that is a column
 abbrev pub columnOf : Label → Option Name

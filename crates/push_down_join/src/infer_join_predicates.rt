@@ -18,6 +18,7 @@ use utils::schema_columns::no_fields;
 use utils::schema_columns::place_in;
 use utils::schema_columns::q_at;
 use utils::sets::mark;
+ghost use mathlib.Core.Path.{_≡_};
 ghost use mathlib.Core.List.{_++_, _∷_, List, []};
 ghost use mathlib.Core.Option.{Option, none};
 ghost use Prim.Native.Nat.{_<_, _≤_, ℕ};
@@ -26,7 +27,7 @@ ghost use lib.ListN.{length};
 ghost use Rattle.image.specs.Limits.{maxFields};
 ghost use Rattle.image.specs.Tree.{At, Readable, Tree, labelAt};
 ghost use Rattle.plan.specs.Syntax.{Expr, Name, Pair, nm};
-ghost use Rattle.rewrite.specs.PushDownFilter.{pair-of};
+ghost use Rattle.rewrite.specs.PushDownFilter.{no-partner, pair-of};
 ghost use Rattle.utils.specs.Fields.{Names, placeIn};
 ghost use Rattle.utils.specs.Masks.{Masks};
 ghost use Rattle.push_down_base.specs.Parting.{Reads};
@@ -66,20 +67,19 @@ pub fn infer_right(s: &[u8], c: Conjuncts, sc: Scope, inner: bool) -> Conjuncts
     select_side(s, stay, sc.fields, sc.rightward, true)
 }
 
-// A column, or none.
-pub struct Column {
-    pub is: bool,
-    pub q: usize,
-    pub n: usize,
+// A column, by its qualifier and its name, or none.
+pub enum Column {
+    Is(usize, usize),
+    Nothing,
 }
 
-fn no_column() -> Column
-    ensures { λ r. ⌜ Told r none ⌝ }
+// Whether there is no column.
+fn is_nothing(c: Column) -> bool
+    ensures { λ r. ⌜ ((o : Option Name) → Told c o → r ≡ no-partner o) ⌝ }
 {
-    Column {
-        is: false,
-        q: 0,
-        n: 0,
+    match c {
+        Column::Is(_, _) => false,
+        Column::Nothing => true,
     }
 }
 
@@ -89,27 +89,29 @@ fn as_column(part: &[u8]) -> Column
     ensures { λ r. ⌜ Told r (columnOf (labelAt (now (part .entry)))) ⌝ }
 {
     let l = label_at(part);
-    Column {
-        is: l.kind == COLUMN,
-        q: l.p,
-        n: l.q,
+    if l.kind == COLUMN {
+        return Column::Is(l.p, l.q);
     }
+    Column::Nothing
 }
 
 // The partner of the column in a pair of keys, if both are columns; the left key is tested first.
 fn pair_of(a: Column, b: Column, q: usize, n: usize) -> Column
     ensures { λ r. ⌜ ((x y : Option Name) → Told a x → Told b y → Told r (pair-of (nm q n) x y none)) ⌝ }
 {
-    if !(a.is & b.is) {
-        return no_column();
-    }
-    if (a.q == q) & (a.n == n) {
+    let Column::Is(aq, an) = a else {
+        return Column::Nothing;
+    };
+    let Column::Is(bq, bn) = b else {
+        return Column::Nothing;
+    };
+    if (aq == q) & (an == n) {
         return b;
     }
-    if (b.q == q) & (b.n == n) {
+    if (bq == q) & (bn == n) {
         return a;
     }
-    no_column()
+    Column::Nothing
 }
 
 // The partner of the column in the record at the start of `part`, if that is a pair of keys.
@@ -118,16 +120,16 @@ fn partner_in(part: &[u8], base: usize, q: usize, n: usize) -> Column
     ensures { λ r. ⌜ ((t : Tree) → At t (now (part .entry)) base → Told r (keyIn (nm q n) (t .label) (t .below))) ⌝ }
 {
     if word_at(part, KIND) != PAIR {
-        return no_column();
+        return Column::Nothing;
     }
     let x = word_at(part, FIRST_LINK);
     if x == 0 {
-        return no_column();
+        return Column::Nothing;
     }
     let lhs = from_record(part, base, x);
     let y = word_at(lhs, NEXT_LINK);
     if y == 0 {
-        return no_column();
+        return Column::Nothing;
     }
     let rhs = from_record(part, base, y);
     pair_of(as_column(lhs), as_column(rhs), q, n)
@@ -142,12 +144,12 @@ fn partner(part: &[u8], base: usize, q: usize, n: usize) -> Column
     while at != 0 {
         let child = from_record(part, base, at);
         let c = partner_in(child, at, q, n);
-        if c.is {
+        if !is_nothing(c) {
             return c;
         }
         at = word_at(child, NEXT_LINK);
     }
-    no_column()
+    Column::Nothing
 }
 
 // Appends the partner, or where there is none the column itself.
@@ -156,10 +158,10 @@ fn add_partner(to: Fields, c: Column, q: usize, n: usize) -> Fields
     requires { ⌜ ((o : Option Name) × Told c o) ⌝ }
     ensures { λ r. ⌜ ((ns : List Name) (o : Option Name) → Names to ns → Told c o → Names r (ns ++ (orSelf (nm q n) o ∷ []))) ⌝ }
 {
-    if c.is {
-        return add_field(to, c.q, c.n);
+    match c {
+        Column::Is(cq, cn) => add_field(to, cq, cn),
+        Column::Nothing => add_field(to, q, n),
     }
-    add_field(to, q, n)
 }
 
 // The fields with each key's partner in its place, and the places of those that have none.
@@ -183,7 +185,7 @@ pub fn swap_keys(part: &[u8], base: usize, fields: Fields) -> Swapped
         let n = n_at(fields, i);
         let c = partner(part, base, q, n);
         to = add_partner(to, c, q, n);
-        alone = mark(alone, i, !c.is);
+        alone = mark(alone, i, is_nothing(c));
         i += 1;
     }
     Swapped { to, alone }

@@ -1,6 +1,6 @@
-use mathlib.Core.Path.{ap}
+-- `infer_join_predicates::as_column` meets its contract.
 use borrow.Author.Needs.{needs}
-use Rattle.push_down_join.specs.Partners.{columnOf}
+use Rattle.push_down_join.proofs.Partnering.{column-told, column-untold}
 use Rattle.push_down_join.proofs.infer_join_predicates.as_column.Statement.{statement}
 use Rattle.push_down_join.proofs.infer_join_predicates.as_column.Tie as tie
 
@@ -9,4 +9,5 @@ as-column-spec =
     tie.close
     (tie.spec
     (λ c κs. search needs)
-    (λ c. let e = c .before .label-at .ensures in record { is = ap columnOf (e .0); q = e .1 .p; n = e .1 .q }))
+    (λ c. let e = c .before .before .label-at .ensures in column-told (e .0) (e .1) (c .if1 .taken))
+    (λ c. column-untold (c .before .before .label-at .ensures .0) (c .if1 .left)))

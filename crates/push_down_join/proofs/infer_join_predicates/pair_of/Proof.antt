@@ -1,5 +1,6 @@
+-- `infer_join_predicates::pair_of` meets its contract.
 use borrow.Author.Needs.{needs}
-use Rattle.push_down_join.proofs.Partnering.{pair-none, pair-is}
+use Rattle.push_down_join.proofs.Partnering.{told-as, untold, pair-left, pair-right, pair-is}
 use Rattle.push_down_join.proofs.infer_join_predicates.pair_of.Statement.{statement}
 use Rattle.push_down_join.proofs.infer_join_predicates.pair_of.Tie as tie
 
@@ -7,13 +8,20 @@ pub pair-of-spec : {M : Type 1} → statement M
 pair-of-spec =
     tie.close
     (tie.spec
-    (λ c κs. search needs)
-    (λ c x y h k. rw (pair-none h k _ _ (c .before .if1 .taken)) (c .no-column .ensures))
-    (λ c x y h k. rw (pair-is h k _ _ (c .before .before .before .if1 .left), c .if2 .taken) k)
-    (λ c x y h k. rw (pair-is h k _ _ (c .before .before .before .before .before .before .if1 .left), c .before .before .before .if2 .left, c .if3 .taken) h)
-    (λ c κs. search needs)
+    (λ c. search needs)
+    (λ c. search needs)
+    (λ c x y h k. rw (pair-left h k _ _ (c .enum-told .given .1)) untold)
+    (λ c. search needs)
+    (λ c. search needs)
+    (λ c x y h k. rw (pair-right h k _ _ (c .before .before .before .a .given .1) (c .enum-told2 .given .1)) untold)
+    (λ c x y h k. rw (pair-is h k _ _ (c .before .before .before .before .before .a .given .1) (c .before .before .b .given .1), c .if1 .taken) (told-as k (c .before .before .b .given .1)))
     (λ c x y h k. rw (
-      pair-is h k _ _ (c .before .before .before .before .before .before .before .if1 .left),
-      c .before .before .before .before .if2 .left,
-      c .before .if3 .left,
-    ) (c .no-column2 .ensures)))
+      pair-is h k _ _ (c .before .before .before .before .before .before .a .given .1) (c .before .before .before .b .given .1),
+      c .before .if1 .left,
+      c .if2 .taken,
+    ) (told-as h (c .before .before .before .before .before .before .a .given .1)))
+    (λ c x y h k. rw (
+      pair-is h k _ _ (c .before .before .before .before .before .before .a .given .1) (c .before .before .before .b .given .1),
+      c .before .if1 .left,
+      c .if2 .left,
+    ) untold))

@@ -34,6 +34,7 @@ swap-keys-spec =
     (λ c κs. c .before .before .before .before .before .before .pre .0)
     (λ c κs. let p = c .before .before .before .before .before .before .before .pre .0 .1 in
     ((c .before .before .q-at .ensures .1, c .before .n-at .ensures .1), (_, c .partner .ensures (p .tree) (p .at))))
+    (λ c κs. search needs)
     (λ c κs. omega (arith, c .before .before .before .before .before .before .before .before .before .pre .1))
     (λ c. omega (arith, c .before .before .before .before .before .before .before .before .before .before .pre .1))
     (λ c. omega arith)
@@ -50,7 +51,8 @@ swap-keys-spec =
           let e : nm (c .before .before .before .before .before .q-at .result) (c .before .before .before .before .n-at .result) ≡ nameAt ns i = rw
           (c .before .before .before .before .before .q-at .ensures .0, c .before .before .before .before .n-at .ensures .0)
           (k .names i (omega (arith, c .before .before .before .before .before .before .before .before .before .before .pre .1)) lt) in
-          swap-step lt e (c .before .before .before .partner .ensures t h) (c .before .before .add-partner .ensures) (c .mark .ensures)
+          let p = c .before .before .before .partner .ensures t h in
+          swap-step lt e p (c .before .is-nothing .ensures _ p) (c .before .before .add-partner .ensures) (c .mark .ensures)
           (c .before .before .before .before .before .before .before .loop .inv .1 t ns h k),
     ))
     (λ c t ns h k. swap-end (omega (arith, names-count k (c .before .before .before .before .pre .1), c .loop-test .left)) (c .before .loop .inv .1 t ns h k)))
