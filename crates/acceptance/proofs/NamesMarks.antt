@@ -17,7 +17,8 @@ use Rattle.plan.proofs.Names.{same-eq, not-true}
 use Rattle.acceptance.specs.Marks.{marks-in, marks-in-all, marks-in?, marks-of, marks-of-all}
 use Rattle.acceptance.specs.Names.{holders, one-field, sound, sound-inputs, sound-plan, name-rules, names-in, names-of, badName}
 use Rattle.acceptance.proofs.Marks.{kept, none-false, all-kept}
-use Rattle.acceptance.proofs.NamesRule.{reads, reads?, rule, rule-all, names-rule, names-nodup, rule-sound}
+use Rattle.acceptance.proofs.NamesRule.{names-nodup, rule-sound}
+use Rattle.acceptance.specs.NamesRule.{reads, reads?, rule, rule-all, names-rule}
 
 -- ---- in a sound schema a name has one holder exactly if it is there
 

@@ -16,7 +16,7 @@ use Rattle.plan.specs.Schema.{lookD, schema, schema-first}
 use Rattle.plan.specs.Types.{Scanned, scans, Types, type-of, types, types-first, field-types, both-types}
 use Rattle.plan.proofs.Types.{types-length, types-first-length}
 use Rattle.acceptance.specs.Types.{operands, any-type, of-type, takes-type, same-types}
-use Rattle.acceptance.proofs.NamesRule.{rule, rule-all, names-rule, ok, ok-all}
+use Rattle.acceptance.specs.NamesRule.{rule, rule-all, names-rule, ok, ok-all}
 
 -- ---- expressions
 

@@ -3,7 +3,7 @@ use mathlib.Core.Path.{_≡_}
 use mathlib.Core.Bool.{true}
 use Rattle.plan.specs.Syntax.{Plan}
 use Rattle.acceptance.specs.Accepted.{WellFormed}
-use Rattle.acceptance.proofs.NamesRule.{names-rule}
+use Rattle.acceptance.specs.NamesRule.{names-rule}
 use Rattle.acceptance.proofs.TypesRule.{types-ok}
 use Rattle.acceptance.proofs.NamesMarks.{names-iff}
 use Rattle.acceptance.proofs.TypesMarks.{types-iff}

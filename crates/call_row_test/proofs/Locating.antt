@@ -23,7 +23,7 @@ use Rattle.plan.specs.Trees.{each, entryLabel, entryKids, pairLabel, pairKids, 
 use Rattle.plan.specs.Trees.{filterKids, labelP, kidsP, forestP, planTree, labelE, kidsE}
 use Rattle.plan.proofs.Measure.{size-filter, size-project, size-join, size-alias, size-union, size-distinct, size-sort, size-repartition}
 use Rattle.plan.proofs.Measure.{size-limit, size-aggregate, size-window, size-pcons, size-each}
-use Rattle.acceptance.proofs.NamesRule.{rule, rule-all}
+use Rattle.acceptance.specs.NamesRule.{rule, rule-all}
 use Rattle.rewrite.specs.RewriteAt.{Focus, FocusAll, here, focusIn, inside-all, first-of, later-of, focus, focus-all}
 use Rattle.call_row_test.specs.Standing.{levelsBelow, Sound}
 use Rattle.call_row_test.proofs.Quiet.{Other, NoPlan, OtherAt, region, region-each, past-each, far, later-at, other-e, no-plan-e, no-plan-scan}

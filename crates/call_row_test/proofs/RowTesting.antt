@@ -35,7 +35,8 @@ use Rattle.acceptance.proofs.Accept.{accepted}
 use Rattle.acceptance.proofs.Converse.{same-tree, stands-alone}
 use Rattle.acceptance.proofs.WellFormed.{well-formed-rules}
 use Rattle.acceptance.specs.Names.{sound}
-use Rattle.acceptance.proofs.NamesRule.{rule, rule-sound}
+use Rattle.acceptance.proofs.NamesRule.{rule-sound}
+use Rattle.acceptance.specs.NamesRule.{rule}
 use Rattle.check_fields.specs.Fields.{Schema, inputs, namesIn}
 use Rattle.check_fields.specs.Count.{input}
 use Rattle.check_fields.specs.Rules.{typesIn}

@@ -10,7 +10,7 @@ use Rattle.plan.specs.Integers.{FitsP}
 use Rattle.plan.specs.Measure.{sizeP}
 use Rattle.plan.specs.Syntax.{Expr, Plan, filter}
 use Rattle.plan.specs.Trees.{kidsP, planTree}
-use Rattle.acceptance.proofs.NamesRule.{names-rule}
+use Rattle.acceptance.specs.NamesRule.{names-rule}
 use Rattle.rewrite.specs.OnBytes.{planIn}
 
 -- the levels that there may be below the root

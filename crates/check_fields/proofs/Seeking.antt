@@ -14,7 +14,8 @@ use lib.ListN.{length, drop}
 use borrow.Author.Tests.{eq-eqb, ne-eqb, le-leb, eqb-true, eqb-false, leb-true, leb-false}
 use Rattle.check_fields.specs.Roles.{noPlan, creates, joins, extends}
 use Rattle.image.specs.Tree.{Label, Forest, none, Linked, Node}
-use Rattle.image.proofs.Walking.{left, ended}
+use Rattle.image.proofs.Walking.{ended}
+use Rattle.image.specs.Places.{left}
 use Rattle.image.proofs.Stepping.{Step}
 use Rattle.plan.specs.Kinds as K
 use Rattle.plan.specs.Kinds.{What, expr, plan, part, unknown, what, whatOf}

@@ -10,7 +10,8 @@ use Rattle.check_fields.specs.Fields.{made, inputs}
 use Rattle.check_fields.specs.Rules.{Scope, over}
 use Rattle.check_fields.specs.Count.{input}
 use Rattle.check_fields.specs.declared.scopes.View.{View}
-use Rattle.check_fields.specs.declared.scopes.View.the-variants.{Nothing, FirstInput, SecondInput, BothInputs, Parts, FirstInputAndParts}
+use Rattle.check_fields.specs.declared.scopes.View.the-variants.{Nothing, FirstInput, SecondInput, BothInputs, Parts}
+use Rattle.check_fields.specs.declared.scopes.View.the-variants.{FirstInputAndParts}
 
 abbrev pub scopeOf : View → Forest → Scope
 scopeOf Nothing f = over [] []

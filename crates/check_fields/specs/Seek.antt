@@ -6,7 +6,7 @@ use Prim.Native.Nat.{ℕ, _-_, _≤_}
 use lib.Dec.{eqb}
 use lib.ListN.{drop}
 use Rattle.image.specs.Tree.{Forest, none, node, Linked}
-use Rattle.image.proofs.Walking.{left}
+use Rattle.image.specs.Places.{left}
 use Rattle.plan.specs.Kinds.{what, numberP, TableScan}
 use Rattle.plan.specs.Syntax.{Name, nm, noType}
 use Rattle.check_fields.specs.Fields.{Schema, inputs, typeIn}

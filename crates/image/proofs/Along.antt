@@ -10,7 +10,8 @@ use native.Mathlib.Omega.{arith}
 use lib.ListN.{length, drop, length-drop}
 use Rattle.image.specs.Tree.{Forest, none, Linked, Node, nodeOf}
 use Rattle.image.specs.Places.{Chained}
-use Rattle.image.proofs.Walking.{left, ended, turn}
+use Rattle.image.proofs.Walking.{ended, turn}
+use Rattle.image.specs.Places.{left}
 use Rattle.image.proofs.Stepping.{Step, step}
 
 -- ---- a link that is not 0, in a chain: what a look at its record asks for, and gives

@@ -7,7 +7,8 @@ use native.Mathlib.Omega.{arith}
 use lib.ListN.{drop, length-drop}
 use lib.Seq.{drop-drop}
 use Rattle.image.specs.Tree.{Label, Forest, none, node, size, link, Linked, Node, nodeOf}
-use Rattle.image.proofs.Walking.{turn, left, left-first, left-less, linked-first}
+use Rattle.image.proofs.Walking.{turn, left-first, left-less, linked-first}
+use Rattle.image.specs.Places.{left}
 
 -- f is linked at `at`, `part` begins there, and v is what was looked at:
 -- f's first label, the forests that v's links lead to, and that both are fewer bytes to walk

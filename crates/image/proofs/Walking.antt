@@ -14,6 +14,7 @@ use lib.ListN.{length, take, drop, length-drop}
 use lib.Seq.{take-all, drop-drop}
 use Rattle.image.specs.Word.{word}
 use Rattle.image.specs.Tree.{Label, Forest, none, node, Tree, size, link, Stands, At, Deep, Readable, Linked, Joined}
+use Rattle.image.specs.Places.{left}
 
 -- a part to the end is what is dropped to
 pub part : (s : List ℕ) (a : ℕ) → take (length s - a) (drop a s) ≡ drop a s
@@ -68,11 +69,6 @@ at-link g m (node l cs ns) e = refl
 pub link-le : (m : ℕ) (f : Forest) → link m f ≤ m
 link-le m none = omega arith
 link-le m (node l cs ns) = omega arith
-
--- the measure: how many bytes there are from the record `at` on, and none at the end
-abbrev pub left : List ℕ → ℕ → ℕ → ℕ
-left s b zero = 0
-left s b (suc n) = length s - 32 * (suc n - b)
 
 -- at a record that is not record 0, the measure is the bytes from it on
 left-pos : (s : List ℕ) (b at : ℕ) → 0 < at → left s b at ≡ length s - 32 * (at - b)

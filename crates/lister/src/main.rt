@@ -1,5 +1,5 @@
-// Lists the plan that a pass leaves of the image on standard input: depth, kind, p, q, r, lo, hi of each record, then the counts; or only the
-// refusal.
+// Lists the plan that a pass leaves of the image on standard input: depth, kind, p, q, r, lo, hi of each record, then the counts; or only
+// the refusal.
 use listing::TEXT_BYTES;
 use listing::list;
 

@@ -20,7 +20,7 @@ use Rattle.acceptance.specs.Accepted.{WellFormed, Accepted}
 use Rattle.rewrite.specs.Pass.{pass-refused}
 use Rattle.rewrite.specs.RewriteAt.{Focus, focus, granted, refused, rewrite-in, rewriteAt}
 use Rattle.rewrite.proofs.Marks.{is-some}
-use Rattle.rewrite.proofs.PassByRecords.{plan-from, visits}
+use Rattle.rewrite.specs.PassByRecords.{plan-from, visits}
 use Rattle.rewrite.proofs.PlanFrom.{from-here, from-later, from-end}
 use Rattle.push_down_merge.proofs.Root.{image-length, standing-root}
 use Rattle.push_down_rewrite.proofs.Marked.{plan-there, found-there, not-found}

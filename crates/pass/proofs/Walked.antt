@@ -15,7 +15,7 @@ use Rattle.acceptance.specs.Accepted.{WellFormed}
 use Rattle.rewrite.specs.Pass.{PassAnswer, passed, pass}
 use Rattle.rewrite.proofs.Holes.{found-here, whole}
 use Rattle.rewrite.proofs.PassAgrees.{pass-agrees}
-use Rattle.rewrite.proofs.PassByRecords.{visits, pass-by-records}
+use Rattle.rewrite.specs.PassByRecords.{visits, pass-by-records}
 use Rattle.push_down_base.proofs.Perhapsing.{both}
 use Rattle.push_down_merge.proofs.Root.{plan-fits}
 use Rattle.push_down_rewrite.specs.Outcomes.{Image}

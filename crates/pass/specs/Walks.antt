@@ -14,7 +14,7 @@ use Rattle.plan.specs.Trees.{bitOf}
 use Rattle.acceptance.specs.Accepted.{WellFormed}
 use Rattle.rewrite.specs.Pass.{PassAnswer, passed, pass-refused}
 use Rattle.rewrite.specs.RewriteAt.{Focus, focus}
-use Rattle.rewrite.proofs.PassByRecords.{plan-from, visits}
+use Rattle.rewrite.specs.PassByRecords.{plan-from, visits}
 use Rattle.push_down_rewrite.specs.Outcomes.{Image, Outcome, Outcomes}
 use Rattle.pass.specs.declared.visits.Walk as declared
 

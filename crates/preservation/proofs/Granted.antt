@@ -8,7 +8,8 @@ use Rattle.plan.proofs.Lists.{and-l, and-r, and-intro}
 use Rattle.plan.specs.Syntax.{Plan}
 use Rattle.plan.specs.Measure.{sizeP, depthP}
 use Rattle.acceptance.specs.Accepted.{WellFormed}
-use Rattle.acceptance.proofs.NamesRule.{ok, ok-names}
+use Rattle.acceptance.proofs.NamesRule.{ok-names}
+use Rattle.acceptance.specs.NamesRule.{ok}
 use Rattle.acceptance.proofs.TypesRule.{types-ok, names-typed-ok}
 use Rattle.acceptance.proofs.NamesMarks.{names-iff}
 use Rattle.acceptance.proofs.TypesMarks.{types-iff}

@@ -20,7 +20,7 @@ use Rattle.rewrite.specs.Pass.{PassAnswer, passed, pass-refused, pass, pass-wit
 use Rattle.rewrite.specs.OnBytes.{planIn, no-pass, reported, pass-bytes}
 use Rattle.rewrite.proofs.AtRecord.{keeps-trans}
 use Rattle.rewrite.proofs.Rewrite.{keeps-self}
-use Rattle.rewrite.proofs.PassByRecords.{plan-from, visits, pass-by-records}
+use Rattle.rewrite.specs.PassByRecords.{plan-from, visits, pass-by-records}
 use Rattle.rewrite.proofs.PassAgrees.{pass-agrees}
 use Rattle.rewrite.proofs.PassKeeps as K
 use Rattle.preservation.specs.Volatile.{NoVolatile}

@@ -11,7 +11,7 @@ use Rattle.plan.specs.Syntax.{Name, Expr, Plan, filter, alias}
 use Rattle.plan.specs.Schema.{schema, requalify}
 use Rattle.plan.proofs.Lists.{and-l, and-r}
 use Rattle.acceptance.specs.Names.{sound}
-use Rattle.acceptance.proofs.NamesRule.{rule}
+use Rattle.acceptance.specs.NamesRule.{rule}
 use Rattle.rewrite.specs.Limits.{listP}
 use Rattle.rewrite.specs.PushDownFilter.{renamed, ren}
 use Rattle.writing.specs.Pushed as W

@@ -21,7 +21,8 @@ use Rattle.plan.specs.Trees.{labelP, kidsP, forestP, planTree}
 use Rattle.plan.specs.Integers.{FitsP, FitsPs}
 use Rattle.plan.proofs.Lists.{and-l, and-r}
 use Rattle.acceptance.specs.Names.{sound}
-use Rattle.acceptance.proofs.NamesRule.{ok-all, rule, rule-sound}
+use Rattle.acceptance.proofs.NamesRule.{rule-sound}
+use Rattle.acceptance.specs.NamesRule.{ok-all, rule}
 use Rattle.rewrite.specs.Utils.{replace-cols}
 use Rattle.rewrite.specs.Limits.{listP, listPs}
 use Rattle.rewrite.specs.PushDownFilter.{filter-each, renamed, ren, rewrite-filter}

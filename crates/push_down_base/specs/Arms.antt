@@ -11,7 +11,7 @@ use Rattle.image.specs.Room.{Wrote}
 use Rattle.plan.specs.Syntax.{Expr, Plan, Plans, alias, union}
 use Rattle.plan.specs.Schema.{schema}
 use Rattle.plan.specs.Trees.{planTree, kidsP}
-use Rattle.acceptance.proofs.NamesRule.{reads, ok}
+use Rattle.acceptance.specs.NamesRule.{reads, ok}
 use Rattle.rewrite.specs.Utils.{split-conjunction, conjunction}
 use Rattle.rewrite.specs.Limits.{listP}
 use Rattle.rewrite.specs.PushDownFilter.{Transformed}

@@ -31,7 +31,7 @@ use Rattle.plan.specs.Syntax.{alias}
 use Rattle.plan.specs.Syntax.{union, distinct, sort, repartition, limit, aggregate, window}
 use Rattle.plan.specs.Trees.{labelE, exprTree, labelP, kidsP, planTree, each, pairLabel, pairKids, filterKids}
 use Rattle.plan.proofs.Lists.{and-l, and-r}
-use Rattle.acceptance.proofs.NamesRule.{rule}
+use Rattle.acceptance.specs.NamesRule.{rule}
 use Rattle.rewrite.specs.Limits.{listP}
 use Rattle.rewrite.specs.Utils.{split-conjunction, split-conjunction?, conjoin, conjunction}
 use Rattle.rewrite.proofs.Project.{split-cols}

@@ -16,7 +16,8 @@ use Rattle.plan.specs.Schema.{has, same, schema, nodup}
 use Rattle.plan.specs.Syntax.{Name, Expr, col, num, bool, nul, bin, neg, test, between, inlist, fn, Pair, Kind, Plan, join}
 use Rattle.plan.proofs.Lists.{and-l, and-r}
 use Rattle.acceptance.specs.Names.{sound}
-use Rattle.acceptance.proofs.NamesRule.{rule, ok, names-nodup}
+use Rattle.acceptance.proofs.NamesRule.{names-nodup}
+use Rattle.acceptance.specs.NamesRule.{rule, ok}
 use Rattle.conjuncts.specs.Standing.{StandingP}
 use Rattle.rewrite.specs.SimplifyPredicates.{as-column}
 use Rattle.rewrite.specs.PushDownFilter.{pair-of, partner}

@@ -9,7 +9,7 @@ use Rattle.plan.specs.Lists.{keep}
 use Rattle.plan.specs.Schema.{has}
 use Rattle.plan.specs.Syntax.{Name, Expr, Pair, Kind, Plan, join}
 use mathlib.Core.Option.{Option}
-use Rattle.acceptance.proofs.NamesRule.{ok}
+use Rattle.acceptance.specs.NamesRule.{ok}
 use Rattle.conjuncts.specs.Standing.{StandingP}
 use Rattle.rewrite.specs.PushDownFilter.{partner, no-partner, if-list, swap-keys}
 use Rattle.conjuncts.specs.Items.{Conjuncts}

@@ -13,7 +13,7 @@ use Rattle.plan.specs.Lists.{all}
 use Rattle.plan.specs.Syntax.{Expr, Plan, filter}
 use Rattle.plan.specs.Schema.{schema}
 use Rattle.plan.proofs.Lists.{and-l}
-use Rattle.acceptance.proofs.NamesRule.{reads, reads?, rule, ok}
+use Rattle.acceptance.specs.NamesRule.{reads, reads?, rule, ok}
 use Rattle.rewrite.specs.Utils.{split-conjunction}
 use Rattle.rewrite.specs.Limits.{listP, within-limits}
 use Rattle.rewrite.specs.RewriteAt.{Focus}

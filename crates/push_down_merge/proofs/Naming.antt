@@ -5,7 +5,7 @@ use mathlib.Core.Bool.{Bool, true}
 use mathlib.Core.Option.{some}
 use Rattle.plan.proofs.Lists.{and-l, and-r}
 use Rattle.plan.specs.Syntax.{Plan}
-use Rattle.acceptance.proofs.NamesRule.{rule, rule-all}
+use Rattle.acceptance.specs.NamesRule.{rule, rule-all}
 use Rattle.rewrite.specs.RewriteAt.{Focus, focus}
 use Rattle.push_down_base.specs.Paths.{Ways}
 use Rattle.push_down_base.proofs.Finding.{path-to}

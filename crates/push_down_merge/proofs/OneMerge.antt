@@ -17,7 +17,7 @@ use Rattle.plan.specs.Syntax.{Expr, Plan, filter, scan, project, join, alias, u
 use Rattle.plan.specs.Trees.{labelP}
 use Rattle.plan.specs.Schema.{schema}
 use Rattle.plan.proofs.Lists.{and-l, and-r}
-use Rattle.acceptance.proofs.NamesRule.{reads, reads?, rule, ok}
+use Rattle.acceptance.specs.NamesRule.{reads, reads?, rule, ok}
 use Rattle.rewrite.specs.Utils.{split-conjunction, conjunction, unique}
 use Rattle.rewrite.specs.Limits.{listP, within-limits}
 use Rattle.rewrite.specs.RewriteAt.{Focus}

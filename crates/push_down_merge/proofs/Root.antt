@@ -15,7 +15,7 @@ use Rattle.plan.specs.Measure.{depth, sizeP, depthP}
 use Rattle.plan.proofs.Lists.{and-r, and-intro}
 use Rattle.acceptance.specs.Accepted.{WellFormed, Accepted}
 use Rattle.acceptance.proofs.Converse.{stands-alone}
-use Rattle.acceptance.proofs.NamesRule.{ok}
+use Rattle.acceptance.specs.NamesRule.{ok}
 use Rattle.rewrite.specs.Limits.{listP, within-limits}
 use Rattle.rewrite.proofs.OnBytes.{tree-length}
 use Rattle.preservation.proofs.Depth.{deep-enough}

@@ -7,7 +7,7 @@ use mathlib.Core.List.{List}
 use Rattle.plan.specs.Syntax.{Name, Expr, Plan, scan, filter, project, join, alias, union, distinct, sort, repartition, limit, aggregate, window}
 use Rattle.plan.specs.Schema.{has, schema}
 use Rattle.plan.proofs.Lists.{and-l, and-r, All-append}
-use Rattle.acceptance.proofs.NamesRule.{reads, reads?, rule}
+use Rattle.acceptance.specs.NamesRule.{reads, reads?, rule}
 use Rattle.rewrite.specs.Utils.{conjunction}
 use Rattle.rewrite.specs.PushDownFilter.{merged, simplify-merged}
 use Rattle.rewrite.proofs.Project.{split-cols}

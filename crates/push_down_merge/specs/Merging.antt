@@ -9,7 +9,7 @@ use lib.ListN.{length}
 use Rattle.image.specs.Limits.{workBytes, maxList}
 use Rattle.plan.specs.Syntax.{Expr, Plan, scan, filter, project, join, alias, union, distinct, sort, repartition, limit, aggregate, window}
 use Rattle.plan.specs.Lists.{all}
-use Rattle.acceptance.proofs.NamesRule.{ok}
+use Rattle.acceptance.specs.NamesRule.{ok}
 use Rattle.rewrite.specs.Utils.{split-conjunction, conjunction}
 use Rattle.rewrite.specs.Limits.{listP, within-limits}
 use Rattle.rewrite.specs.RewriteAt.{Focus, focus}

@@ -16,7 +16,7 @@ use Rattle.plan.specs.Syntax.{Expr, Field, Entry, AggEntry, WinEntry, Pair, Kin
 use Rattle.plan.specs.Syntax.{scan, filter, project, join, alias, union, distinct, sort, repartition, limit, aggregate, window}
 use Rattle.plan.specs.Trees.{labelP, planTree}
 use Rattle.plan.proofs.Lists.{and-l, and-true, and-false}
-use Rattle.acceptance.proofs.NamesRule.{reads, rule, ok}
+use Rattle.acceptance.specs.NamesRule.{reads, rule, ok}
 use Rattle.rewrite.specs.Utils.{split-conjunction, split-conjunction?, conjunction, with-filters, is-empty}
 use Rattle.rewrite.specs.PushDownFilter.{Transformed, Transformed·no, supported-filters, in-groups, stay, move, nothing-moves, push-down-join}
 use Rattle.rewrite.specs.PushDownFilter.{simplify-filter, rewrite-filter, rewrite, merges}

@@ -3,7 +3,7 @@ use mathlib.Core.Bool.{Bool}
 use Rattle.plan.specs.Lists.{_&_}
 use Rattle.plan.specs.Syntax.{Plan}
 use Rattle.rewrite.specs.Limits.{within-limits}
-use Rattle.acceptance.proofs.NamesRule.{names-rule}
+use Rattle.acceptance.specs.NamesRule.{names-rule}
 use Rattle.acceptance.proofs.TypesRule.{types-ok}
 
 -- the tests of the places Buffer (the records), Depth, Form (the lists), Name and Type

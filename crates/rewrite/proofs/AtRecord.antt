@@ -19,7 +19,8 @@ use Rattle.rewrite.specs.PushDownFilter.{rewrite}
 use Rattle.rewrite.specs.Limits.{within-limits}
 use Rattle.rewrite.specs.RewriteAt.{Focus, FocusAll, here, focusIn, inside-all, first-of, later-of, focus, focus-all, Answer, granted}
 use Rattle.rewrite.specs.RewriteAt.{refused, result-fits, rewrite-in, rewriteAt}
-use Rattle.acceptance.proofs.NamesRule.{ok, ok-all, rule, ok-names}
+use Rattle.acceptance.proofs.NamesRule.{ok-names}
+use Rattle.acceptance.specs.NamesRule.{ok, ok-all, rule}
 use Rattle.plan.specs.Types.{types, types-first, scans, scans-all}
 use Rattle.acceptance.proofs.TypesRule.{typed, typed-all, types-ok, names-typed-ok}
 use Rattle.rewrite.proofs.TypesKept.{filter-typed, project-typed, join-typed, sort-typed, aggregate-typed, window-typed}

@@ -13,7 +13,6 @@ pub mod Merge
 pub mod Ok
 pub mod Opened
 pub mod PassAgrees
-pub mod PassByRecords
 pub mod PassKeeps
 pub mod PlanFrom
 pub mod Places

@@ -21,7 +21,7 @@ use Rattle.plan.specs.Trees.{pairKids, keyLabel, keyKids, aggLabel, aggKids, wi
 use Rattle.plan.specs.Measure.{sizeE, sizeP, sizes}
 use Rattle.plan.proofs.KindRanges.{plan-number, plan-range}
 use Rattle.rewrite.specs.RewriteAt.{Focus, FocusAll, here, focusIn, inside-all, first-of, later-of, focus, focus-all}
-use Rattle.rewrite.proofs.PassByRecords.{plan-records, plan-records-all}
+use Rattle.rewrite.specs.PassByRecords.{plan-records, plan-records-all}
 
 -- which records hold plans, in reading order
 unfoldable pub marks : Forest → List Bool

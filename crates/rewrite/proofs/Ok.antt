@@ -16,7 +16,7 @@ use Rattle.meaning.specs.Tables.{ScansFit, TablesFit}
 use Rattle.meaning.proofs.Tables.{fit-left, fit-right, scan-wide}
 use Rattle.plan.specs.Types.{scans, scans-all}
 use Rattle.plan.specs.Schema.{schema, sides}
-use Rattle.acceptance.proofs.NamesRule.{rule, ok, ok-all}
+use Rattle.acceptance.specs.NamesRule.{rule, ok, ok-all}
 use Rattle.rewrite.proofs.Join.{Wide}
 use Rattle.rewrite.proofs.JoinLists.{All-or-else}
 use Rattle.rewrite.proofs.Groups.{All-first-occurrences}

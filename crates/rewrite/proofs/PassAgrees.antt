@@ -22,7 +22,7 @@ use Rattle.rewrite.specs.Limits.{within-limits}
 use Rattle.rewrite.specs.RewriteAt.{Focus, here, focusIn, focus, Answer, granted, refused, result-fits, rewrite-in, rewriteAt}
 use Rattle.rewrite.specs.Pass.{inputs, first-input, of-focus, at-record, Walk, walking, spent, failed, and-then, each-input, visit}
 use Rattle.rewrite.specs.Pass.{PassAnswer, passed, pass-refused, report, pass, plans}
-use Rattle.rewrite.proofs.PassByRecords.{plan-from, visits, pass-by-records}
+use Rattle.rewrite.specs.PassByRecords.{plan-from, visits, pass-by-records}
 use Rattle.rewrite.proofs.PlanFrom.{from-here, from-later, from-end, focus-end}
 use Rattle.rewrite.proofs.Holes.{Holed, HoledAll, found-here, whole, within, in-filter, in-project, in-alias, in-distinct, in-sort}
 use Rattle.rewrite.proofs.Holes.{in-repartition, in-limit, in-aggregate, in-window, in-left, in-right, in-union, in-first, in-later}

@@ -13,7 +13,7 @@ use Rattle.rewrite.specs.Limits.{within-limits}
 use Rattle.rewrite.specs.RewriteAt.{Answer, granted, refused, rewriteAt}
 use Rattle.rewrite.specs.Pass.{inputs, first-input, at-record, Walk, walking, spent, failed, and-then, each-input, visit, PassAnswer}
 use Rattle.rewrite.specs.Pass.{passed, pass-refused, report, pass, pass-with-room, pass-call}
-use Rattle.acceptance.proofs.NamesRule.{ok}
+use Rattle.acceptance.specs.NamesRule.{ok}
 use Rattle.rewrite.proofs.Accepted.{accepted}
 use Rattle.rewrite.proofs.AtRecord.{Answered, was-granted, Leaves, Kept, keeps-trans, leaves-self, kept, accepted-ok}
 use Rattle.rewrite.proofs.AtRecord.{rewriteAt-answered}

@@ -19,7 +19,8 @@ use Rattle.plan.proofs.Names.{same-refl, same-eq, not-true}
 use Rattle.plan.specs.Columns.{on-cols}
 use Rattle.rewrite.specs.PushDownFilter.{ren, renamed, filter-each}
 use Rattle.rewrite.proofs.Exprs.{eval-cong, eval-sub}
-use Rattle.acceptance.proofs.NamesRule.{ok, ok-all, ok-nodup, rule}
+use Rattle.acceptance.proofs.NamesRule.{ok-nodup}
+use Rattle.acceptance.specs.NamesRule.{ok, ok-all, rule}
 
 -- the new name of a name of the first schema is one of the second
 pub ren-has : (s t : List Name) (x : Name) → length s ≡ length t → has s x ≡ true → has t (ren s t x) ≡ true

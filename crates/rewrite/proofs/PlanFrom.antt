@@ -10,7 +10,7 @@ use borrow.Author.Tests.{le-leb, lt-leb}
 use Rattle.plan.specs.Syntax.{Plan}
 use Rattle.plan.specs.Measure.{sizeP}
 use Rattle.rewrite.specs.RewriteAt.{Focus, focus}
-use Rattle.rewrite.proofs.PassByRecords.{first-from, plan-from}
+use Rattle.rewrite.specs.PassByRecords.{first-from, plan-from}
 use Rattle.rewrite.proofs.Marks.{plan-marks, marks-length, places, records-marks, is-some, focus-marks}
 
 -- all places stand at `j` or behind

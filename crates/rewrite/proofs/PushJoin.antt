@@ -20,7 +20,7 @@ use Rattle.rewrite.proofs.Extras.{clauses-over, clauses-hold, inferred-
 use Rattle.rewrite.proofs.Join.{sat?-conj, Over, Wide, holds-all, keys-in, inner-rows, left-rows, right-rows, leftSemi-rows}
 use Rattle.rewrite.proofs.Join.{rightSemi-rows, leftAnti-rows, rightAnti-rows}
 use Rattle.rewrite.proofs.Groups.{passes}
-use Rattle.acceptance.proofs.NamesRule.{reads}
+use Rattle.acceptance.specs.NamesRule.{reads}
 
 -- ---- what moves to a side reads that side
 

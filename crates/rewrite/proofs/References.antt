@@ -20,7 +20,7 @@ use Rattle.rewrite.proofs.Project.{split-cols}
 use Rattle.rewrite.proofs.Places.{ren-has}
 use Rattle.rewrite.proofs.Join.{Over}
 use Rattle.rewrite.proofs.PushJoin.{rest-over}
-use Rattle.acceptance.proofs.NamesRule.{reads, reads?, ok, ok-all, rule}
+use Rattle.acceptance.specs.NamesRule.{reads, reads?, ok, ok-all, rule}
 use Rattle.rewrite.proofs.SimplifyFilter.{conj-reads}
 
 module _ {A : Type 0} where

@@ -30,7 +30,8 @@ use Rattle.rewrite.proofs.Sort.{sort-rows}
 use Rattle.rewrite.proofs.Groups.{passes, distinct-rows, windowed-kept, with-aggs-kept}
 use Rattle.rewrite.proofs.Join.{Over}
 use Rattle.rewrite.proofs.PushJoin.{push-join-rows, split?-rows, over-left, over-right}
-use Rattle.acceptance.proofs.NamesRule.{reads, reads?, names-nodup, ok, ok-all, rule}
+use Rattle.acceptance.proofs.NamesRule.{names-nodup}
+use Rattle.acceptance.specs.NamesRule.{reads, reads?, ok, ok-all, rule}
 use Rattle.rewrite.proofs.Ok.{rows-wide}
 use Rattle.rewrite.proofs.SimplifyFilter.{simplify-filter-true, simplify-filter-reads, conjunction-reads}
 use Rattle.acceptance.proofs.TypesRule.{boolean, boolean?, typed}

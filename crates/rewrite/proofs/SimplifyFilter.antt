@@ -18,7 +18,7 @@ use Rattle.rewrite.specs.PushDownFilter.{simplify-filter}
 use Rattle.rewrite.proofs.Exprs.{all-split}
 use Rattle.rewrite.proofs.Project.{split-cols}
 use Rattle.rewrite.proofs.Join.{sat?-conj, Over}
-use Rattle.acceptance.proofs.NamesRule.{reads, reads?}
+use Rattle.acceptance.specs.NamesRule.{reads, reads?}
 use Rattle.rewrite.proofs.Simplify.{simplified-true, simplified-over}
 
 reorder-true : (t : Expr → Bool) (es : List Expr) → all t (reorder-predicates es .predicates) ≡ all t es

@@ -29,7 +29,8 @@ use Rattle.rewrite.proofs.Project.{split-cols}
 use Rattle.rewrite.proofs.Places.{look-ren}
 use Rattle.rewrite.proofs.Join.{Over}
 use Rattle.rewrite.proofs.PushJoin.{over-left, over-right}
-use Rattle.acceptance.proofs.NamesRule.{reads, names-nodup, ok, ok-all, ok-nodup, rule}
+use Rattle.acceptance.proofs.NamesRule.{names-nodup, ok-nodup}
+use Rattle.acceptance.specs.NamesRule.{reads, ok, ok-all, rule}
 use Rattle.rewrite.proofs.References.{all-true, true-all, unique-all, split?-over}
 use Rattle.rewrite.proofs.TypeLaws.{Bools, bools-cong, boolean-sub, bools-sub, bools-split, bools-split?, conjunction-boolean}
 use Rattle.rewrite.proofs.TypeLaws.{bools-clauses, Linked, bools-inferred, bools-if, pick-type, pick-well}

@@ -7,5 +7,6 @@ pub mod PushDownFilter
 pub mod Limits
 pub mod RewriteAt
 pub mod Pass
+pub mod PassByRecords
 pub mod OnBytes
 pub mod RowTest

@@ -1,6 +1,6 @@
--- The pass, an addition of document 01: it "visits the root, rewrites it, then visits likewise, in order, the plans among the children of what
--- stands there now. Each visit is one unit of the caller's budget. It reports visits, flags raised, and finished 1, or 0 if nodes remain. A
--- refused rewrite refuses the whole pass, with its record in the plan as it then stood."
+-- The pass, an addition of document 01: it "visits the root, rewrites it, then visits likewise, in order, the plans among the children of
+-- what stands there now. Each visit is one unit of the caller's budget. It reports visits, flags raised, and finished 1, or 0 if nodes
+-- remain. A refused rewrite refuses the whole pass, with its record in the plan as it then stood."
 use Prim.Native.Nat.{ℕ, zero, suc, _+_, _*_}
 use mathlib.Core.Option as O
 use mathlib.Core.Option.{Option, some}

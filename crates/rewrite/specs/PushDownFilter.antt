@@ -201,8 +201,8 @@ abbrev pub if-list : Bool → List Expr → List Expr
 if-list true es = es
 if-list false es = []
 
--- `P` is the predicates above, `G` those of the join's filter, `s` and `t` the inputs' schemas. `can_evaluate_as_join_condition` holds of every
--- expression of document 01.
+-- `P` is the predicates above, `G` those of the join's filter, `s` and `t` the inputs' schemas. `can_evaluate_as_join_condition` holds of
+-- every expression of document 01.
 module _ (k : Kind) (s t : List Name) (on : List Pair) (P G : List Expr) where
   -- of the predicates above, those that move to no side
   abbrev pub unpushed : List Expr
@@ -295,7 +295,8 @@ unfoldable pub rewrite-projection : Expr → List Entry → Plan → Transformed
 rewrite-projection e es p =
     choose (is-empty (move (pushable es) e))
     (Transformed·no (filter e (project es p)))
-    (Transformed·yes (with-filters (stay (pushable es) e) (project es (with-filters (map (replace-cols (pick es)) (move (pushable es) e)) p))))
+    (Transformed·yes (with-filters (stay (pushable es) e)
+    (project es (with-filters (map (replace-cols (pick es)) (move (pushable es) e)) p))))
 
 -- ---- the other arms of the match on the Filter's input
 

@@ -188,7 +188,8 @@ or-item (some i) o = some i
 -- the column on the left, or else on the right
 unfoldable pub view : Expr → Option Item
 unfolding make or-item rel-of as-literal as-column
-view (bin (cmp o) a b) = or-item (make false (rel-of false o) (as-column a) (as-literal b)) (make true (rel-of true o) (as-column b) (as-literal a))
+view (bin (cmp o) a b) =
+    or-item (make false (rel-of false o) (as-column a) (as-literal b)) (make true (rel-of true o) (as-column b) (as-literal a))
 view (bin and a b) = none
 view (bin or a b) = none
 view (col x) = none
@@ -209,7 +210,8 @@ name-under (nm q n) (nm r m) = ltb q r || (eqb q r & ltb n m)
 
 -- a comparison in front of its column's others
 abbrev pub place : Rel → ValueRecord → Bool → Group → Group
-place same-as l f g = record { key = g .key; eqs = record { strict = false; lit = l; flipped = f } ∷ g .eqs; ups = g .ups; downs = g .downs }
+place same-as l f g =
+    record { key = g .key; eqs = record { strict = false; lit = l; flipped = f } ∷ g .eqs; ups = g .ups; downs = g .downs }
 place (above s) l f g = record { key = g .key; eqs = g .eqs; ups = record { strict = s; lit = l; flipped = f } ∷ g .ups; downs = g .downs }
 place (below s) l f g = record { key = g .key; eqs = g .eqs; ups = g .ups; downs = record { strict = s; lit = l; flipped = f } ∷ g .downs }
 
@@ -224,7 +226,9 @@ fresh i = put-in i (record { key = i .key; eqs = []; ups = []; downs = [] })
 -- into the group of its column, or into a new one in its place
 unfoldable pub enter : Item → List Group → List Group
 enter i [] = fresh i ∷ []
-enter i (g ∷ gs) = choose (same (g .key) (i .key)) (put-in i g ∷ gs) (choose (name-under (i .key) (g .key)) (fresh i ∷ g ∷ gs) (g ∷ enter i gs))
+enter i (g ∷ gs) =
+    choose (same (g .key) (i .key)) (put-in i g ∷ gs)
+    (choose (name-under (i .key) (g .key)) (fresh i ∷ g ∷ gs) (g ∷ enter i gs))
 
 -- the others, and the groups
 pub record Sorted : Type 0 where

@@ -2,7 +2,7 @@
 use native.Mathlib.Omega.{arith}
 use borrow.Author.Needs.{needs}
 use Rattle.image.specs.Tree.{Forest, Linked}
-use Rattle.image.proofs.Walking.{left}
+use Rattle.image.specs.Places.{left}
 use Rattle.image.proofs.Stepping.{step, within-first, less-first}
 use Rattle.image.proofs.Along.{within, whole}
 use Rattle.check_fields.specs.Seek.{Makes}

@@ -3,7 +3,7 @@ use mathlib.Core.Path.{refl, ap, _∙_}
 use native.Mathlib.Omega.{arith}
 use borrow.Author.Needs.{needs}
 use Prim.Native.Nat.{ℕ}
-use Rattle.image.proofs.Walking.{left}
+use Rattle.image.specs.Places.{left}
 use Rattle.image.proofs.Along.{Along, within, whole, along-start, along-step, along-end, here, here-in}
 use lib.ListN.{drop}
 use Rattle.check_fields.specs.Fields.{inputs}

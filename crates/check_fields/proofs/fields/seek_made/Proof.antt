@@ -2,7 +2,7 @@
 use mathlib.Core.Path.{refl, sym, _∙_}
 use native.Mathlib.Omega.{arith}
 use borrow.Author.Needs.{needs}
-use Rattle.image.proofs.Walking.{left}
+use Rattle.image.specs.Places.{left}
 use Rattle.image.proofs.Along.{Along, within, whole, along-start, along-step, along-end, here, here-in}
 use Rattle.check_fields.proofs.Seeking.{Made, made-done, made-skip, made-pass, made-found, it-makes}
 use Rattle.check_fields.proofs.fields.seek_made.Statement.{statement}

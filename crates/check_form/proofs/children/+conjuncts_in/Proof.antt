@@ -2,7 +2,8 @@
 use mathlib.Core.Path.{sym, _∙_}
 use native.Mathlib.Omega.{arith}
 use borrow.Author.Needs.{needs}
-use Rattle.image.proofs.Walking.{left, ended}
+use Rattle.image.proofs.Walking.{ended}
+use Rattle.image.specs.Places.{left}
 use Rattle.image.proofs.Stepping.{step}
 use Rattle.image.proofs.Along.{within, whole, step-at}
 use Rattle.check_form.proofs.Counts.{conj-none, conj-and, conj-one, conj-room}

@@ -1,7 +1,7 @@
 -- `children::exprs_in` meets its contract. The loop's invariant: n expressions stand before `at`.
 use native.Mathlib.Omega.{arith}
 use borrow.Author.Needs.{needs}
-use Rattle.image.proofs.Walking.{left}
+use Rattle.image.specs.Places.{left}
 use Rattle.image.proofs.Along.{Along, within, whole, here}
 use Rattle.check_form.proofs.Counts.{Counted, count-start, count-on, count-room, count-end}
 use Rattle.check_form.proofs.children.exprs_in.Statement.{statement}

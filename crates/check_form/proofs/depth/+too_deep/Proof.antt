@@ -9,7 +9,7 @@ use borrow.Author.Tests.{le-leb, lt-leb}
 use Rattle.image.specs.Limits.{maxDepth}
 use Rattle.image.specs.Tree.{Label, Forest}
 use Rattle.image.specs.Limits.{maxDepth}
-use Rattle.image.proofs.Walking.{left}
+use Rattle.image.specs.Places.{left}
 use Rattle.image.proofs.Along.{within, whole, here}
 use Rattle.check_form.proofs.Search.{Sought, search-start, search-here, search-below, search-on, search-end}
 use Prim.Native.Nat.{ℕ, _+_, _<_}

@@ -6,7 +6,7 @@ use native.Mathlib.Omega.{arith}
 use borrow.Author.Needs.{needs}
 use borrow.Author.Tests.{not-true, not-false}
 use Rattle.image.specs.Tree.{Label, Forest}
-use Rattle.image.proofs.Walking.{left}
+use Rattle.image.specs.Places.{left}
 use Rattle.plan.specs.Form.{formOk}
 use Rattle.image.proofs.Along.{within, whole, here}
 use Rattle.check_form.proofs.Search.{Sought, search-start, search-here, search-below, search-on, search-end}

@@ -2,7 +2,7 @@
 use borrow.Author.Needs.{needs}
 use borrow.Author.Tests.{not-true, not-false}
 use mathlib.Core.Path.{_∙_}
-use Rattle.image.proofs.Walking.{left}
+use Rattle.image.specs.Places.{left}
 use Rattle.check_form.specs.Sorts.{ofSort}
 use Rattle.image.proofs.Along.{Along, within, whole, here}
 use Rattle.check_form.proofs.Patterned.{Past, sorted, past-start, past-stay, past-on, past-end}

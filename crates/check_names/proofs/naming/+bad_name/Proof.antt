@@ -5,7 +5,8 @@ use Prim.Native.Nat.{ℕ, _<_}
 use native.Mathlib.Omega.{arith}
 use borrow.Author.Needs.{needs}
 use borrow.Author.Tests.{not-true, not-false}
-use Rattle.image.proofs.Walking.{ended, left}
+use Rattle.image.proofs.Walking.{ended}
+use Rattle.image.specs.Places.{left}
 use Rattle.image.proofs.Stepping.{step}
 use Rattle.image.proofs.Along.{within, whole}
 use Rattle.plan.specs.Kinds.{whatOf}

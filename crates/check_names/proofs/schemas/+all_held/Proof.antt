@@ -3,7 +3,7 @@ use mathlib.Core.Path.{refl, sym, ap, _∙_}
 use Prim.Native.Nat.{ℕ, _<_}
 use native.Mathlib.Omega.{arith}
 use borrow.Author.Tests.{not-true, not-false}
-use Rattle.image.proofs.Walking.{left}
+use Rattle.image.specs.Places.{left}
 use Rattle.image.proofs.Stepping.{step}
 use Rattle.image.proofs.Along.{within, whole}
 use Rattle.check_names.specs.Singles.{allOf}

@@ -4,7 +4,8 @@ use Prim.Native.Nat.{ℕ, _<_}
 use native.Mathlib.Omega.{arith}
 use lib.ListN.{length-drop}
 use borrow.Author.Tests.{not-true, not-false}
-use Rattle.image.proofs.Walking.{turn, ended, left}
+use Rattle.image.proofs.Walking.{turn, ended}
+use Rattle.image.specs.Places.{left}
 use Rattle.image.proofs.Stepping.{step}
 use Rattle.check_names.proofs.Telling.{none-made, made-other, made-fails, made-passes}
 use borrow.Fn.Kinds.{In}

@@ -2,7 +2,8 @@
 use mathlib.Core.Path.{_∙_}
 use native.Mathlib.Omega.{arith}
 use Prim.Native.Nat.{ℕ, _<_}
-use Rattle.image.proofs.Walking.{ended, left}
+use Rattle.image.proofs.Walking.{ended}
+use Rattle.image.specs.Places.{left}
 use Rattle.image.proofs.Stepping.{step}
 use Rattle.image.proofs.Along.{within, whole}
 use Rattle.check_types.proofs.Demanding.{type-here, alike-none, alike-skip, alike-here}

@@ -7,7 +7,8 @@ use native.Mathlib.Omega.{arith}
 use lib.ListN.{length-drop}
 use borrow.Author.Tests.{not-true, not-false}
 use Rattle.image.specs.Tree.{Tree, Forest}
-use Rattle.image.proofs.Walking.{Chain, chain, round, again, done, left}
+use Rattle.image.proofs.Walking.{Chain, chain, round, again, done}
+use Rattle.image.specs.Places.{left}
 use Rattle.conjuncts.specs.Equality.{same, sameAny}
 use Rattle.conjuncts.proofs.Equals.{for-both}
 use borrow.Fn.Kinds.{In}

@@ -8,7 +8,8 @@ use lib.ListN.{length-drop}
 use borrow.Fn.Kinds.{In}
 use borrow.Fn.PlainCycle.{Measures, is, falls, and}
 use Rattle.image.specs.Tree.{Tree, Forest}
-use Rattle.image.proofs.Walking.{Chain, chain, round, again, done, left, for-all}
+use Rattle.image.proofs.Walking.{Chain, chain, round, again, done, for-all}
+use Rattle.image.specs.Places.{left}
 use Rattle.conjuncts.specs.Functions.{marked, fnAny, fnIn}
 use Rattle.conjuncts.proofs.volatility.has_function.Reads as has-function
 use Rattle.conjuncts.proofs.volatility.has_function.Kinds as kinds

@@ -3,7 +3,8 @@ use native.Mathlib.Omega.{arith}
 use borrow.Author.Needs.{needs}
 use mathlib.Core.Path.{sym, _∙_}
 use lib.ListN.{length-drop}
-use Rattle.image.proofs.Walking.{Chain, chain, round, again, done, left, only}
+use Rattle.image.proofs.Walking.{Chain, chain, round, again, done, only}
+use Rattle.image.specs.Places.{left}
 use Rattle.evaluate.proofs.Folding.{Done, seen-none, seen-next, seen-all, tree-column, tree-literal, tree-operator}
 use Prim.Native.Nat.{ℕ, _<_}
 use borrow.Fn.Kinds.{In}

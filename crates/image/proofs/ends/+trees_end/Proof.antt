@@ -1,7 +1,8 @@
 -- `ends::trees_end` meets its contract. The measure is how many bytes are left.
 use native.Mathlib.Omega.{arith}
 use lib.ListN.{length-drop}
-use Rattle.image.proofs.Walking.{left, turn}
+use Rattle.image.proofs.Walking.{turn}
+use Rattle.image.specs.Places.{left}
 use Rattle.image.proofs.Stepping.{step}
 use Rattle.image.proofs.Along.{within, whole, step-at}
 use Rattle.image.proofs.Ending.{ends-beside, ends-below, ends-here}

@@ -6,7 +6,7 @@ use lib.ListN.{length-drop}
 use borrow.Author.Needs.{needs}
 use Rattle.plan.specs.Syntax.{Plan}
 use Rattle.acceptance.specs.Accepted.{Accepted}
-use Rattle.rewrite.proofs.PassByRecords.{plan-from}
+use Rattle.rewrite.specs.PassByRecords.{plan-from}
 use Rattle.pass.proofs.Steps.{records-are, passes-by, stops-here, searched, no-more}
 use Rattle.pass.proofs.visits.next_plan.Statement.{statement}
 use Rattle.pass.proofs.visits.next_plan.Tie as tie

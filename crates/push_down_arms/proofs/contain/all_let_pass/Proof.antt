@@ -4,7 +4,8 @@ use mathlib.Core.Bool.{true, false}
 use native.Mathlib.Omega.{arith}
 use borrow.Author.Tests.{not-true, not-false}
 use lib.ListN.{length-drop}
-use Rattle.image.proofs.Walking.{Chain, chain, round, again, done, left, for-all}
+use Rattle.image.proofs.Walking.{Chain, chain, round, again, done, for-all}
+use Rattle.image.specs.Places.{left}
 use Rattle.plan.specs.Syntax.{nm}
 use Rattle.push_down_arms.specs.Movable.{lets, letsAll}
 use Rattle.push_down_arms.proofs.Moves.{lets-stop, lets-step}

@@ -4,7 +4,8 @@ use mathlib.Core.Bool.{true, false}
 use Prim.Native.Nat.{ℕ}
 use native.Mathlib.Omega.{arith}
 use lib.ListN.{length-drop}
-use Rattle.image.proofs.Walking.{Chain, round, again, done, left, for-all}
+use Rattle.image.proofs.Walking.{Chain, round, again, done, for-all}
+use Rattle.image.specs.Places.{left}
 use Rattle.plan.specs.Syntax.{nm}
 use Rattle.push_down_arms.specs.Movable.{isNamed, namedIn, partitionIn}
 use Rattle.push_down_base.proofs.FirstChild.{first-turn, none-below}

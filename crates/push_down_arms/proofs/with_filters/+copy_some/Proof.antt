@@ -4,7 +4,8 @@ use mathlib.Core.Path.{sym, _∙_}
 use Prim.Native.Nat.{ℕ, _+_, _<_}
 use native.Mathlib.Omega.{arith}
 use lib.ListN.{length-drop}
-use Rattle.image.proofs.Walking.{Chain, chain, round, again, done, left, for-all}
+use Rattle.image.proofs.Walking.{Chain, chain, round, again, done, for-all}
+use Rattle.image.specs.Places.{left}
 use Rattle.push_down_base.proofs.Windows.{Rest, rest-all, rest-next, rest-end, wrote-none, window-past, yes-within}
 use borrow.Fn.Kinds.{In}
 use borrow.Fn.PlainCycle.{Measures, is, falls, and}

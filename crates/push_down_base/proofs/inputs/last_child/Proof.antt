@@ -3,7 +3,8 @@ use mathlib.Core.Path.{_≡_}
 use Prim.Native.Nat.{ℕ, _+_}
 use native.Mathlib.Omega.{arith}
 use lib.ListN.{length-drop}
-use Rattle.image.proofs.Walking.{Chain, chain, round, again, done, left, for-all}
+use Rattle.image.proofs.Walking.{Chain, chain, round, again, done, for-all}
+use Rattle.image.specs.Places.{left}
 use Rattle.push_down_base.specs.Inputs.{lastOf}
 use Rattle.push_down_base.proofs.LastChild.{last-link, last-more}
 use Rattle.push_down_base.proofs.inputs.last_child.Statement.{statement}

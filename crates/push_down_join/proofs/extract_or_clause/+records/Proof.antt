@@ -4,7 +4,8 @@ use native.Mathlib.Omega.{arith}
 use lib.ListN.{length-drop}
 use Rattle.image.specs.Tree.{size}
 use Rattle.image.specs.Flat.{sizeT}
-use Rattle.image.proofs.Walking.{Chain, chain, round, again, done, left, for-all}
+use Rattle.image.proofs.Walking.{Chain, chain, round, again, done, for-all}
+use Rattle.image.specs.Places.{left}
 use Prim.Native.Nat.{ℕ, _+_, _<_}
 use borrow.Fn.Kinds.{In}
 use borrow.Fn.PlainCycle.{Measures, is, falls, and}

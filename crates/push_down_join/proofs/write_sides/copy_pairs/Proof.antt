@@ -2,7 +2,8 @@
 use mathlib.Core.Path.{sym, _∙_}
 use native.Mathlib.Omega.{arith}
 use lib.ListN.{length-drop}
-use Rattle.image.proofs.Walking.{Chain, chain, round, again, done, left, for-all}
+use Rattle.image.proofs.Walking.{Chain, chain, round, again, done, for-all}
+use Rattle.image.specs.Places.{left}
 use Rattle.push_down_join.proofs.JoinParts.{PairsLeft, pairs-all, pairs-next, pairs-end}
 use Rattle.push_down_join.proofs.write_sides.copy_pairs.Statement.{statement}
 use Rattle.push_down_join.proofs.write_sides.copy_pairs.Tie as tie

@@ -8,7 +8,8 @@ use native.Mathlib.Omega.{arith}
 use lib.ListN.{length-drop}
 use borrow.Author.Tests.{eq-eqb, ne-eqb}
 use Rattle.image.specs.Tree.{Label}
-use Rattle.image.proofs.Walking.{Chain, chain, round, again, done, left, for-all}
+use Rattle.image.proofs.Walking.{Chain, chain, round, again, done, for-all}
+use Rattle.image.specs.Places.{left}
 use Rattle.plan.specs.Schema.{has}
 use Rattle.plan.specs.Syntax.{Name}
 use Rattle.utils.specs.Masks.{Answers}

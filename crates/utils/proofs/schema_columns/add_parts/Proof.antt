@@ -3,7 +3,8 @@ use mathlib.Core.List.{List, _++_}
 use Prim.Native.Nat.{ℕ}
 use native.Mathlib.Omega.{arith}
 use lib.ListN.{length-drop}
-use Rattle.image.proofs.Walking.{Chain, chain, round, again, done, left, for-all}
+use Rattle.image.proofs.Walking.{Chain, chain, round, again, done, for-all}
+use Rattle.image.specs.Places.{left}
 use Rattle.plan.specs.Syntax.{Name}
 use Rattle.utils.specs.Fields.{Names}
 use Rattle.utils.specs.Inputs.{called, made}

@@ -3,7 +3,8 @@ use mathlib.Core.Path.{ap, _∙_}
 use Prim.Native.Nat.{ℕ}
 use native.Mathlib.Omega.{arith}
 use lib.ListN.{length-drop}
-use Rattle.image.proofs.Walking.{Chain, chain, round, again, done, left, for-all}
+use Rattle.image.proofs.Walking.{Chain, chain, round, again, done, for-all}
+use Rattle.image.specs.Places.{left}
 use Rattle.plan.specs.Kinds.{planW, whatOf}
 use Rattle.utils.specs.Inputs.{plansIn}
 use Rattle.utils.proofs.Inputting.{Seek, seek-start, seek-next, plans-node, kind-here, input-here, input-none}

@@ -5,7 +5,8 @@ use Prim.Native.Nat.{ℕ, _+_, _<_}
 use native.Mathlib.Omega.{arith}
 use lib.ListN.{length-drop}
 use Rattle.image.specs.Tree.{Tree, At, labelAt}
-use Rattle.image.proofs.Walking.{Chain, chain, round, again, done, left, for-all}
+use Rattle.image.proofs.Walking.{Chain, chain, round, again, done, for-all}
+use Rattle.image.specs.Places.{left}
 use Rattle.image.proofs.Room.{Left, put-start, left-next, left-end, wrote-past}
 use Rattle.writing.specs.Replaced.{replaced, replacedAny}
 use Rattle.writing.proofs.Entries.{value, no-value}

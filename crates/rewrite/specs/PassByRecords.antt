@@ -1,5 +1,5 @@
--- The pass by records: from each record that holds a plan to the next one. A rewrite at a record leaves the records before it as they are, and
--- the inputs of a plan stand behind it in order, so this is the pass that `Pass` defines by children (`proofs/PassAgrees`).
+-- The pass by records: from each record that holds a plan to the next one. A rewrite at a record leaves the records before it as they are,
+-- and the inputs of a plan stand behind it in order, so this is the pass that `Pass` defines by children (`proofs/PassAgrees`).
 use Prim.Native.Nat.{ℕ, zero, suc, _+_}
 use mathlib.Core.Bool.{cond}
 use mathlib.Core.List.{List, [], _∷_, _++_}
