@@ -61,7 +61,7 @@ pub fn exprs_in(s: &[u8], base: usize, first: usize) -> usize
 }
 
 // Whether the record before the children at s is an And of two expressions.
-fn is_and(s: &[u8], base: usize, v: Node) -> bool
+fn splits(s: &[u8], base: usize, v: Node) -> bool
     requires { ⌜ Chained (now s) base (v .first) ⌝ }
     ensures { λ r. ⌜ ((l : Label) (f : Forest) → v .kind ≡ l .kind → v .p ≡ l .p
         → Linked f (now (s .entry)) base (v .first) → r ≡ isAnd l f) ⌝ }
@@ -86,7 +86,7 @@ pub fn conjuncts_in(s: &[u8], base: usize, first: usize) -> usize
     let part = from_record(s, base, first);
     let v = look(part);
     let rest = conjuncts_in(s, base, v.next);
-    if is_and(part, first, v) {
+    if splits(part, first, v) {
         return conjuncts_in(part, first, v.first) + rest;
     }
     one_if(of_sort(v.kind, Sort::Expression)) + rest

@@ -1,7 +1,7 @@
 // The lines of the text: of a record, of the counts, of a refusal.
 use crate::numbers::put_byte;
 use crate::numbers::put_decimal;
-use crate::numbers::put_named;
+use crate::numbers::put_name_and_number;
 use crate::numbers::put_words;
 use image::records::FIRST_LINK;
 use image::records::Label;
@@ -15,7 +15,7 @@ ghost use Rattle.listing.specs.Listing.{counts, line, refusal};
 ghost use Rattle.listing.specs.Written.{Appended, flat-lines};
 
 // Writes the line of a record, and returns the place behind it.
-fn put_record(text: &mut [u8], at: usize, depth: usize, label: Label) -> usize
+fn put_line(text: &mut [u8], at: usize, depth: usize, label: Label) -> usize
     requires { ⌜ Fits32 label × (depth < 4294967296) × (at + 77 ≤ length (now text)) ⌝ }
     ensures { λ r. ⌜ Appended (now (text .entry)) (now (text .exit)) at r (line depth label) ⌝ }
 {
@@ -34,7 +34,7 @@ pub fn put_lines(flat: &[u8], n: usize, text: &mut [u8]) -> usize
     let mut i = 0;
     while i < n {
         let part = record_at(flat, i);
-        to = put_record(text, to, word_at(part, FIRST_LINK), label_at(part));
+        to = put_line(text, to, word_at(part, FIRST_LINK), label_at(part));
         i += 1;
     }
     to
@@ -45,9 +45,9 @@ pub fn put_counts(text: &mut [u8], at: usize, visits: u64, changed: u64, finishe
     requires { ⌜ at + 87 ≤ length (now text) ⌝ }
     ensures { λ r. ⌜ Appended (now (text .entry)) (now (text .exit)) at r (counts visits changed finished) × (r ≤ at + 87) ⌝ }
 {
-    let a = put_named(text, at, b"visits", visits);
-    let b = put_named(text, a, b" changed", changed);
-    let c = put_named(text, b, b" finished", finished as u64);
+    let a = put_name_and_number(text, at, b"visits", visits);
+    let b = put_name_and_number(text, a, b" changed", changed);
+    let c = put_name_and_number(text, b, b" finished", finished as u64);
     put_byte(text, c, b'\n')
 }
 
@@ -56,7 +56,7 @@ pub fn put_refusal(text: &mut [u8], number: u32, place: u32) -> usize
     requires { ⌜ 87 ≤ length (now text) ⌝ }
     ensures { λ r. ⌜ Appended (now (text .entry)) (now (text .exit)) 0 r (refusal number place) × (r ≤ 87) ⌝ }
 {
-    let a = put_named(text, 0, b"refused", number as u64);
-    let b = put_named(text, a, b" at", place as u64);
+    let a = put_name_and_number(text, 0, b"refused", number as u64);
+    let b = put_name_and_number(text, a, b" at", place as u64);
     put_byte(text, b, b'\n')
 }

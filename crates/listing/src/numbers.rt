@@ -68,7 +68,7 @@ pub fn put_words(text: &mut [u8], at: usize, a: usize, b: usize, c: usize) -> us
 }
 
 // Writes a name, a space and a number.
-pub fn put_named(text: &mut [u8], at: usize, name: &[u8], n: u64) -> usize
+pub fn put_name_and_number(text: &mut [u8], at: usize, name: &[u8], n: u64) -> usize
     requires { ⌜ at + (length (now name) + 21) ≤ length (now text) ⌝ }
     ensures { λ r. ⌜ Appended (now (text .entry)) (now (text .exit)) at r (named (now (name .entry)) n)
         × (r ≤ at + (length (now (name .entry)) + 21)) ⌝ }

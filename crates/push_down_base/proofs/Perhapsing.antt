@@ -45,4 +45,4 @@ module _ {s : List ℕ} {σ : Name → Expr} {p : Predicate} where
   some-left (left {e = e} x f) h = record { expr = e; is = refl; predicate = x }
 
 pub predicated : {s m : List ℕ} {of room : ℕ} {p : Predicate} → Writable s m of room p → is-gone p ≡ false → W.Predicated s (p .written) (p .list)
-predicated h n = let l = some-left (h .perhaps) n in record { map = h .map; expr = l .expr; predicate = l .predicate; most = h .most }
+predicated h n = let l = some-left (h .perhaps) n in record { mapping = h .mapping; expr = l .expr; predicate = l .predicate; most = h .most }

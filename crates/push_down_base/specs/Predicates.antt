@@ -21,7 +21,7 @@ pub data Perhaps (s : List ℕ) (σ : Name → Expr) (p : Predicate) : Option Ex
 
 -- something or nothing is written for a predicate by way of the map at m, and its list is whole
 pub record Writable (s m : List ℕ) (of room : ℕ) (p : Predicate) : Type 0 where
-  pub map : Name → Expr
+  pub mapping : Name → Expr
   pub maps : Maps m of room map
   pub expr : Option Expr
   pub perhaps : Perhaps s map p expr

@@ -40,16 +40,16 @@ module _ {s m : List ℕ} {x z : ℕ} {sc : Scope} {v : Moves} {k : Kind} {l r :
   right-side = record { maps = h .maps; names = h .scopes .names; masks = h .scopes .right }
 
   pub left-some : SomeSided s (v .left)
-  left-some = record { map = σ; names = schema l ++ schema r; test = has (schema l); exprs = _; sides = h .moved .left; most = h .left-most }
+  left-some = record { mapping = σ; names = schema l ++ schema r; test = has (schema l); exprs = _; sides = h .moved .left; most = h .left-most }
 
   pub right-some : SomeSided s (v .right)
-  right-some = record { map = σ; names = schema l ++ schema r; test = has (schema r); exprs = _; sides = h .moved .right; most = h .right-most }
+  right-some = record { mapping = σ; names = schema l ++ schema r; test = has (schema r); exprs = _; sides = h .moved .right; most = h .right-most }
 
   pub conditions-known : Known s (v .conditions)
   conditions-known = record { exprs = _; lists = h .moved .conditions; most = h .conditions-most }
 
   pub kept-some : Some s (v .kept)
-  kept-some = record { map = σ; exprs = _; pushes = pushes-of (h .moved .kept .lists); most = h .moved .kept .most }
+  kept-some = record { mapping = σ; exprs = _; pushes = pushes-of (h .moved .kept .lists); most = h .moved .kept .most }
 
 -- one after the other
 regroup : (x : Rec) (a b y c d : List Rec) → y ≡ c ++ d → x ∷ (a ++ (b ++ y)) ≡ ((((x ∷ []) ++ a) ++ b) ++ c) ++ d

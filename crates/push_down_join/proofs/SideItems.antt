@@ -29,4 +29,4 @@ module _ {s : List ℕ} {σ : Name → Expr} {ns : List Name} {t : Name → Bool
 -- an item of a list that is written
 pub one-sided-of : {s : List ℕ} {c : Conjuncts} (h : SomeSided s c) (i n : ℕ) → i < c .len → n ≡ getD (listed c) i 0 → OneSided s n
 one-sided-of h i n lt e =
-    record { map = h .map; names = h .names; test = h .test; expr = getD (h .exprs) i FALSE; sided = sides-at (h .sides) (h .most) i n lt e }
+    record { mapping = h .mapping; names = h .names; test = h .test; expr = getD (h .exprs) i FALSE; sided = sides-at (h .sides) (h .most) i n lt e }

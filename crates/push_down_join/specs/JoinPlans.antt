@@ -132,5 +132,5 @@ pub record Carried (s m : List ℕ) (x z : ℕ) (sc : Scope) (v : Moves) : Type 
   pub condition : Option Expr
   pub above : List Expr
   pub own : List Expr
-  pub map : Name → Expr
+  pub mapping : Name → Expr
   pub carries : Carries s m x z sc v kind lhs rhs keys condition above own map

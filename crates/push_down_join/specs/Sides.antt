@@ -43,7 +43,7 @@ pub record Smalls (c : Conjuncts) : Type 0 where
 
 -- something is written for the number n
 pub record OneSided (s : List ℕ) (n : ℕ) : Type 0 where
-  pub map : Name → Expr
+  pub mapping : Name → Expr
   pub names : List Name
   pub test : Name → Bool
   pub expr : Expr
@@ -51,7 +51,7 @@ pub record OneSided (s : List ℕ) (n : ℕ) : Type 0 where
 
 -- something is written for the list c, which is whole
 pub record SomeSided (s : List ℕ) (c : Conjuncts) : Type 0 where
-  pub map : Name → Expr
+  pub mapping : Name → Expr
   pub names : List Name
   pub test : Name → Bool
   pub exprs : List Expr

@@ -27,7 +27,7 @@ ghost use lib.ListN.{length};
 ghost use Rattle.image.specs.Buffers.{Scratch};
 ghost use Rattle.image.specs.Limits.{maxList, workBytes};
 ghost use Rattle.plan.specs.Syntax.{Expr, Plan, filter};
-ghost use Rattle.rewrite.specs.Limits.{within-limits, listP};
+ghost use Rattle.rewrite.specs.Limits.{listP, within-limits};
 ghost use Rattle.rewrite.specs.PushDownFilter.{merged, merges, merges-under, simplify-filter};
 ghost use Rattle.rewrite.specs.RewriteAt.{Focus};
 ghost use Rattle.rewrite.specs.Utils.{conjunction, split-conjunction};

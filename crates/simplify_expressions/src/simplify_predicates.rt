@@ -44,7 +44,8 @@ ghost use Rattle.rewrite.specs.SimplifyPredicates.{Side, eq-expr, eq-part, find
 ghost use Rattle.rewrite.specs.SimplifyPredicates.{lit-val, make, most-restrictive, name-under, of-kind, simplify-column-predicates};
 ghost use Rattle.rewrite.specs.SimplifyPredicates.{simplify-predicates, sort-out, val, view};
 ghost use Rattle.conjuncts.specs.Items.{FALSE, Known, Lists};
-ghost use Rattle.simplify_expressions.specs.Classes.{after, precedes, groupOf, inClass, isOf, isOther, keyOf, least, lesser, ofClass};
+ghost use Rattle.simplify_expressions.specs.Classes.{after, groupOf, inClass, isOf, isOther, keyOf, least, lesser, ofClass};
+ghost use Rattle.simplify_expressions.specs.Classes.{precedes};
 ghost use Rattle.simplify_expressions.specs.Seen.{Reading, Spelled, matchedIn, named, operandOf, pastOf, relNo, relOf, seen};
 ghost use Rattle.simplify_expressions.specs.Seen.{sideIn, sideOf, strictR};
 ghost use Rattle.plan.specs.Syntax as S;

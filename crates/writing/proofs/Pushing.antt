@@ -105,7 +105,7 @@ module _ {s : List ℕ} {σ : Name → Expr} where
 
 -- an item of a list that is written
 pub one-of : {s : List ℕ} {c : Conjuncts} (h : Some s c) (i n : ℕ) → i < c .len → n ≡ getD (listed c) i 0 → One s n
-one-of h i n lt e = record { map = h .map; expr = getD (h .exprs) i FALSE; pushed = pushes-at (h .pushes) (h .most) i n lt e }
+one-of h i n lt e = record { mapping = h .mapping; expr = getD (h .exprs) i FALSE; pushed = pushes-at (h .pushes) (h .most) i n lt e }
 
 -- ---- under a Filter
 

@@ -46,20 +46,20 @@ pub record Predicate (s : List ℕ) (σ : Name → Expr) (written : ℕ) (c : Co
 
 -- something is written for the number n
 pub record One (s : List ℕ) (n : ℕ) : Type 0 where
-  pub map : Name → Expr
+  pub mapping : Name → Expr
   pub expr : Expr
   pub pushed : Pushed s map n expr
 
 -- something is written for the list c, which is whole
 pub record Some (s : List ℕ) (c : Conjuncts) : Type 0 where
-  pub map : Name → Expr
+  pub mapping : Name → Expr
   pub exprs : List Expr
   pub pushes : Pushes s map c exprs
   pub most : c .len ≤ maxList
 
 -- a predicate is written
 pub record Predicated (s : List ℕ) (written : ℕ) (c : Conjuncts) : Type 0 where
-  pub map : Name → Expr
+  pub mapping : Name → Expr
   pub expr : Expr
   pub predicate : Predicate s map written c expr
   pub most : c .len ≤ maxList

@@ -13,7 +13,7 @@ use borrow.Fn.PlainCycle.{Measures, is, falls, and}
 use Rattle.check_form.proofs.children.conjuncts_in.Reads as conjuncts-in
 use Rattle.check_form.proofs.children.conjuncts_in.Kinds as conjuncts-in-kinds
 use Rattle.check_form.proofs.children.+conjuncts_in.Lts-conjuncts_in as conjuncts-in-lts
-use Rattle.check_form.proofs.children.is_and.Reads as is-and-reads
+use Rattle.check_form.proofs.children.splits.Reads as splits-reads
 use Rattle.check_form.proofs.children.one_if.Reads as one-if-reads
 use Rattle.check_form.proofs.sorts.of_sort.Reads as of-sort-reads
 use Rattle.image.proofs.records.from_record.Reads as from-record-reads
@@ -44,8 +44,8 @@ pub +conjuncts-in-spec : {M : Type 1} → statement M
   look-reads.Learnt,
   conjuncts-in-below t,
   conjuncts-in.Post,
-  is-and-reads.Asked,
-  is-and-reads.Learnt,
+  splits-reads.Asked,
+  splits-reads.Learnt,
   of-sort-reads.Asked,
   of-sort-reads.Learnt,
   one-if-reads.Asked,
@@ -72,13 +72,13 @@ pub +conjuncts-in-spec : {M : Type 1} → statement M
     omega (
       arith,
       conj-room (p .forest) _ _ _ (p .linked) (conj-and w
-          (sym (c .before .if2 .taken) ∙ c .before .before .is-and .ensures (w .label) (w .below) (w .kind) (w .p) (w .first))
+          (sym (c .before .if2 .taken) ∙ c .before .before .splits .ensures (w .label) (w .below) (w .kind) (w .p) (w .first))
           (c .conjuncts-in2 .ensures (w .below) (w .first)) (c .before .before .before .conjuncts-in .ensures (w .after) (w .next))),
     ))
     (λ c f h. let w = step f h (c .before .before .before .before .before .before .if1 .left)
     (c .before .before .before .before .before .from-record .ensures) (c .before .before .before .before .look .ensures) in
     conj-and w
-    (sym (c .before .if2 .taken) ∙ c .before .before .is-and .ensures (w .label) (w .below) (w .kind) (w .p) (w .first))
+    (sym (c .before .if2 .taken) ∙ c .before .before .splits .ensures (w .label) (w .below) (w .kind) (w .p) (w .first))
     (c .conjuncts-in2 .ensures (w .below) (w .first)) (c .before .before .before .conjuncts-in .ensures (w .after) (w .next)))
     (λ c κs. search needs)
     (λ c κs. search needs)
@@ -88,11 +88,11 @@ pub +conjuncts-in-spec : {M : Type 1} → statement M
     omega (
       arith,
       conj-room (p .forest) _ _ _ (p .linked) (conj-one w
-          (sym (c .before .before .if2 .left) ∙ c .before .before .before .is-and .ensures (w .label) (w .below) (w .kind) (w .p) (w .first))
+          (sym (c .before .before .if2 .left) ∙ c .before .before .before .splits .ensures (w .label) (w .below) (w .kind) (w .p) (w .first))
           (c .before .of-sort .ensures) (c .one-if .ensures) (c .before .before .before .before .conjuncts-in .ensures (w .after) (w .next))),
     ))
     (λ c f h. let w = step f h (c .before .before .before .before .before .before .before .if1 .left)
     (c .before .before .before .before .before .before .from-record .ensures) (c .before .before .before .before .before .look .ensures) in
     conj-one w
-    (sym (c .before .before .if2 .left) ∙ c .before .before .before .is-and .ensures (w .label) (w .below) (w .kind) (w .p) (w .first))
+    (sym (c .before .before .if2 .left) ∙ c .before .before .before .splits .ensures (w .label) (w .below) (w .kind) (w .p) (w .first))
     (c .before .of-sort .ensures) (c .one-if .ensures) (c .before .before .before .before .conjuncts-in .ensures (w .after) (w .next)))

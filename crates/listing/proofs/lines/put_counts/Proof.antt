@@ -22,7 +22,7 @@ put-counts-spec =
     (λ c. let k = c .before .before .before .before .before .before in
     let j = k .before .before .before .before .before in
     let i = j .before .before .before .before .before in (
-      appended (i .put-named .ensures .0)
-          (appended (j .put-named2 .ensures .0) (appended (k .put-named3 .ensures .0) (c .before .before .put-byte .ensures))),
+      appended (i .put-name-and-number .ensures .0)
+          (appended (j .put-name-and-number2 .ensures .0) (appended (k .put-name-and-number3 .ensures .0) (c .before .before .put-byte .ensures))),
       omega arith,
     )))

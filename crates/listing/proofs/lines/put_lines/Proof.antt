@@ -28,7 +28,7 @@ put-lines-spec =
     (λ c. omega arith)
     (λ c. let b = c .before .before .before .before .before .before in
     let k = b .before .before .loop .inv in
-    let w = c .before .before .put-record in
+    let w = c .before .before .put-line in
     let l = c .before .before .before .label-at .ensures in
     let d = c .before .before .before .before .word-at .ensures in (
       omega arith,

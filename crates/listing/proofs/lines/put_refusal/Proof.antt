@@ -19,4 +19,4 @@ put-refusal-spec =
     (λ c. search needs)
     (λ c. let j = c .before .before .before .before .before .before in
     let i = j .before .before .before .before .before in
-    (appended (i .put-named .ensures .0) (appended (j .put-named2 .ensures .0) (c .before .before .put-byte .ensures)), omega arith)))
+    (appended (i .put-name-and-number .ensures .0) (appended (j .put-name-and-number2 .ensures .0) (c .before .before .put-byte .ensures)), omega arith)))

@@ -45,14 +45,14 @@ push-some-spec =
     let w = c .before .changed .ensures _ (mapOf q) (p .0 .move) (k .moved) in (
       (
         record {
-          map = mapOf q;
+          mapping = mapOf q;
           maps = rw i (plan-maps h);
           expr = conjunction (p .0 .stay);
           perhaps = kept-perhaps k (mapOf q);
           most = k .kept-most;
         },
         record {
-          map = mapOf q;
+          mapping = mapOf q;
           maps = rw i (plan-maps h);
           expr = conjunction (map (replace-cols (mapOf q)) (p .0 .move));
           perhaps = moved-perhaps k (mapOf q) w;

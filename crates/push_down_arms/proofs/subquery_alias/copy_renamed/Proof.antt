@@ -26,7 +26,7 @@ copy-renamed-spec =
     (c .before .before .before .before .before .before .before .before .no-fields .ensures) in
     let m = c .before .before .before .before .before .write-renames .ensures (p .0 .over) (schema (p .0 .plan)) (h .names) to (h .wide) in
     let σ : Name → Expr = λ x. col (ren (p .0 .over) (schema (p .0 .plan)) x) in (
-      record { map = σ; expr = replace-cols σ (p .0 .expr); predicate = whole-left (h .changed σ); most = h .most },
+      record { mapping = σ; expr = replace-cols σ (p .0 .expr); predicate = whole-left (h .changed σ); most = h .most },
       (maps-readable m, (record { plan = p .0 .plan; standing = h .standing }, (omega (arith, p .1 .1), p .1 .2))),
     ))
     (λ c. search needs)

@@ -32,7 +32,7 @@ copy-items-spec =
     (λ c κs. let p = c .before .before .before .before .before .before .before .pre in
     let w = c .before .before .before .loop .inv .1 (p .0 .0 .exprs) (p .0 .0 .lists) in (
       record {
-        map = mapOf (p .0 .1 .plan);
+        mapping = mapOf (p .0 .1 .plan);
         expr = _;
         pushed = pushed-plain (lists-at (p .0 .0 .lists) (p .0 .0 .most) _ _ (c .before .before .loop-test .taken) (c .before .item-at .ensures));
       },

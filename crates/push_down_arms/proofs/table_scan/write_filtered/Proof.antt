@@ -29,7 +29,7 @@ write-filtered-spec =
     (λ c κs. let p = c .before .before .before .before .before .before .before .before .before .before .pre in
     let h = p .0 .0 .placed .standing in (
       record {
-        map = mapOf (scan (p .0 .0 .table) (p .0 .0 .fields) (p .0 .0 .filters));
+        mapping = mapOf (scan (p .0 .0 .table) (p .0 .0 .fields) (p .0 .0 .filters));
         exprs = _;
         pushes = pushes-of (p .0 .1 .lists);
         most = p .0 .1 .most;

@@ -17,7 +17,7 @@ keep-filter-spec =
     (λ c κs. let p = c .before .before .before .before .before .pre in
     let h = p .0 .rests in
     let k = h .placed .standing in (
-      record { map = mapOf (p .0 .plan); expr = p .0 .expr; predicate = shaped-predicate (mapOf (p .0 .plan)) (h .shaped); most = h .shaped .most },
+      record { mapping = mapOf (p .0 .plan); expr = p .0 .expr; predicate = shaped-predicate (mapOf (p .0 .plan)) (h .shaped); most = h .shaped .most },
       (rw (c .before .before .record-at .ensures) (plan-readable k), (record { plan = p .0 .plan; standing = k }, (omega (arith, p .1 .0), p .1 .1))),
     ))
     (λ c. search needs)

@@ -28,7 +28,7 @@ push-filter-spec =
     let y = c .before .before .last-child .ensures (planTree q) (rw (c .before .before .before .record-at .ensures) (k .here)) ∙ p .0 .takes .last in (
       (
         record {
-          map = mapOf q;
+          mapping = mapOf q;
           maps = rw (c .before .before .before .record-at .ensures) (plan-maps k);
           expr = none;
           perhaps = gone refl
@@ -36,7 +36,7 @@ push-filter-spec =
           most = omega (arith, c .before .empty .ensures .1);
         },
         record {
-          map = mapOf q;
+          mapping = mapOf q;
           maps = rw (c .before .before .before .record-at .ensures) (plan-maps k);
           expr = some (p .0 .expr);
           perhaps =

@@ -83,7 +83,7 @@ push-down-all-join-spec =
         condition = q .condition;
         above = q .above;
         own = q .own;
-        map = σ;
+        mapping = σ;
         carries = carries h z m sc v few;
       },
       (omega (arith, p .1 .1), p .1 .2),

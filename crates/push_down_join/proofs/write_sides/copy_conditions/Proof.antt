@@ -14,7 +14,7 @@ copy-conditions-spec =
     (λ c σ m es h. let p = c .before .before .before .before .before .pre in
     conditions-none _ es (omega (arith, lists-length h (p .0 .most), c .if1 .taken)) (p .1 .1 .2))
     (λ c κs. let p = c .before .before .before .before .before .before .pre in (
-      record { map = λ x. col x; exprs = p .0 .exprs; pushes = pushes-of (p .0 .lists); most = p .0 .most },
+      record { mapping = λ x. col x; exprs = p .0 .exprs; pushes = pushes-of (p .0 .lists); most = p .0 .most },
       (p .1 .0, (omega (arith, c .before .if1 .left), (omega (arith, p .1 .1 .0), p .1 .1 .1))),
     ))
     (λ c. search needs)

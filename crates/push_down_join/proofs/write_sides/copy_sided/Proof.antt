@@ -9,7 +9,7 @@ copy-sided-spec =
     tie.close
     (tie.spec
     (λ c κs. let p = c .before .before .before .before .before .pre in
-    (record { map = p .0 .map; expr = p .0 .expr; pushed = p .0 .sided .written (c .before .if1 .taken) }, (p .1 .1 .0, p .1 .1 .1)))
+    (record { mapping = p .0 .mapping; expr = p .0 .expr; pushed = p .0 .sided .written (c .before .if1 .taken) }, (p .1 .1 .0, p .1 .1 .1)))
     (λ c. search needs)
     (λ c σ m ns t f k e h. c .before .before .copy-item .ensures σ m e (h .written (c .before .before .before .before .if1 .taken)))
     (λ c κs. let p = c .before .before .before .before .before .pre in (

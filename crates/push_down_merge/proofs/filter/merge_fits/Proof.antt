@@ -28,7 +28,7 @@ merge-fits-spec =
     let i = p .0 .inside in
     let b = c .before .before .before .before .before .before .write-before .ensures (p .0 .whole) (p .0 .spot) (i .root) (i .there) (stands-inside i) in (
       record {
-        map = mapOf (p .0 .spot .plan);
+        mapping = mapOf (p .0 .spot .plan);
         expr = p .0 .expr;
         predicate = made-predicate _ (p .0 .made);
         most =

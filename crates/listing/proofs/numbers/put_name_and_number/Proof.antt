@@ -1,15 +1,15 @@
--- `numbers::put_named` meets its contract.
+-- `numbers::put_name_and_number` meets its contract.
 use borrow.Author.Needs.{needs}
 use native.Mathlib.Omega.{arith}
 use Rattle.listing.specs.Listing.{named}
 use Rattle.listing.proofs.Appending.{appended}
 use Rattle.listing.proofs.Decimals.{spaced-long}
-use Rattle.listing.proofs.numbers.put_named.Statement.{statement}
-use Rattle.listing.proofs.numbers.put_named.Tie as tie
+use Rattle.listing.proofs.numbers.put_name_and_number.Statement.{statement}
+use Rattle.listing.proofs.numbers.put_name_and_number.Tie as tie
 
-pub put-named-spec : {M : Type 1} → statement M
+pub put-name-and-number-spec : {M : Type 1} → statement M
 unfolding named
-put-named-spec =
+put-name-and-number-spec =
     tie.close
     (tie.spec
     (λ c κs. search needs)

@@ -1,14 +1,14 @@
--- `lines::put_record` meets its contract.
+-- `lines::put_line` meets its contract.
 use borrow.Author.Needs.{needs}
 use native.Mathlib.Omega.{arith}
 use Rattle.listing.proofs.Appending.{appended}
 use Rattle.listing.proofs.Decimals.{word-digits}
 use Rattle.listing.proofs.Records.{line-words}
-use Rattle.listing.proofs.lines.put_record.Statement.{statement}
-use Rattle.listing.proofs.lines.put_record.Tie as tie
+use Rattle.listing.proofs.lines.put_line.Statement.{statement}
+use Rattle.listing.proofs.lines.put_line.Tie as tie
 
-pub put-record-spec : {M : Type 1} → statement M
-put-record-spec =
+pub put-line-spec : {M : Type 1} → statement M
+put-line-spec =
     tie.close
     (tie.spec
     (λ c κs. omega (arith, word-digits (c .before .before .pre .1)))

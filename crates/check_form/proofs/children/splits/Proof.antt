@@ -1,11 +1,11 @@
--- `children::is_and` meets its contract.
+-- `children::splits` meets its contract.
 use borrow.Author.Needs.{needs}
 use Rattle.check_form.proofs.Counts.{and-kind, and-operator, and-two}
-use Rattle.check_form.proofs.children.is_and.Statement.{statement}
-use Rattle.check_form.proofs.children.is_and.Tie as tie
+use Rattle.check_form.proofs.children.splits.Statement.{statement}
+use Rattle.check_form.proofs.children.splits.Tie as tie
 
-pub is-and-spec : {M : Type 1} → statement M
-is-and-spec =
+pub splits-spec : {M : Type 1} → statement M
+splits-spec =
     tie.close
     (tie.spec
     (λ c l f k p h. and-kind l f k p (c .if1 .taken))
