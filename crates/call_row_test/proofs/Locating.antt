@@ -10,6 +10,7 @@ use lib.Dec.{eqb, leb}
 use lib.ListN.{drop}
 use lib.Seq.{drop-drop}
 use borrow.Author.Tests.{eqb-true, eqb-false, leb-true, leb-false}
+use Rattle.image.specs.Limits.{maxBelow}
 use Rattle.image.specs.Tree as T
 use Rattle.image.specs.Tree.{Label, Forest, node, size, Stands, At, Deep}
 use Rattle.plan.specs.Lists.{choose}
@@ -25,7 +26,7 @@ use Rattle.plan.proofs.Measure.{size-filter, size-project, size-join, size-alia
 use Rattle.plan.proofs.Measure.{size-limit, size-aggregate, size-window, size-pcons, size-each}
 use Rattle.acceptance.specs.NamesRule.{rule, rule-all}
 use Rattle.rewrite.specs.RewriteAt.{Focus, FocusAll, here, focusIn, inside-all, first-of, later-of, focus, focus-all}
-use Rattle.call_row_test.specs.Standing.{levelsBelow, Sound}
+use Rattle.call_row_test.specs.Standing.{Sound}
 use Rattle.call_row_test.proofs.Quiet.{Other, NoPlan, OtherAt, region, region-each, past-each, far, later-at, other-e, no-plan-e, no-plan-scan}
 use Rattle.call_row_test.proofs.Quiet.{no-plan-join, other-entry, other-key, other-agg, other-win, below-entry, below-key, below-agg, below-win}
 
@@ -42,8 +43,8 @@ unfolding each
 deep-past l k [] ns d h = h
 deep-past l k (x ∷ xs) ns d h = deep-past l k xs ns d (h .2)
 
-deep-plan : (p : Plan) (ns : Forest) → Deep (node (labelP p) (kidsP p) ns) levelsBelow → Deep (kidsP p) levelsBelow
-deep-plan p ns h = deeper (kidsP p) levelsBelow (h .1)
+deep-plan : (p : Plan) (ns : Forest) → Deep (node (labelP p) (kidsP p) ns) maxBelow → Deep (kidsP p) maxBelow
+deep-plan p ns h = deeper (kidsP p) maxBelow (h .1)
 
 -- ---- the places
 
@@ -162,7 +163,7 @@ module _ (es : List Entry) (p : Plan) (h : Sound (project es p)) where
   sound-project : Sound p
   unfolding kidsP rule
   sound-project = record {
-    deep = deep-plan p T.none (deep-past entryLabel entryKids es (node (labelP p) (kidsP p) T.none) levelsBelow (h .deep));
+    deep = deep-plan p T.none (deep-past entryLabel entryKids es (node (labelP p) (kidsP p) T.none) maxBelow (h .deep));
     fits = h .fits .1;
     names = and-r _ _ (and-r _ _ (h .names));
   }
@@ -171,7 +172,7 @@ module _ (k : Kind) (l r : Plan) (on : List Pair) (f : Option Expr) (h : Sound (
   sound-left : Sound l
   unfolding kidsP rule
   sound-left = record {
-    deep = deeper (kidsP l) levelsBelow (h .deep .1);
+    deep = deeper (kidsP l) maxBelow (h .deep .1);
     fits = h .fits .0;
     names = and-l _ _ (and-r _ _ (and-r _ _ (and-r _ _ (h .names))));
   }
@@ -179,7 +180,7 @@ module _ (k : Kind) (l r : Plan) (on : List Pair) (f : Option Expr) (h : Sound (
   sound-right : Sound r
   unfolding kidsP rule
   sound-right = record {
-    deep = deeper (kidsP r) levelsBelow (h .deep .2 .1);
+    deep = deeper (kidsP r) maxBelow (h .deep .2 .1);
     fits = h .fits .1;
     names = and-r _ _ (and-r _ _ (and-r _ _ (and-r _ _ (h .names))));
   }
@@ -204,7 +205,7 @@ module _ (p : Plan) where
   sound-sort : (f : Option ℕ) (ks : List Key) → Sound (sort f ks p) → Sound p
   unfolding kidsP rule
   sound-sort f ks h = record {
-    deep = deep-plan p T.none (deep-past keyLabel keyKids ks (node (labelP p) (kidsP p) T.none) levelsBelow (h .deep));
+    deep = deep-plan p T.none (deep-past keyLabel keyKids ks (node (labelP p) (kidsP p) T.none) maxBelow (h .deep));
     fits = h .fits .1;
     names = and-r _ _ (h .names);
   }
@@ -214,7 +215,7 @@ module _ (p : Plan) where
   sound-aggregate gs ags h =
       let rest = node (labelP p) (kidsP p) T.none in
       record {
-        deep = deep-plan p T.none (deep-past aggLabel aggKids ags rest levelsBelow (deep-past entryLabel entryKids gs (each aggLabel aggKids ags rest) levelsBelow (h .deep)));
+        deep = deep-plan p T.none (deep-past aggLabel aggKids ags rest maxBelow (deep-past entryLabel entryKids gs (each aggLabel aggKids ags rest) maxBelow (h .deep)));
         fits = h .fits .2;
         names = and-r _ _ (and-r _ _ (and-r _ _ (h .names)));
       }
@@ -222,14 +223,14 @@ module _ (p : Plan) where
   sound-window : (ws : List WinEntry) → Sound (window ws p) → Sound p
   unfolding kidsP rule
   sound-window ws h = record {
-    deep = deep-plan p T.none (deep-past winLabel winKids ws (node (labelP p) (kidsP p) T.none) levelsBelow (h .deep));
+    deep = deep-plan p T.none (deep-past winLabel winKids ws (node (labelP p) (kidsP p) T.none) maxBelow (h .deep));
     fits = h .fits .1;
     names = and-r _ _ (and-r _ _ (h .names));
   }
 
 -- of the inputs of a Union
 record SoundAll (ps : Plans) : Type 0 where
-  deep : Deep (forestP ps) levelsBelow
+  deep : Deep (forestP ps) maxBelow
   fits : FitsPs ps
   width : ℕ
   names : rule-all (λ a b. true) width ps ≡ true
@@ -241,7 +242,7 @@ sound-union ps h = record { deep = h .deep; fits = h .fits; width = _; names = h
 module _ (p : Plan) (ps : Plans) (h : SoundAll (pcons p ps)) where
   sound-first : Sound p
   unfolding kidsP rule
-  sound-first = record { deep = deeper (kidsP p) levelsBelow (h .deep .1); fits = h .fits .0; names = and-l _ _ (and-r _ _ (h .names)) }
+  sound-first = record { deep = deeper (kidsP p) maxBelow (h .deep .1); fits = h .fits .0; names = and-l _ _ (and-r _ _ (h .names)) }
 
   sound-later : SoundAll ps
   unfolding kidsP rule

@@ -13,7 +13,7 @@ use lib.Seq.{drop-drop}
 use borrow.Author.Tests.{eq-eqb, ne-eqb, leb-true}
 use Rattle.image.specs.Word.{Bytes, word}
 use Rattle.image.specs.Flat.{enc}
-use Rattle.image.specs.Limits.{maxDepth, maxFields}
+use Rattle.image.specs.Limits.{maxBelow, maxDepth, maxFields}
 use Rattle.image.specs.Lowest.{Found, nothing, found, orElse, unless, lowest, alone}
 use Rattle.image.specs.Tree as T
 use Rattle.image.specs.Tree.{Label, Forest, node, At, Deep, Linked, size, Stands}
@@ -52,7 +52,7 @@ use Rattle.rewrite.specs.RowTest.{row-ok, lent, no-functions, no-test, truth-nu
 use Rattle.rewrite.specs.Utils.{any-fn}
 use Rattle.evaluate.specs.Truths.{valueOf}
 use Rattle.evaluate.specs.Operators.{exprIn}
-use Rattle.call_row_test.specs.Standing.{levelsBelow, Sound, Whole}
+use Rattle.call_row_test.specs.Standing.{Sound, Whole}
 use Rattle.call_row_test.specs.Answer.{testedOf}
 use Rattle.evaluate.specs.declared.logic.Truth.{Truth}
 use Rattle.call_row_test.specs.declared.testing.Answer.the-variants.{Is}
@@ -127,11 +127,11 @@ filter-parts s b e p h =
 
 -- its schema has at most `maxFields` fields, and one level fewer may stand below its parts
 module _ (e : Expr) (p : Plan) (o : Sound (filter e p)) where
-  pub below-predicate : Deep (kidsE e) (levelsBelow - 1)
+  pub below-predicate : Deep (kidsE e) (maxBelow - 1)
   unfolding kidsP
   below-predicate = o .deep .1
 
-  pub below-input : Deep (kidsP p) (levelsBelow - 1)
+  pub below-input : Deep (kidsP p) (maxBelow - 1)
   unfolding kidsP
   below-input = o .deep .2 .1
 

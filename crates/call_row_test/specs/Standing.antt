@@ -4,7 +4,7 @@ use mathlib.Core.Bool.{true}
 use mathlib.Core.List.{List}
 use Prim.Native.Nat.{ℕ, _-_, _*_}
 use lib.ListN.{length}
-use Rattle.image.specs.Limits.{maxDepth, recordBytes}
+use Rattle.image.specs.Limits.{maxBelow, maxDepth, recordBytes}
 use Rattle.image.specs.Tree.{At, Deep}
 use Rattle.plan.specs.Integers.{FitsP}
 use Rattle.plan.specs.Measure.{sizeP}
@@ -13,13 +13,9 @@ use Rattle.plan.specs.Trees.{kidsP, planTree}
 use Rattle.acceptance.specs.NamesRule.{names-rule}
 use Rattle.rewrite.specs.OnBytes.{planIn}
 
--- the levels that there may be below the root
-abbrev pub levelsBelow : ℕ
-levelsBelow = maxDepth - 1
-
 -- what holds of every plan in a well-formed one
 pub record Sound (p : Plan) : Type 0 where
-  pub deep : Deep (kidsP p) levelsBelow
+  pub deep : Deep (kidsP p) maxBelow
   pub fits : FitsP p
   pub names : names-rule p ≡ true
 

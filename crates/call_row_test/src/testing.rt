@@ -21,7 +21,7 @@ use utils::schema_columns::no_fields;
 use utils::schema_columns::schema_columns;
 ghost use mathlib.Core.Path.{_≡_};
 ghost use Prim.Native.Nat.{_≤_};
-ghost use Rattle.image.specs.Limits.{maxFields};
+ghost use Rattle.image.specs.Limits.{maxBelow, maxFields};
 ghost use Rattle.image.specs.Tree.{At, Readable};
 ghost use Rattle.plan.specs.Integers.{FitsE};
 ghost use Rattle.plan.specs.Schema.{schema};
@@ -32,7 +32,7 @@ ghost use Rattle.rewrite.specs.RewriteAt.{focus};
 ghost use Rattle.rewrite.specs.RowTest.{row-test-bytes, test-focus, test-predicate};
 ghost use Rattle.utils.specs.Fields.{Names};
 ghost use Rattle.call_row_test.specs.Answer.{testedOf};
-ghost use Rattle.call_row_test.specs.Standing.{FilterHere, Sound, Whole, levelsBelow};
+ghost use Rattle.call_row_test.specs.Standing.{FilterHere, Sound, Whole};
 ghost use Rattle.plan.specs.Types as Types;
 
 // The levels that there may be below the root.
@@ -57,7 +57,7 @@ fn test_predicate(
     values: &[i64],
     marks: &[u8],
 ) -> Answer
-    requires { ⌜ Readable levelsBelow (now part) base ⌝ }
+    requires { ⌜ Readable maxBelow (now part) base ⌝ }
     requires { ⌜ fields .len ≤ maxFields ⌝ }
     ensures { λ r. ⌜ ((e : Expr) (p : Plan) → At (exprTree e) (now (part .entry)) base → FitsE e → Names fields (schema p)
         → now (types .entry) ≡ Types.types p → testedOf r ≡ test-predicate node e p (now (values .entry)) (now (marks .entry))) ⌝ }

@@ -2,7 +2,7 @@
 use mathlib.Core.List.{List}
 use Prim.Native.Nat.{ℕ, _+_, _-_, _*_, _≤_, _<_}
 use lib.ListN.{length, drop}
-use Rattle.image.specs.Limits.{maxDepth, maxRecords, workBytes}
+use Rattle.image.specs.Limits.{maxBelow, maxDepth, maxRecords, workBytes}
 use Rattle.image.specs.Tree.{At, Deep}
 use Rattle.plan.specs.Syntax.{Expr, Plan}
 use Rattle.plan.specs.Integers.{FitsE, FitsP}
@@ -12,7 +12,7 @@ use Rattle.plan.specs.Trees.{exprTree, kidsE, planTree, kidsP}
 pub record Standing (s : List ℕ) (n : ℕ) (e : Expr) : Type 0 where
   pub within : 32 * n ≤ length s
   pub here : At (exprTree e) (drop (32 * n) s) n
-  pub deep : Deep (kidsE e) (maxDepth - 1)
+  pub deep : Deep (kidsE e) maxBelow
   pub fits : FitsE e
   pub small : n < maxRecords
 
@@ -20,7 +20,7 @@ pub record Standing (s : List ℕ) (n : ℕ) (e : Expr) : Type 0 where
 pub record StandingP (s : List ℕ) (n : ℕ) (p : Plan) : Type 0 where
   pub within : 32 * n ≤ length s
   pub here : At (planTree p) (drop (32 * n) s) n
-  pub deep : Deep (kidsP p) (maxDepth - 1)
+  pub deep : Deep (kidsP p) maxBelow
   pub fits : FitsP p
   pub small : n < maxRecords
 

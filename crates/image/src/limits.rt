@@ -1,4 +1,4 @@
-// The limits of an image and what follows from them, all of them: those of specs/Limits.antt.
+// The limits of an image and what follows from them. specs/Limits.antt has them for the definitions, with the bounds that only proofs need.
 // Records of an image.
 pub const MAX_RECORDS: usize = 2048;
 

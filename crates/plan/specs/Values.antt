@@ -43,9 +43,9 @@ caseNull (Truth b) = false
 
 -- the number of its type: 0 of NULL
 abbrev pub caseKind : Case → ℕ
-caseKind Null = 0
-caseKind (Integer z) = 1
-caseKind (Truth b) = 2
+caseKind Null = S.noType
+caseKind (Integer z) = S.integerType
+caseKind (Truth b) = S.booleanType
 
 -- where it stands in the order of its type: FALSE below TRUE
 abbrev pub caseCode : Case → ℤ

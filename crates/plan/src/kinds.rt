@@ -1,4 +1,4 @@
-// The kinds of records and the numbers that their words hold, all of them: those of specs/Kinds.antt and specs/Trees.antt.
+// The kinds of records by name, all of them: those of specs/Kinds.antt. What their words hold is in words.rt.
 // A new kind is one number here, one row in each table of word_ranges.rt and child_patterns.rt, and a failed proof wherever it is not
 // treated.
 ghost use mathlib.Core.Path.{_≡_};

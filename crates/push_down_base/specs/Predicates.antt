@@ -22,9 +22,9 @@ pub data Perhaps (s : List ℕ) (σ : Name → Expr) (p : Predicate) : Option Ex
 -- something or nothing is written for a predicate by way of the map at m, and its list is whole
 pub record Writable (s m : List ℕ) (of room : ℕ) (p : Predicate) : Type 0 where
   pub mapping : Name → Expr
-  pub maps : Maps m of room map
+  pub maps : Maps m of room mapping
   pub expr : Option Expr
-  pub perhaps : Perhaps s map p expr
+  pub perhaps : Perhaps s mapping p expr
   pub most : p .list .len ≤ maxList
 
 -- c is a list of items of some image

@@ -133,4 +133,4 @@ pub record Carried (s m : List ℕ) (x z : ℕ) (sc : Scope) (v : Moves) : Type 
   pub above : List Expr
   pub own : List Expr
   pub mapping : Name → Expr
-  pub carries : Carries s m x z sc v kind lhs rhs keys condition above own map
+  pub carries : Carries s m x z sc v kind lhs rhs keys condition above own mapping

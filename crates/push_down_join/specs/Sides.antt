@@ -47,7 +47,7 @@ pub record OneSided (s : List ℕ) (n : ℕ) : Type 0 where
   pub names : List Name
   pub test : Name → Bool
   pub expr : Expr
-  pub sided : Sided s map names test n expr
+  pub sided : Sided s mapping names test n expr
 
 -- something is written for the list c, which is whole
 pub record SomeSided (s : List ℕ) (c : Conjuncts) : Type 0 where
@@ -55,7 +55,7 @@ pub record SomeSided (s : List ℕ) (c : Conjuncts) : Type 0 where
   pub names : List Name
   pub test : Name → Bool
   pub exprs : List Expr
-  pub sides : Sides s map names test c exprs
+  pub sides : Sides s mapping names test c exprs
   pub most : c .len ≤ maxList
 
 -- the map at m is σ, and `side` has those of the names ns, which `fields` holds, that pass t

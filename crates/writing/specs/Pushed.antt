@@ -48,18 +48,18 @@ pub record Predicate (s : List ℕ) (σ : Name → Expr) (written : ℕ) (c : Co
 pub record One (s : List ℕ) (n : ℕ) : Type 0 where
   pub mapping : Name → Expr
   pub expr : Expr
-  pub pushed : Pushed s map n expr
+  pub pushed : Pushed s mapping n expr
 
 -- something is written for the list c, which is whole
 pub record Some (s : List ℕ) (c : Conjuncts) : Type 0 where
   pub mapping : Name → Expr
   pub exprs : List Expr
-  pub pushes : Pushes s map c exprs
+  pub pushes : Pushes s mapping c exprs
   pub most : c .len ≤ maxList
 
 -- a predicate is written
 pub record Predicated (s : List ℕ) (written : ℕ) (c : Conjuncts) : Type 0 where
   pub mapping : Name → Expr
   pub expr : Expr
-  pub predicate : Predicate s map written c expr
+  pub predicate : Predicate s mapping written c expr
   pub most : c .len ≤ maxList
