@@ -12,26 +12,22 @@ use native.Mathlib.Omega.{arith}
 use lib.Dec.{eqb}
 use borrow.Author.Tests.{eq-eqb, ne-eqb, le-leb, lt-leb}
 use lib.ListN.{length, drop, length-drop}
-use Rattle.image.specs.Flat.{sizeT}
-use Rattle.image.specs.Limits.{workBytes, maxRecords, maxDepth}
+use Rattle.image.specs.Limits.{workBytes, maxDepth}
 use Rattle.image.specs.Word.{word}
 use Rattle.image.specs.Room.{Wrote}
 use Rattle.image.specs.Tree as T
 use Rattle.image.specs.Tree.{Label, node, At, Deep, Readable, labelAt}
 use Rattle.plan.specs.Columns.{on-cols}
-use Rattle.plan.specs.Lists.{when, flatten}
-use Rattle.plan.specs.Measure.{sizeE}
 use Rattle.plan.specs.Schema.{has}
 use Rattle.plan.specs.Syntax.{Name, Op, and, or, cmp, eq, ne, lt, le, gt, ge, Expr, col, num, bool, nul, bin, neg, test, between, inlist, fn}
 use Rattle.plan.specs.Trees.{labelE, kidsE, exprTree}
-use Rattle.plan.proofs.Lists.{and-l, and-r, all-of, flat-keep, flat-cong}
-use Rattle.plan.proofs.Measure.{size-bin}
-use Rattle.rewrite.specs.PushDownFilter.{both-or, either-and, guarded, extract-or-clause, is-or, listed, extract-or-clauses-for-join}
+use Rattle.plan.proofs.Lists.{and-l, and-r}
+use Rattle.rewrite.specs.PushDownFilter.{both-or, either-and, guarded, extract-or-clause, is-or}
 use Rattle.conjuncts.specs.Standing.{Standing, ReadableE}
 use Rattle.conjuncts.proofs.Operands.{operands, AndParts, readable-left, readable-right}
 use Rattle.push_down_join.specs.declared.extract_or_clause.Clause.{Clause}
 use Rattle.push_down_join.specs.declared.extract_or_clause.Clause.the-variants.{Made, Nothing}
-use Rattle.push_down_join.specs.Clauses.{operatorOf, clauseOf, recordsOf, eitherAnd, yields, kept, or-clause}
+use Rattle.push_down_join.specs.Clauses.{operatorOf, clauseOf, eitherAnd, yields, kept, or-clause}
 
 -- ---- an AND, an OR, or any other expression
 
@@ -74,18 +70,6 @@ module _ (l : Label) (k : ℕ) (is : k ≡ l .kind) where
   pub operator-high : (p : ℕ) → p ≡ l .p → k ≡ 5 → 2 < p → 0 ≡ operatorOf l
   unfolding operatorOf
   operator-high p e h high = rw (← is, ← e, eq-eqb k 5 h, lt-leb p 2 high)
-
--- ---- an AND of two clauses
-
-module _ {a b : Clause} {m : ℕ} (p : a ≡ Made m) where
-  pub either-first : b ≡ Nothing → Made m ≡ eitherAnd a b
-  either-first q = rw (p, q)
-
-  pub either-both : {n : ℕ} → b ≡ Made n → Made (1 + m + n) ≡ eitherAnd a b
-  either-both q = rw (p, q)
-
-pub either-second : {a b : Clause} → a ≡ Nothing → b ≡ eitherAnd a b
-either-second p = rw p
 
 -- ---- where the operands stand
 
@@ -175,15 +159,6 @@ module _ {o : Op} {e : Expr} {x y : ℕ} {left right : List ℕ} (u : Sides o e 
   unfolding on-cols
   held-right c h = and-r (on-cols c (u .lhs)) (on-cols c (u .rhs)) (rw (u .is) at h)
 
-  -- their records
-  pub sides-size : sizeE e ≡ suc (sizeE (u .lhs) + sizeE (u .rhs))
-  sides-size = ap sizeE (u .is) ∙ size-bin o (u .lhs) (u .rhs)
-
--- an expression that can be read has at most `maxRecords` records
-pub size-room : {d : ℕ} {part : List ℕ} {base : ℕ} (h : ReadableE d part base) → sizeE (h .expr) ≤ maxRecords
-unfolding sizeE
-size-room h = omega (arith, h .at .head .room, h .room)
-
 -- ---- what the operands' clauses make
 
 module _ (c : Name → Bool) (e : Expr) where
@@ -197,10 +172,9 @@ module _ (c : Name → Bool) (e : Expr) where
       go (other k is) = is c
 
   -- it reads the side alone, or not
-  pub other-made : {n op : ℕ} → op ≡ operatorOf (labelE e) → op ≡ 0 → true ≡ on-cols c e → n ≡ sizeT (exprTree e)
-      → Made n ≡ clauseOf (extract-or-clause c e)
-  unfolding guarded sizeE
-  other-made is z k size = rw (other-clause (sym is ∙ z), ← k, size)
+  pub other-made : {op : ℕ} → op ≡ operatorOf (labelE e) → op ≡ 0 → true ≡ on-cols c e → Made ≡ clauseOf (extract-or-clause c e)
+  unfolding guarded
+  other-made is z k = rw (other-clause (sym is ∙ z), ← k)
 
   pub other-nothing : {op : ℕ} → op ≡ operatorOf (labelE e) → op ≡ 0 → false ≡ on-cols c e → Nothing ≡ clauseOf (extract-or-clause c e)
   unfolding guarded
@@ -246,20 +220,15 @@ module _ (c : Name → Bool) {e : Expr} {x y : ℕ} {left right : List ℕ} wher
         go (some a) none h = refl
         go (some a) (some b) h = cc
 
-    pub or-made : {r s : Clause} {m n : ℕ} → r ≡ clauseOf (extract-or-clause c (u .lhs)) → r ≡ Made m
-        → s ≡ clauseOf (extract-or-clause c (u .rhs))
-        → s ≡ Made n → Made (1 + m + n) ≡ clauseOf (extract-or-clause c e)
+    pub or-made : {r s : Clause} → r ≡ clauseOf (extract-or-clause c (u .lhs)) → r ≡ Made
+        → s ≡ clauseOf (extract-or-clause c (u .rhs)) → s ≡ Made → Made ≡ clauseOf (extract-or-clause c e)
     unfolding both-or
-    or-made {m = m} {n = n} p q h k = rw (of-or u) (go (extract-or-clause c (u .lhs)) (extract-or-clause c (u .rhs)) (sym p ∙ q)
-        (sym h ∙ k))
+    or-made p q h k = rw (of-or u) (go (extract-or-clause c (u .lhs)) (extract-or-clause c (u .rhs)) (sym p ∙ q) (sym h ∙ k))
       where
-        go : (a b : Option Expr) → clauseOf a ≡ Made m → clauseOf b ≡ Made n → Made (1 + m + n) ≡ clauseOf (both-or a b)
+        go : (a b : Option Expr) → clauseOf a ≡ Made → clauseOf b ≡ Made → Made ≡ clauseOf (both-or a b)
         go none b h k = cc
         go (some a) none h k = cc
-        go (some a) (some b) h k =
-            let i : sizeE a ≡ m = cc in
-            let j : sizeE b ≡ n = cc in
-            ap Made (omega (arith, size-bin or a b))
+        go (some a) (some b) h k = refl
 
   -- an AND keeps each operand that yields
   pub and-made : {r a b : Clause} (u : Sides and e x y left right) → r ≡ eitherAnd a b → a ≡ clauseOf (extract-or-clause c (u .lhs))
@@ -270,22 +239,7 @@ module _ (c : Name → Bool) {e : Expr} {x y : ℕ} {left right : List ℕ} wher
       go : (a b : Option Expr) → eitherAnd (clauseOf a) (clauseOf b) ≡ clauseOf (either-and a b)
       go none b = refl
       go (some a) none = refl
-      go (some a) (some b) = ap Made (omega (arith, size-bin and a b))
-
--- the records of an AND of two clauses
-pub either-small : (a b : Clause) → recordsOf (eitherAnd a b) ≤ suc (recordsOf a + recordsOf b)
-either-small Nothing b = omega arith
-either-small (Made m) Nothing = omega arith
-either-small (Made m) (Made n) = omega arith
-
--- the records of a clause that was made
-pub made-small : {r : Clause} {m k : ℕ} → recordsOf r ≤ k → r ≡ Made m → m ≤ k
-made-small {m = m} {k = k} h e = subst (λ (x : Clause). recordsOf x ≤ k) e h
-
--- of an expression that is its own clause
-pub records-small : (e : Expr) {n : ℕ} → n ≡ sizeT (exprTree e) → n ≤ sizeE e
-unfolding sizeE
-records-small e h = omega arith
+      go (some a) (some b) = refl
 
 -- ---- which operands are part of the clause
 
@@ -299,10 +253,10 @@ kept-nothing {op} x differs p q = rw (ne-eqb op 2 differs) (go x (sym p ∙ q))
     go none h = refl
     go (some a) h = cc
 
-pub kept-made : (op : ℕ) {r : Clause} {m : ℕ} (x : Option Expr) → r ≡ clauseOf x → r ≡ Made m → true ≡ kept op x
-kept-made op {m = m} x p q = go (eqb op 2) x (sym p ∙ q)
+pub kept-made : (op : ℕ) {r : Clause} (x : Option Expr) → r ≡ clauseOf x → r ≡ Made → true ≡ kept op x
+kept-made op x p q = go (eqb op 2) x (sym p ∙ q)
   where
-    go : (b : Bool) (x : Option Expr) → clauseOf x ≡ Made m → true ≡ (b || yields x)
+    go : (b : Bool) (x : Option Expr) → clauseOf x ≡ Made → true ≡ (b || yields x)
     go true x h = refl
     go false none h = cc
     go false (some a) h = refl
@@ -465,13 +419,3 @@ or-whole c e {k} h = go (is-or e) h
     go : (b : Bool) → cond b (extract-or-clause c e) none ≡ some k → extract-or-clause c e ≡ some k
     go true h = h
     go false h = never h
-
--- the clauses of a list, one conjunct after another
-pub clauses-each : (c : Name → Bool) (es : List Expr) → extract-or-clauses-for-join c es ≡ flatten (λ e. listed (or-clause c e)) es
-unfolding extract-or-clauses-for-join when listed
-clauses-each c es = flat-keep (λ e. listed (extract-or-clause c e)) is-or es
-    ∙ flat-cong _ _ (all-of (λ e. each (is-or e) (extract-or-clause c e)) es)
-  where
-    each : (b : Bool) (o : Option Expr) → when b (listed o) ≡ listed (cond b o none)
-    each true o = refl
-    each false o = refl

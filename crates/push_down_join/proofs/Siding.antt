@@ -112,12 +112,12 @@ module _ {s : List ℕ} {σ : Name → Expr} {ns : List Name} {t : Name → Bool
         go O.none z = rw (append-nil es) h
         go (some a) z = let w : _≡_ {A = ℕ} 0 1 = cc in absurd (omega arith)
 
-    pub sides-made : {r : Conjuncts} {m n : ℕ} → o ≡ Made m → Item s n e → on-cols (has ns) e ≡ true
+    pub sides-made : {r : Conjuncts} {n : ℕ} → o ≡ Made → Item s n e → on-cols (has ns) e ≡ true
         → ((xs : List ℕ) → Holds to xs → Holds r (xs ++ ((n + clauseBy) ∷ []))) → Sides s σ ns t r (es ++ P.listed (or-clause t e))
     unfolding P.listed
-    sides-made {r} {m} {n} k i held f = go (or-clause t e) refl (sym is ∙ k)
+    sides-made {r} {n} k i held f = go (or-clause t e) refl (sym is ∙ k)
       where
-        go : (x : Option Expr) → or-clause t e ≡ x → clauseOf x ≡ Made m → Sides s σ ns t r (es ++ P.listed x)
+        go : (x : Option Expr) → or-clause t e ≡ x → clauseOf x ≡ Made → Sides s σ ns t r (es ++ P.listed x)
         go O.none p z = let w : _≡_ {A = ℕ} 0 1 = cc in absurd (omega arith)
         go (some a) p z = record {
           numbers = h .numbers ++ ((n + clauseBy) ∷ []);

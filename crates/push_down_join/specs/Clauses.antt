@@ -1,11 +1,10 @@
--- What the code says of a clause: of how many records it is, or that there is none.
+-- What the code says of a clause: that there is one, or that there is none.
 use mathlib.Core.Bool.{Bool, true, false, _||_, cond}
 use mathlib.Core.Option.{Option, none, some}
-use Prim.Native.Nat.{ℕ, _+_}
+use Prim.Native.Nat.{ℕ}
 use lib.Dec.{eqb, leb}
 use Rattle.image.specs.Tree.{Label}
 use Rattle.plan.specs.Kinds.{numberE, Binary}
-use Rattle.plan.specs.Measure.{sizeE}
 use Rattle.plan.specs.Syntax.{Name, Expr, or}
 use Rattle.plan.specs.Trees.{opNumber}
 use Rattle.rewrite.specs.PushDownFilter.{extract-or-clause, is-or}
@@ -18,18 +17,12 @@ operatorOf l = cond (eqb (l .kind) (numberE Binary)) (cond (leb (l .p) (opNumber
 
 abbrev pub clauseOf : Option Expr → Clause
 clauseOf none = Nothing
-clauseOf (some e) = Made (sizeE e)
-
--- the records of a clause
-abbrev pub recordsOf : Clause → ℕ
-recordsOf Nothing = 0
-recordsOf (Made n) = n
+clauseOf (some e) = Made
 
 -- an AND of two clauses
 abbrev pub eitherAnd : Clause → Clause → Clause
 eitherAnd Nothing b = b
-eitherAnd (Made m) Nothing = Made m
-eitherAnd (Made m) (Made n) = Made (1 + m + n)
+eitherAnd Made b = Made
 
 -- there is one
 abbrev pub yields : Option Expr → Bool

@@ -24,15 +24,13 @@ ghost use mathlib.Core.Path.{_≡_};
 ghost use mathlib.Core.Bool.{Bool, true};
 ghost use mathlib.Core.List.{_++_, List};
 ghost use mathlib.Core.Option.{some};
-ghost use Prim.Native.Nat.{_*_, _+_, _<_, _≤_};
+ghost use Prim.Native.Nat.{_+_, _<_, _≤_};
 ghost use lib.ListN.{length};
-ghost use Rattle.image.specs.Flat.{sizeT};
-ghost use Rattle.image.specs.Limits.{Shallow, maxFields, maxLevel, maxRecords, workBytes};
+ghost use Rattle.image.specs.Limits.{Shallow, maxFields, maxLevel, workBytes};
 ghost use Rattle.image.specs.Room.{Wrote};
-ghost use Rattle.image.specs.Tree.{At, Readable, Tree, labelAt};
+ghost use Rattle.image.specs.Tree.{At, labelAt};
 ghost use Rattle.plan.specs.Columns.{on-cols};
 ghost use Rattle.plan.specs.Lists.{All};
-ghost use Rattle.plan.specs.Measure.{sizeE};
 ghost use Rattle.plan.specs.Schema.{has};
 ghost use Rattle.plan.specs.Syntax.{Expr, Name};
 ghost use Rattle.plan.specs.Trees.{exprTree};
@@ -41,7 +39,7 @@ ghost use Rattle.conjuncts.specs.Items.{Item, Known, Lists, Present};
 ghost use Rattle.conjuncts.specs.Standing.{ReadableE, Standing, There};
 ghost use Rattle.utils.specs.Fields.{Names};
 ghost use Rattle.utils.specs.Masks.{Masks};
-ghost use Rattle.push_down_join.specs.Clauses.{clauseOf, eitherAnd, kept, operatorOf, or-clause, recordsOf};
+ghost use Rattle.push_down_join.specs.Clauses.{clauseOf, eitherAnd, kept, operatorOf, or-clause};
 ghost use Rattle.push_down_join.specs.Sides.{Sides};
 
 // Appends the clause of the conjunct n for a side, if it yields one.
@@ -53,7 +51,7 @@ fn add_clause(s: &[u8], to: Conjuncts, n: usize, fields: Fields, side: u64) -> C
         Item (now (s .entry)) n e → Names fields ns → on-cols (has ns) e ≡ true → Masks side ns t →
         Sides (now (s .entry)) σ ns t r (es ++ listed (or-clause t e))) ⌝ }
 {
-    let Clause::Made(_) = or_clause_at(s, n, fields, side) else {
+    let Clause::Made = or_clause_at(s, n, fields, side) else {
         return to;
     };
     add(to, n + CLAUSE)
@@ -83,9 +81,9 @@ pub fn extract_or_clauses_for_join(
     r
 }
 
-// A clause, of as many records, or nothing.
+// A clause or nothing. `copy_clause` writes it, from the expression that yields it.
 pub enum Clause {
-    Made(usize),
+    Made,
     Nothing,
 }
 
@@ -104,32 +102,13 @@ pub fn operator(part: &[u8]) -> usize
     0
 }
 
-// How many records the tree at the start of `part` has.
-fn records(part: &[u8], base: usize, depth: usize) -> usize
-    requires { ⌜ Readable depth (now part) base ⌝ }
-    ensures { λ r. ⌜ ((t : Tree) → At t (now (part .entry)) base → r ≡ sizeT t) ⌝ }
-{
-    let mut n = 1;
-    let mut at = word_at(part, FIRST_LINK);
-    while at != 0 {
-        let child = from_record(part, base, at);
-        n += records(child, at, depth - 1);
-        at = word_at(child, NEXT_LINK);
-    }
-    n
-}
-
 // An AND keeps each operand that yields.
 fn either_and(a: Clause, b: Clause) -> Clause
-    requires { ⌜ recordsOf a + recordsOf b < (2 * maxRecords) ⌝ }
     ensures { λ r. ⌜ r ≡ eitherAnd a b ⌝ }
 {
     match a {
+        Clause::Made => Clause::Made,
         Clause::Nothing => b,
-        Clause::Made(m) => match b {
-            Clause::Nothing => Clause::Made(m),
-            Clause::Made(n) => Clause::Made(1 + m + n),
-        },
     }
 }
 
@@ -138,14 +117,13 @@ fn either_and(a: Clause, b: Clause) -> Clause
 pub fn extract_or_clause(part: &[u8], base: usize, depth: usize, f: Fields, side: u64) -> Clause
     requires { ⌜ ReadableE depth (now part) base ⌝ }
     requires { ⌜ f .len ≤ maxFields ⌝ }
-    ensures is { λ r. ⌜ ((e : Expr) (ns : List Name) (c : Name → Bool) → At (exprTree e) (now (part .entry)) base → Names f ns
+    ensures { λ r. ⌜ ((e : Expr) (ns : List Name) (c : Name → Bool) → At (exprTree e) (now (part .entry)) base → Names f ns
         → on-cols (has ns) e ≡ true → Masks side ns c → r ≡ clauseOf (extract-or-clause c e)) ⌝ }
-    ensures small { λ r. ⌜ ((e : Expr) → At (exprTree e) (now (part .entry)) base → recordsOf r ≤ sizeE e) ⌝ }
 {
     let op = operator(part);
     if op == 0 {
         if has_all_column_refs(part, base, depth, f, side) {
-            return Clause::Made(records(part, base, depth));
+            return Clause::Made;
         }
         return Clause::Nothing;
     }
@@ -158,13 +136,13 @@ pub fn extract_or_clause(part: &[u8], base: usize, depth: usize, f: Fields, side
         let b = extract_or_clause(right, y, depth - 1, f, side);
         return either_and(a, b);
     }
-    let Clause::Made(m) = extract_or_clause(left, x, depth - 1, f, side) else {
+    let Clause::Made = extract_or_clause(left, x, depth - 1, f, side) else {
         return Clause::Nothing;
     };
-    let Clause::Made(n) = extract_or_clause(right, y, depth - 1, f, side) else {
+    let Clause::Made = extract_or_clause(right, y, depth - 1, f, side) else {
         return Clause::Nothing;
     };
-    Clause::Made(1 + m + n)
+    Clause::Made
 }
 
 // Whether an operand is part of the clause of an AND or OR that yields one: of an OR each is, of an AND each that yields.
@@ -177,7 +155,7 @@ fn is_kept(op: usize, part: &[u8], base: usize, depth: usize, f: Fields, side: u
     if op == OR {
         return true;
     }
-    let Clause::Made(_) = extract_or_clause(part, base, depth, f, side) else {
+    let Clause::Made = extract_or_clause(part, base, depth, f, side) else {
         return false;
     };
     true

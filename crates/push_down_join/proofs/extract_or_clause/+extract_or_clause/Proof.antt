@@ -4,10 +4,8 @@ use native.Mathlib.Omega.{arith}
 use lib.ListN.{length-drop}
 use borrow.Author.Needs.{needs}
 use Rattle.plan.specs.Schema.{has}
-use Rattle.plan.specs.Trees.{exprTree}
-use Rattle.push_down_join.proofs.Extracting.{readable-expr, parts-of, halves, op-is, sides-and, sides-or, held-left, held-right, sides-size, size-room}
-use Rattle.push_down_join.proofs.Extracting.{other-made, other-nothing, records-small, made-small, and-made, either-small, or-nothing-left}
-use Rattle.push_down_join.proofs.Extracting.{or-nothing-right, or-made}
+use Rattle.push_down_join.proofs.Extracting.{readable-expr, parts-of, halves, op-is, sides-and, sides-or, held-left, held-right}
+use Rattle.push_down_join.proofs.Extracting.{other-made, other-nothing, and-made, or-nothing-left, or-nothing-right, or-made}
 use Prim.Native.Nat.{ℕ, _<_}
 use borrow.Fn.Kinds.{In}
 use borrow.Fn.PlainCycle.{Measures, is, falls, and}
@@ -18,7 +16,6 @@ use Rattle.image.proofs.records.from_record.Reads as from-record-reads
 use Rattle.image.proofs.words.word_at.Reads as word-at-reads
 use Rattle.push_down_join.proofs.extract_or_clause.either_and.Reads as either-and-reads
 use Rattle.push_down_join.proofs.extract_or_clause.operator.Reads as operator-reads
-use Rattle.push_down_join.proofs.extract_or_clause.records.Reads as records-reads
 use Rattle.utils.proofs.has_all_column_refs.has_all_column_refs.Reads as has-all-column-refs-reads
 use Rattle.push_down_join.proofs.extract_or_clause.+extract_or_clause.{statement}
 use Rattle.push_down_join.proofs.extract_or_clause.+extract_or_clause.Tie.{close}
@@ -48,8 +45,6 @@ pub +extract-or-clause-spec : {M : Type 1} → statement M
   operator-reads.Learnt,
   has-all-column-refs-reads.Asked,
   has-all-column-refs-reads.Learnt,
-  records-reads.Asked,
-  records-reads.Learnt,
   word-at-reads.Asked,
   word-at-reads.Learnt,
   from-record-reads.Asked,
@@ -63,19 +58,10 @@ pub +extract-or-clause-spec : {M : Type 1} → statement M
     extract-or-clause.Post
     (λ c κs. omega (arith, c .before .pre .1 .0 .at .head .room))
     (λ c κs. (readable-expr (c .before .before .before .pre .1 .0), c .before .before .before .pre .1 .1))
-    (λ c κs. readable-expr (c .before .before .before .before .before .pre .1 .0))
-    (λ c. (
-      λ e ns d h g held k. other-made d e (op-is e (c .before .before .before .before .operator .ensures) h)
-          (c .before .before .before .if1 .taken)
-          (sym (c .before .if2 .taken) ∙ c .before .before .has-all-column-refs .ensures e ns d h g held k)
-          (c .records .ensures (exprTree e) h),
-      λ e h. records-small e (c .records .ensures (exprTree e) h),
-    ))
-    (λ c. (
-      λ e ns d h g held k. other-nothing d e (op-is e (c .before .before .before .operator .ensures) h) (c .before .before .if1 .taken)
-          (sym (c .if2 .left) ∙ c .before .has-all-column-refs .ensures e ns d h g held k),
-      λ e h. omega arith,
-    ))
+    (λ c e ns d h g held k. other-made d e (op-is e (c .before .before .before .operator .ensures) h) (c .before .before .if1 .taken)
+    (sym (c .if2 .taken) ∙ c .before .has-all-column-refs .ensures e ns d h g held k))
+    (λ c e ns d h g held k. other-nothing d e (op-is e (c .before .before .before .operator .ensures) h) (c .before .before .if1 .taken)
+    (sym (c .if2 .left) ∙ c .before .has-all-column-refs .ensures e ns d h g held k))
     (λ c κs. omega (arith, c .before .before .before .pre .1 .0 .at .head .room))
     (λ c κs. let u = parts-of (c .before .before .before .before .pre .1 .0) (c .before .before .operator .ensures)
     (c .before .if1 .left) in rw (c .word-at .ensures .0) (omega (arith, u .past), omega (arith, u .fits)))
@@ -112,40 +98,15 @@ pub +extract-or-clause-spec : {M : Type 1} → statement M
       ),
       (v .last, c .before .before .before .before .before .before .before .before .before .pre .1 .1),
     ))
-    (λ c κs. let h = c .before .before .before .before .before .before .before .before .before .before .pre .1 .0 in
-    let u = sides-and (c .before .before .before .before .before .before .word-at .ensures .0)
-    (c .before .before .before .before .before .from-record .ensures) (c .before .before .before .before .word-at2 .ensures .0)
-    (c .before .before .before .from-record2 .ensures) (h .expr) (h .at)
-    (c .before .before .before .before .before .before .before .before .operator .ensures) (c .before .before .if3 .taken) in
-    omega (
-      arith,
-      size-room h,
-      sides-size u,
-      c .before .extract-or-clause .ensures .1 (u .lhs) (u .at-left),
-      c .extract-or-clause2 .ensures .1 (u .rhs) (u .at-right),
-    ))
-    (λ c. (
-      λ e ns d h g held k. let u = sides-and (c .before .before .before .before .before .before .before .word-at .ensures .0)
-          (c .before .before .before .before .before .before .from-record .ensures)
-          (c .before .before .before .before .before .word-at2 .ensures .0) (c .before .before .before .before .from-record2 .ensures) e h
-          (c .before .before .before .before .before .before .before .before .before .operator .ensures)
-          (c .before .before .before .if3 .taken) in
-          and-made d u (c .either-and .ensures)
-          (c .before .before .extract-or-clause .ensures .0 (u .lhs) ns d (u .at-left) g (held-left u (has ns) held) k)
-          (c .before .extract-or-clause2 .ensures .0 (u .rhs) ns d (u .at-right) g (held-right u (has ns) held) k),
-      λ e h. let u = sides-and (c .before .before .before .before .before .before .before .word-at .ensures .0)
-          (c .before .before .before .before .before .before .from-record .ensures)
-          (c .before .before .before .before .before .word-at2 .ensures .0) (c .before .before .before .before .from-record2 .ensures) e h
-          (c .before .before .before .before .before .before .before .before .before .operator .ensures)
-          (c .before .before .before .if3 .taken) in
-          rw (c .either-and .ensures) (omega (
-            arith,
-            sides-size u,
-            either-small (c .before .before .extract-or-clause .result) (c .before .extract-or-clause2 .result),
-            c .before .before .extract-or-clause .ensures .1 (u .lhs) (u .at-left),
-            c .before .extract-or-clause2 .ensures .1 (u .rhs) (u .at-right),
-          )),
-    ))
+    (λ c κs. search needs)
+    (λ c e ns d h g held k. let u = sides-and (c .before .before .before .before .before .before .before .word-at .ensures .0)
+    (c .before .before .before .before .before .before .from-record .ensures)
+    (c .before .before .before .before .before .word-at2 .ensures .0) (c .before .before .before .before .from-record2 .ensures) e h
+    (c .before .before .before .before .before .before .before .before .before .operator .ensures)
+    (c .before .before .before .if3 .taken) in
+    and-made d u (c .either-and .ensures)
+    (c .before .before .extract-or-clause .ensures (u .lhs) ns d (u .at-left) g (held-left u (has ns) held) k)
+    (c .before .extract-or-clause2 .ensures (u .rhs) ns d (u .at-right) g (held-right u (has ns) held) k))
     (λ c. omega (arith, c .before .before .before .before .before .before .before .before .pre .1 .0 .some))
     (λ c κs. let u = parts-of (c .before .before .before .before .before .before .before .before .pre .1 .0)
     (c .before .before .before .before .before .before .operator .ensures) (c .before .before .before .before .before .if1 .left) in
@@ -160,103 +121,34 @@ pub +extract-or-clause-spec : {M : Type 1} → statement M
     ))
     (λ c. search needs)
     (λ c. search needs)
-    (λ c. (
-      λ e ns d h g held k. let u = sides-or (c .before .before .before .before .before .before .before .word-at .ensures .0)
-          (c .before .before .before .before .before .before .from-record .ensures)
-          (c .before .before .before .before .before .word-at2 .ensures .0) (c .before .before .before .before .from-record2 .ensures) e h
-          (c .before .before .before .before .before .before .before .before .before .operator .ensures)
-          (c .before .before .before .before .before .before .before .before .if1 .left) (c .before .before .before .if3 .left) in
-          or-nothing-left d u (c .before .before .extract-or-clause3 .ensures .0 (u .lhs) ns d (u .at-left) g
-          (held-left u (has ns) held) k) (c .enum-told .given .1),
-      λ e h. omega arith,
-    ))
-    (λ c. omega (arith, c .before .before .before .before .before .before .before .before .before .before .before .before .pre .1 .0 .some))
-    (λ c κs. let u = parts-of (c .before .before .before .before .before .before .before .before .before .before .before .before .pre .1 .0)
-    (c .before .before .before .before .before .before .before .before .before .before .operator .ensures)
-    (c .before .before .before .before .before .before .before .before .before .if1 .left) in let v = halves u
-    (c .before .before .before .before .before .before .before .before .word-at .ensures .0)
-    (c .before .before .before .before .before .before .before .from-record .ensures)
-    (c .before .before .before .before .before .before .word-at2 .ensures .0)
-    (c .before .before .before .before .before .from-record2 .ensures) in (
-      omega (
-        arith,
-        c .before .before .before .before .before .before .before .before .before .before .before .before .pre .0,
-        c .before .before .before .before .before .before .before .before .before .before .before .before .pre .1 .0 .some,
-      ),
-      (v .last, c .before .before .before .before .before .before .before .before .before .before .before .before .pre .1 .1),
+    (λ c e ns d h g held k. let u = sides-or (c .before .before .before .before .before .before .before .word-at .ensures .0)
+    (c .before .before .before .before .before .before .from-record .ensures)
+    (c .before .before .before .before .before .word-at2 .ensures .0) (c .before .before .before .before .from-record2 .ensures) e h
+    (c .before .before .before .before .before .before .before .before .before .operator .ensures)
+    (c .before .before .before .before .before .before .before .before .if1 .left) (c .before .before .before .if3 .left) in
+    or-nothing-left d u (c .before .before .extract-or-clause3 .ensures (u .lhs) ns d (u .at-left) g (held-left u (has ns) held) k)
+    (c .enum-told2 .given .1))
+    (λ c. omega (arith, c .before .before .before .before .before .before .before .before .before .before .before .pre .1 .0 .some))
+    (λ c κs. let u = parts-of (c .before .before .before .before .before .before .before .before .before .before .before .pre .1 .0)
+    (c .before .before .before .before .before .before .before .before .before .operator .ensures)
+    (c .before .before .before .before .before .before .before .before .if1 .left) in let v = halves u
+    (c .before .before .before .before .before .before .before .word-at .ensures .0) (c .before .before .before .before .before .before .from-record .ensures)
+    (c .before .before .before .before .before .word-at2 .ensures .0) (c .before .before .before .before .from-record2 .ensures) in (
+      omega (arith, c .before .before .before .before .before .before .before .before .before .before .before .pre .0, c .before .before .before .before .before .before .before .before .before .before .before .pre .1 .0 .some),
+      (v .last, c .before .before .before .before .before .before .before .before .before .before .before .pre .1 .1),
     ))
     (λ c. search needs)
     (λ c. search needs)
-    (λ c. (
-      λ e ns d h g held k. let u = sides-or (c .before .before .before .before .before .before .before .before .before .before
-          .before .word-at .ensures .0) (c .before .before .before .before .before .before .before .before .before .before .from-record .ensures)
-          (c .before .before .before .before .before .before .before .before .before .word-at2 .ensures .0)
-          (c .before .before .before .before .before .before .before .before .from-record2 .ensures) e h
-          (c .before .before .before .before .before .before .before .before .before .before .before .before .before .operator .ensures)
-          (c .before .before .before .before .before .before .before .before .before .before .before .before .if1 .left)
-          (c .before .before .before .before .before .before .before .if3 .left) in
-          or-nothing-right d u (c .before .before .extract-or-clause4 .ensures .0 (u .rhs) ns d (u .at-right) g
-          (held-right u (has ns) held) k) (c .enum-told2 .given .1),
-      λ e h. omega arith,
-    ))
-    (λ c. let h = c .before .before .before .before .before .before .before .before .before .before .before .before .before .before .before
-    .before .pre .1 .0 in
-    let u = sides-or (c .before .before .before .before .before .before .before .before .before .before .before .before .word-at .ensures .0)
-    (c .before .before .before .before .before .before .before .before .before .before .before .from-record .ensures)
-    (c .before .before .before .before .before .before .before .before .before .before .word-at2 .ensures .0)
-    (c .before .before .before .before .before .before .before .before .before .from-record2 .ensures) (h .expr) (h .at)
-    (c .before .before .before .before .before .before .before .before .before .before .before .before .before .before .operator .ensures)
-    (c .before .before .before .before .before .before .before .before .before .before .before .before .before .if1 .left)
-    (c .before .before .before .before .before .before .before .before .if3 .left) in
-    omega (
-      arith,
-      size-room h,
-      sides-size u,
-      made-small (c .before .before .before .before .before .before .before .extract-or-clause3 .ensures .1 (u .lhs) (u .at-left))
-          (c .before .before .before .before .before .m .given .1),
-      made-small (c .before .before .before .extract-or-clause4 .ensures .1 (u .rhs) (u .at-right)) (c .before .n .given .1),
-    ))
-    (λ c. let h = c .before .before .before .before .before .before .before .before .before .before .before .before .before .before .before
-    .before .pre .1 .0 in
-    let u = sides-or (c .before .before .before .before .before .before .before .before .before .before .before .before .word-at .ensures .0)
-    (c .before .before .before .before .before .before .before .before .before .before .before .from-record .ensures)
-    (c .before .before .before .before .before .before .before .before .before .before .word-at2 .ensures .0)
-    (c .before .before .before .before .before .before .before .before .before .from-record2 .ensures) (h .expr) (h .at)
-    (c .before .before .before .before .before .before .before .before .before .before .before .before .before .before .operator .ensures)
-    (c .before .before .before .before .before .before .before .before .before .before .before .before .before .if1 .left)
-    (c .before .before .before .before .before .before .before .before .if3 .left) in
-    omega (
-      arith,
-      size-room h,
-      sides-size u,
-      made-small (c .before .before .before .before .before .before .before .extract-or-clause3 .ensures .1 (u .lhs) (u .at-left))
-          (c .before .before .before .before .before .m .given .1),
-      made-small (c .before .before .before .extract-or-clause4 .ensures .1 (u .rhs) (u .at-right)) (c .before .n .given .1),
-    ))
-    (λ c. (
-      λ e ns d h g held k. let u = sides-or (c .before .before .before .before .before .before .before .before .before .before .before
-          .before .word-at .ensures .0) (c .before .before .before .before .before .before .before .before .before .before
-          .before .from-record .ensures) (c .before .before .before .before .before .before .before .before .before .before .word-at2 .ensures .0)
-          (c .before .before .before .before .before .before .before .before .before .from-record2 .ensures) e h
-          (c .before .before .before .before .before .before .before .before .before .before .before .before .before .before .operator .ensures)
-          (c .before .before .before .before .before .before .before .before .before .before .before .before .before .if1 .left)
-          (c .before .before .before .before .before .before .before .before .if3 .left) in
-          or-made d u (c .before .before .before .before .before .before .before .extract-or-clause3 .ensures .0 (u .lhs) ns d
-          (u .at-left) g (held-left u (has ns) held) k) (c .before .before .before .before .before .m .given .1)
-          (c .before .before .before .extract-or-clause4 .ensures .0 (u .rhs) ns d (u .at-right) g (held-right u (has ns) held) k)
-          (c .before .n .given .1),
-      λ e h. let u = sides-or (c .before .before .before .before .before .before .before .before .before .before .before
-          .before .word-at .ensures .0) (c .before .before .before .before .before .before .before .before .before .before
-          .before .from-record .ensures) (c .before .before .before .before .before .before .before .before .before .before .word-at2 .ensures .0)
-          (c .before .before .before .before .before .before .before .before .before .from-record2 .ensures) e h
-          (c .before .before .before .before .before .before .before .before .before .before .before .before .before .before .operator .ensures)
-          (c .before .before .before .before .before .before .before .before .before .before .before .before .before .if1 .left)
-          (c .before .before .before .before .before .before .before .before .if3 .left) in
-          omega (
-            arith,
-            sides-size u,
-            made-small (c .before .before .before .before .before .before .before .extract-or-clause3 .ensures .1 (u .lhs) (u .at-left))
-                (c .before .before .before .before .before .m .given .1),
-            made-small (c .before .before .before .extract-or-clause4 .ensures .1 (u .rhs) (u .at-right)) (c .before .n .given .1),
-          ),
-    ))
+    (λ c e ns d h g held k. let u = sides-or (c .before .before .before .before .before .before .before .before .before .before .word-at .ensures .0)
+    (c .before .before .before .before .before .before .before .before .before .from-record .ensures) (c .before .before .before .before .before .before .before .before .word-at2 .ensures .0)
+    (c .before .before .before .before .before .before .before .from-record2 .ensures) e h (c .before .before .before .before .before .before .before .before .before .before .before .before .operator .ensures)
+    (c .before .before .before .before .before .before .before .before .before .before .before .if1 .left) (c .before .before .before .before .before .before .if3 .left) in
+    or-nothing-right d u (c .before .before .extract-or-clause4 .ensures (u .rhs) ns d (u .at-right) g (held-right u (has ns) held) k)
+    (c .enum-told4 .given .1))
+    (λ c e ns d h g held k. let u = sides-or (c .before .before .before .before .before .before .before .before .before .before .word-at .ensures .0)
+    (c .before .before .before .before .before .before .before .before .before .from-record .ensures) (c .before .before .before .before .before .before .before .before .word-at2 .ensures .0)
+    (c .before .before .before .before .before .before .before .from-record2 .ensures) e h (c .before .before .before .before .before .before .before .before .before .before .before .before .operator .ensures)
+    (c .before .before .before .before .before .before .before .before .before .before .before .if1 .left) (c .before .before .before .before .before .before .if3 .left) in
+    or-made d u (c .before .before .before .before .before .extract-or-clause3 .ensures (u .lhs) ns d (u .at-left) g (held-left u (has ns) held) k)
+    (c .before .before .before .enum-told .given .1)
+    (c .before .before .extract-or-clause4 .ensures (u .rhs) ns d (u .at-right) g (held-right u (has ns) held) k) (c .enum-told3 .given .1))

@@ -14,6 +14,6 @@ is-kept-spec =
     (λ c. search needs)
     (λ c. search needs)
     (λ c e ns d h g held k. kept-nothing (extract-or-clause d e) (c .before .before .before .if1 .left)
-    (c .before .before .extract-or-clause .ensures .0 e ns d h g held k) (c .enum-told2 .given .1))
+    (c .before .before .extract-or-clause .ensures e ns d h g held k) (c .enum-told2 .given .1))
     (λ c e ns d h g held k. kept-made (c .before .before .before .before .before .args .op) (extract-or-clause d e)
-    (c .before .before .extract-or-clause .ensures .0 e ns d h g held k) (c .enum-told .given .1)))
+    (c .before .before .extract-or-clause .ensures e ns d h g held k) (c .enum-told .given .1)))

@@ -20,7 +20,7 @@ or-clause-at-spec =
       p .1 .1,
     ))
     (λ c e ns d h g held m. let k = h .some (c .before .before .before .before .if1 .left) in
-    c .extract-or-clause .ensures .0 e ns d (rw (c .before .before .before .record-at .ensures) (k .here)) g held m
+    c .extract-or-clause .ensures e ns d (rw (c .before .before .before .record-at .ensures) (k .here)) g held m
     ∙ ap clauseOf (or-top d e (op-is {base = c .before .before .before .before .before .before .args .n} e
     (c .before .before .operator .ensures) (rw (c .before .before .before .record-at .ensures) (k .here))) (c .before .if2 .taken)))
     (λ c e ns d h g held m. no-or-top d e (op-is {base = c .before .before .before .before .before .args .n} e
