@@ -1,7 +1,7 @@
 -- Laws of a row that is lent as values and marks.
 --     lent-at         a cell of the row, by place
 --     lent-short      past the end of types, values or marks there is none
---     look-place      a column's value is the cell with the first place of its name
+--     look-place      what a column has is what has the first place of its name
 -- Assumes nothing.
 use mathlib.Core.Path.{_≡_, refl, ap, _∙_}
 use mathlib.Core.Bool.{Bool, true, false, not, _||_, cond}
@@ -93,17 +93,22 @@ module _ (i b c : ℕ) (e : (leb b i || leb c i) ≡ false) where
       go true h k = let z : _≡_ {A = ℕ} 0 1 = cc in absurd (omega arith)
       go false h k = (leb-false b i h, leb-false c i k)
 
-pub look-place : (ns : List Name) (r : List Value) (x : Name) → length r ≤ length ns → getD r (placeIn ns x) null ≡ lookD null ns r x
+pub look-place : {A : Type 0} (d : A) (ns : List Name) (r : List A) (x : Name) → length r ≤ length ns → getD r (placeIn ns x) d ≡ lookD d ns r x
 unfolding placeIn
-look-place [] [] x h = refl
-look-place [] (v ∷ r) x h = absurd (omega arith)
-look-place (y ∷ ns) [] x h = refl
-look-place (y ∷ ns) (v ∷ r) x h = go (same y x) (look-place ns r x (omega arith))
+look-place d [] [] x h = refl
+look-place d [] (v ∷ r) x h = absurd (omega arith)
+look-place d (y ∷ ns) [] x h = refl
+look-place d (y ∷ ns) (v ∷ r) x h = go (same y x) (look-place d ns r x (omega arith))
   where
-    go : (b : Bool) → getD r (placeIn ns x) null ≡ lookD null ns r x
-        → getD (v ∷ r) (cond b 0 (suc (placeIn ns x))) null ≡ cond b v (lookD null ns r x)
+    go : (b : Bool) → getD r (placeIn ns x) d ≡ lookD d ns r x → getD (v ∷ r) (cond b 0 (suc (placeIn ns x))) d ≡ cond b v (lookD d ns r x)
     go true e = refl
     go false e = e
+
+-- past the end of a list there is nothing
+pub none-there : {A : Type 0} (d : A) (l : List A) (i : ℕ) → length l ≤ i → d ≡ getD l i d
+none-there d [] i h = refl
+none-there d (x ∷ l) zero h = absurd (omega arith)
+none-there d (x ∷ l) (suc i) h = none-there d l i (omega arith)
 
 pub lent-length : (ts : List ℕ) (zs : List ℤ) (ms : List ℕ) → length (lent ts zs ms) ≤ length ts
 unfolding lent

@@ -11,10 +11,11 @@ use lib.Dec.{eqb, leb}
 use borrow.Author.Tests.{ne-eqb, le-leb, leb-true}
 use Rattle.plan.specs.Lists.{any}
 use Rattle.plan.specs.Read.{nth, ops, tests}
-use Rattle.plan.specs.Syntax.{Value, null, truth, eq, and, isNull}
+use Rattle.plan.specs.Syntax.{booleanType, noType, Value, null, truth, eq, and, isNull}
 use Rattle.plan.specs.Values.{ValueRecord, caseOf}
 use Rattle.meaning.specs.Meaning.{tri, isT, isF, isN, and3, or3, not3, negate, binary, compared, tested, within}
-use Rattle.evaluate.specs.Operators.{cmpOf, operated, Sees}
+use Rattle.image.specs.Tree.{Label}
+use Rattle.evaluate.specs.Operators.{cmpOf, operated, operatedType, Sees}
 use Rattle.evaluate.specs.declared.operands.Seen.{Seen}
 use Rattle.evaluate.proofs.TruthLaws.{of-value, of-value-f, other-op, some-cmp}
 
@@ -132,3 +133,27 @@ module _ {s : Seen} {vs : List Value} (h : Sees s vs) (p k : ℕ) where
   pub by-none : (k ≡ 5 → ⊥) → (k ≡ 6 → ⊥) → (k ≡ 7 → ⊥) → (k ≡ 8 → ⊥) → (k ≡ 9 → ⊥) → null ≡ operated k p vs
   unfolding operated
   by-none a b c d e = rw (ne-eqb _ _ a, ne-eqb _ _ b, ne-eqb _ _ c, ne-eqb _ _ d, ne-eqb _ _ e)
+
+-- ---- the type of what they make
+
+module _ (l : Label) where
+  pub type-operator : (k : ℕ) → l .kind ≡ k → (leb 5 k && leb k 9) ≡ true → booleanType ≡ operatedType l
+  unfolding operatedType
+  type-operator k e h = rw (e, h)
+
+  pub type-function : l .kind ≡ 10 → l .r ≡ operatedType l
+  unfolding operatedType
+  type-function e = rw e
+
+  pub type-none : (l .kind ≡ 5 → ⊥) → (l .kind ≡ 6 → ⊥) → (l .kind ≡ 7 → ⊥) → (l .kind ≡ 8 → ⊥) → (l .kind ≡ 9 → ⊥) → (l .kind ≡ 10 → ⊥)
+      → noType ≡ operatedType l
+  unfolding operatedType
+  type-none a b c d e f = go (leb 5 (l .kind)) (leb (l .kind) 9) refl refl
+    where
+      go : (x y : Bool) → leb 5 (l .kind) ≡ x → leb (l .kind) 9 ≡ y → noType ≡ operatedType l
+      go true true p q =
+          let i = leb-true 5 (l .kind) p in
+          let j = leb-true (l .kind) 9 q in
+          absurd (omega arith)
+      go true false p q = rw (p, q, ne-eqb (l .kind) 10 f)
+      go false y p q = rw (p, ne-eqb (l .kind) 10 f)

@@ -1,18 +1,18 @@
 -- What an operator makes of the values of its operands, by the numbers in its record.
 use mathlib.Core.Path.{_≡_}
-use mathlib.Core.Bool.{true, cond}
+use mathlib.Core.Bool.{true, _&&_, cond}
 use mathlib.Core.List.{List, [], _∷_}
 use Prim.Native.Nat.{ℕ, _-_}
-use lib.Dec.{eqb}
+use lib.Dec.{eqb, leb}
 use lib.ListN.{getD, drop}
-use Rattle.image.specs.Tree.{Tree}
+use Rattle.image.specs.Tree.{Label, Tree}
 use Rattle.plan.specs.Kinds as K
 use Rattle.plan.specs.Kinds.{what}
 use Rattle.plan.specs.Lists.{any}
 use Rattle.plan.specs.Read.{nth, ops, tests, exprBy, exprsOf}
-use Rattle.plan.specs.Syntax.{Value, Expr, null, truth, Cmp, eq, ne, lt, le, gt, ge, and, cmp, isNull}
+use Rattle.plan.specs.Syntax.{booleanType, noType, Value, Expr, null, truth, Cmp, eq, ne, lt, le, gt, ge, and, cmp, isNull}
 use Rattle.plan.specs.Trees.{bitOf, opNumber}
-use Rattle.plan.specs.Values.{caseOf}
+use Rattle.plan.specs.Values.{Right, caseOf}
 use Rattle.meaning.specs.Meaning.{isT, compared, binary, not3, negate, tested, within, in-list}
 use Rattle.evaluate.specs.declared.operands.Seen.{Seen}
 
@@ -38,6 +38,12 @@ operated k p vs =
     (cond (eqb k (K.numberE K.Between)) (negate (eqb p (bitOf true)) (within (operand 0 vs) (operand 1 vs) (operand 2 vs)))
     (cond (eqb k (K.numberE K.InList)) (negate (eqb p (bitOf true)) (in-list (operand 0 vs) (drop 1 vs))) null))))
 
+-- the type of what such a record is: boolean of an operator, its own of a function
+unfoldable pub operatedType : Label → ℕ
+operatedType l =
+    cond (leb (K.numberE K.Binary) (l .kind) && leb (l .kind) (K.numberE K.InList)) booleanType
+    (cond (eqb (l .kind) (K.numberE K.Function)) (l .r) noType)
+
 -- ---- operands, as the code sees them
 
 -- how many, up to three
@@ -54,6 +60,12 @@ pub record Sees (s : Seen) (vs : List Value) : Type 0 where
   pub second : caseOf (s .second .case) ≡ operand 1 vs
   pub third : caseOf (s .third .case) ≡ operand 2 vs
   pub equal : s .equal ≡ any (λ v. isT (compared eq (operand 0 vs) v)) (drop 1 vs)
+
+-- what is seen is right
+pub record SeesRight (s : Seen) : Type 0 where
+  pub first : Right (s .first)
+  pub second : Right (s .second)
+  pub third : Right (s .third)
 
 -- ---- the expression that a tree of records is
 

@@ -1,9 +1,9 @@
 // The cells of a row: values lent as 64-bit numbers beside their marks, 1 for NULL.
 use plan::values::Case;
 use plan::values::Value;
-use plan::values::no_value;
+use plan::values::null_of;
 use plan::words::BOOLEAN;
-use plan::words::INTEGER;
+use plan::words::NO_TYPE;
 use utils::schema_columns::Fields;
 use utils::schema_columns::place_in;
 ghost use mathlib.Core.Path.{_≡_};
@@ -12,8 +12,9 @@ ghost use Prim.Native.Nat.{_<_, _≤_};
 ghost use lib.IntN.{pos};
 ghost use lib.ListN.{getD, length};
 ghost use Rattle.image.specs.Limits.{maxFields};
-ghost use Rattle.plan.specs.Syntax.{Name, nm, null};
-ghost use Rattle.plan.specs.Values.{caseOf};
+ghost use Rattle.plan.specs.Schema.{lookD};
+ghost use Rattle.plan.specs.Syntax.{Name, nm, noType, null};
+ghost use Rattle.plan.specs.Values.{Right, Valued};
 ghost use Rattle.rewrite.specs.RowTest.{lent};
 ghost use Rattle.utils.specs.Fields.{Names};
 ghost use Rattle.meaning.specs.Meaning as M;
@@ -26,39 +27,36 @@ const NULL: u8 = 1;
 
 // A value that is not NULL, of a field of this type.
 fn cell_of(ty: usize, z: i64) -> Value
-    ensures { λ r. ⌜ caseOf (r .case) ≡ R.cell ty z 0 ⌝ }
+    ensures right { λ r. ⌜ Right r ⌝ }
+    ensures is { λ r. ⌜ Valued r ty (R.cell ty z 0) ⌝ }
 {
     if ty == BOOLEAN {
         return Value {
-            ty: BOOLEAN,
+            ty,
             case: Case::Truth(0 < z),
         };
     }
     Value {
-        ty: INTEGER,
+        ty,
         case: Case::Integer(z),
     }
 }
 
 // The cell with the place i; NULL where the row has none. A value under a NULL mark is not read.
 pub fn cell_at(types: &[usize], values: &[i64], marks: &[u8], i: usize) -> Value
-    ensures { λ r. ⌜ caseOf (r .case) ≡ getD (lent (now (types .entry)) (now (values .entry)) (now (marks .entry))) i null ⌝ }
+    ensures right { λ r. ⌜ Right r ⌝ }
+    ensures is { λ r. ⌜ Valued r (getD (now (types .entry)) i noType)
+        (getD (lent (now (types .entry)) (now (values .entry)) (now (marks .entry))) i null) ⌝ }
 {
     if types.len() <= i {
-        return no_value();
+        return null_of(NO_TYPE);
     }
     let ty = types[i];
     if (values.len() <= i) | (marks.len() <= i) {
-        return Value {
-            ty,
-            case: Case::Null,
-        };
+        return null_of(ty);
     }
     if marks[i] == NULL {
-        return Value {
-            ty,
-            case: Case::Null,
-        };
+        return null_of(ty);
     }
     cell_of(ty, values[i])
 }
@@ -111,8 +109,10 @@ pub fn column(
     n: usize,
 ) -> Value
     requires { ⌜ fields .len ≤ maxFields ⌝ }
-    ensures { λ r. ⌜ ((ns : List Name) → Names fields ns → length (now (types .entry)) ≤ length ns
-        → caseOf (r .case) ≡ M.look ns (lent (now (types .entry)) (now (values .entry)) (now (marks .entry))) (nm q n)) ⌝ }
+    ensures right { λ r. ⌜ Right r ⌝ }
+    ensures is { λ r. ⌜ ((ns : List Name) → Names fields ns → length (now (types .entry)) ≤ length ns
+        → Valued r (lookD noType ns (now (types .entry)) (nm q n))
+        (M.look ns (lent (now (types .entry)) (now (values .entry)) (now (marks .entry))) (nm q n))) ⌝ }
 {
     cell_at(types, values, marks, place_in(fields, q, n))
 }

@@ -24,7 +24,7 @@ ghost use mathlib.Core.Path.{_≡_};
 ghost use Prim.Native.Nat.{_-_};
 ghost use Rattle.plan.specs.Read.{nth, tests};
 ghost use Rattle.plan.specs.Syntax.{eq, isNull};
-ghost use Rattle.plan.specs.Values.{caseOf};
+ghost use Rattle.plan.specs.Values.{Right, caseOf};
 ghost use Rattle.meaning.specs.Meaning.{isF, isT};
 ghost use Rattle.evaluate.specs.Operators.{cmpOf};
 ghost use Rattle.evaluate.specs.Truths.{valueOf};
@@ -54,6 +54,7 @@ fn holds(p: usize, a: i64, b: i64) -> bool
 
 // Two values of one type are compared; with NULL a comparison is UNKNOWN.
 pub fn compare(p: usize, a: Value, b: Value) -> Truth
+    requires { ⌜ Right a × Right b ⌝ }
     ensures { λ r. ⌜ valueOf r ≡ M.compared (cmpOf p) (caseOf (a .case)) (caseOf (b .case)) ⌝ }
 {
     if is_null(a) | (kind_of(a) != kind_of(b)) {
@@ -64,6 +65,7 @@ pub fn compare(p: usize, a: Value, b: Value) -> Truth
 
 // low <= operand AND operand <= high.
 pub fn within(operand: Value, low: Value, high: Value) -> Truth
+    requires { ⌜ Right operand × Right low × Right high ⌝ }
     ensures { λ r. ⌜ valueOf r ≡ M.within (caseOf (operand .case)) (caseOf (low .case)) (caseOf (high .case)) ⌝ }
 {
     and(compare(LT_EQ, low, operand), compare(LT_EQ, operand, high))
@@ -71,6 +73,7 @@ pub fn within(operand: Value, low: Value, high: Value) -> Truth
 
 // Whether the item of a list equals the operand: a NULL equals nothing.
 pub fn equals(operand: Value, item: Value) -> bool
+    requires { ⌜ Right operand × Right item ⌝ }
     ensures { λ r. ⌜ r ≡ isT (M.compared eq (caseOf (operand .case)) (caseOf (item .case))) ⌝ }
 {
     let t = compare(EQ, operand, item);

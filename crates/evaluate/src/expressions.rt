@@ -19,8 +19,10 @@ ghost use Prim.Native.Nat.{_≤_};
 ghost use lib.ListN.{length};
 ghost use Rattle.image.specs.Limits.{maxFields};
 ghost use Rattle.image.specs.Tree.{At, Readable, Tree};
-ghost use Rattle.plan.specs.Syntax.{Name};
-ghost use Rattle.plan.specs.Values.{caseOf};
+ghost use Rattle.plan.specs.Schema.{lookD};
+ghost use Rattle.plan.specs.Syntax.{Name, noType};
+ghost use Rattle.plan.specs.Types.{type-of};
+ghost use Rattle.plan.specs.Values.{Right, Valued};
 ghost use Rattle.meaning.specs.Meaning.{eval, look};
 ghost use Rattle.rewrite.specs.RowTest.{lent, no-functions};
 ghost use Rattle.utils.specs.Fields.{Names};
@@ -38,9 +40,10 @@ pub fn evaluate(
 ) -> Value
     requires { ⌜ Readable depth (now part) base ⌝ }
     requires { ⌜ fields .len ≤ maxFields ⌝ }
-    ensures { λ r. ⌜ ((t : Tree) (ns : List Name) → At t (now (part .entry)) base → Names fields ns
-        → length (now (types .entry)) ≤ length ns → caseOf (r .case)
-        ≡ eval no-functions (look ns (lent (now (types .entry)) (now (values .entry)) (now (marks .entry)))) (exprIn t)) ⌝ }
+    ensures right { λ r. ⌜ Right r ⌝ }
+    ensures is { λ r. ⌜ ((t : Tree) (ns : List Name) → At t (now (part .entry)) base → Names fields ns
+        → length (now (types .entry)) ≤ length ns → Valued r (type-of (lookD noType ns (now (types .entry))) (exprIn t))
+        (eval no-functions (look ns (lent (now (types .entry)) (now (values .entry)) (now (marks .entry)))) (exprIn t))) ⌝ }
 {
     let l = label_at(part);
     if l.kind == COLUMN {
@@ -58,5 +61,5 @@ pub fn evaluate(
         seen = with_operand(seen, v);
         at = word_at(child, NEXT_LINK);
     }
-    operate(l.kind, l.p, seen)
+    operate(l, seen)
 }

@@ -1,12 +1,12 @@
 // Truth in three values, as ISO/IEC 9075 has it.
 use plan::values::Case;
 use plan::values::Value;
+use plan::values::null_of;
 use plan::words::BOOLEAN;
 ghost use mathlib.Core.Path.{_≡_};
-ghost use mathlib.Core.Bool.{true};
-ghost use Rattle.plan.specs.Syntax.{truth};
-ghost use Rattle.plan.specs.Values.{caseOf};
-ghost use Rattle.meaning.specs.Meaning.{and3, isF, isT, kindOf, negate, not3, or3, tri};
+ghost use Rattle.plan.specs.Syntax.{booleanType, truth};
+ghost use Rattle.plan.specs.Values.{Right, Valued, caseOf};
+ghost use Rattle.meaning.specs.Meaning.{and3, isF, isT, negate, not3, or3, tri};
 ghost use Rattle.evaluate.specs.Truths.{valueOf};
 
 pub enum Truth {
@@ -39,7 +39,8 @@ pub fn truth_of(v: Value) -> Truth
 
 // A truth as a value: UNKNOWN is NULL.
 pub fn value_of(t: Truth) -> Value
-    ensures { λ r. ⌜ (r .ty ≡ kindOf (truth true)) × (caseOf (r .case) ≡ valueOf t) ⌝ }
+    ensures right { λ r. ⌜ Right r ⌝ }
+    ensures is { λ r. ⌜ Valued r booleanType (valueOf t) ⌝ }
 {
     match t {
         Truth::False => Value {
@@ -50,10 +51,7 @@ pub fn value_of(t: Truth) -> Value
             ty: BOOLEAN,
             case: Case::Truth(true),
         },
-        Truth::Unknown => Value {
-            ty: BOOLEAN,
-            case: Case::Null,
-        },
+        Truth::Unknown => null_of(BOOLEAN),
     }
 }
 

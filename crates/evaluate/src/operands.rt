@@ -11,17 +11,20 @@ use crate::logic::not;
 use crate::logic::or;
 use crate::logic::truth_of;
 use crate::logic::value_of;
+use image::records::Label;
 use plan::kinds::BETWEEN;
 use plan::kinds::BINARY_EXPR;
+use plan::kinds::FUNCTION;
 use plan::kinds::IN_LIST;
 use plan::kinds::NOT;
 use plan::kinds::TEST;
 use plan::values::Value;
 use plan::values::is_null;
-use plan::values::no_value;
+use plan::values::null_of;
 use plan::words::EQ;
 use plan::words::GT_EQ;
 use plan::words::NEGATED;
+use plan::words::NO_TYPE;
 use plan::words::OR;
 ghost use mathlib.Core.Path.{_≡_};
 ghost use mathlib.Core.Bool.{cond};
@@ -29,8 +32,8 @@ ghost use mathlib.Core.List.{_++_, _∷_, List, []};
 ghost use Prim.Native.Nat.{_-_};
 ghost use Rattle.plan.specs.Read.{nth, ops};
 ghost use Rattle.plan.specs.Syntax.{and as And, null, truth};
-ghost use Rattle.plan.specs.Values.{caseOf};
-ghost use Rattle.evaluate.specs.Operators.{Sees, operated};
+ghost use Rattle.plan.specs.Values.{Right, Valued, caseOf};
+ghost use Rattle.evaluate.specs.Operators.{Sees, SeesRight, operated, operatedType};
 ghost use Rattle.evaluate.specs.Truths.{valueOf};
 ghost use Rattle.meaning.specs.Meaning as M;
 ghost use Rattle.plan.specs.Syntax as S;
@@ -45,20 +48,24 @@ pub struct Seen {
 }
 
 pub fn no_operands() -> Seen
-    ensures { λ r. ⌜ Sees r [] ⌝ }
+    ensures right { λ r. ⌜ SeesRight r ⌝ }
+    ensures is { λ r. ⌜ Sees r [] ⌝ }
 {
+    let none = null_of(NO_TYPE);
     Seen {
         count: 0,
-        first: no_value(),
-        second: no_value(),
-        third: no_value(),
+        first: none,
+        second: none,
+        third: none,
         equal: false,
     }
 }
 
 // One operand more.
 pub fn with_operand(seen: Seen, v: Value) -> Seen
-    ensures { λ r. ⌜ ((vs : List S.Value) → Sees seen vs → Sees r (vs ++ (caseOf (v .case) ∷ []))) ⌝ }
+    requires { ⌜ SeesRight seen × Right v ⌝ }
+    ensures right { λ r. ⌜ SeesRight r ⌝ }
+    ensures is { λ r. ⌜ ((vs : List S.Value) → Sees seen vs → Sees r (vs ++ (caseOf (v .case) ∷ []))) ⌝ }
 {
     let count = seen.count;
     let first = seen.first;
@@ -103,6 +110,7 @@ pub fn with_operand(seen: Seen, v: Value) -> Seen
 
 // BinaryExpr: OR, a comparison, else AND.
 fn binary(p: usize, a: Value, b: Value) -> Truth
+    requires { ⌜ Right a × Right b ⌝ }
     ensures { λ r. ⌜ valueOf r ≡ M.binary (nth And ops (p - 1)) (caseOf (a .case)) (caseOf (b .case)) ⌝ }
 {
     if p == OR {
@@ -124,10 +132,14 @@ fn in_list(operand: Value, equal: bool) -> Truth
     known(equal)
 }
 
-// What the operator of this kind, with the word p, makes of its operands; NULL where it is none.
-pub fn operate(kind: usize, p: usize, seen: Seen) -> Value
-    ensures { λ r. ⌜ ((vs : List S.Value) → Sees seen vs → caseOf (r .case) ≡ operated kind p vs) ⌝ }
+// What the operator with this label makes of its operands; NULL where it is none, and of a function's type where it is one.
+pub fn operate(l: Label, seen: Seen) -> Value
+    requires { ⌜ SeesRight seen ⌝ }
+    ensures right { λ r. ⌜ Right r ⌝ }
+    ensures is { λ r. ⌜ ((vs : List S.Value) → Sees seen vs → Valued r (operatedType l) (operated (l .kind) (l .p) vs)) ⌝ }
 {
+    let kind = l.kind;
+    let p = l.p;
     let first = seen.first;
     let second = seen.second;
     let third = seen.third;
@@ -146,5 +158,8 @@ pub fn operate(kind: usize, p: usize, seen: Seen) -> Value
     if kind == IN_LIST {
         return value_of(negated(p == NEGATED, in_list(first, seen.equal)));
     }
-    no_value()
+    if kind == FUNCTION {
+        return null_of(l.r);
+    }
+    null_of(NO_TYPE)
 }

@@ -8,4 +8,5 @@ pub mod Rebuilt
 pub mod Types
 pub mod Written
 pub mod Literals
+pub mod Rights
 pub mod PlanOf

@@ -1,6 +1,7 @@
 -- What the code's value records stand for.
 use Prim.Native.Nat.{ℕ}
-use mathlib.Core.Bool.{Bool, true, false, cond}
+use mathlib.Core.Path.{_≡_}
+use mathlib.Core.Bool.{Bool, true, false, not, cond}
 use mathlib.Core.Option.{Option, none, some}
 use lib.Dec.{eqb}
 use lib.IntN.{ℤ, pos}
@@ -52,6 +53,21 @@ abbrev pub caseCode : Case → ℤ
 caseCode Null = pos 0
 caseCode (Integer z) = z
 caseCode (Truth b) = pos (bitOf b)
+
+-- whether type and case agree: a truth is of type boolean, an integer of another, a NULL of any
+abbrev pub agrees : ℕ → Case → Bool
+agrees t Null = true
+agrees t (Integer z) = not (eqb t S.booleanType)
+agrees t (Truth b) = eqb t S.booleanType
+
+-- a record that is right
+abbrev pub Right : ValueRecord → Type 0
+Right v = agrees (v .ty) (v .case) ≡ true
+
+-- a record that is the value v, of the type t
+pub record Valued (r : ValueRecord) (t : ℕ) (v : S.Value) : Type 0 where
+  pub type : r .ty ≡ t
+  pub value : caseOf (r .case) ≡ v
 
 -- the literal expression of a type and a case
 abbrev pub literalBy : ℕ → Case → S.Expr

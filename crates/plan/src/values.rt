@@ -11,8 +11,7 @@ ghost use mathlib.Core.Path.{_≡_};
 ghost use Prim.Native.Nat.{_<_};
 ghost use Rattle.image.specs.Tree.{Fits32};
 ghost use Rattle.plan.specs.Read.{signed};
-ghost use Rattle.plan.specs.Syntax.{null};
-ghost use Rattle.plan.specs.Values.{caseCode, caseKind, caseNull, caseOf, literalOf};
+ghost use Rattle.plan.specs.Values.{Right, caseCode, caseKind, caseNull, literalOf, nullOf};
 
 pub enum Case {
     Null,
@@ -25,12 +24,12 @@ pub struct Value {
     pub case: Case,
 }
 
-// What stands where there is no value: a NULL of no type.
-pub fn no_value() -> Value
-    ensures { λ r. ⌜ caseOf (r .case) ≡ null ⌝ }
+// A NULL of a type.
+pub fn null_of(ty: usize) -> Value
+    ensures { λ r. ⌜ r ≡ nullOf ty ⌝ }
 {
     Value {
-        ty: NO_TYPE,
+        ty,
         case: Case::Null,
     }
 }
@@ -48,14 +47,16 @@ pub fn is_null(v: Value) -> bool
 
 // The type of what a value holds: none for a NULL, whatever its own type.
 pub fn kind_of(v: Value) -> usize
+    requires { ⌜ Right v ⌝ }
     ensures { λ r. ⌜ r ≡ caseKind (v .case) ⌝ }
 {
-    let case = v.case;
-    match case {
-        Case::Null => NO_TYPE,
-        Case::Integer(_) => INTEGER,
-        Case::Truth(_) => BOOLEAN,
+    if is_null(v) {
+        return NO_TYPE;
     }
+    if v.ty == BOOLEAN {
+        return BOOLEAN;
+    }
+    INTEGER
 }
 
 // Where a value stands in the order of its type: FALSE below TRUE.
@@ -112,10 +113,7 @@ pub fn literal_of(l: Label) -> Literal
         });
     }
     if kind == NULL_LITERAL {
-        return Literal::Of(Value {
-            ty: l.p,
-            case: Case::Null,
-        });
+        return Literal::Of(null_of(l.p));
     }
     Literal::Not
 }

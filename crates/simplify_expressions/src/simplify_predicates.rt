@@ -17,13 +17,13 @@ use image::records::record_at;
 use image::words::word_at;
 use plan::kinds::BINARY_EXPR;
 use plan::kinds::COLUMN;
-use plan::values::Case;
 use plan::values::Literal;
 use plan::values::Value;
 use plan::values::code_of;
 use plan::values::is_null;
 use plan::values::kind_of;
 use plan::values::literal_of;
+use plan::values::null_of;
 use plan::words::EQ;
 use plan::words::GT;
 use plan::words::LT;
@@ -39,6 +39,7 @@ ghost use Rattle.plan.specs.Integers.{FitsE};
 ghost use Rattle.plan.specs.Lists.{all, choose, keep};
 ghost use Rattle.plan.specs.Syntax.{Expr};
 ghost use Rattle.plan.specs.Trees.{exprTree};
+ghost use Rattle.plan.specs.Values.{Right};
 ghost use Rattle.meaning.specs.Meaning.{sameV};
 ghost use Rattle.rewrite.specs.SimplifyPredicates.{Side, eq-expr, eq-part, find-most-restrictive-predicate, first-kind, is-better};
 ghost use Rattle.rewrite.specs.SimplifyPredicates.{lit-val, make, most-restrictive, name-under, of-kind, simplify-column-predicates};
@@ -316,6 +317,7 @@ fn all_agree(s: &[u8], c: Conjuncts) -> bool
 }
 
 fn same_value(a: Value, b: Value) -> bool
+    requires { ⌜ Right a × Right b ⌝ }
     ensures { λ r. ⌜ r ≡ sameV (lit-val a) (lit-val b) ⌝ }
 {
     let x = code_of(a);
@@ -556,17 +558,15 @@ pub fn compared_at(s: &[u8], c: Conjuncts, i: usize) -> Compared
 pub fn side_at(s: &[u8], c: Conjuncts, i: usize) -> Bound
     requires { ⌜ Known (now s) c ⌝ }
     requires { ⌜ i < c .len ⌝ }
-    ensures { λ r. ⌜ ((es : List Expr) → Lists (now (s .entry)) c es → sideOf r ≡ sideIn (getD es i FALSE)) ⌝ }
+    ensures right { λ r. ⌜ Right (r .value) ⌝ }
+    ensures is { λ r. ⌜ ((es : List Expr) → Lists (now (s .entry)) c es → sideOf r ≡ sideIn (getD es i FALSE)) ⌝ }
 {
     let Compared::Of(b) = compared_at(s, c, i) else {
         return Bound {
             column: Name { q: 0, n: 0 },
             relation: Relation::SameAs,
             flipped: false,
-            value: Value {
-                ty: NO_TYPE,
-                case: Case::Null,
-            },
+            value: null_of(NO_TYPE),
         };
     };
     b

@@ -23,4 +23,4 @@ test-predicate-spec =
     (λ c. λ e p h f n t. with-truth _ e p _ _ _ t (c .before .before .before .before .before .row-ok .ensures)
     (c .before .before .before .has-function .ensures (exprTree e) h ∙ fn-tree _ e) (c .before .before .before .before .if1 .left)
     (c .truth-of .result) (caseOf (c .before .evaluate .result .case)) (c .before .before .if2 .left) (c .truth-of .ensures)
-    (c .before .evaluate .ensures (exprTree e) (schema p) h n (narrow p t) ∙ on-row p _ _ t (read-back e f))))
+    (c .before .evaluate .ensures .1 (exprTree e) (schema p) h n (narrow p t) .value ∙ on-row p _ _ t (read-back e f))))

@@ -5,6 +5,7 @@ use mathlib.Core.Path.{sym, _∙_}
 use lib.ListN.{length-drop}
 use Rattle.image.proofs.Walking.{Chain, chain, round, again, done, only}
 use Rattle.image.specs.Places.{left}
+use Rattle.plan.proofs.Rights.{right-literal}
 use Rattle.evaluate.proofs.Folding.{Done, seen-none, seen-next, seen-all, tree-column, tree-literal, tree-operator}
 use Prim.Native.Nat.{ℕ, _<_}
 use borrow.Fn.Kinds.{In}
@@ -66,17 +67,22 @@ pub +evaluate-spec : {M : Type 1} → statement M
     evaluate-μ-loop
     (λ c κs. omega (arith, c .before .before .before .pre .1 .0 .at .head .room))
     (λ c κs. c .before .before .before .before .before .before .pre .1 .1)
-    (λ c. λ t ns h n le. c .column .ensures ns n le ∙ tree-column _ t (c .before .before .before .label-at .ensures .0 ∙ h .head .label)
-    (c .before .if1 .taken))
+    (λ c. (
+      c .column .ensures .0,
+      λ t ns h n le. tree-column _ _ t (c .before .before .before .label-at .ensures .0 ∙ h .head .label) _ (c .before .if1 .taken)
+          (c .column .ensures .1 ns n le),
+    ))
     (λ c κs. c .before .before .label-at .ensures .1)
     (λ c. search needs)
-    (λ c. λ t ns h n le. tree-literal _ t (c .before .before .before .before .before .before .label-at .ensures .0 ∙ h .head .label) _
-    (sym (c .before .before .before .literal-of .ensures) ∙ c .before .literal .given .1))
+    (λ c. let e = sym (c .before .before .before .literal-of .ensures) ∙ c .before .literal .given .1 in (
+      right-literal (c .before .before .before .before .before .before .label-at .result) _ e,
+      λ t ns h n le. tree-literal _ _ t (c .before .before .before .before .before .before .label-at .ensures .0 ∙ h .head .label) _ e,
+    ))
     (λ c. search needs)
     (λ c κs. tt)
     (λ c κs. omega (arith, c .before .before .before .before .before .before .before .before .before .before .pre .1 .0 .at .head .room))
     (λ c. rw (c .word-at .ensures .0) (chain _ (c .before .before .before .before .before .before .before .before .before .before .before .pre .1 .0)
-    (λ ns n le. seen-none _ _ (c .before .no-operands .ensures))))
+    (c .before .no-operands .ensures .0, λ ns n le. seen-none _ _ (c .before .no-operands .ensures .1))))
     (λ c κs. let u = round _ (c .before .loop .inv) (c .loop-test .taken) in omega (arith, u .turn .past, u .turn .fits))
     (λ c. omega (arith, c .before .before .loop .inv .some))
     (λ c κs. let k = c .before .before .loop .inv in let u = round _ k (c .before .loop-test .taken) in (
@@ -91,20 +97,28 @@ pub +evaluate-spec : {M : Type 1} → statement M
         c .before .before .before .before .before .before .before .before .before .before .before .before .before .before .pre .1 .1,
       ),
     ))
-    (λ c κs. tt)
+    (λ c κs. let u = round _ (c .before .before .before .loop .inv) (c .before .before .loop-test .taken) in (u .so-far .0, c .evaluate .ensures .0))
     (λ c κs. let u = round _ (c .before .before .before .before .loop .inv) (c .before .before .before .loop-test .taken) in rw
     (c .before .before .from-record .ensures, length-drop) (omega (arith, u .turn .fits)))
     (λ c. let u = round _ (c .before .before .before .before .before .loop .inv) (c .before .before .before .before .loop-test .taken) in rw
     (c .word-at2 .ensures .0, c .before .before .before .from-record .ensures) (u .turn .less))
     (λ c. let k = c .before .before .before .before .before .loop .inv in let u = round _ k (c .before .before .before .before .loop-test .taken) in
     rw (c .word-at2 .ensures .0, c .before .before .before .from-record .ensures)
-    (again _ k u (λ ns n le. seen-next (c .before .before .evaluate .result) (u .turn .child) (u .so-far ns n le)
-    (c .before .before .evaluate .ensures (u .turn .child) ns (rw (c .before .before .before .from-record .ensures) (u .turn .here)) n le)
-    (c .before .with-operand .ensures))))
-    (λ c κs. tt)
-    (λ c. λ t ns h n le. let k = c .before .before .loop .inv in let e = done _ k (c .before .loop-test .left) ns n le in rw (← only (k .stands) h)
-    (c .operate .ensures _ (seen-all e) ∙ tree-operator _ (k .tree)
-    (c .before .before .before .before .before .before .before .before .before .before .label-at .ensures .0 ∙ k .stands .head .label)
-    (c .before .before .before .before .before .before .before .before .if1 .left)
-    (sym (c .before .before .before .before .before .before .before .literal-of .ensures) ∙
-    c .before .before .before .before .before .enum-told .given .1)))
+    (again _ k u (
+      c .before .with-operand .ensures .0,
+      λ ns n le. seen-next (c .before .before .evaluate .result) (u .turn .child)
+          (u .so-far .1 ns n le)
+          (c .before .before .evaluate .ensures .1 (u .turn .child) ns (rw (c .before .before .before .from-record .ensures) (u .turn .here)) n le .value)
+          (c .before .with-operand .ensures .1),
+    )))
+    (λ c κs. done _ (c .before .loop .inv) (c .loop-test .left) .0)
+    (λ c. (
+      c .operate .ensures .0,
+      λ t ns h n le. let k = c .before .before .loop .inv in
+          let e = done _ k (c .before .loop-test .left) .1 ns n le in rw (← only (k .stands) h)
+          (tree-operator _ _ (k .tree)
+          (c .before .before .before .before .before .before .before .before .before .before .label-at .ensures .0 ∙ k .stands .head .label) _
+          (c .before .before .before .before .before .before .before .before .if1 .left)
+          (sym (c .before .before .before .before .before .before .before .literal-of .ensures) ∙
+          c .before .before .before .before .before .enum-told .given .1) (c .operate .ensures .1 _ (seen-all e))),
+    ))

@@ -8,12 +8,8 @@ use Rattle.evaluate.proofs.operands.no_operands.Tie as tie
 pub no-operands-spec : {M : Type 1} → statement M
 unfolding any
 no-operands-spec =
-    tie.close (tie.spec (λ c κs. search needs) (λ c κs. search needs) (λ c κs. search needs)
-    (λ c. record {
-      count = refl;
-      first = c .before .before .no-value .ensures;
-      second = c .before .no-value2 .ensures;
-      third =
-          c .no-value3 .ensures;
-      equal = refl;
-    }))
+    tie.close (tie.spec (λ c κs. search needs)
+    (λ c. rw (c .null-of .ensures) (
+      record { first = refl; second = refl; third = refl },
+      record { count = refl; first = refl; second = refl; third = refl; equal = refl },
+    )))

@@ -39,7 +39,7 @@ all-agree-spec =
     ))
     (λ c. omega arith)
     (λ c κs. (c .before .before .before .before .pre .0, omega arith))
-    (λ c κs. tt)
+    (λ c κs. (c .before .before .before .side-at .ensures .0, c .side-at2 .ensures .0))
     (λ c. omega arith)
     (λ c. (
       omega arith,
@@ -50,8 +50,8 @@ all-agree-spec =
             arith,
             lists-length h (c .before .before .before .before .before .before .pre .0 .most),
             c .before .before .before .loop .inv .1,
-          )) _ (c .before .side-at2 .ensures es h) _
+          )) _ (c .before .side-at2 .ensures .1 es h) _
           (c .same-value .ensures ∙ ap (λ (d : Side). sameV (val d) (val (sideOf (c .before .side-at2 .result))))
-          (c .before .before .before .before .side-at .ensures es h)) _ (c .before .before .before .loop .inv .2 es h),
+          (c .before .before .before .before .side-at .ensures .1 es h)) _ (c .before .before .before .loop .inv .2 es h),
     ))
     (λ c es h. let e : c .before .loop .i ≡ 1 = omega (arith, c .loop-test .left, c .before .loop .inv .0) in rw e at (c .before .loop .inv .2 es h)))

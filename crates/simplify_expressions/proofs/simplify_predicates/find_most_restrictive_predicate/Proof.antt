@@ -49,8 +49,8 @@ find-most-restrictive-predicate-spec =
             c .before .before .before .before .loop-test .taken,
           ))
           ∙ rw (c .either .ensures) (find-with past (map sideIn (drop (i + 1) es))
-          (better-at past es _ i _ _ _ (c .before .is-better .ensures) (c .before .before .before .side-at .ensures es h)
-          (c .before .before .side-at2 .ensures es h)))),
+          (better-at past es _ i _ _ _ (c .before .is-better .ensures) (c .before .before .before .side-at .ensures .1 es h)
+          (c .before .before .side-at2 .ensures .1 es h)))),
     ))
     (λ c. (
       c .before .loop .inv .1,

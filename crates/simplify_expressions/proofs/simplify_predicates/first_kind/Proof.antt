@@ -30,7 +30,7 @@ first-kind-spec =
     (λ c. omega arith)
     (λ c κs. (c .before .before .before .pre, omega arith))
     (λ c κs. tt)
-    (λ c κs. tt)
+    (λ c κs. c .before .side-at .ensures .0)
     (λ c κs. tt)
     (λ c. omega arith)
     (λ c. (
@@ -41,7 +41,7 @@ first-kind-spec =
             arith,
             lists-length h (c .before .before .before .before .before .before .before .pre .most),
             c .before .before .before .before .before .loop .inv .0,
-          )) _ (c .before .before .before .side-at .ensures es h) _
+          )) _ (c .before .before .before .side-at .ensures .1 es h) _
           (c .before .before .is-null .ensures ∙ null-case (c .before .before .before .side-at .result .value .case)) _ (c .before .kind-of .ensures ∙ kind-case (c .before .before .before .side-at .result .value .case)) _ (c .before .before .before .before .before .loop .inv .1 es h),
     ))
     (λ c es h. c .before .loop .inv .1 es h ∙ rw (c .loop-test .left)))
