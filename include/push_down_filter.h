@@ -31,7 +31,8 @@ enum {
     PUSH_DOWN_FILTER_MAX_BYTES = PUSH_DOWN_FILTER_RECORD_BYTES * PUSH_DOWN_FILTER_MAX_RECORDS
 };
 
-/* The `number` of a result. Of several that are met the lowest is given, then the lowest record. */
+/* The `number` of a result. Of several that are met the lowest is given, then the lowest record; of 3 the record whose link is the first
+ * bad one met in reading, else the first that no link leads to. */
 enum {
     PUSH_DOWN_FILTER_GRANTED = 0,   /* the image is accepted, the call was done; the record is 0 */
     PUSH_DOWN_FILTER_BUFFER = 1,    /* length 0, not whole records, over 2,048 records; the record is 0 */
@@ -42,8 +43,8 @@ enum {
     PUSH_DOWN_FILTER_NAME = 6,      /* a reference or schema rule broken, over 64 fields */
     PUSH_DOWN_FILTER_TYPE = 7,      /* a type rule broken */
     PUSH_DOWN_FILTER_CALL = 8,      /* no plan (rewrite) or no Filter (row test) at the record asked for, which is the record given */
-    PUSH_DOWN_FILTER_ROW = 9,       /* values or marks not as long as the input's fields, a mark above 1, a boolean neither 0 nor 1;
-                                       the record is 0 */
+    PUSH_DOWN_FILTER_ROW = 9,       /* values or marks not as long as the input's fields, a mark above 1, a boolean that is not
+                                       NULL and neither 0 nor 1; the record is 0 */
     PUSH_DOWN_FILTER_FUNCTION = 10, /* the predicate holds a function; the record is the one asked for */
     PUSH_DOWN_FILTER_RESULT = 11,   /* the answer, or the plan after a merge of Filters, is over 2,048 records, depth 256 or 128 in a
                                        list; the record is the rewritten one, of a pass in the plan as it then stood */

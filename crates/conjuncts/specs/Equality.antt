@@ -1,4 +1,4 @@
--- Whether two trees are the same, as the code tests it. That it is equality is proved in Equality of the proofs.
+-- Whether two trees are the same, as the code tests it. That it is equality is proved in proofs/Equals.antt.
 use mathlib.Core.Bool.{Bool, true, false, _&&_}
 use lib.Dec.{eqb}
 use Rattle.image.specs.Tree.{Label, Forest, none, node, Tree}

@@ -1,4 +1,4 @@
--- What a test says.
+-- What a test says, and when a predicate is joined left-deep.
 use mathlib.Core.Path.{_≡_}
 use mathlib.Core.Bool.{Bool, true, false}
 use mathlib.Core.Option.{some}

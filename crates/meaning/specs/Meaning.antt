@@ -1,5 +1,5 @@
--- The meaning of expressions and plans: document 01's section 'Meaning', its sentences quoted above what says them. Where it is silent
--- ISO/IEC 9075 speaks: truth in three values, Projection, SubqueryAlias. Assumes nothing.
+-- The meaning of expressions and plans: what document 01's section 'Meaning' says of values and rows, quoted above what says it. Where it is
+-- silent ISO/IEC 9075 speaks: truth in three values, Projection, SubqueryAlias. Assumes nothing.
 --
 -- A thing is defined before it is used, so the sentences about values come first, then those about each kind of plan, in the document's
 -- order; `rows`, at the end, has the plan kinds in that order too.
@@ -87,7 +87,7 @@ tested isNotTrue a = not (isT a)
 tested isNotFalse a = not (isF a)
 tested isNotUnknown a = isT a || isF a
 
--- ---- comparisons: "operands share a type, FALSE below TRUE"
+-- ---- comparisons: "Operands of comparisons, Between and InList share a type, FALSE below TRUE" (section 'The image')
 
 abbrev pub kindOf : Value → ℕ
 kindOf null = 0
@@ -199,7 +199,7 @@ joined leftAnti m nl nr ls rs = keep (λ l. not (any (m l) rs)) ls
 joined rightAnti m nl nr ls rs = keep (λ r. not (any (λ l. m l r) ls)) rs
 
 module _ (W : World) where
-  -- "Rows match in a join if Eq of every key pair .. TRUE"
+  -- "Eq of every key pair", TRUE
   abbrev pub keys-match : List Name → List Name → List Pair → Row → Row → Bool
   keys-match s t on l r = all (λ (k : Pair). isT (compared eq (eval W (look s l) (k .lhs)) (eval W (look t r) (k .rhs)))) on
 
@@ -301,7 +301,7 @@ module _ (W : World) where
       aggregated (w .fun)
       (map (λ t. eval W (look s t) (w .expr)) (keep (λ t. sameRow (map (look s r) (w .parts)) (map (look s t) (w .parts))) rs))
 
-  -- "Window adds entries to its input's fields", and "keeps its input's order"
+  -- "Window adds entries to its input's fields"; "Window and Repartition keep their input's order"
   abbrev pub windowed : List Name → List WinEntry → List Row → List Row
   windowed s ws rs = map (λ r. r ++ map (win-entry s rs r) ws) rs
 
@@ -323,7 +323,7 @@ module _ (W : World) where
     rows (sort f ks p) = fetched f (sorted (sorts-before W (schema p) ks) (rows p))
     rows (limit n k p) = limited n k (rows p)
     rows (window ws p) = windowed W (schema p) ws (rows p)
-    -- "Repartition keeps its input's order"
+    -- "Window and Repartition keep their input's order"
     rows (repartition p) = rows p
     -- "Union gives its inputs' rows, one input after another."
     rows (union ps) = rows-all ps

@@ -19,7 +19,7 @@ pub data RowFits : List ℕ → Row → Type 0 where
   no-fields : RowFits [] []
   field-fits : {t : ℕ} {ts : List ℕ} {v : Value} {r : Row} → OfType t v → RowFits ts r → RowFits (t ∷ ts) (v ∷ r)
 
--- "a table is any list of rows, each" of these
+-- "A table is any list of rows, each with a value of the field's type or NULL in every field"
 abbrev pub TableFits : List ℕ → List Row → Type 0
 TableFits ts rs = Every (RowFits ts) rs
 

@@ -1,4 +1,4 @@
--- The schema of a plan: the names of its fields, in order.
+-- The schema of a plan: the names of its fields, in order; and finding a name in one.
 use Prim.Native.Nat.{ℕ}
 use mathlib.Core.Bool.{Bool, true, not, cond}
 use mathlib.Core.List.{List, [], _∷_, _++_, map}

@@ -1,4 +1,4 @@
--- The types of expressions and of the fields of a schema.
+-- The types of expressions and of the fields of a schema; the scans of a plan, with the types of their fields.
 use Prim.Native.Nat.{ℕ}
 use mathlib.Core.List.{List, [], _∷_, _++_, map}
 use Rattle.plan.specs.Syntax.{noType, integerType, booleanType}

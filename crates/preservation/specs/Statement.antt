@@ -76,7 +76,7 @@ unfoldable pub calls : List Call → List Step
 calls [] = []
 calls (c ∷ cs) = call c ∷ calls cs
 
--- Demand 3, as a type. "The list may be empty." What is left after each call of a list is what is left after the list of the calls so
+-- Demand 3, as a type; "the list may be empty". What is left after each call of a list is what is left after the list of the calls so
 -- far, which is a list of calls too.
 abbrev pub Demand3 : Type 0
 Demand3 = (cs : List Call) (s : List ℕ) → Image s → NoVolatile (planIn s) → Preserved s (after (calls cs) s)

@@ -1,4 +1,4 @@
-// The arm Aggregate (998 to 1043), with the difference D4.
+// The arm Aggregate (998 to 1034), with the difference D4.
 use crate::push_some::Divided;
 use crate::push_some::divide;
 use crate::push_some::push_some;

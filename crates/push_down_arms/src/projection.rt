@@ -1,4 +1,4 @@
-// rewrite_projection (1295 to 1345), and the arm that calls it (894).
+// rewrite_projection (1295 to 1341), and the arm that calls it (894 to 906).
 use crate::push_some::divide;
 use crate::push_some::push_some;
 use crate::through::keep_filter;

@@ -1,5 +1,5 @@
 // The arms Repartition (851), Distinct (856) and Sort (871), which take the predicate in its shape; Limit, and a Sort with a fetch, which
-// leave it where it is, as the source's test of fetch and skip does (828 to 832).
+// leave it where it is, as the source's test of fetch and skip does (827 to 832).
 use crate::with_filters::write_over;
 use conjuncts::lists::empty;
 use image::limits::MAX_DEPTH;

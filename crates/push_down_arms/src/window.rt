@@ -1,4 +1,4 @@
-// The arm Window (1045 to 1115): what reads partition columns of every entry moves.
+// The arm Window (1045 to 1116): what reads partition columns of every entry moves.
 use crate::push_some::divide;
 use crate::push_some::push_some;
 use push_down_base::predicates::Predicate;

@@ -1,4 +1,4 @@
-// Lists of conjuncts parted by the fields that they refer to, and marked for writing.
+// Lists of conjuncts parted by the fields that they refer to: those that read fields of one set alone, and the others.
 use conjuncts::lists::Conjuncts;
 use conjuncts::lists::add_if;
 use conjuncts::lists::empty;

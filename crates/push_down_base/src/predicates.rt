@@ -1,5 +1,5 @@
 // The predicate of a Filter: the record at which it stands as it is written, or 0 where its conjuncts are joined anew; and its conjuncts.
-// A predicate of which nothing is left has neither.
+// A predicate of which nothing is left has neither. And what an arm says of the plan that it wrote.
 use conjuncts::lists::Conjuncts;
 ghost use mathlib.Core.Path.{_≡_};
 ghost use mathlib.Core.Bool.{_&&_};

@@ -1,4 +1,4 @@
-// ColumnChecker (192 to 229): is_left_only and is_right_only of a list, by the sets of the fields of a join's inputs.
+// ColumnChecker (192 to 228): is_left_only and is_right_only of a list, by the sets of the fields of a join's inputs.
 use crate::infer_join_predicates::Swapped;
 use crate::infer_join_predicates::places_among;
 use crate::infer_join_predicates::swap_keys;

@@ -1,4 +1,4 @@
-// extract_or_clauses_for_join (313 to 346), extract_or_clause (348 to 399): of an OR, the clause that reads columns of one side only.
+// extract_or_clauses_for_join (313 to 335), extract_or_clause (348 to 398): of an OR, the clause that reads columns of one side only.
 use conjuncts::items::CLAUSE;
 use conjuncts::lists::Conjuncts;
 use conjuncts::lists::add;

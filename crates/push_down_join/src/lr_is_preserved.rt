@@ -1,4 +1,4 @@
-// lr_is_preserved (169 to 183), on_lr_is_preserved (185 to 190): to which inputs of a join predicates may move, by its kind.
+// lr_is_preserved (169 to 182), on_lr_is_preserved (185 to 187): to which inputs of a join predicates may move, by its kind.
 use plan::words::INNER;
 use plan::words::LEFT;
 use plan::words::LEFT_ANTI;

@@ -1,4 +1,4 @@
-// push_down_all_join (401 to 525), push_down_join (527 to 572): a join over what moves to its inputs, and what stays above it.
+// push_down_all_join (401 to 525), push_down_join (527 to 563): a join over what moves to its inputs, and what stays above it.
 use crate::column_checker::Scope;
 use crate::column_checker::join_scope;
 use crate::column_checker::push_left;

@@ -1,4 +1,4 @@
-// What push_down_all_join builds (480 to 525), written: each input under its list, the keys, the filter, and a Filter of what stays above.
+// What push_down_all_join builds (499 to 525), written: each input under its list, the keys, the filter, and a Filter of what stays above.
 use crate::column_checker::Scope;
 use crate::extract_or_clause::copy_or_clause;
 use conjuncts::items::CLAUSE;

@@ -33,7 +33,7 @@ field q k = record { name = nm q k; ty = 1; exact = false }
 abbrev t : Plan
 t = scan 1 (field 1 1 ∷ []) []
 
--- of kind 2, of marks q: volatile if q is 1
+-- a function of type 2 (boolean), of marks q: volatile if q is 1
 abbrev f : ℕ → Expr
 f q = fn 1 q 2 enil
 
@@ -113,7 +113,7 @@ pub table : map (λ (k : Case). rewriteAt 0 (k .given)) cases ≡ map (λ (k : C
 unfolding opened
 table = refl
 
--- ---- the lister's example, and the refusals that no limit brings
+-- ---- the lister's example, a budget of 0, and the refusals 8 and 12
 
 abbrev marked-t : List Expr → Plan
 marked-t es = scan 1 (record { name = nm 1 1; ty = 1; exact = true } ∷ []) es

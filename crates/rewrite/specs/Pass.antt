@@ -64,7 +64,8 @@ each-input visit zero n p b v c = walking p b v c
 each-input visit (suc m) n p b v c = and-then (visit n p b v c) (λ q b v c. each-input visit m (n + at-record sizeP n q) q b v c)
 
 -- The plan at record `n` is rewritten, then its inputs are visited. `depth` levels may still follow; as test 11 holds of the plan after
--- every rewrite, a pass that begins with `maxDepth` of them never meets the first clause.
+-- every rewrite, a pass that begins with `maxDepth` of them, over a plan within the limits, never comes to the first clause. That is
+-- `pass-agrees` (proofs/PassAgrees.antt): the pass by records, which has no such clause, answers the same, so a refusal is a rewrite's.
 unfoldable pub visit : ℕ → ℕ → Plan → ℕ → ℕ → ℕ → Walk
 visit zero n p b v c = failed 0 n
 visit (suc depth) n p zero v c = spent p v c
@@ -87,7 +88,7 @@ report (walking p b v c) = passed v c 1 p
 report (spent p v c) = passed v c 0 p
 report (failed k r) = pass-refused k r
 
--- "visits the root ..": the record 0
+-- "visits the root": the record 0
 unfoldable pub pass : ℕ → Plan → PassAnswer
 pass budget p = report (visit maxDepth 0 p budget 0 0)
 

@@ -1,5 +1,5 @@
--- src/push_down_filter.rs, with D4 and D5: PushDownFilter::rewrite on trees. Definitions only; that it keeps the rows is proved in Rewrite,
--- that it keeps a plan well-formed in Kept.
+-- src/push_down_filter.rs, with D4 and D5: PushDownFilter::rewrite on plans. Definitions only; that it keeps the rows is proved in
+-- proofs/Rewrite.antt, that it keeps a plan well-formed in proofs/Granted.antt of the crate preservation.
 use Prim.Native.Nat.{ℕ}
 use mathlib.Core.Bool.{Bool, true, false, not, _||_, cond}
 use mathlib.Core.List.{List, [], _∷_, _++_, map}
@@ -123,7 +123,7 @@ extract-or-clause c (between n a l u) = guarded (on-cols c (between n a l u)) (b
 extract-or-clause c (inlist n a xs) = guarded (on-cols c (inlist n a xs)) (inlist n a xs)
 extract-or-clause c (fn p q r xs) = guarded (on-cols c (fn p q r xs)) (fn p q r xs)
 
--- "a conjunct that is an OR at its top"
+-- "A conjunct that is an OR at its top"
 unfoldable pub is-or : Expr → Bool
 is-or (bin and a b) = false
 is-or (bin or a b) = true

@@ -1,4 +1,4 @@
-// reorder_predicates.rs: reorder_predicates (42 to 74); is_cheap_predicate (76 to 87) is a predicate without functions.
+// reorder_predicates.rs: reorder_predicates (42 to 73); is_cheap_predicate (76 to 80) is a predicate without functions.
 use conjuncts::lists::Conjuncts;
 use conjuncts::lists::add_if;
 use conjuncts::lists::empty;

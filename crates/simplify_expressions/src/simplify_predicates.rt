@@ -1,5 +1,5 @@
-// simplify_predicates.rs, in its order: simplify_predicates (44 to 102), simplify_column_predicates (105 to 171),
-// find_most_restrictive_predicate (187 to 242), extract_column_from_expr (245 to 252); with the differences D1, D2 and D3.
+// simplify_predicates.rs, in its order: simplify_predicates (44 to 90), simplify_column_predicates (105 to 172),
+// find_most_restrictive_predicate (187 to 233), extract_column_from_expr (245 to 250); with the differences D1, D2 and D3.
 // The source's map from columns to predicates is a search for the next column.
 use conjuncts::items::FALSE_ITEM;
 use conjuncts::lists::Conjuncts;

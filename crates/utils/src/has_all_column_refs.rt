@@ -1,4 +1,4 @@
-// has_all_column_refs (utils.rs 57 to 105): the columns that an expression refers to, as a set of the fields of a schema, counted.
+// has_all_column_refs (utils.rs 93 to 106): the columns that an expression refers to, as a set of the fields of a schema, counted.
 use crate::schema_columns::Fields;
 use crate::schema_columns::place_in;
 use crate::sets::is_within;

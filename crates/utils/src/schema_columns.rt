@@ -1,4 +1,4 @@
-// schema_columns (utils.rs 144 to 156): the fields of a plan's schema, by their names, in order.
+// schema_columns (utils.rs 144 to 155): the fields of a plan's schema, by their names, in order.
 use image::limits::MAX_DEPTH;
 use image::limits::MAX_FIELDS;
 use image::limits::TOO_MANY_FIELDS;

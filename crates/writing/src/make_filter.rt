@@ -1,4 +1,4 @@
-// make_filter (push_down_filter.rs 1347): a plan of the image written again, under a Filter.
+// make_filter (push_down_filter.rs 1347 to 1349): a plan of the image written again, under a Filter.
 use crate::conjunction::copy_predicate;
 use conjuncts::lists::Conjuncts;
 use image::copying::copy_tree;

@@ -1,4 +1,4 @@
-// replace_cols_by_name (push_down_filter.rs 1375 to 1390): a copy in which columns give way to the expressions that entries name.
+// replace_cols_by_name (push_down_filter.rs 1375 to 1389): a copy in which columns give way to the expressions that entries name.
 // The entries are children of one record: a Projection, an Aggregate, or renames written as such. The source makes a map first.
 use image::copying::copy_tree;
 use image::copying::put_label;

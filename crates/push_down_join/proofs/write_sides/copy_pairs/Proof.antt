@@ -1,4 +1,4 @@
--- `joining::copy_pairs` meets its contract. The loop's invariant: the pairs of what is left of the children complete the run.
+-- `write_sides::copy_pairs` meets its contract. The loop's invariant: the pairs of what is left of the children complete the run.
 use mathlib.Core.Path.{sym, _∙_}
 use native.Mathlib.Omega.{arith}
 use lib.ListN.{length-drop}
