@@ -1,4 +1,5 @@
 -- Where expressions and plans stand in the bytes of an image. Record numbers are counted from the image's start.
+use mathlib.Core.Path.{_≡_}
 use mathlib.Core.List.{List}
 use Prim.Native.Nat.{ℕ, _+_, _-_, _*_, _≤_, _<_}
 use lib.ListN.{length, drop}
@@ -7,6 +8,10 @@ use Rattle.image.specs.Tree.{At, Deep}
 use Rattle.plan.specs.Syntax.{Expr, Plan}
 use Rattle.plan.specs.Integers.{FitsE, FitsP}
 use Rattle.plan.specs.Trees.{exprTree, kidsE, planTree, kidsP}
+
+-- `part` is the stretch of the image s that begins at record n
+abbrev pub Stretch : List ℕ → ℕ → List ℕ → Type 0
+Stretch s n part = part ≡ drop (32 * n) s
 
 -- e stands at record n of the image s
 pub record Standing (s : List ℕ) (n : ℕ) (e : Expr) : Type 0 where
