@@ -25,10 +25,10 @@ pub extern "C" fn push_down_filter_check(image: &[u8]) -> Verdict
     ensures { λ r. ⌜ verdictIs r ≡ Check.check (now (image .entry)) ⌝ }
 {
     let answer = check(image);
-    let place = place_of(answer);
+    let record = place_of(answer);
     Verdict {
         number: number_of(answer),
-        record: place as u32,
+        record: record as u32,
     }
 }
 
@@ -77,14 +77,14 @@ pub extern "C" fn push_down_filter_pass(image: &[u8], budget: u64, out: &mut [u8
 {
     let answer = pass_bytes(image, budget, out);
     let place = call_pass::call_pass::place_of(answer);
-    let records = call_pass::call_pass::records_of(answer);
+    let count = call_pass::call_pass::records_of(answer);
     Passed {
         number: call_pass::call_pass::number_of(answer),
         record: place as u32,
         visits: call_pass::call_pass::visits_of(answer),
         changed: call_pass::call_pass::changed_of(answer),
         finished: call_pass::call_pass::finished_of(answer),
-        records: records as u32,
+        records: count as u32,
     }
 }
 
