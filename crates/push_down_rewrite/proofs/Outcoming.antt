@@ -4,33 +4,26 @@ use mathlib.Core.Path.{_≡_, refl, sym, ap, subst, _∙_}
 use mathlib.Core.Bool.{Bool, true, false}
 use mathlib.Core.List.{List, []}
 use mathlib.Core.Option.{Option}
-use native.Mathlib.Nat.{le-trans}
-use lib.Dec.{eqb}
 use Rattle.plan.specs.Lists.{_&_, all}
 use Rattle.plan.specs.Syntax.{Expr, Kind, Pair, Plan}
-use Rattle.plan.specs.Syntax.{scan, filter, project, join, alias, union, distinct, sort, repartition, limit, aggregate, window}
+use Rattle.plan.specs.Syntax.{filter, project, join, alias, union, distinct, sort, repartition, limit, aggregate, window}
 use Rattle.plan.specs.Syntax.{pcons}
 use Rattle.plan.specs.Measure.{sizeP, depthP}
-use Rattle.plan.specs.Trees.{labelP, planTree}
+use Rattle.plan.specs.Trees.{planTree}
 use Rattle.image.specs.Limits.{maxRecords, maxList}
 use borrow.Author.Tests.{le-leb}
 use Rattle.plan.proofs.Lists.{and-true, and-intro}
 use Rattle.rewrite.specs.Limits.{listP, within-limits}
-use Rattle.rewrite.specs.PushDownFilter.{Transformed, Transformed·no, rewrite, merges, push-down-join}
+use Rattle.rewrite.specs.PushDownFilter.{Transformed, rewrite, merges, push-down-join}
 use Rattle.rewrite.specs.RewriteAt.{Focus, result-fits}
-use Rattle.push_down_base.specs.Arms.{Placed}
 use Rattle.answers.proofs.Depths.{deep-tested}
 use Rattle.push_down_base.specs.Paths.{Ways}
 use Rattle.push_down_base.proofs.Finding.{path-to}
 use Rattle.push_down_merge.specs.Merging.{Inside}
-use Rattle.push_down_merge.proofs.Naming.{rule-there}
-use Rattle.push_down_merge.proofs.Within.{lists-there}
-use Rattle.push_down_merge.proofs.Tested.{few-records, stands-inside}
-use Rattle.push_down_merge.specs.Found.{JoinInside}
+use Rattle.push_down_merge.proofs.Tested.{few-records}
 use Rattle.push_down_stays.specs.Staying.{Stays}
 use Rattle.push_down_rewrite.specs.Outcomes.{Outcome, Finishes, answer, Outcomes}
 use Rattle.plan.proofs.Bools.{no-yes}
-use Rattle.push_down_stays.proofs.KindOf.{kind-there, when-filter, when-join}
 
 -- the answer is written
 pub outcomes : {work : List ℕ} {r : Outcome} {w : Plan} {c : Focus} → Finishes work r c (merges (c .plan)) (rewrite (c .plan)) → Outcomes work r w c

@@ -81,12 +81,14 @@ pub +merge-filter+rewrite-filter-spec : {M : Type 1} → statement M
       known-of (c .split-at .ensures (p .lower) _ (filter-predicate (h .short) (h .standing)) (lists-none (c .before .empty .ensures)))
           (own-few (p .lower) (p .plan) (h .lists)),
     ))
-    (λ c κs. let p = c .before .before .before .before .before .before .before .before .before .before .pre .1 .0 in
+    (λ c κs. let a = c .before .before in
+    let u = a .before .before .before .before .before .before .before .before .pre in
+    let p = u .1 .0 in
     let k = p .rests in
     let h = k .placed in
-    let l = c .before .before .before .split-at .ensures (p .lower) _ (filter-predicate (h .short) (h .standing)) (lists-none (c .before .before .before .before .empty .ensures)) in
-    let m = one-merge k (λ n i. c .before .before .merge .ensures (p .expr) (p .lower) n (k .shaped) l i)
-    (c .before .before .before .before .before .filter-input .ensures .1 (p .lower) (p .plan) (h .standing)) in (
+    let l = a .before .split-at .ensures (p .lower) _ (filter-predicate (h .short) (h .standing)) (lists-none (a .before .before .empty .ensures)) in
+    let m = one-merge k (λ n i. a .merge .ensures (p .expr) (p .lower) n (k .shaped) l i)
+    (a .before .before .before .filter-input .ensures .1 (p .lower) (p .plan) (h .standing)) in (
       record {
         whole = p .whole;
         spot = p .spot;
@@ -96,24 +98,27 @@ pub +merge-filter+rewrite-filter-spec : {M : Type 1} → statement M
         plan = p .plan;
         standing = m .input .standing;
       },
-      (c .before .before .before .before .before .before .before .before .before .before .pre .1 .1 .1, c .before .before .before .before .before .before .before .before .before .before .pre .1 .1 .2),
+      (u .1 .1 .1, u .1 .1 .2),
     ))
     (λ c. search needs)
     (λ c. search needs)
-    (λ c w f i e b q k.
+    (λ c w f i e b q k. let a = c .before .before .before .before .before .before .before .before in
     let h = k .placed in
-    let l = c .before .before .before .before .before .before .before .before .before .split-at .ensures b _ (filter-predicate (h .short) (h .standing)) (lists-none (c .before .before .before .before .before .before .before .before .before .before .empty .ensures)) in
-    let m = one-merge k (λ n j. c .before .before .before .before .before .before .before .before .merge .ensures e b n (k .shaped) l j) (c .before .before .before .before .before .before .before .before .before .before .before .filter-input .ensures .1 b q (h .standing)) in
+    let l = a .before .split-at .ensures b _ (filter-predicate (h .short) (h .standing)) (lists-none (a .before .before .empty .ensures)) in
+    let m = one-merge k (λ n j. a .merge .ensures e b n (k .shaped) l j) (a .before .before .before .filter-input .ensures .1 b q (h .standing)) in
     let fit = c .before .before .before .before .before .merge-fits .ensures w f i (m .expr) q (m .made) (m .input .standing) (m .input .lists) in
     merge-unfit e b q (m .is) refl (sym fit ∙ untold (c .if1 .taken)))
-    (λ c κs. let p = c .before .before .before .before .before .before .before .before .before .before .before .before .before .before .before .before .before .before .before .pre .1 .0 in
+    (λ c κs. let a = c .before .before .before .before .before .before .before .before .before .before .before in
+    let g = c .before .before .before .before .before .before .before .before .merge-fits in
+    let u = a .before .before .before .before .before .before .before .before .pre in
+    let p = u .1 .0 in
     let k = p .rests in
     let h = k .placed in
-    let l = c .before .before .before .before .before .before .before .before .before .before .before .before .split-at .ensures (p .lower) _ (filter-predicate (h .short) (h .standing)) (lists-none (c .before .before .before .before .before .before .before .before .before .before .before .before .before .empty .ensures)) in
-    let m = one-merge k (λ n i. c .before .before .before .before .before .before .before .before .before .before .before .merge .ensures (p .expr) (p .lower) n (k .shaped) l i)
-    (c .before .before .before .before .before .before .before .before .before .before .before .before .before .before .filter-input .ensures .1 (p .lower) (p .plan) (h .standing)) in
-    let fit = c .before .before .before .before .before .before .before .before .merge-fits .ensures (p .whole) (p .spot) (p .inside) (m .expr) (p .plan) (m .made) (m .input .standing) (m .input .lists) in (
-      omega (arith, plans-fall (h .standing) (c .before .before .before .before .before .before .before .before .before .before .before .before .before .before .filter-input .ensures .0) (omega (arith, m .input .standing .small)), c .before .before .before .before .before .before .before .before .before .before .before .before .before .before .before .before .before .before .before .pre .0),
+    let l = a .before .split-at .ensures (p .lower) _ (filter-predicate (h .short) (h .standing)) (lists-none (a .before .before .empty .ensures)) in
+    let m = one-merge k (λ n i. a .merge .ensures (p .expr) (p .lower) n (k .shaped) l i)
+    (a .before .before .before .filter-input .ensures .1 (p .lower) (p .plan) (h .standing)) in
+    let fit = g .ensures (p .whole) (p .spot) (p .inside) (m .expr) (p .plan) (m .made) (m .input .standing) (m .input .lists) in (
+      omega (arith, plans-fall (h .standing) (a .before .before .before .filter-input .ensures .0) (omega (arith, m .input .standing .small)), u .0),
       (
         record {
           whole = p .whole;
@@ -123,21 +128,19 @@ pub +merge-filter+rewrite-filter-spec : {M : Type 1} → statement M
           plan = p .plan;
           rests = merge-rests k (p .inside) m (sym fit ∙ told (c .before .before .before .if1 .left));
         },
-        (
-          c .before .before .before .before .before .before .before .before .before .before .before .before .before .before .before .before .before .before .before .pre .1 .1 .0,
-          c .before .before .before .before .before .before .before .before .merge-fits .kept .1 .1 .1 .1 .0 ∙ c .before .before .before .before .before .before .before .before .before .before .before .before .before .before .before .before .before .before .before .pre .1 .1 .1,
-          c .before .before .before .before .before .before .before .before .merge-fits .kept .1 .1 .1 .1 .1 .0 ∙ c .before .before .before .before .before .before .before .before .before .before .before .before .before .before .before .before .before .before .before .pre .1 .1 .2,
-        ),
+        (u .1 .1 .0, g .kept .1 .1 .1 .1 .0 ∙ u .1 .1 .1, g .kept .1 .1 .1 .1 .1 .0 ∙ u .1 .1 .2),
       ),
     ))
     (λ c. search needs)
     (λ c. search needs)
     (λ c. search needs)
-    (λ c w f i e b q k.
+    (λ c w f i e b q k. let a = c .before .before .before .before .before .before .before .before .before .before .before .before .before .before
+    .before .before .before .before in
     let h = k .placed in
-    let l = c .before .before .before .before .before .before .before .before .before .before .before .before .before .before .before .before .before .before .before .split-at .ensures b _ (filter-predicate (h .short) (h .standing)) (lists-none (c .before .before .before .before .before .before .before .before .before .before .before .before .before .before .before .before .before .before .before .before .empty .ensures)) in
-    let m = one-merge k (λ n j. c .before .before .before .before .before .before .before .before .before .before .before .before .before .before .before .before .before .before .merge .ensures e b n (k .shaped) l j) (c .before .before .before .before .before .before .before .before .before .before .before .before .before .before .before .before .before .before .before .before .before .filter-input .ensures .1 b q (h .standing)) in
-    let fit = c .before .before .before .before .before .before .before .before .before .before .before .before .before .before .before .merge-fits .ensures w f i (m .expr) q (m .made) (m .input .standing) (m .input .lists) in
+    let l = a .before .split-at .ensures b _ (filter-predicate (h .short) (h .standing)) (lists-none (a .before .before .empty .ensures)) in
+    let m = one-merge k (λ n j. a .merge .ensures e b n (k .shaped) l j) (a .before .before .before .filter-input .ensures .1 b q (h .standing)) in
+    let fit = c .before .before .before .before .before .before .before .before .before .before .before .before .before .before .before .merge-fits
+    .ensures w f i (m .expr) q (m .made) (m .input .standing) (m .input .lists) in
     let yes = sym fit ∙ told (c .before .before .before .before .before .before .before .before .before .before .if1 .left) in
     again e b q (m .is) yes (c .before .before .before .before .before .before .rewrite-filter .ensures w f i (m .expr) q (merge-rests k i m yes))))
     (λ t. rewrite-filter-lts.spec (
@@ -158,11 +161,16 @@ pub +merge-filter+rewrite-filter-spec : {M : Type 1} → statement M
     rewrite-filter.Post
     (λ c κs. let p = c .before .before .before .before .pre .1 .0 in record { expr = p .expr; shaped = p .rests .shaped })
     (λ c κs. c .before .before .before .before .before .pre .1 .0 .rests .placed .standing .within)
-    (λ c κs. rw (c .record-at .ensures) (omega (arith, c .before .before .before .before .before .before .pre .1 .0 .rests .placed .standing .here .head .room)))
+    (λ c κs. rw (c .record-at .ensures) (omega (
+      arith,
+      c .before .before .before .before .before .before .pre .1 .0 .rests .placed .standing .here
+          .head .room,
+    )))
     (λ c κs. tt)
     (λ c κs. let p = c .before .before .before .before .before .before .before .before .before .before .before .before .pre .1 .0 in
     let k = c .before .before .before .before .before .before .before .simplify-filter .ensures .0 (p .expr) (p .rests .shaped) in
-    let n = read-kind (c .before .before .before .before .before .before .record-at .ensures) (c .before .before .before .before .before .word-at .ensures .0) (p .rests .placed .standing) in (
+    let n = read-kind (c .before .before .before .before .before .before .record-at .ensures) (c .before .before .before .before .before .word-at
+    .ensures .0) (p .rests .placed .standing) in (
       record {
         whole = p .whole;
         spot = p .spot;
@@ -176,14 +184,15 @@ pub +merge-filter+rewrite-filter-spec : {M : Type 1} → statement M
     (λ c. search needs)
     (λ c. search needs)
     (λ c. search needs)
-    (λ c w f i e q h.
-    let k = c .before .before .before .before .before .before .before .before .before .before .before .before .before .before .simplify-filter .ensures .0 e (h .shaped) in
-    let n = read-kind (c .before .before .before .before .before .before .before .before .before .before .before .before .before .record-at .ensures) (c .before .before .before .before .before .before .before .before .before .before .before .before .word-at .ensures .0) (h .placed .standing) in
-    let l = rests-left h k n (rw (c .before .before .before .before .before .before .before .before .before .before .before .is-gone .ensures) at (c .before .before .before .before .before .before .before .before .before .before .if1 .taken)) in
+    (λ c w f i e q h. let a = c .before .before .before .before .before .before .before .before .before .before in
+    let k = a .before .before .before .before .simplify-filter .ensures .0 e (h .shaped) in
+    let n = read-kind (a .before .before .before .record-at .ensures) (a .before .before .word-at .ensures .0) (h .placed .standing) in
+    let l = rests-left h k n (rw (a .before .is-gone .ensures) at (a .if1 .taken)) in
     at-rest e l (c .before .before .before .before .before .before .resume-in-place .ensures w f i _ q l))
     (λ c κs. let p = c .before .before .before .before .before .before .before .before .before .before .before .before .pre .1 .0 in
     let k = c .before .before .before .before .before .before .before .simplify-filter .ensures .0 (p .expr) (p .rests .shaped) in
-    let n = read-kind (c .before .before .before .before .before .before .record-at .ensures) (c .before .before .before .before .before .word-at .ensures .0) (p .rests .placed .standing) in
+    let n = read-kind (c .before .before .before .before .before .before .record-at .ensures) (c .before .before .before .before .before .word-at
+    .ensures .0) (p .rests .placed .standing) in
     let o = rests-over (p .rests) k n (rw (c .before .before .before .before .is-gone .ensures) at (c .before .before .before .if1 .left)) in (
       omega (arith, c .before .before .before .before .before .before .before .before .before .before .before .before .pre .0),
       (
@@ -202,8 +211,9 @@ pub +merge-filter+rewrite-filter-spec : {M : Type 1} → statement M
     (λ c. search needs)
     (λ c. search needs)
     (λ c. search needs)
-    (λ c w f i e q h.
-    let k = c .before .before .before .before .before .before .before .before .before .before .before .before .before .before .simplify-filter .ensures .0 e (h .shaped) in
-    let n = read-kind (c .before .before .before .before .before .before .before .before .before .before .before .before .before .record-at .ensures) (c .before .before .before .before .before .before .before .before .before .before .before .before .word-at .ensures .0) (h .placed .standing) in
-    let o = rests-over h k n (rw (c .before .before .before .before .before .before .before .before .before .before .before .is-gone .ensures) at (c .before .before .before .before .before .before .before .before .before .before .if1 .left)) in
-    with-left h k n o (c .before .before .before .before .before .before .merge-filter .ensures w f i (o .upper) (o .below .expr) (o .below .plan) (o .rests))))
+    (λ c w f i e q h. let a = c .before .before .before .before .before .before .before .before .before .before in
+    let k = a .before .before .before .before .simplify-filter .ensures .0 e (h .shaped) in
+    let n = read-kind (a .before .before .before .record-at .ensures) (a .before .before .word-at .ensures .0) (h .placed .standing) in
+    let o = rests-over h k n (rw (a .before .is-gone .ensures) at (a .if1 .left)) in
+    with-left h k n o (c .before .before .before .before .before .before .merge-filter .ensures w f i (o .upper) (o .below .expr) (o .below .plan)
+    (o .rests))))

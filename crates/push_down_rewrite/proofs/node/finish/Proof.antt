@@ -27,7 +27,8 @@ finish-spec =
       (omega (arith, b .records, b .end, end-within i), next-small r, c .before .before .before .before .pre .1 .0),
     ))
     (λ c. search needs)
-    (λ c node w f t h. unfit refl (at-once f (t .plan) (too-many h (c .before .before .before .write-records .ensures (planTree w) (h .inside .root .here) (few-records (h .inside))
+    (λ c node w f t h. unfit refl (at-once f (t .plan)
+    (too-many h (c .before .before .before .write-records .ensures (planTree w) (h .inside .root .here) (few-records (h .inside))
     (omega (arith, h .begun .records)) (h .begun .depths)) (c .if1 .taken))))
     (λ c κs. search needs)
     (λ c. search needs)

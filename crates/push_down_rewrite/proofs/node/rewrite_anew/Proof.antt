@@ -21,15 +21,19 @@ rewrite-anew-spec =
     (λ c. omega (arith, stands-inside (c .before .before .before .before .before .before .before .pre .0 .inside) .small))
     (λ c κs. let f = c .before .before .before .before .before .before .before .pre .0 in
     let i = f .inside in
-    let a = a-filter (f .spot .plan) (sym (read-kind (c .before .before .record-at .ensures) (c .before .word-at .ensures .0) (stands-inside i)) ∙ c .if1 .taken) in
+    let a = a-filter (f .spot .plan) (sym (read-kind (c .before .before .record-at .ensures) (c .before .word-at .ensures .0)
+    (stands-inside i)) ∙ c .if1 .taken) in
     (record { expr = a .expr; standing = filter-predicate (i .short) (placed-inside i (a .is) .standing) }, (omega arith, i .short)))
     (λ c κs. let f = c .before .before .before .before .before .before .before .before .pre .0 in
     let i = f .inside in
-    let a = a-filter (f .spot .plan) (sym (read-kind (c .before .before .before .record-at .ensures) (c .before .before .word-at .ensures .0) (stands-inside i)) ∙ c .before .if1 .taken) in
+    let a = a-filter (f .spot .plan) (sym (read-kind (c .before .before .before .record-at .ensures) (c .before .before .word-at .ensures .0)
+    (stands-inside i)) ∙ c .before .if1 .taken) in
     (record { expr = a .expr; plan = a .plan; standing = placed-inside i (a .is) .standing }, i .short))
     (λ c κs. let f = c .before .before .before .before .before .before .before .before .before .before .before .before .pre .0 in
     let i = f .inside in
-    let a = a-filter (f .spot .plan) (sym (read-kind (c .before .before .before .before .before .before .before .record-at .ensures) (c .before .before .before .before .before .before .word-at .ensures .0) (stands-inside i)) ∙ c .before .before .before .before .before .if1 .taken) in
+    let a = a-filter (f .spot .plan) (sym (read-kind (c .before .before .before .before .before .before .before .record-at .ensures)
+    (c .before .before .before .before .before .before .word-at .ensures .0) (stands-inside i)) ∙ c .before .before .before .before .before .if1
+    .taken) in
     let e = a .expr in
     let q = a .plan in
     let h = placed-inside i (a .is) in
@@ -48,17 +52,23 @@ rewrite-anew-spec =
     (λ c. search needs)
     (λ c. search needs)
     (λ c w f i.
-    let a = a-filter (f .plan) (sym (read-kind (c .before .before .before .before .before .before .before .before .before .before .before .before .before .before .record-at .ensures) (c .before .before .before .before .before .before .before .before .before .before .before .before .before .word-at .ensures .0) (stands-inside i)) ∙ c .before .before .before .before .before .before .before .before .before .before .before .before .if1 .taken) in
+    let a = a-filter (f .plan) (sym (read-kind (c .before .before .before .before .before .before .before .before .before .before .before .before
+    .before .before .record-at .ensures) (c .before .before .before .before .before .before .before .before .before .before .before .before .before
+    .word-at .ensures .0) (stands-inside i)) ∙ c .before .before .before .before .before .before .before .before .before .before .before .before .if1
+    .taken) in
     let e = a .expr in
     let q = a .plan in
     let h = placed-inside i (a .is) in
-    let k = c .before .before .before .before .before .before .before .before .before .before .before .predicate-at .ensures e (filter-predicate (i .short) (h .standing)) (own-few e q (h .lists)) in
+    let k = c .before .before .before .before .before .before .before .before .before .before .before .predicate-at .ensures e (filter-predicate
+    (i .short) (h .standing)) (own-few e q (h .lists)) in
     filter-outcomes (a .is)
-    (c .before .before .before .before .before .before .rewrite-filter .ensures w f i e q (rests-written e q h k (c .before .before .before .before .before .before .before .before .before .before .filter-input .ensures .1 e q (h .standing)))))
+    (c .before .before .before .before .before .before .rewrite-filter .ensures w f i e q (rests-written e q h k
+    (c .before .before .before .before .before .before .before .before .before .before .filter-input .ensures .1 e q (h .standing)))))
     (λ c κs. let p = c .before .before .before .before .before .before .before .before .before .before .before .pre in
     let f = p .0 in
     let a = a-join (f .spot .plan)
-    (sym (read-kind (c .before .before .before .before .before .before .record-at .ensures) (c .before .before .before .before .before .word-at .ensures .0) (stands-inside (f .inside))) ∙ c .before .before .before .if2 .taken) in (
+    (sym (read-kind (c .before .before .before .before .before .before .record-at .ensures) (c .before .before .before .before .before .word-at
+    .ensures .0) (stands-inside (f .inside))) ∙ c .before .before .before .if2 .taken) in (
       record {
         whole = f .whole;
         spot = f .spot;

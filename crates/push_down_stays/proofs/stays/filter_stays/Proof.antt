@@ -39,7 +39,8 @@ filter-stays-spec =
     let m = (rw (c .before .before .before .before .record-at .ensures) at (c .before .before .before .may-stay .ensures)) ∙ ap mayStay
     (st .here .head .label) in
     let pred = filter-predicate (p .inside .short) at in
-    let k = shaped-written (omega arith) pred (c .split-at .ensures (p .expr) [] pred (lists-none (c .before .empty .ensures))) (own-few _ _ (placed-inside (p .inside) (p .is) .lists)) in (
+    let k = shaped-written (omega arith) pred (c .split-at .ensures (p .expr) [] pred (lists-none (c .before .empty .ensures)))
+    (own-few _ _ (placed-inside (p .inside) (p .is) .lists)) in (
       record {
         expr = p .expr;
         plan = p .plan;
