@@ -19,10 +19,11 @@ use simplify_expressions::simplify_predicates::simplify_predicates;
 use writing::make_filter::make_filter;
 ghost use mathlib.Core.Path.{_≡_};
 ghost use mathlib.Core.Option.{some};
-ghost use Prim.Native.Nat.{_<_, _≤_};
-ghost use lib.ListN.{length};
+ghost use Prim.Native.Nat.{_*_, _+_, _<_, _≤_};
+ghost use lib.ListN.{drop, length};
 ghost use Rattle.image.specs.Buffers.{Scratch};
 ghost use Rattle.image.specs.Limits.{maxList, workBytes};
+ghost use Rattle.image.specs.Word.{word};
 ghost use Rattle.plan.specs.Syntax.{Expr, Plan, filter};
 ghost use Rattle.rewrite.specs.Limits.{listP, within-limits};
 ghost use Rattle.rewrite.specs.PushDownFilter.{merged, simplify-filter};
@@ -78,7 +79,8 @@ pub fn merge(s: &[u8], upper: Predicate, lower: Conjuncts) -> Predicate
 pub fn filter_input(s: &[u8], x: usize) -> usize
     requires { ⌜ FilterAt (now s) x ⌝ }
     requires { ⌜ length (now s) ≤ workBytes ⌝ }
-    ensures { λ r. ⌜ (x < r) × ((e : Expr) (q : Plan) → StandingP (now (s .entry)) x (filter e q) → StandingP (now (s .entry)) r q) ⌝ }
+    ensures { λ r. ⌜ (r ≡ word (drop (32 * (x + 1)) (now (s .entry))) 28) ×
+        ((e : Expr) (q : Plan) → StandingP (now (s .entry)) x (filter e q) → StandingP (now (s .entry)) r q) ⌝ }
 {
     word_at(record_at(s, x + 1), NEXT_LINK)
 }

@@ -4,9 +4,11 @@ use mathlib.Core.Bool.{true, false, cond}
 use mathlib.Core.List.{List}
 use mathlib.Core.Option.{Option, some}
 use Prim.Native.Nat.{ℕ, zero, suc, _+_, _-_, _*_}
+use lib.Dec.{eqb}
 use lib.ListN.{drop}
 use Rattle.image.specs.Limits.{maxRecords}
 use Rattle.image.specs.Tree.{labelAt}
+use Rattle.image.specs.Word.{word}
 use Rattle.plan.specs.Kinds.{isPlan}
 use Rattle.plan.specs.Syntax.{Expr, Plan, filter}
 use Rattle.plan.specs.Schema.{schema}
@@ -59,12 +61,13 @@ pub record LeftInside (s : List ℕ) (node : ℕ) (p : Predicate) (x : ℕ) : Ty
 
 -- ---- what falls
 
--- the plans among the k records at the start of s
-unfoldable pub plans : ℕ → List ℕ → ℕ
-plans zero s = 0
-plans (suc k) s = cond (isPlan (labelAt s)) 1 0 + plans k (drop 32 s)
+-- the plan nodes among what a link leads to, by at most k links
+unfoldable pub plans : ℕ → List ℕ → ℕ → ℕ
+plans zero s link = 0
+plans (suc k) s link =
+    let part = drop (32 * link) s in
+    cond (eqb link 0) 0 (cond (isPlan (labelAt part)) 1 0 + (plans k s (word part 24) + plans k s (word part 28)))
 
--- the plan nodes from record x on: the plan there and those below it, and any that stand behind them
-unfoldable pub plans-from : List ℕ → ℕ → ℕ
-unfolding plans
-plans-from s x = plans (maxRecords - x) (drop (32 * x) s)
+-- the plan nodes below the plan at record x: every link leads to a later record
+unfoldable pub plans-below : List ℕ → ℕ → ℕ
+plans-below s x = plans (maxRecords - x) s (word (drop (32 * x) s) 24)

@@ -1,5 +1,5 @@
--- `filter::rewrite_filter` and `filter::merge_filter` meet their contracts. The plan nodes below fall: twice those from record x on, and one
--- more for `rewrite_filter`, which calls `merge_filter` at the same record.
+-- `filter::rewrite_filter` and `filter::merge_filter` meet their contracts. The plan nodes below record x fall: twice as many, and one more
+-- for `rewrite_filter`, which calls `merge_filter` at the same record.
 use mathlib.Core.Path.{refl, sym, _∙_}
 use Prim.Native.Nat.{ℕ, _+_, _<_}
 use native.Mathlib.Omega.{arith}
@@ -11,7 +11,7 @@ use Rattle.conjuncts.proofs.Listed.{lists-none, known-of}
 use Rattle.push_down_base.proofs.Steps.{filter-predicate}
 use Rattle.push_down_merge.proofs.OneMerge.{own-few, one-merge, merge-rests}
 use Rattle.push_down_stays.proofs.Dispatches.{read-kind}
-use Rattle.push_down_rewrite.specs.Filters.{plans-from}
+use Rattle.push_down_rewrite.specs.Filters.{plans-below}
 use Rattle.push_down_rewrite.proofs.Again.{at-rest, rests-left, rests-over, with-left, again, merge-unfit}
 use Rattle.push_down_rewrite.proofs.Falling.{plans-fall}
 use Rattle.push_down_rewrite.proofs.filter.merge_filter.Reads as merge-filter
@@ -34,10 +34,10 @@ use Rattle.push_down_rewrite.proofs.filter.+merge_filter+rewrite_filter
 use Rattle.push_down_rewrite.proofs.filter.+merge_filter+rewrite_filter.Tie.{close}
 
 abbrev μ-merge-filter : Measures 4 merge-filter-kinds.ps ℕ
-μ-merge-filter κs a = plans-from (a .0 .now) (a .1 .1 .1 .0) + plans-from (a .0 .now) (a .1 .1 .1 .0)
+μ-merge-filter κs a = plans-below (a .0 .now) (a .1 .1 .1 .0) + plans-below (a .0 .now) (a .1 .1 .1 .0)
 
 abbrev μ-rewrite-filter : Measures 4 rewrite-filter-kinds.ps ℕ
-μ-rewrite-filter κs a = plans-from (a .0 .now) (a .1 .1 .1 .0) + plans-from (a .0 .now) (a .1 .1 .1 .0) + 1
+μ-rewrite-filter κs a = plans-below (a .0 .now) (a .1 .1 .1 .0) + plans-below (a .0 .now) (a .1 .1 .1 .0) + 1
 
 abbrev merge-filter-at : ℕ → In 4 merge-filter-kinds.ps
 merge-filter-at t = and 4 merge-filter-kinds.ps (is 4 merge-filter-kinds.ps μ-merge-filter t) merge-filter.Pre
@@ -118,7 +118,7 @@ pub +merge-filter+rewrite-filter-spec : {M : Type 1} → statement M
     let m = one-merge k (λ n i. a .merge .ensures (p .expr) (p .lower) n (k .shaped) l i)
     (a .before .before .before .filter-input .ensures .1 (p .lower) (p .plan) (h .standing)) in
     let fit = g .ensures (p .whole) (p .spot) (p .inside) (m .expr) (p .plan) (m .made) (m .input .standing) (m .input .lists) in (
-      omega (arith, plans-fall (h .standing) (a .before .before .before .filter-input .ensures .0) (omega (arith, m .input .standing .small)), u .0),
+      omega (arith, plans-fall (h .short) (h .standing) (a .before .before .before .filter-input .ensures .0) (m .input .standing), u .0),
       (
         record {
           whole = p .whole;

@@ -6,6 +6,7 @@ use borrow.Author.Needs.{needs}
 use Rattle.conjuncts.proofs.Listed.{lists-none}
 use Rattle.push_down_merge.proofs.OneMerge.{own-few}
 use Rattle.push_down_merge.proofs.Merges.{shaped-written}
+use Rattle.push_down_merge.proofs.Tested.{stands-inside}
 use Rattle.push_down_base.proofs.Steps.{filter-predicate}
 use Rattle.push_down_stays.specs.Staying.{mayStay}
 use Rattle.plan.proofs.Bools.{told, untold}
@@ -28,7 +29,7 @@ filter-stays-spec =
     let st = c .before .before .before .filter-input .ensures .1 (a .expr) (a .plan) (placed-inside h (a .is) .standing) in
     let m = (rw (c .before .before .record-at .ensures) at (c .before .may-stay .ensures)) ∙ ap mayStay (st .here .head .label) in
     rw (a .is) (filter-goes (a .expr) (a .plan) (sym m ∙ untold (c .if1 .taken))))
-    (λ c. search needs)
+    (λ c. omega (arith, stands-inside (c .before .before .before .before .before .pre .inside) .small))
     (λ c κs. search needs)
     (λ c κs. let p = c .before .before .before .before .before .before .pre in
     (record { expr = p .expr; standing = filter-predicate (p .inside .short) (placed-inside (p .inside) (p .is) .standing) }, (omega arith, p .inside .short)))
