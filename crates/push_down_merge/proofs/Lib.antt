@@ -1,4 +1,3 @@
-pub mod Settling
 pub mod Within
 pub mod Naming
 pub mod Scoped
@@ -7,4 +6,3 @@ pub mod Shorter
 pub mod Merges
 pub mod Tested
 pub mod OneMerge
-pub mod FirstFilter

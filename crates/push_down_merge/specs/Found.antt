@@ -10,8 +10,7 @@ use Rattle.rewrite.specs.OnBytes.{planIn}
 use Rattle.rewrite.specs.RewriteAt.{Focus}
 use Rattle.push_down_base.specs.Predicates.{Predicate}
 use Rattle.push_down_base.specs.Arms.{Rests}
-use Rattle.push_down_merge.specs.Merging.{Inside, is-filter, Rest, Comes}
-use Rattle.push_down_merge.specs.Settled.{Settled}
+use Rattle.push_down_merge.specs.Merging.{Inside, is-filter}
 
 -- some predicate rests on a plan at record x, which is no Filter
 pub record OnInput (s : List ℕ) (x : ℕ) (p : Predicate) : Type 0 where
@@ -19,11 +18,6 @@ pub record OnInput (s : List ℕ) (x : ℕ) (p : Predicate) : Type 0 where
   pub plan : Plan
   pub rests : Rests s x p expr plan
   pub other : is-filter plan ≡ false
-
--- merging came to rest there
-pub record SomeComes (s : List ℕ) (r : Rest) : Type 0 where
-  pub settled : Settled
-  pub comes : Comes s r settled
 
 -- some plan stands at record `node` of the image
 pub record Found (s : List ℕ) (node : ℕ) : Type 0 where

@@ -1,5 +1,4 @@
--- What the merging of Filters is asked and answers: predicates that are simplified and merged, the plan after a merge, and where it comes
--- to rest.
+-- What the merging of Filters is asked and answers: predicates that are simplified and merged, and the plan after a merge.
 use mathlib.Core.Path.{_≡_}
 use mathlib.Core.Bool.{Bool, true, false}
 use mathlib.Core.List.{List}
@@ -8,18 +7,14 @@ use Prim.Native.Nat.{ℕ, _≤_}
 use lib.ListN.{length}
 use Rattle.image.specs.Limits.{workBytes, maxList}
 use Rattle.plan.specs.Syntax.{Expr, Plan, scan, filter, project, join, alias, union, distinct, sort, repartition, limit, aggregate, window}
-use Rattle.plan.specs.Lists.{all}
 use Rattle.acceptance.specs.NamesRule.{ok}
 use Rattle.rewrite.specs.Utils.{split-conjunction, conjunction}
-use Rattle.rewrite.specs.Limits.{listP, within-limits}
+use Rattle.rewrite.specs.Limits.{listP}
 use Rattle.rewrite.specs.RewriteAt.{Focus, focus}
-use Rattle.rewrite.specs.PushDownFilter.{simplify-filter}
 use Rattle.conjuncts.specs.Standing.{StandingP}
 use Rattle.conjuncts.specs.Items.{Lists}
 use Rattle.push_down_base.specs.Predicates.{Predicate}
-use Rattle.push_down_base.specs.Arms.{Shaped, Placed, Rests}
-use Rattle.push_down_merge.specs.Settled.{Settled, gone, rests, settled-by, settle}
-use Rattle.push_down_merge.specs.declared.filter.Settled as declared
+use Rattle.push_down_base.specs.Arms.{Shaped}
 
 -- ---- predicates
 
@@ -65,25 +60,6 @@ pub record Mergeable (s : List ℕ) (node : ℕ) (p : Predicate) (x : ℕ) : Typ
   pub plan : Plan
   pub standing : StandingP s x plan
 
--- a predicate rests on the plan at record x, below record `node` of the whole
-pub record Merging (s : List ℕ) (node : ℕ) (p : Predicate) (x : ℕ) : Type 0 where
-  pub whole : Plan
-  pub spot : Focus
-  pub inside : Inside s node whole spot
-  pub expr : Expr
-  pub plan : Plan
-  pub rests : Rests s x p expr plan
-
--- the plan is a Filter, into which the predicate is merged
-pub record MergingInto (s : List ℕ) (node : ℕ) (p : Predicate) (x : ℕ) : Type 0 where
-  pub whole : Plan
-  pub spot : Focus
-  pub inside : Inside s node whole spot
-  pub expr : Expr
-  pub lower : Expr
-  pub plan : Plan
-  pub rests : Rests s x p expr (filter lower plan)
-
 -- a Filter stands at record `node` of the whole
 pub record FilterInside (s : List ℕ) (node : ℕ) : Type 0 where
   pub whole : Plan
@@ -93,16 +69,7 @@ pub record FilterInside (s : List ℕ) (node : ℕ) : Type 0 where
   pub plan : Plan
   pub is : spot .plan ≡ filter expr plan
 
--- ---- where merging comes to rest
-
--- .. of a Filter as it is written: its predicate is simplified first
-abbrev pub settle-first : Expr → Plan → Settled
-settle-first e p = settled-by (simplify-filter e) (λ x. settle x p) p
-
--- the struct of the code
-abbrev pub Rest : Type 0
-Rest = declared.Settled
-
+-- the plan is a Filter
 abbrev pub is-filter : Plan → Bool
 is-filter (filter e p) = true
 is-filter (scan t fs es) = false
@@ -116,13 +83,3 @@ is-filter (repartition p) = false
 is-filter (limit n k p) = false
 is-filter (aggregate gs ags p) = false
 is-filter (window ws p) = false
-
--- no predicate is left, and the plan stands at its record; or the predicate rests on a plan that is no Filter
-pub data Comes (s : List ℕ) (r : Rest) : Settled → Type 0 where
-  alone : {q : Plan} → Placed s (r .input) q → r .predicate .written ≡ 0 → r .predicate .list .len ≡ 0 → Comes s r (gone q)
-  resting : {e : Expr} {q : Plan} → Rests s (r .input) (r .predicate) e q → is-filter q ≡ false → Comes s r (rests e q)
-
--- whether the plans after each merge fit, where each stands in the place of c's; and if they do, where merging comes to rest
-pub record Settles (s : List ℕ) (r : Rest) (c : Focus) (ms : List Plan) (t : Settled) : Type 0 where
-  pub fit : r .fits ≡ all (λ m. within-limits (c .back m)) ms
-  pub comes : r .fits ≡ true → Comes s r t

@@ -1,5 +1,5 @@
-// The arm Filter (835 to 850) with what comes before the match (799 to 832): a Filter is simplified, and merged with the Filters below it,
-// down to where merging comes to rest.
+// What PushDownFilter::rewrite does of a Filter before the match (799 to 832), and the arm Filter (835 to 850) up to where it calls the
+// rewrite again: a predicate is simplified, and merged with that of the Filter below.
 use answers::handing_out::is_shallow;
 use answers::splicing::write_before;
 use answers::splicing::write_records;
@@ -10,41 +10,29 @@ use conjuncts::unique::unique;
 use image::limits::MAX_DEPTH;
 use image::limits::MAX_LIST;
 use image::limits::MAX_RECORDS;
-use image::records::KIND;
 use image::records::NEXT_LINK;
 use image::records::record_at;
 use image::words::word_at;
-use plan::kinds::FILTER;
 use push_down_base::predicates::Predicate;
-use push_down_base::predicates::is_gone;
 use simplify_expressions::reorder_predicates::reorder_predicates;
 use simplify_expressions::simplify_predicates::simplify_predicates;
 use writing::make_filter::make_filter;
 ghost use mathlib.Core.Path.{_≡_};
 ghost use mathlib.Core.Option.{some};
-ghost use Prim.Native.Nat.{_<_, _≤_};
-ghost use lib.ListN.{length};
+ghost use Prim.Native.Nat.{_*_, _+_, _<_, _≤_};
+ghost use lib.ListN.{drop, length};
 ghost use Rattle.image.specs.Buffers.{Scratch};
 ghost use Rattle.image.specs.Limits.{maxList, workBytes};
+ghost use Rattle.image.specs.Word.{word};
 ghost use Rattle.plan.specs.Syntax.{Expr, Plan, filter};
 ghost use Rattle.rewrite.specs.Limits.{listP, within-limits};
-ghost use Rattle.rewrite.specs.PushDownFilter.{merged, merges, merges-under, simplify-filter};
+ghost use Rattle.rewrite.specs.PushDownFilter.{merged, simplify-filter};
 ghost use Rattle.rewrite.specs.RewriteAt.{Focus};
 ghost use Rattle.rewrite.specs.Utils.{conjunction, split-conjunction};
 ghost use Rattle.conjuncts.specs.Items.{Known, Lists};
 ghost use Rattle.conjuncts.specs.Standing.{Standing, StandingP, There};
-ghost use Rattle.push_down_base.specs.Arms.{Rests, Shaped};
-ghost use Rattle.push_down_merge.specs.Merging.{FilterAt, FilterInside, Formed, Inside, Made, Mergeable, Merging, MergingInto};
-ghost use Rattle.push_down_merge.specs.Merging.{Remains, Settles, settle-first};
-ghost use Rattle.push_down_merge.specs.Settled.{settle};
-
-// Where merging comes to rest: a predicate, if anything is left of it, on the plan at record `input`; and whether the plan after each merge
-// fits.
-pub struct Settled {
-    pub fits: bool,
-    pub input: usize,
-    pub predicate: Predicate,
-}
+ghost use Rattle.push_down_base.specs.Arms.{Shaped};
+ghost use Rattle.push_down_merge.specs.Merging.{FilterAt, Formed, Inside, Made, Mergeable, Remains};
 
 // The predicate at record n as it is written, with its conjuncts.
 pub fn predicate_at(s: &[u8], n: usize) -> Predicate
@@ -74,7 +62,7 @@ pub fn simplify_filter(s: &[u8], p: Predicate) -> Predicate
 }
 
 // The predicate of a Filter over a Filter: the child's conjuncts first, later equal ones dropped.
-fn merge(s: &[u8], upper: Predicate, lower: Conjuncts) -> Predicate
+pub fn merge(s: &[u8], upper: Predicate, lower: Conjuncts) -> Predicate
     requires { ⌜ Formed (now s) upper ⌝ }
     requires { ⌜ Known (now s) lower ⌝ }
     ensures { λ r. ⌜ ((e b m : Expr) → Shaped (now (s .entry)) upper e → Lists (now (s .entry)) lower (split-conjunction b) →
@@ -91,13 +79,14 @@ fn merge(s: &[u8], upper: Predicate, lower: Conjuncts) -> Predicate
 pub fn filter_input(s: &[u8], x: usize) -> usize
     requires { ⌜ FilterAt (now s) x ⌝ }
     requires { ⌜ length (now s) ≤ workBytes ⌝ }
-    ensures { λ r. ⌜ (x < r) × ((e : Expr) (q : Plan) → StandingP (now (s .entry)) x (filter e q) → StandingP (now (s .entry)) r q) ⌝ }
+    ensures { λ r. ⌜ (r ≡ word (drop (32 * (x + 1)) (now (s .entry))) 28) ×
+        ((e : Expr) (q : Plan) → StandingP (now (s .entry)) x (filter e q) → StandingP (now (s .entry)) r q) ⌝ }
 {
     word_at(record_at(s, x + 1), NEXT_LINK)
 }
 
 // Test 11 on the plan after a merge: the whole, with the Filter p over the plan at record x in the place of record `node`.
-fn merge_fits(
+pub fn merge_fits(
     s: &[u8],
     node: usize,
     p: Predicate,
@@ -134,82 +123,4 @@ fn merge_fits(
         return false;
     }
     is_shallow(work, records)
-}
-
-// A Filter with the predicate p, which is simplified already, over the plan at record x.
-fn rewrite_filter(
-    s: &[u8],
-    node: usize,
-    p: Predicate,
-    x: usize,
-    work: &mut [u8],
-    levels: &mut [u32],
-) -> Settled
-    requires { ⌜ Merging (now s) node p x ⌝ }
-    requires { ⌜ Scratch (now work) (now levels) ⌝ }
-    ensures { λ r. ⌜ ((w : Plan) (c : Focus) → Inside (now (s .entry)) node w c → (e : Expr) (q : Plan) → Rests (now (s .entry)) x p e q →
-        Settles (now (s .entry)) r c (merges-under e q) (settle e q)) ⌝ }
-{
-    let part = record_at(s, x);
-    if word_at(part, KIND) == FILTER {
-        return merge_filter(s, node, p, x, work, levels);
-    }
-    Settled {
-        fits: true,
-        input: x,
-        predicate: p,
-    }
-}
-
-// The same over the Filter at record x: both become one, which is simplified and rewritten again.
-fn merge_filter(
-    s: &[u8],
-    node: usize,
-    p: Predicate,
-    x: usize,
-    work: &mut [u8],
-    levels: &mut [u32],
-) -> Settled
-    requires { ⌜ MergingInto (now s) node p x ⌝ }
-    requires { ⌜ Scratch (now work) (now levels) ⌝ }
-    ensures { λ r. ⌜ ((w : Plan) (c : Focus) → Inside (now (s .entry)) node w c → (e b : Expr) (q : Plan) →
-        Rests (now (s .entry)) x p e (filter b q) → Settles (now (s .entry)) r c (merges-under e (filter b q)) (settle e (filter b q))) ⌝ }
-{
-    let input = filter_input(s, x);
-    let merged = merge(s, p, split_at(s, x + 1, empty()));
-    if !merge_fits(s, node, merged, input, work, levels) {
-        return Settled {
-            fits: false,
-            input,
-            predicate: merged,
-        };
-    }
-    let left = simplify_filter(s, merged);
-    if is_gone(left) {
-        return Settled {
-            fits: true,
-            input,
-            predicate: left,
-        };
-    }
-    rewrite_filter(s, node, left, input, work, levels)
-}
-
-// The Filter at record `node`: its predicate is simplified, and the Filters below are merged into it.
-pub fn settle_filter(s: &[u8], node: usize, work: &mut [u8], levels: &mut [u32]) -> Settled
-    requires { ⌜ FilterInside (now s) node ⌝ }
-    requires { ⌜ Scratch (now work) (now levels) ⌝ }
-    ensures { λ r. ⌜ ((w : Plan) (c : Focus) → Inside (now (s .entry)) node w c → (e : Expr) (q : Plan) → c .plan ≡ filter e q →
-        Settles (now (s .entry)) r c (merges (filter e q)) (settle-first e q)) ⌝ }
-{
-    let input = filter_input(s, node);
-    let p = simplify_filter(s, predicate_at(s, node + 1));
-    if is_gone(p) {
-        return Settled {
-            fits: true,
-            input,
-            predicate: p,
-        };
-    }
-    rewrite_filter(s, node, p, input, work, levels)
 }

@@ -1,2 +1,2 @@
-// push_down_filter.rs: a Filter is simplified and merged with the Filters below it.
+// push_down_filter.rs: a Filter is simplified, and merged with the Filter below it.
 pub mod filter;

@@ -3,13 +3,14 @@ use Prim.Native.Nat.{ℕ, _-_, _*_, _≤_, _<_}
 use native.Mathlib.Omega.{arith}
 use mathlib.Core.Path.{_≡_, refl, sym, _∙_}
 use mathlib.Core.Bool.{Bool, true, false}
-use mathlib.Core.List.{List}
+use mathlib.Core.List.{List, []}
 use lib.Dec.{leb}
 use lib.Seq.{slice}
 use borrow.Author.Tests.{leb-true, leb-false, le-leb}
 use Rattle.image.specs.Limits.{maxDepth, maxList, maxRecords, noRoom}
 use Rattle.image.specs.Flat.{flat}
 use Rattle.image.specs.Room.{cap}
+use Rattle.plan.specs.Lists.{_&_, all}
 use Rattle.plan.specs.Syntax.{Plan}
 use Rattle.plan.specs.Trees.{planTree}
 use Rattle.plan.specs.Measure.{depthT}
@@ -23,12 +24,25 @@ use Rattle.answers.proofs.Splice.{Begun, spliced}
 use Rattle.answers.proofs.Fitting.{list-back, fits-over, fits-long}
 use Rattle.push_down_base.specs.Arms.{Written}
 use Rattle.plan.proofs.Bools.{no-yes}
+use Rattle.plan.proofs.Lists.{and-true}
 use Rattle.push_down_merge.proofs.Tested.{few-records, fits-is}
 use Rattle.push_down_rewrite.specs.Outcomes.{Outcome, Replaces, Finishes}
 
 -- what does not fit is not asked for more
-pub unfit : {work : List ℕ} {r : Outcome} {b : Bool} {q : Plan} → r .fits ≡ false → r .flag ≡ b → false ≡ within-limits q → Finishes work r b q
-unfit e f g = record { fit = e ∙ g; flag = f; written = λ y. no-yes (sym e ∙ y); image = λ y. no-yes (sym e ∙ y) }
+pub unfit : {work : List ℕ} {r : Outcome} {c : Focus} {ms : List Plan} {t : Transformed} → r .fits ≡ false
+    → false ≡ (within-limits (c .back (t .plan)) & all (λ m. within-limits (c .back m)) ms) → Finishes work r c ms t
+unfit e f = record {
+  fit = e ∙ f;
+  flag = λ y. no-yes (sym e ∙ y);
+  written = λ y. no-yes (sym e ∙ y);
+  image = λ y. no-yes (sym e ∙ y);
+}
+
+-- no plan is on the way
+pub at-once : (c : Focus) (q : Plan) {b : Bool} → b ≡ within-limits (c .back q)
+    → b ≡ (within-limits (c .back q) & all (λ m. within-limits (c .back m)) [])
+unfolding all
+at-once c q e = e ∙ sym (and-true (within-limits (c .back q)))
 
 module _ {s levels work : List ℕ} {spot : Spot} {new : Written} {node : ℕ} {w : Plan} {c : Focus} {t : Transformed}
     (h : Replaces s levels work spot new node w c t) where

@@ -1,6 +1,7 @@
 pub mod Marked
 pub mod Finishes
-pub mod Comings
+pub mod Falling
+pub mod Again
 pub mod Outcoming
 pub mod Images
 pub mod Fronts

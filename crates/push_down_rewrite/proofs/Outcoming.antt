@@ -4,87 +4,42 @@ use mathlib.Core.Path.{_≡_, refl, sym, ap, subst, _∙_}
 use mathlib.Core.Bool.{Bool, true, false}
 use mathlib.Core.List.{List, []}
 use mathlib.Core.Option.{Option}
-use native.Mathlib.Nat.{le-trans}
-use lib.Dec.{eqb}
 use Rattle.plan.specs.Lists.{_&_, all}
 use Rattle.plan.specs.Syntax.{Expr, Kind, Pair, Plan}
-use Rattle.plan.specs.Syntax.{scan, filter, project, join, alias, union, distinct, sort, repartition, limit, aggregate, window}
+use Rattle.plan.specs.Syntax.{filter, project, join, alias, union, distinct, sort, repartition, limit, aggregate, window}
 use Rattle.plan.specs.Syntax.{pcons}
 use Rattle.plan.specs.Measure.{sizeP, depthP}
-use Rattle.plan.specs.Trees.{labelP, planTree}
+use Rattle.plan.specs.Trees.{planTree}
 use Rattle.image.specs.Limits.{maxRecords, maxList}
 use borrow.Author.Tests.{le-leb}
 use Rattle.plan.proofs.Lists.{and-true, and-intro}
 use Rattle.rewrite.specs.Limits.{listP, within-limits}
-use Rattle.rewrite.specs.PushDownFilter.{Transformed, Transformed·no, rewrite, merges, push-down-join}
+use Rattle.rewrite.specs.PushDownFilter.{Transformed, rewrite, merges, push-down-join}
 use Rattle.rewrite.specs.RewriteAt.{Focus, result-fits}
-use Rattle.push_down_base.specs.Arms.{Placed}
 use Rattle.answers.proofs.Depths.{deep-tested}
 use Rattle.push_down_base.specs.Paths.{Ways}
 use Rattle.push_down_base.proofs.Finding.{path-to}
-use Rattle.push_down_merge.specs.Merging.{Inside, FilterInside, Rest, Settles, settle-first}
-use Rattle.push_down_merge.specs.Settled.{rewrite-settled}
-use Rattle.push_down_merge.proofs.FirstFilter.{first-rewrite}
-use Rattle.push_down_merge.proofs.Naming.{rule-there}
-use Rattle.push_down_merge.proofs.Within.{lists-there}
-use Rattle.push_down_merge.proofs.Tested.{few-records, stands-inside}
-use Rattle.push_down_merge.specs.Found.{JoinInside}
+use Rattle.push_down_merge.specs.Merging.{Inside}
+use Rattle.push_down_merge.proofs.Tested.{few-records}
 use Rattle.push_down_stays.specs.Staying.{Stays}
 use Rattle.push_down_rewrite.specs.Outcomes.{Outcome, Finishes, answer, Outcomes}
 use Rattle.plan.proofs.Bools.{no-yes}
-use Rattle.push_down_stays.proofs.KindOf.{kind-there, when-filter, when-join}
-
-and-false : (b : Bool) → (b & false) ≡ false
-unfolding _&_
-and-false true = refl
-and-false false = refl
-
--- it is refused
-pub refuses : {work : List ℕ} {r : Outcome} {w : Plan} {c : Focus} → r .fits ≡ false → false ≡ result-fits c → Outcomes work r w c
-refuses e f = record {
-  fit = e ∙ f;
-  flag = λ y. no-yes (sym e ∙ y);
-  image = λ y. no-yes (sym e ∙ y);
-  same = λ y. no-yes (sym e ∙ y);
-}
 
 -- the answer is written
-pub finishes : {work : List ℕ} {r : Outcome} {w : Plan} {c : Focus} → all (λ m. within-limits (c .back m)) (merges (c .plan)) ≡ true
-    → Finishes work r (rewrite (c .plan) .transformed) (answer c) → Outcomes work r w c
+pub outcomes : {work : List ℕ} {r : Outcome} {w : Plan} {c : Focus} → Finishes work r c (merges (c .plan)) (rewrite (c .plan)) → Outcomes work r w c
 unfolding result-fits
-finishes {c = c} m f = record {
-  fit = f .fit ∙ sym (ap (λ b. within-limits (answer c) & b) m ∙ and-true (within-limits (answer c)));
-  flag = λ y. f .flag;
-  image = λ y z. f .image y;
-  same = λ y z. no-yes (sym z ∙ f .written y);
-}
+outcomes f = record { fit = f .fit; flag = f .flag; image = λ y z. f .image y; same = λ y z. no-yes (sym z ∙ f .written y) }
 
--- ---- a Filter
+-- .. of a Filter
+pub filter-outcomes : {work : List ℕ} {r : Outcome} {w : Plan} {c : Focus} {e : Expr} {q : Plan} → c .plan ≡ filter e q
+    → Finishes work r c (merges (filter e q)) (rewrite (filter e q)) → Outcomes work r w c
+filter-outcomes {work} {r} {c = c} is f = outcomes (subst (λ p. Finishes work r c (merges p) (rewrite p)) (sym is) f)
 
-module _ {s : List ℕ} {rest : Rest} {c : Focus} {e : Expr} {q : Plan} (is : c .plan ≡ filter e q)
-    (h : Settles s rest c (merges (filter e q)) (settle-first e q)) where
-  fitting : rest .fits ≡ all (λ m. within-limits (c .back m)) (merges (c .plan))
-  fitting = h .fit ∙ ap (λ p. all (λ m. within-limits (c .back m)) (merges p)) (sym is)
-
-  pub merge-unfit : rest .fits ≡ false → false ≡ result-fits c
-  unfolding result-fits
-  merge-unfit n = sym (ap (λ b. within-limits (answer c) & b) (sym fitting ∙ n) ∙ and-false (within-limits (answer c)))
-
-  pub filter-outcomes : {work : List ℕ} {r : Outcome} {w : Plan} → rest .fits ≡ true
-      → Finishes work r (rewrite-settled (settle-first e q) .transformed) (c .back (rewrite-settled (settle-first e q) .plan)) → Outcomes work r w c
-  filter-outcomes {work} {r} y f =
-      let i : rewrite-settled (settle-first e q) ≡ rewrite (c .plan) = sym (first-rewrite e q) ∙ ap rewrite (sym is) in
-      finishes (sym fitting ∙ y) (subst (λ t. Finishes work r (t .transformed) (c .back (t .plan))) i f)
-
--- ---- a Join
-
-module _ {c : Focus} {k : Kind} {l q : Plan} {on : List Pair} {f : Option Expr} (is : c .plan ≡ join k l q on f) where
-  pub join-outcomes : {work : List ℕ} {r : Outcome} {w : Plan}
-      → Finishes work r (push-down-join k l q on f [] .transformed) (c .back (push-down-join k l q on f [] .plan)) → Outcomes work r w c
-  unfolding rewrite merges all
-  join-outcomes {work} {r} h =
-      let i : push-down-join k l q on f [] ≡ rewrite (c .plan) = ap rewrite (sym is) in
-      finishes (ap (λ p. all (λ m. within-limits (c .back m)) (merges p)) is) (subst (λ t. Finishes work r (t .transformed) (c .back (t .plan))) i h)
+-- .. of a Join
+pub join-outcomes : {work : List ℕ} {r : Outcome} {w : Plan} {c : Focus} {k : Kind} {l q : Plan} {on : List Pair} {f : Option Expr}
+    → c .plan ≡ join k l q on f → Finishes work r c [] (push-down-join k l q on f []) → Outcomes work r w c
+unfolding rewrite merges
+join-outcomes {work} {r} {c = c} is f = outcomes (subst (λ p. Finishes work r c (merges p) (rewrite p)) (sym is) f)
 
 -- ---- any other plan
 

@@ -1,10 +1,11 @@
 -- What a rewrite at a record comes to.
 use mathlib.Core.Path.{_≡_}
-use mathlib.Core.Bool.{Bool, true, false}
+use mathlib.Core.Bool.{true, false}
 use mathlib.Core.List.{List}
 use Prim.Native.Nat.{ℕ, _*_}
 use lib.ListN.{length, take}
 use Rattle.image.specs.Limits.{workBytes}
+use Rattle.plan.specs.Lists.{_&_, all}
 use Rattle.plan.specs.Syntax.{Plan}
 use Rattle.plan.specs.Measure.{sizeP}
 use Rattle.rewrite.specs.Limits.{within-limits}
@@ -43,12 +44,12 @@ pub record Image (work : List ℕ) (records : ℕ) (q : Plan) : Type 0 where
   pub count : records ≡ sizeP q
   pub bytes : take (32 * records) work ≡ imageOf q
 
--- the plan q was written, if it is within the limits
-pub record Finishes (work : List ℕ) (r : Outcome) (raised : Bool) (q : Plan) : Type 0 where
-  pub fit : r .fits ≡ within-limits q
-  pub flag : r .flag ≡ raised
+-- the answer t was written in the place of what c found, if it and the plans ms on the way to it are within the limits there
+pub record Finishes (work : List ℕ) (r : Outcome) (c : Focus) (ms : List Plan) (t : Transformed) : Type 0 where
+  pub fit : r .fits ≡ (within-limits (c .back (t .plan)) & all (λ m. within-limits (c .back m)) ms)
+  pub flag : r .fits ≡ true → r .flag ≡ t .transformed
   pub written : r .fits ≡ true → r .written ≡ true
-  pub image : r .fits ≡ true → Image work (r .records) q
+  pub image : r .fits ≡ true → Image work (r .records) (c .back (t .plan))
 
 -- the whole with the rewrite of what c found
 abbrev pub answer : Focus → Plan

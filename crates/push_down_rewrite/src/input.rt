@@ -1,4 +1,4 @@
-// The match on a Filter's input (834 to 1262), once the Filters below are merged into it.
+// The match on a Filter's input (834 to 1262), all arms but Filter.
 use image::records::KIND;
 use image::records::record_at;
 use image::words::word_at;
@@ -20,17 +20,16 @@ use push_down_base::predicates::Predicate;
 use push_down_base::predicates::Written;
 use push_down_base::predicates::is_gone;
 use push_down_join::push_down_all_join::rewrite_join;
-use push_down_merge::filter::Settled;
 use writing::make_filter::copy_plan;
 ghost use mathlib.Core.Path.{_≡_};
 ghost use mathlib.Core.Bool.{false};
+ghost use mathlib.Core.Option.{Option};
 ghost use Rattle.plan.specs.Syntax.{Expr, Plan};
-ghost use Rattle.rewrite.specs.PushDownFilter.{rewrite-filter};
+ghost use Rattle.rewrite.specs.PushDownFilter.{resume, rewrite-filter};
 ghost use Rattle.push_down_base.specs.Arms.{Answers, ArmOver, Rests};
-ghost use Rattle.push_down_merge.specs.Found.{OnInput, SomeComes};
-ghost use Rattle.push_down_merge.specs.Merging.{Comes, is-filter};
-ghost use Rattle.push_down_merge.specs.Settled.{rewrite-settled};
-ghost use Rattle.push_down_merge.specs.Settled as S;
+ghost use Rattle.push_down_merge.specs.Found.{OnInput};
+ghost use Rattle.push_down_merge.specs.Merging.{is-filter};
+ghost use Rattle.push_down_rewrite.specs.Filters.{Left, SomeLeft};
 
 // A predicate that rests on the plan at record x, which is no Filter.
 fn rewrite_input(
@@ -72,22 +71,21 @@ fn rewrite_input(
     rewrite_through(s, x, p, out, at, level)
 }
 
-// The rewrite from where merging came to rest; the plan alone where no predicate is left.
-pub fn rewrite_settled(
+// What is done with the predicate p that is left over the plan at record x: the plan alone where none is (821 to 825), else the match.
+pub fn resume(
     s: &[u8],
-    rest: Settled,
+    x: usize,
+    p: Predicate,
     m: &mut [u8],
     out: &mut [u8],
     at: usize,
     level: usize,
 ) -> Written
-    requires { ⌜ SomeComes (now s) rest ⌝ }
+    requires { ⌜ SomeLeft (now s) x p ⌝ }
     requires { ⌜ ArmOver (now m) (now out) at level ⌝ }
-    ensures { λ r. ⌜ ((t : S.Settled) → Comes (now (s .entry)) rest t →
-        Answers (now (out .entry)) (now (out .exit)) at level r (rewrite-settled t)) ⌝ }
+    ensures { λ r. ⌜ ((o : Option Expr) (q : Plan) → Left (now (s .entry)) x p o q →
+        Answers (now (out .entry)) (now (out .exit)) at level r (resume o (λ e. rewrite-filter e q) q)) ⌝ }
 {
-    let p = rest.predicate;
-    let x = rest.input;
     if is_gone(p) {
         let next = copy_plan(s, x, out, at, level);
         return Written { next, flag: true };

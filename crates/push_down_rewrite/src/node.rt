@@ -1,5 +1,5 @@
 // PushDownFilter::rewrite (785 to 798) of the plan at one record: a Filter by its input, a Join by its own filter, no other.
-use crate::input::rewrite_settled;
+use crate::filter::rewrite_filter;
 use answers::handing_out::is_shallow;
 use answers::splicing::Spot;
 use answers::splicing::write_before;
@@ -14,17 +14,19 @@ use plan::kinds::FILTER;
 use plan::kinds::JOIN;
 use push_down_base::predicates::Written;
 use push_down_join::push_down_all_join::push_down_join;
-use push_down_merge::filter::settle_filter;
+use push_down_merge::filter::filter_input;
+use push_down_merge::filter::predicate_at;
 use push_down_stays::stays::stays;
 ghost use mathlib.Core.Path.{_≡_};
 ghost use mathlib.Core.Bool.{true};
+ghost use mathlib.Core.List.{[]};
 ghost use Prim.Native.Nat.{ℕ};
 ghost use Rattle.image.specs.Buffers.{Scratch, ScratchMap};
 ghost use Rattle.plan.specs.Syntax.{Plan};
 ghost use Rattle.rewrite.specs.PushDownFilter.{Transformed};
 ghost use Rattle.rewrite.specs.RewriteAt.{Focus};
 ghost use Rattle.push_down_merge.specs.Found.{Found, JoinInside};
-ghost use Rattle.push_down_merge.specs.Merging.{FilterInside, Inside};
+ghost use Rattle.push_down_merge.specs.Merging.{Inside};
 ghost use Rattle.push_down_rewrite.specs.Outcomes.{Finishes, Outcomes, Replaced, Replaces, answer};
 
 // What a rewrite comes to: whether it is within the limits, and the flag; whether a new image was written, of so many records, or the one
@@ -37,12 +39,12 @@ pub struct Outcome {
 }
 
 // Writes what stands behind the new plan, tests the whole, and links it.
-fn finish(s: &[u8], spot: Spot, levels: &[u32], new: Written, work: &mut [u8]) -> Outcome
+pub fn finish(s: &[u8], spot: Spot, levels: &[u32], new: Written, work: &mut [u8]) -> Outcome
     requires { ⌜ Replaced (now s) (now levels) (now work) spot new ⌝ }
     requires { ⌜ Scratch (now work) (now levels) ⌝ }
     ensures { λ r. ⌜ ((node : ℕ) (w : Plan) (c : Focus) (t : Transformed) →
         Replaces (now (s .entry)) (now (levels .entry)) (now (work .entry)) spot new node w c t →
-        Finishes (now (work .exit)) r (t .transformed) (c .back (t .plan))) ⌝ }
+        Finishes (now (work .exit)) r c [] t) ⌝ }
 {
     let records = write_records(s, levels, spot.end, spot.records, work, new.next);
     if MAX_RECORDS < records {
@@ -68,32 +70,6 @@ fn finish(s: &[u8], spot: Spot, levels: &[u32], new: Written, work: &mut [u8]) -
         written: true,
         records,
     }
-}
-
-// The Filter at record `node`.
-fn rewrite_filter_node(
-    s: &[u8],
-    node: usize,
-    m: &mut [u8],
-    work: &mut [u8],
-    levels: &mut [u32],
-) -> Outcome
-    requires { ⌜ FilterInside (now s) node ⌝ }
-    requires { ⌜ ScratchMap (now m) (now work) (now levels) ⌝ }
-    ensures { λ r. ⌜ ((w : Plan) (c : Focus) → Inside (now (s .entry)) node w c → Outcomes (now (work .exit)) r w c) ⌝ }
-{
-    let rest = settle_filter(s, node, work, levels);
-    if !rest.fits {
-        return Outcome {
-            fits: false,
-            flag: false,
-            written: false,
-            records: 0,
-        };
-    }
-    let spot = write_before(s, node, work, levels);
-    let new = rewrite_settled(s, rest, m, work, node, spot.level);
-    finish(s, spot, levels, new, work)
 }
 
 // The Join at record `node`.
@@ -127,7 +103,8 @@ pub fn rewrite_anew(
 {
     let kind = word_at(record_at(s, node), KIND);
     if kind == FILTER {
-        return rewrite_filter_node(s, node, m, work, levels);
+        let p = predicate_at(s, node + 1);
+        return rewrite_filter(s, node, p, filter_input(s, node), m, work, levels);
     }
     if kind == JOIN {
         return rewrite_join_node(s, node, m, work, levels);

@@ -1,5 +1,5 @@
 -- Why a plan that stays does: the laws that the decision cites.
-use Prim.Native.Nat.{ℕ, _<_}
+use Prim.Native.Nat.{ℕ}
 use native.Mathlib.Omega.{arith}
 use mathlib.Core.Path.{_≡_, refl, sym, ap, subst, _∙_}
 use mathlib.Core.Bool.{Bool, true, false}
@@ -35,7 +35,7 @@ use Rattle.push_down_arms.specs.Through.{takesNone}
 use Rattle.push_down_arms.proofs.Divisions.{aggregate-pushed, window-pushed, project-kept}
 use Rattle.push_down_join.specs.JoinPlans.{FilterOf, has-none, has-one}
 use Rattle.push_down_join.proofs.MovedLists.{counts-none}
-use Rattle.push_down_merge.proofs.OneMerge.{input-placed, stays}
+use Rattle.push_down_merge.proofs.OneMerge.{input-placed, unmerged}
 use Rattle.push_down_base.proofs.Plain.{split-some}
 use Rattle.push_down_arms.proofs.ScanShares.{scan-kept}
 use Rattle.push_down_stays.specs.Staying.{Kept, Stays, mayStay}
@@ -241,15 +241,14 @@ module _ (e : Expr) (q : Plan) where
     unfolding rewrite merges
     filter-simple k i = record {
       kept = record { yes = λ y. rw (i .yes y) (k .yes refl); no = λ n h. i .no n (simple-was e q o h) };
-      unmerged = λ y. rw (i .yes y) (stays e q o .merges);
+      unmerged = λ y. rw (i .yes y) (unmerged e q o);
     }
 
   -- a Filter that was read, with its predicate as it is written
-  pub rests-written : {s : List ℕ} {node y : ℕ} {p : Predicate} → Placed s node (filter e q) → Shaped s p e → node < y → StandingP s y q
-      → Rests s y p e q
+  pub rests-written : {s : List ℕ} {node y : ℕ} {p : Predicate} → Placed s node (filter e q) → Shaped s p e → StandingP s y q → Rests s y p e q
   unfolding rule
-  rests-written h k past l = record {
-    placed = input-placed e (h .short) (h .rules) (h .lists) past l;
+  rests-written h k l = record {
+    placed = input-placed e (h .short) (h .rules) (h .lists) l;
     shaped = k;
     scope = and-l (reads (schema q) e) (ok q) (h .rules);
   }

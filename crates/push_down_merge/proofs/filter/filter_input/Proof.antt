@@ -1,5 +1,4 @@
 use mathlib.Core.Path.{_∙_}
-use native.Mathlib.Omega.{arith}
 use borrow.Author.Needs.{needs}
 use Rattle.push_down_base.proofs.Steps.{filter-input, filter-predicate}
 use Rattle.push_down_merge.proofs.Merges.{filter-next, filter-room}
@@ -15,4 +14,4 @@ filter-input-spec =
     (λ c κs. let p = c .before .before .pre in rw (c .record-at .ensures) (filter-room (p .1) (p .0 .standing)))
     (λ c. let p = c .before .before .before .pre in
     let e = rw (c .before .record-at .ensures) at (c .word-at .ensures .0) in
-    (omega (arith, e, filter-next (p .1) (p .0 .standing)), λ x q h. rw (e ∙ filter-next (p .1) h) (filter-input (p .1) h))))
+    (e, λ x q h. rw (e ∙ filter-next (p .1) h) (filter-input (p .1) h))))

@@ -2,10 +2,13 @@
 use mathlib.Core.Path.{refl, sym, _∙_}
 use native.Mathlib.Omega.{arith}
 use borrow.Author.Needs.{needs}
+use Rattle.push_down_base.proofs.Steps.{filter-predicate}
+use Rattle.push_down_merge.proofs.OneMerge.{own-few}
 use Rattle.push_down_merge.proofs.Tested.{stands-inside}
 use Rattle.push_down_stays.proofs.Dispatches.{read-kind}
-use Rattle.push_down_stays.proofs.Nodes.{a-filter, a-join, other-stays}
-use Rattle.push_down_rewrite.proofs.Outcoming.{stays-outcomes}
+use Rattle.push_down_stays.proofs.Nodes.{a-filter, a-join, other-stays, placed-inside}
+use Rattle.push_down_stays.proofs.Stayings.{rests-written}
+use Rattle.push_down_rewrite.proofs.Outcoming.{filter-outcomes, stays-outcomes}
 use Rattle.push_down_rewrite.proofs.node.rewrite_anew.Statement.{statement}
 use Rattle.push_down_rewrite.proofs.node.rewrite_anew.Tie as tie
 
@@ -15,16 +18,52 @@ rewrite-anew-spec =
     (tie.spec
     (λ c κs. stands-inside (c .before .before .before .before .pre .0 .inside) .within)
     (λ c κs. rw (c .record-at .ensures) (omega (arith, stands-inside (c .before .before .before .before .before .pre .0 .inside) .here .head .room)))
-    (λ c κs. let p = c .before .before .before .before .before .before .before .before .before .before .pre in
-    let f = p .0 in
-    let a = a-filter (f .spot .plan)
-    (sym (read-kind (c .before .before .before .before .before .record-at .ensures) (c .before .before .before .before .word-at .ensures .0)
-    (stands-inside (f .inside))) ∙ c .before .before .before .if1 .taken) in
-    (record { whole = f .whole; spot = f .spot; inside = f .inside; expr = a .expr; plan = a .plan; is = a .is }, p .1))
+    (λ c. omega (arith, stands-inside (c .before .before .before .before .before .before .before .pre .0 .inside) .small))
+    (λ c κs. let f = c .before .before .before .before .before .before .before .pre .0 in
+    let i = f .inside in
+    let a = a-filter (f .spot .plan) (sym (read-kind (c .before .before .record-at .ensures) (c .before .word-at .ensures .0)
+    (stands-inside i)) ∙ c .if1 .taken) in
+    (record { expr = a .expr; standing = filter-predicate (i .short) (placed-inside i (a .is) .standing) }, (omega arith, i .short)))
+    (λ c κs. let f = c .before .before .before .before .before .before .before .before .pre .0 in
+    let i = f .inside in
+    let a = a-filter (f .spot .plan) (sym (read-kind (c .before .before .before .record-at .ensures) (c .before .before .word-at .ensures .0)
+    (stands-inside i)) ∙ c .before .if1 .taken) in
+    (record { expr = a .expr; plan = a .plan; standing = placed-inside i (a .is) .standing }, i .short))
+    (λ c κs. let f = c .before .before .before .before .before .before .before .before .before .before .before .before .pre .0 in
+    let i = f .inside in
+    let a = a-filter (f .spot .plan) (sym (read-kind (c .before .before .before .before .before .before .before .record-at .ensures)
+    (c .before .before .before .before .before .before .word-at .ensures .0) (stands-inside i)) ∙ c .before .before .before .before .before .if1
+    .taken) in
+    let e = a .expr in
+    let q = a .plan in
+    let h = placed-inside i (a .is) in
+    let k = c .before .before .before .before .predicate-at .ensures e (filter-predicate (i .short) (h .standing)) (own-few e q (h .lists)) in (
+      record {
+        whole = f .whole;
+        spot = f .spot;
+        inside = i;
+        expr = e;
+        plan = q;
+        rests = rests-written e q h k (c .before .before .before .filter-input .ensures .1 e q (h .standing));
+      },
+      c .before .before .before .before .before .before .before .before .before .before .before .before .pre .1,
+    ))
     (λ c. search needs)
     (λ c. search needs)
     (λ c. search needs)
-    (λ c. search needs)
+    (λ c w f i.
+    let a = a-filter (f .plan) (sym (read-kind (c .before .before .before .before .before .before .before .before .before .before .before .before
+    .before .before .record-at .ensures) (c .before .before .before .before .before .before .before .before .before .before .before .before .before
+    .word-at .ensures .0) (stands-inside i)) ∙ c .before .before .before .before .before .before .before .before .before .before .before .before .if1
+    .taken) in
+    let e = a .expr in
+    let q = a .plan in
+    let h = placed-inside i (a .is) in
+    let k = c .before .before .before .before .before .before .before .before .before .before .before .predicate-at .ensures e (filter-predicate
+    (i .short) (h .standing)) (own-few e q (h .lists)) in
+    filter-outcomes (a .is)
+    (c .before .before .before .before .before .before .rewrite-filter .ensures w f i e q (rests-written e q h k
+    (c .before .before .before .before .before .before .before .before .before .before .filter-input .ensures .1 e q (h .standing)))))
     (λ c κs. let p = c .before .before .before .before .before .before .before .before .before .before .before .pre in
     let f = p .0 in
     let a = a-join (f .spot .plan)

@@ -4,8 +4,9 @@ use native.Mathlib.Omega.{arith}
 use mathlib.Core.List.{[]}
 use borrow.Author.Needs.{needs}
 use Rattle.conjuncts.proofs.Listed.{lists-none}
-use Rattle.push_down_merge.proofs.FirstFilter.{first-standing, first-few}
+use Rattle.push_down_merge.proofs.OneMerge.{own-few}
 use Rattle.push_down_merge.proofs.Merges.{shaped-written}
+use Rattle.push_down_merge.proofs.Tested.{stands-inside}
 use Rattle.push_down_base.proofs.Steps.{filter-predicate}
 use Rattle.push_down_stays.specs.Staying.{mayStay}
 use Rattle.plan.proofs.Bools.{told, untold}
@@ -19,69 +20,69 @@ filter-stays-spec =
     tie.close
     (tie.spec
     (λ c κs. let p = c .before .pre in
-    (record { expr = p .expr; plan = p .plan; standing = first-standing (p .inside) (p .is) }, p .inside .short))
-    (λ c κs. let p = c .before .before .pre in c .filter-input .ensures .1 (p .expr) (p .plan) (first-standing (p .inside) (p .is)) .within)
+    (record { expr = p .expr; plan = p .plan; standing = placed-inside (p .inside) (p .is) .standing }, p .inside .short))
+    (λ c κs. let p = c .before .before .pre in c .filter-input .ensures .1 (p .expr) (p .plan) (placed-inside (p .inside) (p .is) .standing) .within)
     (λ c κs. let p = c .before .before .before .pre in
-    let st = c .before .filter-input .ensures .1 (p .expr) (p .plan) (first-standing (p .inside) (p .is)) in
+    let st = c .before .filter-input .ensures .1 (p .expr) (p .plan) (placed-inside (p .inside) (p .is) .standing) in
     rw (c .record-at .ensures) (omega (arith, st .here .head .room)))
     (λ c w f h. let a = the-filter (c .before .before .before .before .before .pre) h in
-    let st = c .before .before .before .filter-input .ensures .1 (a .expr) (a .plan) (first-standing h (a .is)) in
+    let st = c .before .before .before .filter-input .ensures .1 (a .expr) (a .plan) (placed-inside h (a .is) .standing) in
     let m = (rw (c .before .before .record-at .ensures) at (c .before .may-stay .ensures)) ∙ ap mayStay (st .here .head .label) in
     rw (a .is) (filter-goes (a .expr) (a .plan) (sym m ∙ untold (c .if1 .taken))))
-    (λ c. search needs)
+    (λ c. omega (arith, stands-inside (c .before .before .before .before .before .pre .inside) .small))
     (λ c κs. search needs)
     (λ c κs. let p = c .before .before .before .before .before .before .pre in
-    (record { expr = p .expr; standing = filter-predicate (p .inside .short) (first-standing (p .inside) (p .is)) }, (omega arith, p .inside .short)))
+    (record { expr = p .expr; standing = filter-predicate (p .inside .short) (placed-inside (p .inside) (p .is) .standing) }, (omega arith, p .inside .short)))
     (λ c κs. let p = c .before .before .before .before .before .before .before .pre in
-    let at = first-standing (p .inside) (p .is) in
+    let at = placed-inside (p .inside) (p .is) .standing in
     let x = c .before .before .before .before .before .filter-input .ensures in
     let st = x .1 (p .expr) (p .plan) at in
     let m = (rw (c .before .before .before .before .record-at .ensures) at (c .before .before .before .may-stay .ensures)) ∙ ap mayStay
     (st .here .head .label) in
     let pred = filter-predicate (p .inside .short) at in
-    let k = shaped-written (omega arith) pred (c .split-at .ensures (p .expr) [] pred (lists-none (c .before .empty .ensures))) (first-few
-    (p .inside) (p .is)) in (
+    let k = shaped-written (omega arith) pred (c .split-at .ensures (p .expr) [] pred (lists-none (c .before .empty .ensures)))
+    (own-few _ _ (placed-inside (p .inside) (p .is) .lists)) in (
       record {
         expr = p .expr;
         plan = p .plan;
-        rests = rests-written (p .expr) (p .plan) (placed-inside (p .inside) (p .is)) k (x .0) st;
+        rests = rests-written (p .expr) (p .plan) (placed-inside (p .inside) (p .is)) k st;
         other = may-stay-other (p .plan) (sym m ∙ told (c .before .before .if1 .left));
       },
       λ z. omega arith,
     ))
     (λ c κs. let p = c .before .before .before .before .before .before .before .before .before .pre in
-    let pred = filter-predicate (p .inside .short) (first-standing (p .inside) (p .is)) in (
+    let pred = filter-predicate (p .inside .short) (placed-inside (p .inside) (p .is) .standing) in (
       record {
         expr = p .expr;
         shaped = shaped-written (omega arith) pred (c .before .before .split-at .ensures (p .expr) [] pred (lists-none
             (c .before .before .before .empty .ensures)))
-            (first-few (p .inside) (p .is));
+            (own-few _ _ (placed-inside (p .inside) (p .is) .lists));
       },
       λ z. omega arith,
       p .inside .short,
     ))
     (λ c w f h. let a = the-filter (c .before .before .before .before .before .before .before .before .before .before .pre) h in
-    let at = first-standing h (a .is) in
+    let at = placed-inside h (a .is) .standing in
     let x = c .before .before .before .before .before .before .before .before .filter-input .ensures in
     let st = x .1 (a .expr) (a .plan) at in
     let m = (rw (c .before .before .before .before .before .before .before .record-at .ensures) at
     (c .before .before .before .before .before .before .may-stay .ensures)) ∙ ap mayStay (st .here .head .label) in
     let pred = filter-predicate (h .short) at in
     let k = shaped-written (omega arith) pred (c .before .before .before .split-at .ensures (a .expr) [] pred (lists-none
-    (c .before .before .before .before .empty .ensures))) (first-few h (a .is)) in
+    (c .before .before .before .before .empty .ensures))) (own-few _ _ (placed-inside h (a .is) .lists)) in
     let o = may-stay-other (a .plan) (sym m ∙ told (c .before .before .before .before .before .if1 .left)) in
-    let r = rests-written (a .expr) (a .plan) (placed-inside h (a .is)) k (x .0) st in
+    let r = rests-written (a .expr) (a .plan) (placed-inside h (a .is)) k st in
     rw (a .is) (filter-simple (a .expr) (a .plan) o (kept-as (c .before .if2 .taken) (c .before .before .over-stays .ensures (a .expr) (a .plan) r o))
     (c .is-simple .ensures (a .expr) k)))
     (λ c w f h. let a = the-filter (c .before .before .before .before .before .before .before .before .before .pre) h in
-    let at = first-standing h (a .is) in
+    let at = placed-inside h (a .is) .standing in
     let x = c .before .before .before .before .before .before .before .filter-input .ensures in
     let st = x .1 (a .expr) (a .plan) at in
     let m = (rw (c .before .before .before .before .before .before .record-at .ensures) at
     (c .before .before .before .before .before .may-stay .ensures)) ∙ ap mayStay (st .here .head .label) in
     let pred = filter-predicate (h .short) at in
     let k = shaped-written (omega arith) pred (c .before .before .split-at .ensures (a .expr) [] pred (lists-none
-    (c .before .before .before .empty .ensures))) (first-few h (a .is)) in
+    (c .before .before .before .empty .ensures))) (own-few _ _ (placed-inside h (a .is) .lists)) in
     let o = may-stay-other (a .plan) (sym m ∙ told (c .before .before .before .before .if1 .left)) in
-    let r = rests-written (a .expr) (a .plan) (placed-inside h (a .is)) k (x .0) st in
+    let r = rests-written (a .expr) (a .plan) (placed-inside h (a .is)) k st in
     rw (a .is) (filter-moves (a .expr) (a .plan) o (kept-as (c .if2 .left) (c .before .over-stays .ensures (a .expr) (a .plan) r o)))))
