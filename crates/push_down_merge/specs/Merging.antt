@@ -3,15 +3,16 @@ use mathlib.Core.Path.{_≡_}
 use mathlib.Core.Bool.{Bool, true, false}
 use mathlib.Core.List.{List}
 use mathlib.Core.Option.{Option, none, some}
-use Prim.Native.Nat.{ℕ, _≤_}
-use lib.ListN.{length}
+use Prim.Native.Nat.{ℕ, _+_, _*_, _≤_}
+use lib.ListN.{length, drop}
+use Rattle.image.specs.Word.{word}
 use Rattle.image.specs.Limits.{workBytes, maxList}
 use Rattle.plan.specs.Syntax.{Expr, Plan, scan, filter, project, join, alias, union, distinct, sort, repartition, limit, aggregate, window}
 use Rattle.acceptance.specs.NamesRule.{ok}
 use Rattle.rewrite.specs.Utils.{split-conjunction, conjunction}
 use Rattle.rewrite.specs.Limits.{listP}
 use Rattle.rewrite.specs.RewriteAt.{Focus, focus}
-use Rattle.conjuncts.specs.Standing.{StandingP}
+use Rattle.conjuncts.specs.Standing.{StandingP, Stretch}
 use Rattle.conjuncts.specs.Items.{Lists}
 use Rattle.push_down_base.specs.Predicates.{Predicate}
 use Rattle.push_down_base.specs.Arms.{Shaped}
@@ -49,6 +50,18 @@ pub record FilterAt (s : List ℕ) (x : ℕ) : Type 0 where
   pub expr : Expr
   pub plan : Plan
   pub standing : StandingP s x (filter expr plan)
+
+-- a Filter stands at the start of `part`, which is record x of an image
+pub record FilterIn (part : List ℕ) (x : ℕ) : Type 0 where
+  pub image : List ℕ
+  pub stretch : Stretch image x part
+  pub short : length image ≤ workBytes
+  pub there : FilterAt image x
+
+-- the plan q is the input of the Filter at record x: it stands at record y, to which the link of the Filter's predicate leads
+pub record FilterInput (s : List ℕ) (x y : ℕ) (q : Plan) : Type 0 where
+  pub link : y ≡ word (drop (32 * (x + 1)) s) 28
+  pub standing : StandingP s y q
 
 -- a predicate that was merged can stand over the plan at record x, in the place of record `node` of the whole
 pub record Mergeable (s : List ℕ) (node : ℕ) (p : Predicate) (x : ℕ) : Type 0 where

@@ -11,28 +11,28 @@ use image::limits::MAX_DEPTH;
 use image::limits::MAX_LIST;
 use image::limits::MAX_RECORDS;
 use image::records::NEXT_LINK;
-use image::records::record_at;
+use image::records::from_record;
 use image::words::word_at;
 use push_down_base::predicates::Predicate;
 use simplify_expressions::reorder_predicates::reorder_predicates;
 use simplify_expressions::simplify_predicates::simplify_predicates;
 use writing::make_filter::make_filter;
 ghost use mathlib.Core.Path.{_≡_};
+ghost use mathlib.Core.List.{List};
 ghost use mathlib.Core.Option.{some};
-ghost use Prim.Native.Nat.{_*_, _+_, _<_, _≤_};
-ghost use lib.ListN.{drop, length};
+ghost use Prim.Native.Nat.{_<_, _≤_, ℕ};
+ghost use lib.ListN.{length};
 ghost use Rattle.image.specs.Buffers.{Scratch};
 ghost use Rattle.image.specs.Limits.{maxList, workBytes};
-ghost use Rattle.image.specs.Word.{word};
 ghost use Rattle.plan.specs.Syntax.{Expr, Plan, filter};
 ghost use Rattle.rewrite.specs.Limits.{listP, within-limits};
 ghost use Rattle.rewrite.specs.PushDownFilter.{merged, simplify-filter};
 ghost use Rattle.rewrite.specs.RewriteAt.{Focus};
 ghost use Rattle.rewrite.specs.Utils.{conjunction, split-conjunction};
 ghost use Rattle.conjuncts.specs.Items.{Known, Lists};
-ghost use Rattle.conjuncts.specs.Standing.{Standing, StandingP, There};
+ghost use Rattle.conjuncts.specs.Standing.{Standing, StandingP, Stretch, There};
 ghost use Rattle.push_down_base.specs.Arms.{Shaped};
-ghost use Rattle.push_down_merge.specs.Merging.{FilterAt, Formed, Inside, Made, Mergeable, Remains};
+ghost use Rattle.push_down_merge.specs.Merging.{FilterIn, FilterInput, Formed, Inside, Made, Mergeable, Remains};
 
 // The predicate at record n as it is written, with its conjuncts.
 pub fn predicate_at(s: &[u8], n: usize) -> Predicate
@@ -75,25 +75,26 @@ pub fn merge(s: &[u8], upper: Predicate, lower: Conjuncts) -> Predicate
     }
 }
 
-// The record of the input of the Filter at record x: what follows its predicate, which stands right behind it.
-pub fn filter_input(s: &[u8], x: usize) -> usize
-    requires { ⌜ FilterAt (now s) x ⌝ }
-    requires { ⌜ length (now s) ≤ workBytes ⌝ }
-    ensures { λ r. ⌜ (r ≡ word (drop (32 * (x + 1)) (now (s .entry))) 28) ×
-        ((e : Expr) (q : Plan) → StandingP (now (s .entry)) x (filter e q) → StandingP (now (s .entry)) r q) ⌝ }
+// The record of the input of the Filter at the start of `part`, which is record x: what follows its predicate, right behind the Filter.
+pub fn filter_input(part: &[u8], x: usize) -> usize
+    requires { ⌜ FilterIn (now part) x ⌝ }
+    ensures { λ r. ⌜ ((s : List ℕ) (e : Expr) (q : Plan) → Stretch s x (now (part .entry)) → length s ≤ workBytes →
+        StandingP s x (filter e q) → FilterInput s x r q) ⌝ }
 {
-    word_at(record_at(s, x + 1), NEXT_LINK)
+    word_at(from_record(part, x, x + 1), NEXT_LINK)
 }
 
-// Test 11 on the plan after a merge: the whole, with the Filter p over the plan at record x in the place of record `node`.
+// Test 11 on the plan after a merge: the whole, with the Filter p over `input`, the plan at record x, in the place of record `node`.
 pub fn merge_fits(
     s: &[u8],
     node: usize,
     p: Predicate,
+    input: &[u8],
     x: usize,
     work: &mut [u8],
     levels: &mut [u32],
 ) -> bool
+    requires { ⌜ Stretch (now s) x (now input) ⌝ }
     requires { ⌜ Mergeable (now s) node p x ⌝ }
     requires { ⌜ Scratch (now work) (now levels) ⌝ }
     ensures { λ r. ⌜ ((w : Plan) (c : Focus) → Inside (now (s .entry)) node w c → (e : Expr) (q : Plan) → Made (now (s .entry)) p e →
@@ -105,14 +106,14 @@ pub fn merge_fits(
     }
     let spot = write_before(s, node, work, levels);
     // No item of a merged list has its columns replaced: any plan of the image serves as the map.
-    let part = record_at(s, node);
     let end = make_filter(
         s,
-        part,
-        node,
+        input,
+        x,
         MAX_DEPTH,
         p.written,
         list,
+        input,
         x,
         work,
         node,

@@ -26,68 +26,75 @@ ghost use Rattle.push_down_merge.specs.Merging.{Inside};
 ghost use Rattle.push_down_rewrite.specs.Filters.{Left, LeftInside, OnFilter, OnPlan};
 ghost use Rattle.push_down_rewrite.specs.Outcomes.{Finishes};
 
-// What is left of a predicate, p, over the plan at record x, written in the place of record `node`.
+// What is left of a predicate, p, over `input`, the plan at record x, written in the place of record `node`.
 fn resume_in_place(
     s: &[u8],
     node: usize,
     p: Predicate,
+    input: &[u8],
     x: usize,
     m: &mut [u8],
     work: &mut [u8],
     levels: &mut [u32],
 ) -> Outcome
+    requires { ⌜ Stretch (now s) x (now input) ⌝ }
     requires { ⌜ LeftInside (now s) node p x ⌝ }
     requires { ⌜ ScratchMap (now m) (now work) (now levels) ⌝ }
     ensures { λ r. ⌜ ((w : Plan) (c : Focus) → Inside (now (s .entry)) node w c → (o : Option Expr) (q : Plan) →
         Left (now (s .entry)) x p o q → Finishes (now (work .exit)) r c [] (resume o (λ e. rewrite-filter e q) q)) ⌝ }
 {
     let spot = write_before(s, node, work, levels);
-    let new = resume(s, x, p, m, work, node, spot.level);
+    let new = resume(s, input, x, p, m, work, node, spot.level);
     finish(s, spot, levels, new, work)
 }
 
-// A Filter with the predicate p over the plan at record x, in the place of record `node`.
+// A Filter with the predicate p over `input`, the plan at record x, in the place of record `node`.
 pub fn rewrite_filter(
     s: &[u8],
     node: usize,
     p: Predicate,
+    input: &[u8],
     x: usize,
     m: &mut [u8],
     work: &mut [u8],
     levels: &mut [u32],
 ) -> Outcome
+    requires { ⌜ Stretch (now s) x (now input) ⌝ }
     requires { ⌜ OnPlan (now s) node p x ⌝ }
     requires { ⌜ ScratchMap (now m) (now work) (now levels) ⌝ }
     ensures { λ r. ⌜ ((w : Plan) (c : Focus) → Inside (now (s .entry)) node w c → (e : Expr) (q : Plan) → Rests (now (s .entry)) x p e q →
         Finishes (now (work .exit)) r c (merges (filter e q)) (rewrite (filter e q))) ⌝ }
 {
     let left = simplify_filter(s, p);
-    let kind = word_at(record_at(s, x), KIND);
+    let kind = word_at(input, KIND);
     if is_gone(left) | (kind != FILTER) {
-        return resume_in_place(s, node, left, x, m, work, levels);
+        return resume_in_place(s, node, left, input, x, m, work, levels);
     }
-    merge_filter(s, node, left, x, m, work, levels)
+    merge_filter(s, node, left, input, x, m, work, levels)
 }
 
-// The predicate p, which is simplified already, over the Filter at record x: both become one, which is rewritten again.
+// The predicate p, which is simplified already, over `child`, the Filter at record x: both become one, which is rewritten again.
 fn merge_filter(
     s: &[u8],
     node: usize,
     p: Predicate,
+    child: &[u8],
     x: usize,
     m: &mut [u8],
     work: &mut [u8],
     levels: &mut [u32],
 ) -> Outcome
+    requires { ⌜ Stretch (now s) x (now child) ⌝ }
     requires { ⌜ OnFilter (now s) node p x ⌝ }
     requires { ⌜ ScratchMap (now m) (now work) (now levels) ⌝ }
     ensures { λ r. ⌜ ((w : Plan) (c : Focus) → Inside (now (s .entry)) node w c → (e b : Expr) (q : Plan) →
         Rests (now (s .entry)) x p e (filter b q) →
         Finishes (now (work .exit)) r c (merges-under e (filter b q)) (rewrite-filter e (filter b q))) ⌝ }
 {
-    let input = filter_input(s, x);
+    let y = filter_input(child, x);
+    let input = from_record(child, x, y);
     let merged = merge(s, p, split_at(s, x + 1, empty()));
-    if !merge_fits(s, node, merged, input, work, levels) {
+    if !merge_fits(s, node, merged, input, y, work, levels) {
         return Outcome {
             fits: false,
             flag: false,
@@ -95,5 +102,5 @@ fn merge_filter(
             records: 0,
         };
     }
-    rewrite_filter(s, node, merged, input, m, work, levels)
+    rewrite_filter(s, node, merged, input, y, m, work, levels)
 }

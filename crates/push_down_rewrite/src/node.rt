@@ -72,20 +72,22 @@ pub fn finish(s: &[u8], spot: Spot, levels: &[u32], new: Written, work: &mut [u8
     }
 }
 
-// The Join at record `node`.
+// The Join at the start of `part`, which is record `node`.
 fn rewrite_join_node(
     s: &[u8],
+    part: &[u8],
     node: usize,
     m: &mut [u8],
     work: &mut [u8],
     levels: &mut [u32],
 ) -> Outcome
+    requires { ⌜ Stretch (now s) node (now part) ⌝ }
     requires { ⌜ JoinInside (now s) node ⌝ }
     requires { ⌜ ScratchMap (now m) (now work) (now levels) ⌝ }
     ensures { λ r. ⌜ ((w : Plan) (c : Focus) → Inside (now (s .entry)) node w c → Outcomes (now (work .exit)) r w c) ⌝ }
 {
     let spot = write_before(s, node, work, levels);
-    let new = push_down_join(s, node, empty(), m, work, node, spot.level);
+    let new = push_down_join(s, part, node, empty(), m, work, node, spot.level);
     finish(s, spot, levels, new, work)
 }
 
@@ -101,13 +103,15 @@ pub fn rewrite_anew(
     requires { ⌜ ScratchMap (now m) (now work) (now levels) ⌝ }
     ensures { λ r. ⌜ ((w : Plan) (c : Focus) → Inside (now (s .entry)) node w c → Outcomes (now (work .exit)) r w c) ⌝ }
 {
-    let kind = word_at(record_at(s, node), KIND);
+    let part = record_at(s, node);
+    let kind = word_at(part, KIND);
     if kind == FILTER {
         let p = predicate_at(s, node + 1);
-        return rewrite_filter(s, node, p, filter_input(s, node), m, work, levels);
+        let x = filter_input(part, node);
+        return rewrite_filter(s, node, p, from_record(part, node, x), x, m, work, levels);
     }
     if kind == JOIN {
-        return rewrite_join_node(s, node, m, work, levels);
+        return rewrite_join_node(s, part, node, m, work, levels);
     }
     Outcome {
         fits: true,

@@ -56,12 +56,13 @@ ghost use Rattle.push_down_merge.specs.Merging.{FilterInside, Formed, Inside, i
 ghost use Rattle.push_down_stays.specs.Staying.{Kept, Stays, mayStay};
 
 // Whether the filter of the join at record x, if it has one, is joined left-deep.
-fn own_left_deep(s: &[u8], x: usize) -> bool
+fn own_left_deep(s: &[u8], part: &[u8], x: usize) -> bool
+    requires { ⌜ Stretch (now s) x (now part) ⌝ }
     requires { ⌜ JoinHere (now s) x ⌝ }
     ensures { λ n. ⌜ ((k : Kind) (l r : Plan) (on : List Pair) (f : Option Expr) → Placed (now (s .entry)) x (join k l r on f) →
         Says n (conjunction (split-conjunction? f) ≡ f)) ⌝ }
 {
-    let y = filter_of(s, x);
+    let y = filter_of(part, x);
     if y == 0 {
         return true;
     }
@@ -69,15 +70,16 @@ fn own_left_deep(s: &[u8], x: usize) -> bool
 }
 
 // Whether nothing of the predicates c above the join at record x, and of those of its own filter, g, moves.
-fn nothing_moves(s: &[u8], x: usize, c: Conjuncts, g: Conjuncts) -> bool
+fn nothing_moves(s: &[u8], part: &[u8], x: usize, c: Conjuncts, g: Conjuncts) -> bool
+    requires { ⌜ Stretch (now s) x (now part) ⌝ }
     requires { ⌜ JoinBetween (now s) x c g ⌝ }
     ensures { λ n. ⌜ ((k : Kind) (l r : Plan) (on : List Pair) (f : Option Expr) (P G : List Expr) →
         Placed (now (s .entry)) x (join k l r on f) → Reads (now (s .entry)) (schema l ++ schema r) c P →
         Reads (now (s .entry)) (schema l ++ schema r) g G → n ≡ nothing-moves k (schema l) (schema r) on P G) ⌝ }
 {
-    let z = right_input(s, x);
+    let z = right_input(part, x);
     let sc = join_scope(s, x, x + 1, z);
-    let kind = word_at(record_at(s, x), P);
+    let kind = word_at(part, P);
     let left = left_push(s, c, g, sc, kind);
     if left.len != 0 {
         return false;
@@ -91,23 +93,25 @@ fn nothing_moves(s: &[u8], x: usize, c: Conjuncts, g: Conjuncts) -> bool
 }
 
 // The Join at record x: without a filter of its own it always stays.
-fn join_stays(s: &[u8], x: usize) -> bool
+fn join_stays(s: &[u8], part: &[u8], x: usize) -> bool
+    requires { ⌜ Stretch (now s) x (now part) ⌝ }
     requires { ⌜ JoinHere (now s) x ⌝ }
     ensures { λ n. ⌜ ((k : Kind) (l r : Plan) (on : List Pair) (f : Option Expr) → Placed (now (s .entry)) x (join k l r on f) →
         Kept n (push-down-join k l r on f []) (join k l r on f)) ⌝ }
 {
-    let g = own_filter(s, x);
+    let g = own_filter(s, part, x);
     if g.len == 0 {
         return true;
     }
-    if own_left_deep(s, x) {
-        return nothing_moves(s, x, empty(), g);
+    if own_left_deep(s, part, x) {
+        return nothing_moves(s, part, x, empty(), g);
     }
     false
 }
 
 // The predicate p, as it is written, over the Join at record x: what stays above it and in it is joined anew.
-fn over_join_stays(s: &[u8], x: usize, p: Predicate) -> bool
+fn over_join_stays(s: &[u8], part: &[u8], x: usize, p: Predicate) -> bool
+    requires { ⌜ Stretch (now s) x (now part) ⌝ }
     requires { ⌜ OverJoin (now s) x p × (p .written ≡ 0 → ⊥) ⌝ }
     ensures { λ n. ⌜ ((e : Expr) (k : Kind) (l r : Plan) (on : List Pair) (f : Option Expr) →
         Rests (now (s .entry)) x p e (join k l r on f) →
@@ -116,42 +120,45 @@ fn over_join_stays(s: &[u8], x: usize, p: Predicate) -> bool
     if !left_deep_at(s, p.written) {
         return false;
     }
-    if own_left_deep(s, x) {
+    if own_left_deep(s, part, x) {
         let list = p.list;
-        return nothing_moves(s, x, list, own_filter(s, x));
+        return nothing_moves(s, part, x, list, own_filter(s, part, x));
     }
     false
 }
 
 // .. over the TableScan at record x, which takes nothing of it.
-fn over_scan_stays(s: &[u8], x: usize, p: Predicate) -> bool
+fn over_scan_stays(s: &[u8], part: &[u8], x: usize, p: Predicate) -> bool
+    requires { ⌜ Stretch (now s) x (now part) ⌝ }
     requires { ⌜ OverScan (now s) x p ⌝ }
     ensures { λ n. ⌜ ((e : Expr) (t : ℕ) (fs : List Field) (es : List Expr) → Rests (now (s .entry)) x p e (scan t fs es) →
         Kept n (rewrite-filter e (scan t fs es)) (filter e (scan t fs es))) ⌝ }
 {
-    let share = share_of(s, x, p);
+    let share = share_of(s, part, x, p);
     let taken = share.taken;
     taken.len == 0
 }
 
 // .. over the Projection at record x, below which nothing of it moves.
-fn over_projection_stays(s: &[u8], x: usize, p: Predicate) -> bool
+fn over_projection_stays(s: &[u8], part: &[u8], x: usize, p: Predicate) -> bool
+    requires { ⌜ Stretch (now s) x (now part) ⌝ }
     requires { ⌜ OverProjection (now s) x p ⌝ }
     ensures { λ n. ⌜ ((e : Expr) (es : List Entry) (q : Plan) → Rests (now (s .entry)) x p e (project es q) →
         Kept n (rewrite-filter e (project es q)) (filter e (project es q))) ⌝ }
 {
-    let d = divide(s, x, p);
+    let d = divide(s, part, x, p);
     let moved = d.moved;
     moved.len == 0
 }
 
 // .. over the Aggregate at record x: even where nothing moves, what stays is joined anew.
-fn over_aggregate_stays(s: &[u8], x: usize, p: Predicate) -> bool
+fn over_aggregate_stays(s: &[u8], part: &[u8], x: usize, p: Predicate) -> bool
+    requires { ⌜ Stretch (now s) x (now part) ⌝ }
     requires { ⌜ OverAggregate (now s) x p × (p .written ≡ 0 → ⊥) ⌝ }
     ensures { λ n. ⌜ ((e : Expr) (gs : List Entry) (ags : List AggEntry) (q : Plan) → Rests (now (s .entry)) x p e (aggregate gs ags q) →
         Kept n (rewrite-filter e (aggregate gs ags q)) (filter e (aggregate gs ags q))) ⌝ }
 {
-    let d = divide_groups(s, x, p);
+    let d = divide_groups(s, part, x, p);
     let moved = d.moved;
     if moved.len == 0 {
         return left_deep_at(s, p.written);
@@ -160,12 +167,13 @@ fn over_aggregate_stays(s: &[u8], x: usize, p: Predicate) -> bool
 }
 
 // .. over the Window at record x, likewise.
-fn over_window_stays(s: &[u8], x: usize, p: Predicate) -> bool
+fn over_window_stays(s: &[u8], part: &[u8], x: usize, p: Predicate) -> bool
+    requires { ⌜ Stretch (now s) x (now part) ⌝ }
     requires { ⌜ OverWindow (now s) x p × (p .written ≡ 0 → ⊥) ⌝ }
     ensures { λ n. ⌜ ((e : Expr) (ws : List WinEntry) (q : Plan) → Rests (now (s .entry)) x p e (window ws q) →
         Kept n (rewrite-filter e (window ws q)) (filter e (window ws q))) ⌝ }
 {
-    let d = divide(s, x, p);
+    let d = divide(s, part, x, p);
     let moved = d.moved;
     if moved.len == 0 {
         return left_deep_at(s, p.written);
@@ -174,28 +182,29 @@ fn over_window_stays(s: &[u8], x: usize, p: Predicate) -> bool
 }
 
 // .. over the plan at record x, which is no Filter.
-fn over_stays(s: &[u8], x: usize, p: Predicate) -> bool
+fn over_stays(s: &[u8], part: &[u8], x: usize, p: Predicate) -> bool
+    requires { ⌜ Stretch (now s) x (now part) ⌝ }
     requires { ⌜ OnInput (now s) x p × (p .written ≡ 0 → ⊥) ⌝ }
     ensures { λ n. ⌜ ((e : Expr) (q : Plan) → Rests (now (s .entry)) x p e q → is-filter q ≡ false →
         Kept n (rewrite-filter e q) (filter e q)) ⌝ }
 {
-    let kind = word_at(record_at(s, x), KIND);
+    let kind = word_at(part, KIND);
     if kind == TABLE_SCAN {
-        return over_scan_stays(s, x, p);
+        return over_scan_stays(s, part, x, p);
     }
     if kind == PROJECTION {
-        return over_projection_stays(s, x, p);
+        return over_projection_stays(s, part, x, p);
     }
     if kind == JOIN {
-        return over_join_stays(s, x, p);
+        return over_join_stays(s, part, x, p);
     }
     if kind == AGGREGATE {
-        return over_aggregate_stays(s, x, p);
+        return over_aggregate_stays(s, part, x, p);
     }
     if kind == WINDOW {
-        return over_window_stays(s, x, p);
+        return over_window_stays(s, part, x, p);
     }
-    takes_none(record_at(s, x))
+    takes_none(part)
 }
 
 // Whether a Filter may stay over the plan at the start of `part`; else it merges with it or goes below it, whatever it says.
@@ -232,13 +241,15 @@ fn is_simple(s: &[u8], p: Predicate) -> bool
     false
 }
 
-// The Filter at record `node`.
-fn filter_stays(s: &[u8], node: usize) -> bool
+// The Filter at the start of `part`, which is record `node`.
+fn filter_stays(s: &[u8], part: &[u8], node: usize) -> bool
+    requires { ⌜ Stretch (now s) node (now part) ⌝ }
     requires { ⌜ FilterInside (now s) node ⌝ }
     ensures { λ r. ⌜ ((w : Plan) (c : Focus) → Inside (now (s .entry)) node w c → Stays r (c .plan)) ⌝ }
 {
-    let x = filter_input(s, node);
-    if !may_stay(record_at(s, x)) {
+    let x = filter_input(part, node);
+    let input = from_record(part, node, x);
+    if !may_stay(input) {
         return false;
     }
     let n = node + 1;
@@ -246,7 +257,7 @@ fn filter_stays(s: &[u8], node: usize) -> bool
         written: n,
         list: split_at(s, n, empty()),
     };
-    if over_stays(s, x, p) {
+    if over_stays(s, input, x, p) {
         return is_simple(s, p);
     }
     false
@@ -257,12 +268,13 @@ pub fn stays(s: &[u8], node: usize) -> bool
     requires { ⌜ Found (now s) node ⌝ }
     ensures { λ r. ⌜ ((w : Plan) (c : Focus) → Inside (now (s .entry)) node w c → Stays r (c .plan)) ⌝ }
 {
-    let kind = word_at(record_at(s, node), KIND);
+    let part = record_at(s, node);
+    let kind = word_at(part, KIND);
     if kind == FILTER {
-        return filter_stays(s, node);
+        return filter_stays(s, part, node);
     }
     if kind == JOIN {
-        return join_stays(s, node);
+        return join_stays(s, part, node);
     }
     true
 }

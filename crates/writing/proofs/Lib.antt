@@ -4,3 +4,4 @@ pub mod Written
 pub mod Pushing
 pub mod Renaming
 pub mod Focused
+pub mod Stretches

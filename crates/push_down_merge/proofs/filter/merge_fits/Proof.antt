@@ -7,7 +7,7 @@ use Rattle.plan.specs.Trees.{planTree}
 use Rattle.plan.specs.Measure.{sizeP}
 use Rattle.writing.specs.Maps.{mapOf}
 use Rattle.writing.proofs.Maps.{plan-maps}
-use Rattle.writing.proofs.Pushing.{plan-readable}
+use Rattle.writing.proofs.Stretches.{own-here, own-readable}
 use Rattle.answers.proofs.Whole.{wrote-small}
 use Rattle.answers.proofs.Splice.{spliced}
 use Rattle.answers.proofs.Fitting.{fits-over, begun-count}
@@ -21,82 +21,71 @@ merge-fits-spec =
     tie.close
     (tie.spec
     (λ c w f h e q m k l. sym (too-long h m q (c .if1 .taken)))
-    (λ c κs. let p = c .before .before .before .before .before .before .before .before .pre in
+    (λ c κs. let p = c .before .before .before .before .before .before .before .before .before .pre .1 in
     (sized (p .0 .inside), (record { plan = p .0 .spot .plan; standing = stands-inside (p .0 .inside) }, p .1)))
-    (λ c κs. stands-inside (c .before .before .before .before .before .before .before .before .before .before .before .before .before .pre .0 .inside) .within)
-    (λ c κs. let p = c .before .before .before .before .before .before .before .before .before .before .before .before .before .before .before .pre in
+    (λ c κs. let u = c .before .before .before .before .before .before .before .before .before .before .before .before .before .before .before .pre in
+    let p = u .1 in
     let i = p .0 .inside in
-    let b = c .before .before .before .before .before .before .write-before .ensures (p .0 .whole) (p .0 .spot) (i .root) (i .there) (stands-inside i) in (
+    let readable = own-readable (p .0 .standing) (u .0) in
+    let b = c .before .before .before .before .before .write-before .ensures (p .0 .whole) (p .0 .spot) (i .root) (i .there) (stands-inside i) in (
       record {
-        mapping = mapOf (p .0 .spot .plan);
+        mapping = mapOf (p .0 .plan);
         expr = p .0 .expr;
         predicate = made-predicate _ (p .0 .made);
         most =
-            c .before .before .before .before .before .before .before .before .before .if1 .left;
+            c .before .before .before .before .before .before .before .before .if1 .left;
       },
       (
-        rw (c .before .record-at .ensures) (plan-readable (stands-inside i)),
+        readable,
         (
-          record { plan = p .0 .plan; standing = p .0 .standing },
-          (omega (arith, level-small i (b .level)), c .before .before .before .before .before .before .write-before .kept .1 .1 .0 ∙ p .1 .0),
+          readable,
+          (omega (arith, level-small i (b .level)), c .before .before .before .before .before .write-before .kept .1 .1 .0 ∙ p .1 .0),
         ),
       ),
     ))
-    (λ c κs. let p = c .before .before .before .before .before .before .before .before .before .before .before .before .before .before .before
-    .before .before .before .before .before .pre in
+    (λ c κs. let u = c .before .before .before .before .before .before .before .before .before .before .before .before .before .before .before .before .before .before .before .before .pre in
+    let p = u .1 in
     let i = p .0 .inside in
-    let b = c .before .before .before .before .before .before .before .before .before .before .before .write-before .ensures (p .0 .whole)
+    let b = c .before .before .before .before .before .before .before .before .before .before .write-before .ensures (p .0 .whole)
     (p .0 .spot) (i .root) (i .there) (stands-inside i) in
-    let w = c .before .before .before .before .make-filter .ensures (mapOf (p .0 .spot .plan))
-    (rw (c .before .before .before .before .before .before .record-at .ensures) (plan-maps (stands-inside i))) (p .0 .expr)
-    (made-predicate _ (p .0 .made)) (p .0 .plan) (p .0 .standing) in (
+    let w = c .before .before .before .before .make-filter .ensures (mapOf (p .0 .plan)) (rw (u .0) (plan-maps (p .0 .standing))) (p .0 .expr)
+    (made-predicate _ (p .0 .made)) (p .0 .plan) (own-here (p .0 .standing) (u .0)) in (
       (
         omega (arith, b .records, few-records i),
         omega (arith, b .records, all-records i),
-        c .before .before .before .before .before .before .before .before .before .before .before .write-before .kept .1 .1 .1 .0 ∙ p .1 .1,
+        c .before .before .before .before .before .before .before .before .before .before .write-before .kept .1 .1 .1 .0 ∙ p .1 .1,
       ),
       (
         omega (arith, b .records, b .end, end-within i),
         wrote-small w,
-        c .before .before .before .before .make-filter .kept .1 .1 .1 .1 .1 .1 .1 .0 ∙
-            (c .before .before .before .before .before .before .before .before .before .before .before .write-before .kept .1 .1 .0 ∙ p .1 .0),
+        c .before .before .before .before .make-filter .kept .1 .1 .1 .1 .1 .1 .1 .1 .0 ∙
+            (c .before .before .before .before .before .before .before .before .before .before .write-before .kept .1 .1 .0 ∙ p .1 .0),
       ),
     ))
     (λ c. search needs)
     (λ c. search needs)
-    (λ c w f h e q m k l. let p = c .before .before .before .before .before .before .before .before .before .before .before .before .before .before
-    .before .before .before .before .before .before .before .before .before .before .pre in
-    let b = c .before .before .before .before .before .before .before .before .before .before .before .before .before .before
-    .before .write-before .ensures w f (h .root) (h .there) (stands-inside h) in
-    let v = c .before .before .before .before .before .before .before .before .make-filter .ensures (mapOf (f .plan))
-    (rw (c .before .before .before .before .before .before .before .before .before .before .record-at .ensures) (plan-maps (stands-inside h))) e
-    (made-predicate _ m) q k in
+    (λ c w f h e q m k l. let u = c .before .before .before .before .before .before .before .before .before .before .before .before .before .before .before .before .before .before .before .before .before .before .before .before .pre in
+    let p = u .1 in
+    let b = c .before .before .before .before .before .before .before .before .before .before .before .before .before .before .write-before .ensures w f (h .root) (h .there) (stands-inside h) in
+    let v = c .before .before .before .before .before .before .before .before .make-filter .ensures (mapOf q) (rw (u .0) (plan-maps k)) e (made-predicate _ m) q (own-here k (u .0)) in
     let a = c .before .before .before .write-records .ensures (planTree w) (h .root .here) (few-records h)
     (omega (arith, b .records)) (b .depths) in
     sym (fits-over (f .back (filter e q)) (spliced w _ f (h .there) (filter e q)
-    (c .before .before .before .before .before .before .before .before .before .before .before .before .before .before
-    .before .write-before .kept .1 .1 .0 ∙ p .1 .0) (few-records h) b v a) (c .if2 .taken)))
+    (c .before .before .before .before .before .before .before .before .before .before .before .before .before .before .write-before .kept .1 .1 .0 ∙ p .1 .0) (few-records h) b v a) (c .if2 .taken)))
     (λ c κs. let l = c .before .before .before .before .write-records .kept .1 .1 .1 .1 .0 ∙
-    (c .before .before .before .before .before .before .before .before .before .make-filter .kept .1 .1 .1 .1 .1 .1 .1 .0 ∙
-    (c .before .before .before .before .before .before .before .before .before .before .before .before .before .before .before
-    .before .write-before .kept .1 .1 .0 ∙ c .before .before .before .before .before .before .before .before .before .before .before .before
-    .before .before .before .before .before .before .before .before .before .before .before .before .before .pre .1 .0)) in
+    (c .before .before .before .before .before .before .before .before .before .make-filter .kept .1 .1 .1 .1 .1 .1 .1 .1 .0 ∙
+    (c .before .before .before .before .before .before .before .before .before .before .before .before .before .before .before .write-before .kept .1 .1 .0 ∙ c .before .before .before .before .before .before .before .before .before .before .before .before .before .before .before .before .before .before .before .before .before .before .before .before .before .pre .1 .1 .0)) in
     (c .before .if2 .left, omega (arith, l, c .before .if2 .left)))
     (λ c. search needs)
     (λ c. search needs)
-    (λ c w f h e q m k l. let p = c .before .before .before .before .before .before .before .before .before .before .before .before .before .before
-    .before .before .before .before .before .before .before .before .before .before .before .before .pre in
-    let b = c .before .before .before .before .before .before .before .before .before .before .before .before .before .before .before .before
-    .before .write-before .ensures w f (h .root) (h .there) (stands-inside h) in
-    let v = c .before .before .before .before .before .before .before .before .before .before .make-filter .ensures (mapOf (f .plan))
-    (rw (c .before .before .before .before .before .before .before .before .before .before .before .before .record-at .ensures)
-    (plan-maps (stands-inside h))) e (made-predicate _ m) q k in
+    (λ c w f h e q m k l. let u = c .before .before .before .before .before .before .before .before .before .before .before .before .before .before .before .before .before .before .before .before .before .before .before .before .before .before .pre in
+    let p = u .1 in
+    let b = c .before .before .before .before .before .before .before .before .before .before .before .before .before .before .before .before .write-before .ensures w f (h .root) (h .there) (stands-inside h) in
+    let v = c .before .before .before .before .before .before .before .before .before .before .make-filter .ensures (mapOf q) (rw (u .0) (plan-maps k)) e (made-predicate _ m) q (own-here k (u .0)) in
     let a = c .before .before .before .before .before .write-records .ensures (planTree w) (h .root .here) (few-records h)
     (omega (arith, b .records)) (b .depths) in
     let g = spliced w _ f (h .there) (filter e q)
-    (c .before .before .before .before .before .before .before .before .before .before .before .before .before .before .before .before
-    .before .write-before .kept .1 .1 .0 ∙ p .1 .0) (few-records h) b v a in
+    (c .before .before .before .before .before .before .before .before .before .before .before .before .before .before .before .before .write-before .kept .1 .1 .0 ∙ p .1 .0) (few-records h) b v a in
     let few = c .before .before .if2 .left in
     c .is-shallow .ensures (planTree (f .back (filter e q))) (g .rest) (begun-count g few) (g .bytes few) ∙ fits-is (f .back (filter e q)) g few
-    (few-lists h m q l (c .before .before .before .before .before .before .before .before .before .before .before .before .before .before .before
-    .before .before .before .before .before .if1 .left))))
+    (few-lists h m q l (c .before .before .before .before .before .before .before .before .before .before .before .before .before .before .before .before .before .before .before .if1 .left))))
