@@ -31,9 +31,10 @@ use Rattle.preservation.proofs.Granted.{granted-well}
 use Rattle.preservation.proofs.Images.{stands}
 use Rattle.push_down_merge.proofs.Root.{standing-root}
 use Rattle.answers.proofs.Whole.{begun-size, begun}
-use Rattle.listing.specs.Listing.{lines, counts, refusal, told, listing}
-use Rattle.listing.specs.Written.{flat-lines}
-use Rattle.listing.proofs.Records.{lines-tree}
+use Rattle.text.specs.Lines.{lines, counts, refusal}
+use Rattle.listing.specs.Listing.{told, listing}
+use Rattle.text.specs.Written.{flat-lines}
+use Rattle.text.proofs.Records.{lines-tree}
 
 -- ---- a verdict with the number 0 names the record 0
 

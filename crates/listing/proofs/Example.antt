@@ -8,7 +8,8 @@ use Rattle.plan.specs.Trees.{lowHalf, highHalf}
 use Rattle.acceptance.proofs.Opened.{checked}
 use Rattle.rewrite.specs.OnBytes.{planFromLinks, planIn, isAccepted}
 use Rattle.rewrite.proofs.Opened.{opened}
-use Rattle.listing.specs.Listing.{digits, decimal, spaced, line, lines, named, counts, refusal, told, listing}
+use Rattle.text.specs.Lines.{digits, decimal, spaced, line, lines, named, counts, refusal}
+use Rattle.listing.specs.Listing.{told, listing}
 
 abbrev words : ℕ → ℕ → ℕ → ℕ → ℕ → ℕ → ℕ → ℕ → List ℕ
 words kind p q r lo hi first next = bytesOf (record { kind = kind; p = p; q = q; r = r; lo = lo; hi = hi }) first next

@@ -1,5 +1,2 @@
-pub mod Appending
-pub mod Decimals
-pub mod Records
 pub mod Answers
 pub mod Example

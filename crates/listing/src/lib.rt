@@ -1,15 +1,12 @@
 // What the lister prints: the text of the plan that a pass leaves, or of its refusal, for any bytes.
-pub mod lines;
-pub mod numbers;
-
-use crate::lines::put_counts;
-use crate::lines::put_lines;
-use crate::lines::put_refusal;
 use image::copying::copy_tree;
 use image::limits::MAX_BYTES;
 use image::limits::MAX_DEPTH;
 use image::limits::MAX_RECORDS;
 use push_down_filter::push_down_filter_pass;
+use text::lines::put_counts;
+use text::lines::put_lines;
+use text::lines::put_refusal;
 ghost use mathlib.Core.Path.{_≡_};
 ghost use Prim.Native.Nat.{_*_, _+_, _≤_};
 ghost use lib.ListN.{length, take};

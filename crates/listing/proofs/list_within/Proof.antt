@@ -2,7 +2,7 @@
 use mathlib.Core.Path.{sym, _∙_}
 use native.Mathlib.Omega.{arith}
 use borrow.Author.Needs.{needs}
-use Rattle.listing.proofs.Appending.{appended}
+use Rattle.text.proofs.Appending.{appended}
 use Rattle.listing.proofs.Answers.{pass-comes, readable, here, few, flat-text}
 use Rattle.listing.proofs.list_within.Statement.{statement}
 use Rattle.listing.proofs.list_within.Tie as tie
