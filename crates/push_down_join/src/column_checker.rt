@@ -5,7 +5,7 @@ use crate::infer_join_predicates::swap_keys;
 use crate::lr_is_preserved::Preserved;
 use conjuncts::lists::Conjuncts;
 use image::limits::MAX_DEPTH;
-use image::records::record_at;
+use image::records::from_record;
 use push_down_base::parting::push_not;
 use push_down_base::parting::push_to;
 use utils::schema_columns::Fields;
@@ -63,15 +63,16 @@ pub fn scope_of(fields: Fields, k: usize, swapped: Swapped) -> Scope
     }
 }
 
-// The fields of the join at record x, whose inputs stand at records y and z.
-pub fn join_scope(s: &[u8], x: usize, y: usize, z: usize) -> Scope
-    requires { ⌜ SomeJoin (now s) x y z ⌝ }
-    ensures { λ c. ⌜ ((k : Kind) (l r : Plan) (on : List Pair) (f : Option Expr) → JoinAt (now (s .entry)) x y z k l r on f →
+// The fields of the join at the start of `part`, which begins at record x; its right input stands at record z.
+pub fn join_scope(part: &[u8], x: usize, z: usize) -> Scope
+    requires { ⌜ SomeJoin (now part) x z ⌝ }
+    ensures { λ c. ⌜ ((k : Kind) (l r : Plan) (on : List Pair) (f : Option Expr) → JoinAt (now (part .entry)) x z k l r on f →
         Scopes c (schema l) (schema r) on) ⌝ }
 {
-    let left = schema_columns(record_at(s, y), y, MAX_DEPTH, no_fields());
-    let fields = schema_columns(record_at(s, z), z, MAX_DEPTH, left);
-    let swapped = swap_keys(record_at(s, x), x, fields);
+    let y = x + 1;
+    let left = schema_columns(from_record(part, x, y), y, MAX_DEPTH, no_fields());
+    let fields = schema_columns(from_record(part, x, z), z, MAX_DEPTH, left);
+    let swapped = swap_keys(part, x, fields);
     scope_of(fields, left.len, swapped)
 }
 

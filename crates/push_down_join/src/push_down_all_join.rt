@@ -24,7 +24,7 @@ use image::limits::NO_ROOM;
 use image::records::KIND;
 use image::records::NEXT_LINK;
 use image::records::P;
-use image::records::record_at;
+use image::records::from_record;
 use image::words::word_at;
 use plan::kinds::FIRST_PLAN;
 use push_down_base::inputs::last_child;
@@ -48,13 +48,13 @@ ghost use Rattle.rewrite.specs.PushDownFilter.{on-filter-join-conditions, push-
 ghost use Rattle.rewrite.specs.PushDownFilter.{rewrite-filter, right-push};
 ghost use Rattle.rewrite.specs.Utils.{replace-cols, split-conjunction?};
 ghost use Rattle.conjuncts.specs.Items.{Holds, clauseBy};
-ghost use Rattle.conjuncts.specs.Standing.{StandingP};
+ghost use Rattle.conjuncts.specs.Standing.{StandingP, Stretch};
 ghost use Rattle.utils.specs.Fields.{Names};
 ghost use Rattle.utils.specs.Masks.{Masks};
 ghost use Rattle.push_down_base.specs.Arms.{Answers, ArmOver, Placed, Rests};
 ghost use Rattle.push_down_base.specs.Parting.{Reads};
 ghost use Rattle.push_down_base.specs.Plain.{Plain};
-ghost use Rattle.push_down_join.specs.JoinPlans.{FilterOf, JoinBetween, JoinHere, JoinUnder, Moved, OverJoin};
+ghost use Rattle.push_down_join.specs.JoinPlans.{FilterOf, JoinBetween, JoinHere, JoinPart, JoinUnder, Moved, OverJoin};
 ghost use Rattle.push_down_join.specs.Parts.{Parted, Wholes};
 ghost use Rattle.push_down_join.specs.Scopes.{Asked, Scopes, Swapper, keyed-left, keyed-right};
 ghost use Rattle.push_down_join.specs.Sides.{Sides, Smalls};
@@ -228,44 +228,46 @@ fn fits(v: Moves) -> bool
     (left.len <= MAX_LIST) & (right.len <= MAX_LIST) & (conditions.len <= MAX_LIST)
 }
 
-// The record of the right input of the join at record x; the left one is the record after the join's.
-pub fn right_input(s: &[u8], x: usize) -> usize
-    requires { ⌜ JoinHere (now s) x ⌝ }
-    ensures { λ z. ⌜ ((k : Kind) (l r : Plan) (on : List Pair) (f : Option Expr) → Placed (now (s .entry)) x (join k l r on f) →
-        StandingP (now (s .entry)) z r) ⌝ }
+// The record of the right input of the join at the start of `part`, which begins at record x; the left one is the record after the join's.
+pub fn right_input(part: &[u8], x: usize) -> usize
+    requires { ⌜ JoinPart (now part) x ⌝ }
+    ensures { λ z. ⌜ ((s : List ℕ) (k : Kind) (l r : Plan) (on : List Pair) (f : Option Expr) → Stretch s x (now (part .entry)) →
+        Placed s x (join k l r on f) → StandingP s z r × (x ≤ z)) ⌝ }
 {
-    word_at(record_at(s, x + 1), NEXT_LINK)
+    word_at(from_record(part, x, x + 1), NEXT_LINK)
 }
 
-// The record of the filter of the join at record x, or 0 where it has none: it is the last child, and the only one that is an expression.
-pub fn filter_of(s: &[u8], x: usize) -> usize
-    requires { ⌜ JoinHere (now s) x ⌝ }
-    ensures { λ n. ⌜ ((k : Kind) (l r : Plan) (on : List Pair) (f : Option Expr) → Placed (now (s .entry)) x (join k l r on f) →
-        FilterOf (now (s .entry)) n f) ⌝ }
+// The record of its filter, or 0 where it has none: it is the last child, and the only one that is an expression.
+pub fn filter_of(part: &[u8], x: usize) -> usize
+    requires { ⌜ JoinPart (now part) x ⌝ }
+    ensures { λ n. ⌜ ((s : List ℕ) (k : Kind) (l r : Plan) (on : List Pair) (f : Option Expr) → Stretch s x (now (part .entry)) →
+        Placed s x (join k l r on f) → FilterOf s n f) ⌝ }
 {
-    let y = last_child(record_at(s, x), x);
-    if word_at(record_at(s, y), KIND) < FIRST_PLAN {
+    let y = last_child(part, x);
+    if word_at(from_record(part, x, y), KIND) < FIRST_PLAN {
         return y;
     }
     0
 }
 
-// The conjuncts of that filter.
-pub fn own_filter(s: &[u8], x: usize) -> Conjuncts
+// The conjuncts of that filter; `part` is the stretch of the image s that begins at record x.
+pub fn own_filter(s: &[u8], part: &[u8], x: usize) -> Conjuncts
+    requires { ⌜ Stretch (now s) x (now part) ⌝ }
     requires { ⌜ JoinHere (now s) x ⌝ }
     ensures { λ z. ⌜ ((k : Kind) (l r : Plan) (on : List Pair) (f : Option Expr) → Placed (now (s .entry)) x (join k l r on f) →
         Reads (now (s .entry)) (schema l ++ schema r) z (split-conjunction? f)) ⌝ }
 {
-    let y = filter_of(s, x);
+    let y = filter_of(part, x);
     if y == 0 {
         return empty();
     }
     split_at(s, y, empty())
 }
 
-// push_down_all_join: c is the predicates above the join at record x, g those of its own filter.
+// push_down_all_join: c is the predicates above the join at the start of `part`, record x of the image s, g those of its own filter.
 fn push_down_all_join(
     s: &[u8],
+    part: &[u8],
     x: usize,
     c: Conjuncts,
     g: Conjuncts,
@@ -274,6 +276,7 @@ fn push_down_all_join(
     at: usize,
     level: usize,
 ) -> Written
+    requires { ⌜ Stretch (now s) x (now part) ⌝ }
     requires { ⌜ JoinBetween (now s) x c g ⌝ }
     requires { ⌜ ArmOver (now m) (now out) at level ⌝ }
     ensures { λ n. ⌜ ((k : Kind) (l r : Plan) (on : List Pair) (f : Option Expr) (P G : List Expr) →
@@ -281,9 +284,9 @@ fn push_down_all_join(
         Reads (now (s .entry)) (schema l ++ schema r) g G → Plain P → Plain G →
         Answers (now (out .entry)) (now (out .exit)) at level n (push-down-all-join k l r on P G)) ⌝ }
 {
-    let z = right_input(s, x);
-    let sc = join_scope(s, x, x + 1, z);
-    let kind = word_at(record_at(s, x), P);
+    let z = right_input(part, x);
+    let sc = join_scope(part, x, z);
+    let kind = word_at(part, P);
     let v = moves_of(s, c, g, sc, kind);
     // A list that is too long is written nowhere.
     if !fits(v) {
@@ -295,13 +298,14 @@ fn push_down_all_join(
     let fields = sc.fields;
     let to = sc.to;
     write_renames(fields, to, m);
-    let next = write_kept(s, m, x, z, v, sc, out, at, level);
+    let next = write_kept(s, part, m, x, z, v, sc, out, at, level);
     Written { next, flag: v.flag }
 }
 
-// push_down_join: c is the predicates above the join at record x, none for the Join node itself.
+// push_down_join: c is the predicates above the join at the start of `part`, record x of the image s, none for the Join node itself.
 pub fn push_down_join(
     s: &[u8],
+    part: &[u8],
     x: usize,
     c: Conjuncts,
     m: &mut [u8],
@@ -309,19 +313,21 @@ pub fn push_down_join(
     at: usize,
     level: usize,
 ) -> Written
+    requires { ⌜ Stretch (now s) x (now part) ⌝ }
     requires { ⌜ JoinUnder (now s) x c ⌝ }
     requires { ⌜ ArmOver (now m) (now out) at level ⌝ }
     ensures { λ r. ⌜ ((k : Kind) (l q : Plan) (on : List Pair) (f : Option Expr) (P : List Expr) →
         Placed (now (s .entry)) x (join k l q on f) → Reads (now (s .entry)) (schema l ++ schema q) c P → Plain P →
         Answers (now (out .entry)) (now (out .exit)) at level r (push-down-join k l q on f P)) ⌝ }
 {
-    let g = own_filter(s, x);
-    push_down_all_join(s, x, c, g, m, out, at, level)
+    let g = own_filter(s, part, x);
+    push_down_all_join(s, part, x, c, g, m, out, at, level)
 }
 
 // Filter over Join: the predicate's conjuncts are the predicates above it.
 pub fn rewrite_join(
     s: &[u8],
+    part: &[u8],
     x: usize,
     p: Predicate,
     m: &mut [u8],
@@ -329,6 +335,7 @@ pub fn rewrite_join(
     at: usize,
     level: usize,
 ) -> Written
+    requires { ⌜ Stretch (now s) x (now part) ⌝ }
     requires { ⌜ OverJoin (now s) x p ⌝ }
     requires { ⌜ ArmOver (now m) (now out) at level ⌝ }
     ensures { λ r. ⌜ ((e : Expr) (k : Kind) (l q : Plan) (on : List Pair) (f : Option Expr) →
@@ -336,5 +343,5 @@ pub fn rewrite_join(
         Answers (now (out .entry)) (now (out .exit)) at level r (rewrite-filter e (join k l q on f))) ⌝ }
 {
     let list = p.list;
-    push_down_join(s, x, list, m, out, at, level)
+    push_down_join(s, part, x, list, m, out, at, level)
 }
