@@ -30,7 +30,7 @@ push-down-all-join-spec =
     let h = q .placed in
     let z = c .before .before .right-input .ensures _ (q .kind) (q .lhs) (q .rhs) (q .keys) (q .condition) (p .0) h in
     let sc = c .before .join-scope .ensures (q .kind) (q .lhs) (q .rhs) (q .keys) (q .condition) (join-at (p .0) h z) in
-    ((asked sc (q .reads), asked sc (q .reads-own)), (h .short, (q .kind, kind-is (h .standing) (p .0) (c .word-at .ensures .0)))))
+    ((asked sc (q .reads), asked sc (q .reads-own)), h .short))
     (λ c κs. search needs)
     (λ c k l r on f P G h q g p w.
     let i = c .before .before .before .before .before .before .before .before .before .before .pre .0 in
