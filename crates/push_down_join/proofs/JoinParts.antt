@@ -36,7 +36,7 @@ use Rattle.rewrite.specs.Limits.{listP}
 use Rattle.rewrite.specs.Utils.{split-conjunction, split-conjunction?, conjoin, conjunction}
 use Rattle.rewrite.proofs.Project.{split-cols}
 use Rattle.conjuncts.specs.Items.{Conjuncts, Lists}
-use Rattle.conjuncts.specs.Standing.{Standing, StandingP, There}
+use Rattle.conjuncts.specs.Standing.{Standing, StandingP, Stretch, There}
 use Rattle.conjuncts.proofs.Listed.{known-of}
 use Rattle.push_down_base.specs.Around.{WroteAll}
 use Rattle.push_down_base.specs.Arms.{Placed}
@@ -49,11 +49,11 @@ use Rattle.push_down_base.proofs.Windows.{wrote-none, wrote-then, wrote-tree}
 -- ---- the right input
 
 pub right-at : {s : List ℕ} (short : length s ≤ workBytes) {x z : ℕ} {k : Kind} {l r : Plan} {on : List Pair} {f : Option Expr}
-    → StandingP s x (join k l r on f) → z ≡ word (drop (32 * (x + 1)) s) 28 → StandingP s z r
+    → StandingP s x (join k l r on f) → z ≡ word (drop (32 * (x + 1)) s) 28 → StandingP s z r × (x ≤ z)
 unfolding kidsP sizeP
 right-at {s} short {x} {z} {l = l} {r} h e =
     let i : x + 1 + sizeP l ≡ z = sym (e ∙ children short h .stands .next ∙ omega arith) in
-    subst (λ n. StandingP s n r) i (right-input short h)
+    (subst (λ n. StandingP s n r) i (right-input short h), omega (arith, i))
 
 -- ---- the filter
 
@@ -118,11 +118,25 @@ module _ {s : List ℕ} (short : length s ≤ workBytes) where
       (omega (arith, right .stands .head .room, length-drop (32 * (x + 1 + suc (size (kidsP l)))) s))
       (omega (arith, ap (λ (l : Label). l .kind) (right .stands .head .label), plan-kind r))))
 
+-- the last of trees behind record x is behind it
+last-behind : (f : Forest) (x d b : ℕ) → x ≤ d → x ≤ b → x ≤ lastOf d b f
+last-behind none x d b le to = le
+last-behind (node l cs ns) x d b le to = last-behind ns x b (b + 1 + size cs) to (omega arith)
+
 -- as `last_child` finds it
-pub last-found : {s part : List ℕ} {x n : ℕ} {k : Kind} {l r : Plan} {on : List Pair} {f : Option Expr} → Placed s x (join k l r on f)
-    → part ≡ drop (32 * x) s → ((t : Tree) → At t part x → n ≡ lastOf 0 (x + 1) (t .below)) → Last s n f
-last-found {s} {x = x} {k = k} {l} {r} {on} {f} h e g =
-    subst (λ i. Last s i f) (sym (g (planTree (join k l r on f)) (rw e (h .standing .here)))) (last-is (h .short) k l r on f (h .standing))
+module _ {s part : List ℕ} {x n : ℕ} {k : Kind} {l r : Plan} {on : List Pair} {f : Option Expr} (e : Stretch s x part)
+    (h : Placed s x (join k l r on f)) (g : (t : Tree) → At t part x → n ≡ lastOf 0 (x + 1) (t .below)) where
+  last-number : n ≡ lastOf 0 (x + 1) (kidsP (join k l r on f))
+  last-number = g (planTree (join k l r on f)) (rw e (h .standing .here))
+
+  pub last-found : Last s n f
+  last-found = subst (λ i. Last s i f) (sym last-number) (last-is (h .short) k l r on f (h .standing))
+
+  pub last-after : x ≤ n
+  unfolding kidsP
+  last-after =
+      rw last-number (last-behind (node (labelP r) (kidsP r) (each pairLabel pairKids on (filterKids f))) x (x + 1) (x + 1 + 1 + size (kidsP l))
+      (omega arith) (omega arith))
 
 module _ {s : List ℕ} {n : ℕ} where
   pub last-room : {f : Option Expr} → Last s n f → 32 * n + 32 ≤ length s

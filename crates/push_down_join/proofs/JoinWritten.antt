@@ -16,13 +16,13 @@ use Rattle.plan.specs.Schema.{has, schema}
 use Rattle.plan.specs.Syntax.{Name, Expr, Pair, Kind, Plan, join}
 use Rattle.plan.specs.Trees.{joinNumber, labelP, kidsP, planTree, each, pairLabel, pairKids, filterKids}
 use Rattle.conjuncts.specs.Items.{Conjuncts, Known}
-use Rattle.conjuncts.specs.Standing.{StandingP}
+use Rattle.conjuncts.specs.Standing.{StandingP, Stretch}
 use Rattle.writing.specs.Maps.{Maps}
 use Rattle.writing.specs.Pushed.{Some}
 use Rattle.writing.proofs.Pushing.{pushes-of}
 use Rattle.push_down_base.specs.Around.{WroteAll}
 use Rattle.push_down_base.specs.Arms.{Placed}
-use Rattle.push_down_join.specs.JoinPlans.{Moves, Moved, pairRecs, Carries}
+use Rattle.push_down_join.specs.JoinPlans.{Moves, Moved, pairRecs, Carries, JoinHere, JoinPart}
 use Rattle.push_down_join.specs.Scopes.{Scope, Scopes, Asked, JoinAt}
 use Rattle.push_down_base.specs.Parting.{Reads}
 use Rattle.push_down_join.specs.Sides.{SomeSided, Side}
@@ -71,9 +71,23 @@ join-wrote {o₃ = o₃} {o₄} {n₃ = n₃} {n₄} {level = level} {top} k l r
 
 -- ---- what the functions are asked
 
-pub join-at : {s : List ℕ} {x z : ℕ} {k : Kind} {l r : Plan} {on : List Pair} {f : Option Expr} → Placed s x (join k l r on f) → StandingP s z r
-    → JoinAt s x (x + 1) z k l r on f
-join-at h z = record { standing = h .standing; first = left-input (h .short) (h .standing); second = z; rules = h .rules }
+pub join-here : {s : List ℕ} {x : ℕ} {k : Kind} {l r : Plan} {on : List Pair} {f : Option Expr} → Placed s x (join k l r on f) → JoinHere s x
+join-here {k = k} {l} {r} {on} {f} h = record { kind = k; lhs = l; rhs = r; keys = on; condition = f; placed = h }
+
+pub join-part : {s part : List ℕ} {x : ℕ} → Stretch s x part → JoinHere s x → JoinPart part x
+join-part {s} e h = record { image = s; stretch = e; here = h }
+
+pub join-at : {s part : List ℕ} {x z : ℕ} {k : Kind} {l r : Plan} {on : List Pair} {f : Option Expr} → Stretch s x part
+    → Placed s x (join k l r on f) → StandingP s z r × (x ≤ z) → JoinAt part x z k l r on f
+join-at {s} e h z = record {
+  image = s;
+  stretch = e;
+  standing = h .standing;
+  first = left-input (h .short) (h .standing);
+  second = z .0;
+  after = z .1;
+  rules = h .rules;
+}
 
 pub asked : {s : List ℕ} {sc : Scope} {c : Conjuncts} {l r : List Name} {on : List Pair} {es : List Expr} → Scopes sc l r on → Reads s (l ++ r) c es
     → Asked s sc c
@@ -85,14 +99,15 @@ unfolding labelP
 kind-is h e i = i ∙ ap (λ b. word b 4) e ∙ ap (λ (t : Label). t .p) (h .here .head .label)
 
 pub carries : {s m : List ℕ} {x z : ℕ} {sc : Scope} {v : Moves} {k : Kind} {l r : Plan} {on : List Pair} {f : Option Expr} {P G : List Expr}
-    {σ : Name → Expr} → Placed s x (join k l r on f) → StandingP s z r → Maps m 0 3 σ → Scopes sc (schema l) (schema r) on
+    {σ : Name → Expr} → Placed s x (join k l r on f) → StandingP s z r × (x ≤ z) → Maps m 0 3 σ → Scopes sc (schema l) (schema r) on
     → Moved s σ v k (schema l) (schema r) on P G → (v .left .len ≤ maxList) × (v .right .len ≤ maxList) × (v .conditions .len ≤ maxList)
     → Carries s m x z sc v k l r on f P G σ
 carries h z m sc v few = record {
   short = h .short;
   standing = h .standing;
   first = left-input (h .short) (h .standing);
-  second = z;
+  second = z .0;
+  after = z .1;
   maps = m;
   scopes = sc;
   moved = v;

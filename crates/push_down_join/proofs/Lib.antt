@@ -1,3 +1,4 @@
+pub mod Stretches
 pub mod Preserved
 pub mod Partnering
 pub mod Growing

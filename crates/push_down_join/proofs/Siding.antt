@@ -8,12 +8,12 @@ use mathlib.Core.Bool.{Bool, true, false, cond}
 use mathlib.Core.List.{List, [], _∷_, _++_, map, map-append, append-assoc, append-nil}
 use mathlib.Core.Option as O
 use mathlib.Core.Option.{Option, some}
-use Prim.Native.Nat.{ℕ, _+_, _-_, _≤_, _<_, _*_}
+use Prim.Native.Nat.{ℕ, _+_, _-_, _≤_, _<_}
 use native.Mathlib.Omega.{arith}
 use native.Mathlib.Numerals.{add-one}
 use lib.ListN.{length, take, drop, getD}
 use lib.Seq.{take-suc, take-all}
-use Rattle.image.specs.Limits.{maxRecords, maxList}
+use Rattle.image.specs.Limits.{maxList}
 use Rattle.plan.specs.Columns.{on-cols}
 use Rattle.plan.specs.Lists.{put, keep, flatten}
 use Rattle.plan.specs.Schema.{has}

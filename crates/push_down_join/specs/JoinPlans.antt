@@ -17,7 +17,7 @@ use Rattle.plan.specs.Lists.{when}
 use Rattle.rewrite.specs.Utils.{with-filters, conjunction}
 use Rattle.rewrite.specs.PushDownFilter.{left-push, right-push, keep-predicates, join-conditions, on-filter-join-conditions, nothing-moves}
 use Rattle.conjuncts.specs.Items.{Conjuncts, Lists}
-use Rattle.conjuncts.specs.Standing.{Standing, StandingP}
+use Rattle.conjuncts.specs.Standing.{Standing, StandingP, Stretch}
 use Rattle.writing.specs.Maps.{Maps}
 use Rattle.push_down_base.specs.Arms.{Placed, Rests}
 use Rattle.push_down_base.specs.Predicates.{Predicate}
@@ -38,12 +38,18 @@ pub record JoinHere (s : List ℕ) (x : ℕ) : Type 0 where
   pub condition : Option Expr
   pub placed : Placed s x (join kind lhs rhs keys condition)
 
+-- .. and `part` is the stretch of that image that begins there
+pub record JoinPart (part : List ℕ) (x : ℕ) : Type 0 where
+  pub image : List ℕ
+  pub stretch : Stretch image x part
+  pub here : JoinHere image x
+
 -- the filter of a join stands at record n, or n is 0 and it has none
 pub data FilterOf (s : List ℕ) (n : ℕ) : Option Expr → Type 0 where
   has-none : n ≡ 0 → FilterOf s n O.none
   has-one : {e : Expr} → Standing s n e → 0 < n → FilterOf s n (some e)
 
--- .. and the conjuncts c are over its inputs
+-- a join stands at record x, and the conjuncts c are over its inputs
 pub record JoinUnder (s : List ℕ) (x : ℕ) (c : Conjuncts) : Type 0 where
   pub kind : Kind
   pub lhs : Plan
@@ -116,6 +122,7 @@ pub record Carries (s m : List ℕ) (x z : ℕ) (sc : Scope) (v : Moves) (k : Ki
   pub standing : StandingP s x (join k l r on f)
   pub first : StandingP s (x + 1) l
   pub second : StandingP s z r
+  pub after : x ≤ z
   pub maps : Maps m 0 3 σ
   pub scopes : Scopes sc (schema l) (schema r) on
   pub moved : Moved s σ v k (schema l) (schema r) on P G

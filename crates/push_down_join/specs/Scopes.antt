@@ -2,7 +2,7 @@
 use mathlib.Core.Path.{_≡_}
 use mathlib.Core.Bool.{Bool, true, not}
 use mathlib.Core.List.{List, _++_, map}
-use Prim.Native.Nat.{ℕ, _≤_}
+use Prim.Native.Nat.{ℕ, _+_, _≤_}
 use Rattle.image.specs.Limits.{maxFields}
 use Rattle.plan.specs.Columns.{on-cols}
 use Rattle.plan.specs.Lists.{keep}
@@ -10,7 +10,7 @@ use Rattle.plan.specs.Schema.{has}
 use Rattle.plan.specs.Syntax.{Name, Expr, Pair, Kind, Plan, join}
 use mathlib.Core.Option.{Option}
 use Rattle.acceptance.specs.NamesRule.{ok}
-use Rattle.conjuncts.specs.Standing.{StandingP}
+use Rattle.conjuncts.specs.Standing.{StandingP, Stretch}
 use Rattle.rewrite.specs.PushDownFilter.{partner, no-partner, if-list, swap-keys}
 use Rattle.conjuncts.specs.Items.{Conjuncts}
 use Rattle.utils.specs.Fields.{Names}
@@ -64,18 +64,22 @@ keyed-right b l r on es =
 abbrev pub Swapper : (Name → Expr) → List Name → List Pair → Type 0
 Swapper σ ns on = (x : Name) → has ns x ≡ true → σ x ≡ swap-keys on x
 
--- the join stands at record x and keeps the name rules; its inputs stand at records y and z
-pub record JoinAt (s : List ℕ) (x y z : ℕ) (k : Kind) (l r : Plan) (on : List Pair) (f : Option Expr) : Type 0 where
-  pub standing : StandingP s x (join k l r on f)
-  pub first : StandingP s y l
-  pub second : StandingP s z r
+-- `part` is the stretch of an image that begins at record x, where the join stands and keeps the name rules; its right input stands at
+-- record z
+pub record JoinAt (part : List ℕ) (x z : ℕ) (k : Kind) (l r : Plan) (on : List Pair) (f : Option Expr) : Type 0 where
+  pub image : List ℕ
+  pub stretch : Stretch image x part
+  pub standing : StandingP image x (join k l r on f)
+  pub first : StandingP image (x + 1) l
+  pub second : StandingP image z r
+  pub after : x ≤ z
   pub rules : ok (join k l r on f) ≡ true
 
 -- some join does
-pub record SomeJoin (s : List ℕ) (x y z : ℕ) : Type 0 where
+pub record SomeJoin (part : List ℕ) (x z : ℕ) : Type 0 where
   pub kind : Kind
   pub lhs : Plan
   pub rhs : Plan
   pub keys : List Pair
   pub condition : Option Expr
-  pub join-at : JoinAt s x y z kind lhs rhs keys condition
+  pub join-at : JoinAt part x z kind lhs rhs keys condition

@@ -5,7 +5,7 @@ use mathlib.Core.List.{List}
 use mathlib.Core.Option.{some}
 use Prim.Native.Nat.{ℕ, _*_, _-_, _≤_, _<_}
 use lib.ListN.{length, getD}
-use Rattle.image.specs.Limits.{maxRecords, maxList}
+use Rattle.image.specs.Limits.{maxList}
 use Rattle.plan.specs.Columns.{on-cols}
 use Rattle.plan.specs.Schema.{has}
 use Rattle.plan.specs.Syntax.{Name, Expr}

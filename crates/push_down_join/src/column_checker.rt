@@ -1,13 +1,9 @@
-// ColumnChecker (192 to 228): is_left_only and is_right_only of a list, by the sets of the fields of a join's inputs.
+// ColumnChecker (192 to 228): the sets of the fields of a join's inputs, by which is_left_only and is_right_only are asked.
 use crate::infer_join_predicates::Swapped;
 use crate::infer_join_predicates::places_among;
 use crate::infer_join_predicates::swap_keys;
-use crate::lr_is_preserved::Preserved;
-use conjuncts::lists::Conjuncts;
 use image::limits::MAX_DEPTH;
-use image::records::record_at;
-use push_down_base::parting::push_not;
-use push_down_base::parting::push_to;
+use image::records::from_record;
 use utils::schema_columns::Fields;
 use utils::schema_columns::no_fields;
 use utils::schema_columns::schema_columns;
@@ -23,11 +19,10 @@ ghost use Rattle.image.specs.Limits.{maxFields};
 ghost use Rattle.image.specs.Tree.{Forest};
 ghost use Rattle.plan.specs.Schema.{has, nodup, schema};
 ghost use Rattle.plan.specs.Syntax.{Expr, Kind, Name, Pair, Plan};
-ghost use Rattle.rewrite.specs.PushDownFilter.{partner, push-not, push-to, rest};
+ghost use Rattle.rewrite.specs.PushDownFilter.{partner};
 ghost use Rattle.utils.specs.Fields.{Names};
-ghost use Rattle.push_down_base.specs.Parting.{Reads};
 ghost use Rattle.push_down_join.specs.Partners.{Swaps, partnerIn};
-ghost use Rattle.push_down_join.specs.Scopes.{Asked, JoinAt, Scopes, SomeJoin, swap};
+ghost use Rattle.push_down_join.specs.Scopes.{JoinAt, Scopes, SomeJoin, swap};
 
 // The fields of both inputs of a join, the left one's first; the same with each key's partner in its place; and sets of them: those of each
 // input, those that have no partner by the keys, and those whose partner, or where they have none they themselves, are of each input.
@@ -63,43 +58,15 @@ pub fn scope_of(fields: Fields, k: usize, swapped: Swapped) -> Scope
     }
 }
 
-// The fields of the join at record x, whose inputs stand at records y and z.
-pub fn join_scope(s: &[u8], x: usize, y: usize, z: usize) -> Scope
-    requires { ⌜ SomeJoin (now s) x y z ⌝ }
-    ensures { λ c. ⌜ ((k : Kind) (l r : Plan) (on : List Pair) (f : Option Expr) → JoinAt (now (s .entry)) x y z k l r on f →
+// The fields of the join at the start of `part`, which begins at record x; its right input stands at record z.
+pub fn join_scope(part: &[u8], x: usize, z: usize) -> Scope
+    requires { ⌜ SomeJoin (now part) x z ⌝ }
+    ensures { λ c. ⌜ ((k : Kind) (l r : Plan) (on : List Pair) (f : Option Expr) → JoinAt (now (part .entry)) x z k l r on f →
         Scopes c (schema l) (schema r) on) ⌝ }
 {
-    let left = schema_columns(record_at(s, y), y, MAX_DEPTH, no_fields());
-    let fields = schema_columns(record_at(s, z), z, MAX_DEPTH, left);
-    let swapped = swap_keys(record_at(s, x), x, fields);
+    let y = x + 1;
+    let left = schema_columns(from_record(part, x, y), y, MAX_DEPTH, no_fields());
+    let fields = schema_columns(from_record(part, x, z), z, MAX_DEPTH, left);
+    let swapped = swap_keys(part, x, fields);
     scope_of(fields, left.len, swapped)
-}
-
-// Of the conjuncts c those that move to the left input.
-pub fn push_left(s: &[u8], c: Conjuncts, sc: Scope, sides: Preserved) -> Conjuncts
-    requires { ⌜ Asked (now s) sc c ⌝ }
-    ensures { λ z. ⌜ ((l r : List Name) (on : List Pair) (es : List Expr) → Scopes sc l r on → Reads (now (s .entry)) (l ++ r) c es →
-        Reads (now (s .entry)) (l ++ r) z (push-to (sides .left) l es)) ⌝ }
-{
-    push_to(s, c, sc.fields, sc.left, sides.left)
-}
-
-// Those that move to the right input: what moves to the left one does not move to this one as well.
-pub fn push_right(s: &[u8], c: Conjuncts, sc: Scope, sides: Preserved) -> Conjuncts
-    requires { ⌜ Asked (now s) sc c ⌝ }
-    ensures { λ z. ⌜ ((l r : List Name) (on : List Pair) (es : List Expr) → Scopes sc l r on → Reads (now (s .entry)) (l ++ r) c es →
-        Reads (now (s .entry)) (l ++ r) z (push-to (sides .right) r (push-not (sides .left) l es))) ⌝ }
-{
-    let stay = push_not(s, c, sc.fields, sc.left, sides.left);
-    push_to(s, stay, sc.fields, sc.right, sides.right)
-}
-
-// Those that move to neither.
-pub fn unpushed(s: &[u8], c: Conjuncts, sc: Scope, sides: Preserved) -> Conjuncts
-    requires { ⌜ Asked (now s) sc c ⌝ }
-    ensures { λ z. ⌜ ((l r : List Name) (on : List Pair) (es : List Expr) → Scopes sc l r on → Reads (now (s .entry)) (l ++ r) c es →
-        Reads (now (s .entry)) (l ++ r) z (rest (sides .left) (sides .right) l r es)) ⌝ }
-{
-    let stay = push_not(s, c, sc.fields, sc.left, sides.left);
-    push_not(s, stay, sc.fields, sc.right, sides.right)
 }

@@ -32,10 +32,10 @@ ghost use Rattle.utils.specs.Fields.{Names, placeIn};
 ghost use Rattle.utils.specs.Masks.{Masks};
 ghost use Rattle.push_down_base.specs.Parting.{Reads};
 ghost use Rattle.push_down_join.specs.Partners.{Swaps, Told, columnOf, keyIn, orSelf, partnerIn};
-ghost use Rattle.push_down_join.specs.Scopes.{Asked, Scopes, keyed, keyed-left, keyed-right};
+ghost use Rattle.push_down_join.specs.Scopes.{Asked, Scopes, keyed};
 
 // infer_join_predicates: those that read a key, of an Inner join; with each key's partner in its place they are what is inferred.
-fn infer_join_predicates(s: &[u8], c: Conjuncts, sc: Scope, inner: bool) -> Conjuncts
+pub fn infer_join_predicates(s: &[u8], c: Conjuncts, sc: Scope, inner: bool) -> Conjuncts
     requires { ⌜ Asked (now s) sc c ⌝ }
     ensures { λ z. ⌜ ((l r : List Name) (on : List Pair) (es : List Expr) → Scopes sc l r on → Reads (now (s .entry)) (l ++ r) c es →
         Reads (now (s .entry)) (l ++ r) z (keyed inner on es)) ⌝ }
@@ -44,27 +44,6 @@ fn infer_join_predicates(s: &[u8], c: Conjuncts, sc: Scope, inner: bool) -> Conj
         return select_side(s, c, sc.fields, sc.alone, false);
     }
     empty()
-}
-
-// Those of which what is inferred moves to the left input.
-pub fn infer_left(s: &[u8], c: Conjuncts, sc: Scope, inner: bool) -> Conjuncts
-    requires { ⌜ Asked (now s) sc c ⌝ }
-    ensures { λ z. ⌜ ((l r : List Name) (on : List Pair) (es : List Expr) → Scopes sc l r on → Reads (now (s .entry)) (l ++ r) c es →
-        Reads (now (s .entry)) (l ++ r) z (keyed-left inner l on es)) ⌝ }
-{
-    let all = infer_join_predicates(s, c, sc, inner);
-    select_side(s, all, sc.fields, sc.leftward, true)
-}
-
-// .. to the right input.
-pub fn infer_right(s: &[u8], c: Conjuncts, sc: Scope, inner: bool) -> Conjuncts
-    requires { ⌜ Asked (now s) sc c ⌝ }
-    ensures { λ z. ⌜ ((l r : List Name) (on : List Pair) (es : List Expr) → Scopes sc l r on → Reads (now (s .entry)) (l ++ r) c es →
-        Reads (now (s .entry)) (l ++ r) z (keyed-right inner l r on es)) ⌝ }
-{
-    let all = infer_join_predicates(s, c, sc, inner);
-    let stay = select_side(s, all, sc.fields, sc.leftward, false);
-    select_side(s, stay, sc.fields, sc.rightward, true)
 }
 
 // A column, by its qualifier and its name, or none.

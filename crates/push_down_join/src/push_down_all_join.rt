@@ -1,12 +1,8 @@
 // push_down_all_join (401 to 525), push_down_join (527 to 563): a join over what moves to its inputs, and what stays above it.
 use crate::column_checker::Scope;
 use crate::column_checker::join_scope;
-use crate::column_checker::push_left;
-use crate::column_checker::push_right;
-use crate::column_checker::unpushed;
 use crate::extract_or_clause::extract_or_clauses_for_join;
-use crate::infer_join_predicates::infer_left;
-use crate::infer_join_predicates::infer_right;
+use crate::infer_join_predicates::infer_join_predicates;
 use crate::lr_is_preserved::Preserved;
 use crate::lr_is_preserved::is_inner;
 use crate::lr_is_preserved::lr_is_preserved;
@@ -24,10 +20,13 @@ use image::limits::NO_ROOM;
 use image::records::KIND;
 use image::records::NEXT_LINK;
 use image::records::P;
-use image::records::record_at;
+use image::records::from_record;
 use image::words::word_at;
 use plan::kinds::FIRST_PLAN;
 use push_down_base::inputs::last_child;
+use push_down_base::parting::push_not;
+use push_down_base::parting::push_to;
+use push_down_base::parting::select_side;
 use push_down_base::predicates::Predicate;
 use push_down_base::predicates::Written;
 use utils::schema_columns::Fields;
@@ -40,23 +39,21 @@ ghost use Prim.Native.Nat.{_+_, _≤_, ℕ};
 ghost use lib.Dec.{leb};
 ghost use lib.ListN.{length};
 ghost use Rattle.image.specs.Limits.{maxFields, maxList, workBytes};
-ghost use Rattle.plan.specs.Schema.{has, schema};
+ghost use Rattle.plan.specs.Schema.{schema};
 ghost use Rattle.plan.specs.Syntax.{Expr, Kind, Name, Pair, Plan, join};
 ghost use Rattle.plan.specs.Trees.{joinNumber};
-ghost use Rattle.rewrite.specs.PushDownFilter.{extract-or-clauses-for-join, if-list, join-conditions, keep-predicates, left-push};
-ghost use Rattle.rewrite.specs.PushDownFilter.{on-filter-join-conditions, push-down-all-join, push-down-join, push-not, push-to, rest};
-ghost use Rattle.rewrite.specs.PushDownFilter.{rewrite-filter, right-push};
+ghost use Rattle.rewrite.specs.PushDownFilter.{extract-or-clauses-for-join, if-list, push-down-all-join, push-down-join, rewrite-filter};
 ghost use Rattle.rewrite.specs.Utils.{replace-cols, split-conjunction?};
 ghost use Rattle.conjuncts.specs.Items.{Holds, clauseBy};
-ghost use Rattle.conjuncts.specs.Standing.{StandingP};
+ghost use Rattle.conjuncts.specs.Standing.{StandingP, Stretch};
 ghost use Rattle.utils.specs.Fields.{Names};
 ghost use Rattle.utils.specs.Masks.{Masks};
 ghost use Rattle.push_down_base.specs.Arms.{Answers, ArmOver, Placed, Rests};
 ghost use Rattle.push_down_base.specs.Parting.{Reads};
 ghost use Rattle.push_down_base.specs.Plain.{Plain};
-ghost use Rattle.push_down_join.specs.JoinPlans.{FilterOf, JoinBetween, JoinHere, JoinUnder, Moved, OverJoin};
-ghost use Rattle.push_down_join.specs.Parts.{Parted, Wholes};
-ghost use Rattle.push_down_join.specs.Scopes.{Asked, Scopes, Swapper, keyed-left, keyed-right};
+ghost use Rattle.push_down_join.specs.JoinPlans.{FilterOf, JoinBetween, JoinHere, JoinPart, JoinUnder, Moved, OverJoin};
+ghost use Rattle.push_down_join.specs.Parts.{Parted, PartsOf, Wholes};
+ghost use Rattle.push_down_join.specs.Scopes.{Asked, Scopes, Swapper};
 ghost use Rattle.push_down_join.specs.Sides.{Sides, Smalls};
 
 // Appends the items of c, each with so much more.
@@ -109,111 +106,58 @@ fn if_list(told: bool, c: Conjuncts) -> Conjuncts
     empty()
 }
 
-// What of a list the left input gets.
-fn left_part(s: &[u8], c: Conjuncts, sc: Scope, sides: Preserved, inner: bool) -> Part
+// What of a list of conjuncts each input gets, and those that move to neither.
+pub struct Parts {
+    pub left: Part,
+    pub right: Part,
+    pub rest: Conjuncts,
+}
+
+// The parts of the list c, by the sides that are preserved; others are inferred of it if the join is Inner. What moves to the left input
+// does not move to the right one as well.
+fn parts_of(s: &[u8], c: Conjuncts, sc: Scope, sides: Preserved, inner: bool) -> Parts
     requires { ⌜ Asked (now s) sc c ⌝ }
     ensures { λ z. ⌜ ((l r : List Name) (on : List Pair) (es : List Expr) → Scopes sc l r on → Reads (now (s .entry)) (l ++ r) c es →
-        Parted (now (s .entry)) (l ++ r) z (push-to (sides .left) l es) (keyed-left inner l on es)
-        (if-list (sides .left) (rest (sides .left) (sides .right) l r es))) ⌝ }
+        PartsOf (now (s .entry)) (sides .left) (sides .right) inner l r on es z) ⌝ }
 {
-    Part {
-        moved: push_left(s, c, sc, sides),
-        keyed: infer_left(s, c, sc, inner),
-        rest: if_list(sides.left, unpushed(s, c, sc, sides)),
-    }
+    let stay = push_not(s, c, sc.fields, sc.left, sides.left);
+    let rest = push_not(s, stay, sc.fields, sc.right, sides.right);
+    let keyed = infer_join_predicates(s, c, sc, inner);
+    let keyed_stay = select_side(s, keyed, sc.fields, sc.leftward, false);
+    let left = Part {
+        moved: push_to(s, c, sc.fields, sc.left, sides.left),
+        keyed: select_side(s, keyed, sc.fields, sc.leftward, true),
+        rest: if_list(sides.left, rest),
+    };
+    let right = Part {
+        moved: push_to(s, stay, sc.fields, sc.right, sides.right),
+        keyed: select_side(s, keyed_stay, sc.fields, sc.rightward, true),
+        rest: if_list(sides.right, rest),
+    };
+    Parts { left, right, rest }
 }
 
-// What of it the right input gets.
-fn right_part(s: &[u8], c: Conjuncts, sc: Scope, sides: Preserved, inner: bool) -> Part
-    requires { ⌜ Asked (now s) sc c ⌝ }
-    ensures { λ z. ⌜ ((l r : List Name) (on : List Pair) (es : List Expr) → Scopes sc l r on → Reads (now (s .entry)) (l ++ r) c es →
-        Parted (now (s .entry)) (l ++ r) z (push-to (sides .right) r (push-not (sides .left) l es)) (keyed-right inner l r on es)
-        (if-list (sides .right) (rest (sides .left) (sides .right) l r es))) ⌝ }
-{
-    Part {
-        moved: push_right(s, c, sc, sides),
-        keyed: infer_right(s, c, sc, inner),
-        rest: if_list(sides.right, unpushed(s, c, sc, sides)),
-    }
-}
-
-// The list of the left input, of the predicates p above a join of this kind and those of its own filter, g.
-pub fn left_push(s: &[u8], p: Conjuncts, g: Conjuncts, sc: Scope, kind: usize) -> Conjuncts
-    requires { ⌜ Asked (now s) sc p × Asked (now s) sc g ⌝ }
-    requires { ⌜ length (now s) ≤ workBytes ⌝ }
-    ensures { λ z. ⌜ ((k : Kind) (l r : List Name) (on : List Pair) (P G : List Expr) (σ : Name → Expr) → kind ≡ joinNumber k →
-        Scopes sc l r on → Reads (now (s .entry)) (l ++ r) p P → Reads (now (s .entry)) (l ++ r) g G → Swapper σ (l ++ r) on →
-        Sides (now (s .entry)) σ (l ++ r) (has l) z (left-push k l r on P G)) ⌝ }
-{
-    let over = lr_is_preserved(kind);
-    let on = on_lr_is_preserved(kind);
-    let inner = is_inner(kind);
-    let above = left_part(s, p, sc, over, inner);
-    let own = left_part(s, g, sc, on, inner);
-    side_push(s, above, own, sc.fields, sc.left)
-}
-
-// The list of the right input, of the predicates p above a join of this kind and those of its own filter, g.
-pub fn right_push(s: &[u8], p: Conjuncts, g: Conjuncts, sc: Scope, kind: usize) -> Conjuncts
-    requires { ⌜ Asked (now s) sc p × Asked (now s) sc g ⌝ }
-    requires { ⌜ length (now s) ≤ workBytes ⌝ }
-    ensures { λ z. ⌜ ((k : Kind) (l r : List Name) (on : List Pair) (P G : List Expr) (σ : Name → Expr) → kind ≡ joinNumber k →
-        Scopes sc l r on → Reads (now (s .entry)) (l ++ r) p P → Reads (now (s .entry)) (l ++ r) g G → Swapper σ (l ++ r) on →
-        Sides (now (s .entry)) σ (l ++ r) (has r) z (right-push k l r on P G)) ⌝ }
-{
-    let over = lr_is_preserved(kind);
-    let on = on_lr_is_preserved(kind);
-    let inner = is_inner(kind);
-    let above = right_part(s, p, sc, over, inner);
-    let own = right_part(s, g, sc, on, inner);
-    side_push(s, above, own, sc.fields, sc.right)
-}
-
-// What stays above a join of this kind: of an Inner one nothing.
-pub fn keep_predicates(s: &[u8], p: Conjuncts, sc: Scope, kind: usize) -> Conjuncts
-    requires { ⌜ Asked (now s) sc p ⌝ }
-    ensures { λ z. ⌜ ((k : Kind) (l r : List Name) (on : List Pair) (P G : List Expr) → kind ≡ joinNumber k → Scopes sc l r on →
-        Reads (now (s .entry)) (l ++ r) p P → Reads (now (s .entry)) (l ++ r) z (keep-predicates k l r on P G)) ⌝ }
-{
-    if_list(!is_inner(kind), unpushed(s, p, sc, lr_is_preserved(kind)))
-}
-
-// What becomes a condition of it: of an Inner one only.
-pub fn join_conditions(s: &[u8], p: Conjuncts, sc: Scope, kind: usize) -> Conjuncts
-    requires { ⌜ Asked (now s) sc p ⌝ }
-    ensures { λ z. ⌜ ((k : Kind) (l r : List Name) (on : List Pair) (P G : List Expr) → kind ≡ joinNumber k → Scopes sc l r on →
-        Reads (now (s .entry)) (l ++ r) p P → Reads (now (s .entry)) (l ++ r) z (join-conditions k l r on P G)) ⌝ }
-{
-    if_list(is_inner(kind), unpushed(s, p, sc, lr_is_preserved(kind)))
-}
-
-// Of the conjuncts g of its own filter those that move to no side.
-pub fn on_filter_join_conditions(s: &[u8], g: Conjuncts, sc: Scope, kind: usize) -> Conjuncts
-    requires { ⌜ Asked (now s) sc g ⌝ }
-    ensures { λ z. ⌜ ((k : Kind) (l r : List Name) (on : List Pair) (P G : List Expr) → kind ≡ joinNumber k → Scopes sc l r on →
-        Reads (now (s .entry)) (l ++ r) g G → Reads (now (s .entry)) (l ++ r) z (on-filter-join-conditions k l r on P G)) ⌝ }
-{
-    unpushed(s, g, sc, on_lr_is_preserved(kind))
-}
-
-// The lists of a join of this kind, of the predicates p above it and those of its own filter, g.
+// The lists of a join of this kind, of the predicates p above it and those of its own filter, g. What moves to no input becomes a condition
+// of an Inner join, and stays above any other.
 pub fn moves_of(s: &[u8], p: Conjuncts, g: Conjuncts, sc: Scope, kind: usize) -> Moves
     requires { ⌜ Asked (now s) sc p × Asked (now s) sc g ⌝ }
-    requires { ⌜ (length (now s) ≤ workBytes) × ((k : Kind) × (kind ≡ joinNumber k)) ⌝ }
+    requires { ⌜ length (now s) ≤ workBytes ⌝ }
     ensures { λ v. ⌜ ((k : Kind) (l r : List Name) (on : List Pair) (P G : List Expr) (σ : Name → Expr) → kind ≡ joinNumber k →
         Scopes sc l r on → Reads (now (s .entry)) (l ++ r) p P → Reads (now (s .entry)) (l ++ r) g G → Swapper σ (l ++ r) on →
         Moved (now (s .entry)) σ v k l r on P G) ⌝ }
 {
-    let left = left_push(s, p, g, sc, kind);
-    let right = right_push(s, p, g, sc, kind);
-    let joined = join_conditions(s, p, sc, kind);
-    let own = on_filter_join_conditions(s, g, sc, kind);
-    let flag = (joined.len != 0) | (left.len != 0) | (right.len != 0);
+    let inner = is_inner(kind);
+    let above = parts_of(s, p, sc, lr_is_preserved(kind), inner);
+    let own = parts_of(s, g, sc, on_lr_is_preserved(kind), inner);
+    let left_push = side_push(s, above.left, own.left, sc.fields, sc.left);
+    let right_push = side_push(s, above.right, own.right, sc.fields, sc.right);
+    let join_conditions = if_list(inner, above.rest);
+    let flag = (join_conditions.len != 0) | (left_push.len != 0) | (right_push.len != 0);
     Moves {
-        left,
-        right,
-        conditions: append(joined, own, 0),
-        kept: keep_predicates(s, p, sc, kind),
+        left: left_push,
+        right: right_push,
+        conditions: append(join_conditions, own.rest, 0),
+        kept: if_list(!inner, above.rest),
         flag,
     }
 }
@@ -228,44 +172,46 @@ fn fits(v: Moves) -> bool
     (left.len <= MAX_LIST) & (right.len <= MAX_LIST) & (conditions.len <= MAX_LIST)
 }
 
-// The record of the right input of the join at record x; the left one is the record after the join's.
-pub fn right_input(s: &[u8], x: usize) -> usize
-    requires { ⌜ JoinHere (now s) x ⌝ }
-    ensures { λ z. ⌜ ((k : Kind) (l r : Plan) (on : List Pair) (f : Option Expr) → Placed (now (s .entry)) x (join k l r on f) →
-        StandingP (now (s .entry)) z r) ⌝ }
+// The record of the right input of the join at the start of `part`, which begins at record x; the left one is the record after the join's.
+pub fn right_input(part: &[u8], x: usize) -> usize
+    requires { ⌜ JoinPart (now part) x ⌝ }
+    ensures { λ z. ⌜ ((s : List ℕ) (k : Kind) (l r : Plan) (on : List Pair) (f : Option Expr) → Stretch s x (now (part .entry)) →
+        Placed s x (join k l r on f) → StandingP s z r × (x ≤ z)) ⌝ }
 {
-    word_at(record_at(s, x + 1), NEXT_LINK)
+    word_at(from_record(part, x, x + 1), NEXT_LINK)
 }
 
-// The record of the filter of the join at record x, or 0 where it has none: it is the last child, and the only one that is an expression.
-pub fn filter_of(s: &[u8], x: usize) -> usize
-    requires { ⌜ JoinHere (now s) x ⌝ }
-    ensures { λ n. ⌜ ((k : Kind) (l r : Plan) (on : List Pair) (f : Option Expr) → Placed (now (s .entry)) x (join k l r on f) →
-        FilterOf (now (s .entry)) n f) ⌝ }
+// The record of its filter, or 0 where it has none: it is the last child, and the only one that is an expression.
+pub fn filter_of(part: &[u8], x: usize) -> usize
+    requires { ⌜ JoinPart (now part) x ⌝ }
+    ensures { λ n. ⌜ ((s : List ℕ) (k : Kind) (l r : Plan) (on : List Pair) (f : Option Expr) → Stretch s x (now (part .entry)) →
+        Placed s x (join k l r on f) → FilterOf s n f) ⌝ }
 {
-    let y = last_child(record_at(s, x), x);
-    if word_at(record_at(s, y), KIND) < FIRST_PLAN {
+    let y = last_child(part, x);
+    if word_at(from_record(part, x, y), KIND) < FIRST_PLAN {
         return y;
     }
     0
 }
 
-// The conjuncts of that filter.
-pub fn own_filter(s: &[u8], x: usize) -> Conjuncts
+// The conjuncts of that filter; `part` is the stretch of the image s that begins at record x.
+pub fn own_filter(s: &[u8], part: &[u8], x: usize) -> Conjuncts
+    requires { ⌜ Stretch (now s) x (now part) ⌝ }
     requires { ⌜ JoinHere (now s) x ⌝ }
     ensures { λ z. ⌜ ((k : Kind) (l r : Plan) (on : List Pair) (f : Option Expr) → Placed (now (s .entry)) x (join k l r on f) →
         Reads (now (s .entry)) (schema l ++ schema r) z (split-conjunction? f)) ⌝ }
 {
-    let y = filter_of(s, x);
+    let y = filter_of(part, x);
     if y == 0 {
         return empty();
     }
     split_at(s, y, empty())
 }
 
-// push_down_all_join: c is the predicates above the join at record x, g those of its own filter.
+// push_down_all_join: c is the predicates above the join at the start of `part`, record x of the image s, g those of its own filter.
 fn push_down_all_join(
     s: &[u8],
+    part: &[u8],
     x: usize,
     c: Conjuncts,
     g: Conjuncts,
@@ -274,6 +220,7 @@ fn push_down_all_join(
     at: usize,
     level: usize,
 ) -> Written
+    requires { ⌜ Stretch (now s) x (now part) ⌝ }
     requires { ⌜ JoinBetween (now s) x c g ⌝ }
     requires { ⌜ ArmOver (now m) (now out) at level ⌝ }
     ensures { λ n. ⌜ ((k : Kind) (l r : Plan) (on : List Pair) (f : Option Expr) (P G : List Expr) →
@@ -281,9 +228,9 @@ fn push_down_all_join(
         Reads (now (s .entry)) (schema l ++ schema r) g G → Plain P → Plain G →
         Answers (now (out .entry)) (now (out .exit)) at level n (push-down-all-join k l r on P G)) ⌝ }
 {
-    let z = right_input(s, x);
-    let sc = join_scope(s, x, x + 1, z);
-    let kind = word_at(record_at(s, x), P);
+    let z = right_input(part, x);
+    let sc = join_scope(part, x, z);
+    let kind = word_at(part, P);
     let v = moves_of(s, c, g, sc, kind);
     // A list that is too long is written nowhere.
     if !fits(v) {
@@ -295,13 +242,14 @@ fn push_down_all_join(
     let fields = sc.fields;
     let to = sc.to;
     write_renames(fields, to, m);
-    let next = write_kept(s, m, x, z, v, sc, out, at, level);
+    let next = write_kept(s, part, m, x, z, v, sc, out, at, level);
     Written { next, flag: v.flag }
 }
 
-// push_down_join: c is the predicates above the join at record x, none for the Join node itself.
+// push_down_join: c is the predicates above the join at the start of `part`, record x of the image s, none for the Join node itself.
 pub fn push_down_join(
     s: &[u8],
+    part: &[u8],
     x: usize,
     c: Conjuncts,
     m: &mut [u8],
@@ -309,19 +257,21 @@ pub fn push_down_join(
     at: usize,
     level: usize,
 ) -> Written
+    requires { ⌜ Stretch (now s) x (now part) ⌝ }
     requires { ⌜ JoinUnder (now s) x c ⌝ }
     requires { ⌜ ArmOver (now m) (now out) at level ⌝ }
     ensures { λ r. ⌜ ((k : Kind) (l q : Plan) (on : List Pair) (f : Option Expr) (P : List Expr) →
         Placed (now (s .entry)) x (join k l q on f) → Reads (now (s .entry)) (schema l ++ schema q) c P → Plain P →
         Answers (now (out .entry)) (now (out .exit)) at level r (push-down-join k l q on f P)) ⌝ }
 {
-    let g = own_filter(s, x);
-    push_down_all_join(s, x, c, g, m, out, at, level)
+    let g = own_filter(s, part, x);
+    push_down_all_join(s, part, x, c, g, m, out, at, level)
 }
 
 // Filter over Join: the predicate's conjuncts are the predicates above it.
 pub fn rewrite_join(
     s: &[u8],
+    part: &[u8],
     x: usize,
     p: Predicate,
     m: &mut [u8],
@@ -329,6 +279,7 @@ pub fn rewrite_join(
     at: usize,
     level: usize,
 ) -> Written
+    requires { ⌜ Stretch (now s) x (now part) ⌝ }
     requires { ⌜ OverJoin (now s) x p ⌝ }
     requires { ⌜ ArmOver (now m) (now out) at level ⌝ }
     ensures { λ r. ⌜ ((e : Expr) (k : Kind) (l q : Plan) (on : List Pair) (f : Option Expr) →
@@ -336,5 +287,5 @@ pub fn rewrite_join(
         Answers (now (out .entry)) (now (out .exit)) at level r (rewrite-filter e (join k l q on f))) ⌝ }
 {
     let list = p.list;
-    push_down_join(s, x, list, m, out, at, level)
+    push_down_join(s, part, x, list, m, out, at, level)
 }

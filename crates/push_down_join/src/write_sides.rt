@@ -12,7 +12,6 @@ use image::records::FIRST_LINK;
 use image::records::KIND;
 use image::records::NEXT_LINK;
 use image::records::from_record;
-use image::records::record_at;
 use image::words::word_at;
 use plan::kinds::BINARY_EXPR;
 use plan::kinds::FILTER;
@@ -21,7 +20,6 @@ use plan::words::AND;
 use utils::schema_columns::Fields;
 use writing::conjunction::copy_item;
 use writing::conjunction::copy_joined;
-use writing::make_filter::copy_plan;
 ghost use mathlib.Core.Bool.{Bool};
 ghost use mathlib.Core.List.{_∷_, List};
 ghost use mathlib.Core.Option.{Option};
@@ -29,7 +27,7 @@ ghost use Prim.Native.Nat.{_+_, _-_, _<_, _≤_};
 ghost use lib.Dec.{eqb};
 ghost use lib.ListN.{length, take};
 ghost use Rattle.image.specs.Buffers.{Buffer, BufferAt, BufferTo};
-ghost use Rattle.image.specs.Limits.{maxFields, workBytes};
+ghost use Rattle.image.specs.Limits.{maxDepth, maxFields, workBytes};
 ghost use Rattle.image.specs.Records.{recs, recsAny};
 ghost use Rattle.image.specs.Room.{Wrote};
 ghost use Rattle.image.specs.Tree.{At, Readable, Tree};
@@ -41,11 +39,10 @@ ghost use Rattle.plan.specs.Trees.{exprTree, filterKids, planTree};
 ghost use Rattle.rewrite.specs.PushDownFilter.{keep-predicates};
 ghost use Rattle.rewrite.specs.Utils.{conjoin, conjunction, with-filters};
 ghost use Rattle.conjuncts.specs.Items.{Known, Lists};
-ghost use Rattle.conjuncts.specs.Standing.{StandingP};
+ghost use Rattle.conjuncts.specs.Standing.{Stretch};
 ghost use Rattle.utils.specs.Fields.{Names};
 ghost use Rattle.utils.specs.Masks.{Masks};
 ghost use Rattle.writing.specs.Maps.{Maps};
-ghost use Rattle.writing.specs.Plans.{ThereP};
 ghost use Rattle.push_down_base.specs.Around.{WroteAll};
 ghost use Rattle.push_down_join.specs.JoinPlans.{Carried, Carries, join-over, pairRecs};
 ghost use Rattle.push_down_join.specs.Sides.{OneSided, Side, Sided, Sides, SomeSided};
@@ -141,13 +138,14 @@ fn copy_sided_joined(
     copy_sided_first(s, m, c, n, fields, side, out, at, level)
 }
 
-// Writes the plan at record x under a Filter of a side's list, if it has any items.
+// Writes the plan at the start of `input`, which begins at record x, under a Filter of a side's list, if it has any items.
 pub fn copy_sided_filtered(
     s: &[u8],
     m: &[u8],
     c: Conjuncts,
     fields: Fields,
     side: u64,
+    input: &[u8],
     x: usize,
     out: &mut [u8],
     at: usize,
@@ -156,19 +154,19 @@ pub fn copy_sided_filtered(
     requires { ⌜ SomeSided (now s) c ⌝ }
     requires { ⌜ (length (now s) ≤ workBytes) × (fields .len ≤ maxFields) ⌝ }
     requires { ⌜ Readable 3 (now m) 0 ⌝ }
-    requires { ⌜ ThereP (now s) x ⌝ }
+    requires { ⌜ Readable maxDepth (now input) x ⌝ }
     requires { ⌜ Buffer 4 level (now out) ⌝ }
     ensures { λ r. ⌜ ((σ : Name → Expr) (ns : List Name) (t : Name → Bool) → Side (now (m .entry)) fields side σ ns t →
-        (es : List Expr) → Sides (now (s .entry)) σ ns t c es → (p : Plan) → StandingP (now (s .entry)) x p →
+        (es : List Expr) → Sides (now (s .entry)) σ ns t c es → (p : Plan) → At (planTree p) (now (input .entry)) x →
         Wrote (now (out .entry)) (now (out .exit)) at level r (planTree (with-filters es p))) ⌝ }
 {
     let n = c.len;
     if n == 0 {
-        return copy_plan(s, x, out, at, level);
+        return copy_tree(input, x, MAX_DEPTH, out, at, level);
     }
     let predicate = put_kind(out, at, FILTER, 0, level);
-    let input = copy_sided_joined(s, m, c, fields, side, out, predicate, level + 1);
-    copy_plan(s, x, out, input, level + 1)
+    let below = copy_sided_joined(s, m, c, fields, side, out, predicate, level + 1);
+    copy_tree(input, x, MAX_DEPTH, out, below, level + 1)
 }
 
 // Writes the tree at the start of `part`, if it is a pair of keys.
@@ -236,9 +234,10 @@ fn copy_conditions(
     copy_joined(s, m, 0, 3, c, out, at, level)
 }
 
-// Writes the join at record x over what moves to its inputs, the right one at record z.
+// Writes the join at the start of `part`, record x of the image s, over what moves to its inputs, the right one at record z.
 fn write_join(
     s: &[u8],
+    part: &[u8],
     m: &[u8],
     x: usize,
     z: usize,
@@ -248,6 +247,7 @@ fn write_join(
     at: usize,
     level: usize,
 ) -> usize
+    requires { ⌜ Stretch (now s) x (now part) ⌝ }
     requires { ⌜ Carried (now s) (now m) x z sc v ⌝ }
     requires { ⌜ Buffer 5 level (now out) ⌝ }
     ensures { λ n. ⌜ ((k : Kind) (l r : Plan) (on : List Pair) (f : Option Expr) (P G : List Expr) (σ : Name → Expr) →
@@ -258,17 +258,21 @@ fn write_join(
     let right = v.right;
     let conditions = v.conditions;
     let fields = sc.fields;
-    let part = record_at(s, x);
+    let y = x + 1;
+    let below = level + 1;
+    let lhs = from_record(part, x, y);
+    let rhs = from_record(part, x, z);
     let first = put_label(part, out, at, level);
-    let second = copy_sided_filtered(s, m, left, fields, sc.left, x + 1, out, first, level + 1);
-    let keys = copy_sided_filtered(s, m, right, fields, sc.right, z, out, second, level + 1);
-    let filter = copy_pairs(part, x, MAX_DEPTH, out, keys, level + 1);
-    copy_conditions(s, m, conditions, out, filter, level + 1)
+    let second = copy_sided_filtered(s, m, left, fields, sc.left, lhs, y, out, first, below);
+    let keys = copy_sided_filtered(s, m, right, fields, sc.right, rhs, z, out, second, below);
+    let filter = copy_pairs(part, x, MAX_DEPTH, out, keys, below);
+    copy_conditions(s, m, conditions, out, filter, below)
 }
 
 // The same under a Filter of what stays above it, if anything does.
 pub fn write_kept(
     s: &[u8],
+    part: &[u8],
     m: &[u8],
     x: usize,
     z: usize,
@@ -278,6 +282,7 @@ pub fn write_kept(
     at: usize,
     level: usize,
 ) -> usize
+    requires { ⌜ Stretch (now s) x (now part) ⌝ }
     requires { ⌜ Carried (now s) (now m) x z sc v ⌝ }
     requires { ⌜ Buffer 6 level (now out) ⌝ }
     ensures { λ n. ⌜ ((k : Kind) (l r : Plan) (on : List Pair) (f : Option Expr) (P G : List Expr) (σ : Name → Expr) →
@@ -287,9 +292,9 @@ pub fn write_kept(
 {
     let kept = v.kept;
     if kept.len == 0 {
-        return write_join(s, m, x, z, v, sc, out, at, level);
+        return write_join(s, part, m, x, z, v, sc, out, at, level);
     }
     let predicate = put_kind(out, at, FILTER, 0, level);
     let input = copy_joined(s, m, 0, 3, kept, out, predicate, level + 1);
-    write_join(s, m, x, z, v, sc, out, input, level + 1)
+    write_join(s, part, m, x, z, v, sc, out, input, level + 1)
 }

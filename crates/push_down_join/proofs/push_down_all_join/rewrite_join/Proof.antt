@@ -11,7 +11,7 @@ unfolding rewrite-filter
 rewrite-join-spec =
     tie.close
     (tie.spec
-    (λ c κs. let p = c .before .before .before .before .before .before .pre in (over-under (p .0), p .1))
+    (λ c κs. let p = c .before .before .before .before .before .before .before .pre in (p .0, (over-under (p .1 .0), p .1 .1)))
     (λ c. search needs)
     (λ c. search needs)
     (λ c e k l r on f h. c .before .before .before .before .push-down-join .ensures k l r on f (split-conjunction e) (h .placed) (over-reads h)
