@@ -62,11 +62,14 @@ pub fn rewrite_filter(
         Finishes (now (work .exit)) r c (merges (filter e q)) (rewrite (filter e q))) ⌝ }
 {
     let left = simplify_filter(s, p);
-    let kind = word_at(record_at(s, x), KIND);
-    if is_gone(left) | (kind != FILTER) {
+    if is_gone(left) {
         return resume_in_place(s, node, left, x, m, work, levels);
     }
-    merge_filter(s, node, left, x, m, work, levels)
+    let part = record_at(s, x);
+    if word_at(part, KIND) == FILTER {
+        return merge_filter(s, node, left, x, m, work, levels);
+    }
+    resume_in_place(s, node, left, x, m, work, levels)
 }
 
 // The predicate p, which is simplified already, over the Filter at record x: both become one, which is rewritten again.
