@@ -6,8 +6,8 @@
 use harness::edges::edges;
 use harness::ffi;
 use harness::image::{read, write, Record, RECORD_BYTES};
-use harness::kinds::is_plan;
-use harness::limits::RECORDS;
+use harness::kinds::{boolean, filter, is_plan, scan};
+use harness::limits::{DEPTH, RECORDS};
 use harness::rewrites;
 use harness::row_tests;
 use harness::sets::{rewrite_sets, sets};
@@ -27,8 +27,14 @@ fn chained(link: fn(&mut Record, u32)) -> Vec<u8> {
     write(&records)
 }
 
+/// As many Filters as an image may have, one over the other: each is merged into the next, one call inside the other.
+fn stacked_filters() -> Vec<u8> {
+    (1..DEPTH).fold(scan(1, vec![]), |input, _| filter(boolean(true), input)).image()
+}
+
 fn images() -> Vec<Vec<u8>> {
     let mut images = vec![chained(|record, to| record.first = to), chained(|record, to| record.next = to)];
+    images.push(stacked_filters());
     images.extend(edges().into_iter().map(|edge| edge.image));
     images.extend(sets().iter().chain(&rewrite_sets()).flat_map(|set| set.images()));
     images.extend((0..200).map(|case| rewrites::case(9, case).plan.image()));

@@ -1,16 +1,15 @@
 -- What is left of a Filter's predicate, and the Filter that two are merged into.
 use Prim.Native.Nat.{ℕ}
 use mathlib.Core.Path.{_≡_, refl, sym, ap, subst, _∙_}
-use mathlib.Core.Bool.{Bool, true, false, not, _||_}
+use mathlib.Core.Bool.{true, false}
 use mathlib.Core.List.{List, []}
 use mathlib.Core.Option.{Option, none, some}
 use lib.Dec.{eqb}
-use borrow.Author.Tests.{eqb-true}
+use borrow.Author.Tests.{ne-eqb}
 use Rattle.plan.specs.Lists.{_&_, all}
 use Rattle.plan.specs.Schema.{schema}
 use Rattle.plan.specs.Syntax.{Expr, Plan, filter}
 use Rattle.plan.specs.Trees.{labelP}
-use Rattle.plan.proofs.Bools.{no-yes, told, untold}
 use Rattle.plan.proofs.Lists.{and-false}
 use Rattle.acceptance.specs.NamesRule.{reads?}
 use Rattle.rewrite.specs.Limits.{within-limits}
@@ -57,21 +56,17 @@ at-rest e {q} h f = rw (go (simplify-filter e) (h .other)) f
     go none f = refl
     go (some x) f = unmerged x q (f x refl)
 
--- ---- the code's test: whether nothing is left, or the number of the plan below, n, is not that of a Filter
+-- ---- the predicate is simplified, and the number of the plan below, n, is read
 
-module _ {s : List ℕ} {x n : ℕ} {p left : Predicate} {e : Expr} {q : Plan} (h : Rests s x p e q) (k : Remains s left (simplify-filter e))
-    (is : n ≡ labelP q .kind) where
-  pub rests-left : (is-gone left || not (eqb n 33)) ≡ true → Left s x left (simplify-filter e) q
-  rests-left t = record {
-    placed = h .placed;
-    remains = k;
-    scope = simplify-filter-reads e (schema q) (h .scope);
-    other = λ e′ i. go i (is-gone left) refl t;
-  }
-    where
-      go : {e′ : Expr} → simplify-filter e ≡ some e′ → (g : Bool) → is-gone left ≡ g → (g || not (eqb n 33)) ≡ true → is-filter q ≡ false
-      go i true g u = let z = leaves-none k g in cc
-      go i false g u = sym (kind-filter q) ∙ ap (λ m. eqb m 33) (sym is) ∙ untold u
+module _ {s : List ℕ} {x : ℕ} {p left : Predicate} {e : Expr} {q : Plan} (h : Rests s x p e q) (k : Remains s left (simplify-filter e)) where
+  left-over : ((e′ : Expr) → simplify-filter e ≡ some e′ → is-filter q ≡ false) → Left s x left (simplify-filter e) q
+  left-over f = record { placed = h .placed; remains = k; scope = simplify-filter-reads e (schema q) (h .scope); other = f }
+
+  pub left-gone : is-gone left ≡ true → Left s x left (simplify-filter e) q
+  left-gone g = left-over (λ e′ i. let z = leaves-none k g in cc)
+
+  pub left-other : {n : ℕ} → n ≡ labelP q .kind → (n ≡ 33 → ⊥) → Left s x left (simplify-filter e) q
+  left-other {n} is f = left-over (λ e′ i. sym (kind-filter q) ∙ ap (λ m. eqb m 33) (sym is) ∙ ne-eqb n 33 f)
 
   -- something is left, over a Filter
   pub record OverFilter : Type 0 where
@@ -80,26 +75,22 @@ module _ {s : List ℕ} {x n : ℕ} {p left : Predicate} {e : Expr} {q : Plan} (
     pub below : AFilter q
     pub rests : Rests s x left upper (filter (below .expr) (below .plan))
 
-  pub rests-over : (is-gone left || not (eqb n 33)) ≡ false → OverFilter
-  rests-over t = go (is-gone left) refl t
-    where
-      go : (g : Bool) → is-gone left ≡ g → (g || not (eqb n 33)) ≡ false → OverFilter
-      go true g u = no-yes (sym u)
-      go false g u =
-          let l = leaves-some k g in
-          let a = a-filter q (sym is ∙ eqb-true n 33 (told u)) in
-          record {
-            upper = l .expr;
-            becomes = l .is;
-            below = a;
-            rests =
-                subst (λ q. Rests s x left (l .expr) q) (a .is)
-                (record {
-                  placed = h .placed;
-                  shaped = l .shaped;
-                  scope = subst (λ o. reads? (schema q) o ≡ true) (l .is) (simplify-filter-reads e (schema q) (h .scope));
-                });
-          }
+  pub rests-over : {n : ℕ} → n ≡ labelP q .kind → n ≡ 33 → is-gone left ≡ false → OverFilter
+  rests-over is i g =
+      let l = leaves-some k g in
+      let a = a-filter q (sym is ∙ i) in
+      record {
+        upper = l .expr;
+        becomes = l .is;
+        below = a;
+        rests =
+            subst (λ q. Rests s x left (l .expr) q) (a .is)
+            (record {
+              placed = h .placed;
+              shaped = l .shaped;
+              scope = subst (λ o. reads? (schema q) o ≡ true) (l .is) (simplify-filter-reads e (schema q) (h .scope));
+            });
+      }
 
   -- it is rewritten with that predicate
   pub with-left : {work : List ℕ} {r : Outcome} {c : Focus} (o : OverFilter)

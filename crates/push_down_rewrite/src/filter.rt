@@ -6,7 +6,7 @@ use answers::splicing::write_before;
 use conjuncts::lists::empty;
 use conjuncts::split_conjunction::split_at;
 use image::records::KIND;
-use image::records::record_at;
+use image::records::from_record;
 use image::words::word_at;
 use plan::kinds::FILTER;
 use push_down_base::predicates::Predicate;
@@ -66,11 +66,13 @@ pub fn rewrite_filter(
         Finishes (now (work .exit)) r c (merges (filter e q)) (rewrite (filter e q))) ⌝ }
 {
     let left = simplify_filter(s, p);
-    let kind = word_at(input, KIND);
-    if is_gone(left) | (kind != FILTER) {
+    if is_gone(left) {
         return resume_in_place(s, node, left, input, x, m, work, levels);
     }
-    merge_filter(s, node, left, input, x, m, work, levels)
+    if word_at(input, KIND) == FILTER {
+        return merge_filter(s, node, left, input, x, m, work, levels);
+    }
+    resume_in_place(s, node, left, input, x, m, work, levels)
 }
 
 // The predicate p, which is simplified already, over `child`, the Filter at record x: both become one, which is rewritten again.

@@ -12,7 +12,7 @@ use Rattle.push_down_base.proofs.Steps.{filter-predicate}
 use Rattle.push_down_merge.proofs.OneMerge.{own-few, one-merge, merge-rests}
 use Rattle.push_down_stays.proofs.Dispatches.{read-kind}
 use Rattle.push_down_rewrite.specs.Filters.{plans-below}
-use Rattle.push_down_rewrite.proofs.Again.{at-rest, rests-left, rests-over, with-left, again, merge-unfit}
+use Rattle.push_down_rewrite.proofs.Again.{at-rest, left-gone, left-other, rests-over, with-left, again, merge-unfit}
 use Rattle.push_down_rewrite.proofs.Falling.{plans-fall}
 use Rattle.push_down_rewrite.proofs.filter.merge_filter.Reads as merge-filter
 use Rattle.push_down_rewrite.proofs.filter.merge_filter.Kinds as merge-filter-kinds
@@ -146,55 +146,53 @@ pub +merge-filter+rewrite-filter-spec : {M : Type 1} → statement M
     (λ t. rewrite-filter-lts.spec (
       simplify-filter-reads.Asked,
       simplify-filter-reads.Learnt,
-      record-at-reads.Asked,
-      record-at-reads.Learnt,
-      word-at-reads.Asked,
-      word-at-reads.Learnt,
       is-gone-reads.Asked,
       is-gone-reads.Learnt,
       resume-in-place-reads.Asked,
       resume-in-place-reads.Learnt,
+      record-at-reads.Asked,
+      record-at-reads.Learnt,
+      word-at-reads.Asked,
+      word-at-reads.Learnt,
       merge-filter-below t,
       merge-filter.Post,
     )
     (rewrite-filter-at t)
     rewrite-filter.Post
     (λ c κs. let p = c .before .before .before .before .pre .1 .0 in record { expr = p .expr; shaped = p .rests .shaped })
-    (λ c κs. c .before .before .before .before .before .pre .1 .0 .rests .placed .standing .within)
-    (λ c κs. rw (c .record-at .ensures) (omega (
-      arith,
-      c .before .before .before .before .before .before .pre .1 .0 .rests .placed .standing .here
-          .head .room,
-    )))
     (λ c κs. tt)
-    (λ c κs. let p = c .before .before .before .before .before .before .before .before .before .before .before .before .pre .1 .0 in
-    let k = c .before .before .before .before .before .before .before .simplify-filter .ensures .0 (p .expr) (p .rests .shaped) in
-    let n = read-kind (c .before .before .before .before .before .before .record-at .ensures) (c .before .before .before .before .before .word-at
-    .ensures .0) (p .rests .placed .standing) in (
+    (λ c κs. let p = c .before .before .before .before .before .before .before .before .before .before .pre .1 .0 in
+    let k = c .before .before .before .before .before .simplify-filter .ensures .0 (p .expr) (p .rests .shaped) in (
       record {
         whole = p .whole;
         spot = p .spot;
         inside = p .inside;
         option = _;
         plan = p .plan;
-        left = rests-left (p .rests) k n (rw (c .before .before .before .before .is-gone .ensures) at (c .before .before .before .if1 .taken));
+        left = left-gone (p .rests) k (sym (c .before .before .before .before .is-gone .ensures) ∙ c .before .before .before .if1 .taken);
       },
-      c .before .before .before .before .before .before .before .before .before .before .before .before .pre .1 .1,
+      c .before .before .before .before .before .before .before .before .before .before .pre .1 .1,
     ))
     (λ c. search needs)
     (λ c. search needs)
     (λ c. search needs)
     (λ c w f i e q h. let a = c .before .before .before .before .before .before .before .before .before .before in
-    let k = a .before .before .before .before .simplify-filter .ensures .0 e (h .shaped) in
-    let n = read-kind (a .before .before .before .record-at .ensures) (a .before .before .word-at .ensures .0) (h .placed .standing) in
-    let l = rests-left h k n (rw (a .before .is-gone .ensures) at (a .if1 .taken)) in
+    let l = left-gone h (a .before .before .simplify-filter .ensures .0 e (h .shaped)) (sym (a .before .is-gone .ensures) ∙ a .if1 .taken) in
     at-rest e l (c .before .before .before .before .before .before .resume-in-place .ensures w f i _ q l))
-    (λ c κs. let p = c .before .before .before .before .before .before .before .before .before .before .before .before .pre .1 .0 in
-    let k = c .before .before .before .before .before .before .before .simplify-filter .ensures .0 (p .expr) (p .rests .shaped) in
-    let n = read-kind (c .before .before .before .before .before .before .record-at .ensures) (c .before .before .before .before .before .word-at
-    .ensures .0) (p .rests .placed .standing) in
-    let o = rests-over (p .rests) k n (rw (c .before .before .before .before .is-gone .ensures) at (c .before .before .before .if1 .left)) in (
-      omega (arith, c .before .before .before .before .before .before .before .before .before .before .before .before .pre .0),
+    (λ c κs. c .before .before .before .before .before .before .before .pre .1 .0 .rests .placed .standing .within)
+    (λ c κs. rw (c .record-at .ensures) (omega (
+      arith,
+      c .before .before .before .before .before .before .before .before .pre .1 .0 .rests .placed
+          .standing .here .head .room,
+    )))
+    (λ c κs. let a = c .before .before .before in
+    let u = a .before .before .before .before .before .before .before .before .before .before .pre in
+    let p = u .1 .0 in
+    let n = read-kind (a .before .before .record-at .ensures) (a .before .word-at .ensures .0) (p .rests .placed .standing) in
+    let o = rests-over (p .rests) (a .before .before .before .before .before .simplify-filter .ensures .0 (p .expr) (p .rests .shaped)) n
+    (a .if2 .taken)
+    (sym (a .before .before .before .before .is-gone .ensures) ∙ a .before .before .before .if1 .left) in (
+      omega (arith, u .0),
       (
         record {
           whole = p .whole;
@@ -205,15 +203,37 @@ pub +merge-filter+rewrite-filter-spec : {M : Type 1} → statement M
           plan = o .below .plan;
           rests = o .rests;
         },
-        c .before .before .before .before .before .before .before .before .before .before .before .before .pre .1 .1,
+        u .1 .1,
       ),
     ))
     (λ c. search needs)
     (λ c. search needs)
     (λ c. search needs)
     (λ c w f i e q h. let a = c .before .before .before .before .before .before .before .before .before .before in
-    let k = a .before .before .before .before .simplify-filter .ensures .0 e (h .shaped) in
-    let n = read-kind (a .before .before .before .record-at .ensures) (a .before .before .word-at .ensures .0) (h .placed .standing) in
-    let o = rests-over h k n (rw (a .before .is-gone .ensures) at (a .if1 .left)) in
-    with-left h k n o (c .before .before .before .before .before .before .merge-filter .ensures w f i (o .upper) (o .below .expr) (o .below .plan)
-    (o .rests))))
+    let k = a .before .before .before .before .before .simplify-filter .ensures .0 e (h .shaped) in
+    let n = read-kind (a .before .before .record-at .ensures) (a .before .word-at .ensures .0) (h .placed .standing) in
+    let o = rests-over h k n (a .if2 .taken) (sym (a .before .before .before .before .is-gone .ensures) ∙ a .before .before .before .if1 .left) in
+    with-left h k o (c .before .before .before .before .before .before .merge-filter .ensures w f i (o .upper) (o .below .expr) (o .below .plan)
+    (o .rests)))
+    (λ c κs. let a = c .before .before .before in
+    let u = a .before .before .before .before .before .before .before .before .before .before .pre in
+    let p = u .1 .0 in
+    let n = read-kind (a .before .before .record-at .ensures) (a .before .word-at .ensures .0) (p .rests .placed .standing) in (
+      record {
+        whole = p .whole;
+        spot = p .spot;
+        inside = p .inside;
+        option = _;
+        plan = p .plan;
+        left = left-other (p .rests) (a .before .before .before .before .before .simplify-filter .ensures .0 (p .expr) (p .rests .shaped)) n
+            (a .if2 .left);
+      },
+      u .1 .1,
+    ))
+    (λ c. search needs)
+    (λ c. search needs)
+    (λ c. search needs)
+    (λ c w f i e q h. let a = c .before .before .before .before .before .before .before .before .before .before in
+    let n = read-kind (a .before .before .record-at .ensures) (a .before .word-at .ensures .0) (h .placed .standing) in
+    let l = left-other h (a .before .before .before .before .before .simplify-filter .ensures .0 e (h .shaped)) n (a .if2 .left) in
+    at-rest e l (c .before .before .before .before .before .before .resume-in-place2 .ensures w f i _ q l)))
