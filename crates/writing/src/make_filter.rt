@@ -8,8 +8,9 @@ use image::records::record_at;
 use plan::kinds::FILTER;
 ghost use Prim.Native.Nat.{_+_};
 ghost use Rattle.image.specs.Buffers.{Buffer};
+ghost use Rattle.image.specs.Limits.{maxDepth};
 ghost use Rattle.image.specs.Room.{Wrote};
-ghost use Rattle.image.specs.Tree.{Readable};
+ghost use Rattle.image.specs.Tree.{At, Readable};
 ghost use Rattle.plan.specs.Syntax.{Expr, Name, Plan, filter};
 ghost use Rattle.plan.specs.Trees.{planTree};
 ghost use Rattle.conjuncts.specs.Standing.{StandingP};
@@ -27,7 +28,7 @@ pub fn copy_plan(s: &[u8], x: usize, out: &mut [u8], at: usize, level: usize) ->
     copy_tree(part, x, MAX_DEPTH, out, at, level)
 }
 
-// Writes the plan at record x under a Filter of a predicate.
+// Writes the plan at record x, of which `input` is the stretch of the image, under a Filter of a predicate.
 pub fn make_filter(
     s: &[u8],
     m: &[u8],
@@ -35,6 +36,7 @@ pub fn make_filter(
     room: usize,
     written: usize,
     c: Conjuncts,
+    input: &[u8],
     x: usize,
     out: &mut [u8],
     at: usize,
@@ -42,12 +44,13 @@ pub fn make_filter(
 ) -> usize
     requires { ⌜ Predicated (now s) written c ⌝ }
     requires { ⌜ Readable room (now m) of ⌝ }
-    requires { ⌜ ThereP (now s) x ⌝ }
+    requires { ⌜ Readable maxDepth (now input) x ⌝ }
     requires { ⌜ Buffer 3 (level + room) (now out) ⌝ }
     ensures { λ r. ⌜ ((σ : Name → Expr) → Maps (now (m .entry)) of room σ → (e : Expr) → Predicate (now (s .entry)) σ written c e →
-        (p : Plan) → StandingP (now (s .entry)) x p → Wrote (now (out .entry)) (now (out .exit)) at level r (planTree (filter e p))) ⌝ }
+        (p : Plan) → At (planTree p) (now (input .entry)) x →
+        Wrote (now (out .entry)) (now (out .exit)) at level r (planTree (filter e p))) ⌝ }
 {
     let predicate = put_kind(out, at, FILTER, 0, level);
-    let input = copy_predicate(s, m, of, room, written, c, out, predicate, level + 1);
-    copy_plan(s, x, out, input, level + 1)
+    let next = copy_predicate(s, m, of, room, written, c, out, predicate, level + 1);
+    copy_tree(input, x, MAX_DEPTH, out, next, level + 1)
 }
