@@ -68,7 +68,9 @@ pub fn rewrite_subquery_alias(
 {
     let from = schema_columns(part, x, MAX_DEPTH, no_fields());
     let below = changed_predicate(p);
-    let input = copy_some(part, x, MAX_DEPTH, x + 1, out, at, level);
-    let next = copy_renamed(s, from, below, from_record(part, x, x + 1), x + 1, m, out, input, level + 1);
+    let y = x + 1;
+    let input = from_record(part, x, y);
+    let first = copy_some(part, x, MAX_DEPTH, y, out, at, level);
+    let next = copy_renamed(s, from, below, input, y, m, out, first, level + 1);
     Written { next, flag: true }
 }

@@ -284,6 +284,16 @@ pub fn rewrite_table_scan(
             flag: true,
         };
     }
-    let next = write_filtered(s, part, x, share.fields, share.left, filters, out, at, level);
+    let next = write_filtered(
+        s,
+        part,
+        x,
+        share.fields,
+        share.left,
+        filters,
+        out,
+        at,
+        level,
+    );
     Written { next, flag: true }
 }

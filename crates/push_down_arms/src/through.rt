@@ -42,7 +42,19 @@ pub fn keep_filter(
         Answers (now (out .entry)) (now (out .exit)) at level r (Transformed·no (filter e q))) ⌝ }
 {
     let list = p.list;
-    let next = make_filter(s, part, x, MAX_DEPTH, p.written, list, part, x, out, at, level);
+    let next = make_filter(
+        s,
+        part,
+        x,
+        MAX_DEPTH,
+        p.written,
+        list,
+        part,
+        x,
+        out,
+        at,
+        level,
+    );
     Written { next, flag: false }
 }
 

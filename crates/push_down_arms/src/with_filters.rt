@@ -84,7 +84,19 @@ fn with_filters(
         return copy_tree(input, y, MAX_DEPTH, out, at, level);
     }
     let list = p.list;
-    make_filter(s, part, x, MAX_DEPTH, p.written, list, input, y, out, at, level)
+    make_filter(
+        s,
+        part,
+        x,
+        MAX_DEPTH,
+        p.written,
+        list,
+        input,
+        y,
+        out,
+        at,
+        level,
+    )
 }
 
 // Writes the plan with its input, the plan at record y, under a Filter, if there is a predicate.

@@ -10,7 +10,7 @@ use Prim.Native.Nat.{ℕ, zero, suc, _+_, _-_, _*_, _≤_, _<_}
 use native.Mathlib.Omega.{arith}
 use lib.ListN.{length, getD, take, drop, length-drop}
 use lib.Seq.{take-suc}
-use Rattle.image.specs.Limits.{maxRecords, maxDepth, maxList}
+use Rattle.image.specs.Limits.{maxDepth, maxList}
 use Rattle.image.specs.Tree.{At, Readable}
 use Rattle.plan.specs.Syntax.{Name, Expr, bin, and, Plan}
 use Rattle.plan.specs.Trees.{exprTree, planTree}

@@ -13,15 +13,18 @@ rewrite-aggregate-spec =
     let o = p .1 .0 in
     let h = o .rests .placed in (
       p .0,
-      (record {
-        above = aggregate (o .groups) (o .entries);
-        plan = o .plan;
-        stay = _;
-        move = _;
-        placed = h;
-        takes = aggregate-takes (h .short) (o .groups) (o .entries) (h .standing);
-        divides = c .before .divide-groups .ensures (o .expr) (o .groups) (o .entries) (o .plan) (o .rests);
-      }, p .1 .1),
+      (
+        record {
+          above = aggregate (o .groups) (o .entries);
+          plan = o .plan;
+          stay = _;
+          move = _;
+          placed = h;
+          takes = aggregate-takes (h .short) (o .groups) (o .entries) (h .standing);
+          divides = c .before .divide-groups .ensures (o .expr) (o .groups) (o .entries) (o .plan) (o .rests);
+        },
+        p .1 .1,
+      ),
     ))
     (λ c. search needs)
     (λ c e gs ags q h. rw (aggregate-pushed e gs ags q)

@@ -21,15 +21,18 @@ rewrite-projection-spec =
     let o = p .1 .0 in
     let h = o .rests .placed in (
       p .0,
-      (record {
-        above = project (o .entries);
-        plan = o .plan;
-        stay = _;
-        move = _;
-        placed = h;
-        takes = project-takes (h .short) (o .entries) (h .standing);
-        divides = c .before .before .before .before .divide .ensures (o .expr) (project (o .entries) (o .plan)) (o .rests);
-      }, p .1 .1),
+      (
+        record {
+          above = project (o .entries);
+          plan = o .plan;
+          stay = _;
+          move = _;
+          placed = h;
+          takes = project-takes (h .short) (o .entries) (h .standing);
+          divides = c .before .before .before .before .divide .ensures (o .expr) (project (o .entries) (o .plan)) (o .rests);
+        },
+        p .1 .1,
+      ),
     ))
     (λ c. search needs)
     (λ c e es q h. let d = c .before .before .before .before .before .before .before .divide .ensures e (project es q) h in

@@ -33,10 +33,13 @@ is-over-spec =
     (λ c κs. let p = c .before .before .before .before .before .pre .1 .0 .0 in omega (arith, lists-room (p .lists) (p .most), c .loop-test .taken))
     (λ c κs. let p = c .before .before .before .before .before .before .pre .1 in (
       c .before .before .before .before .before .before .pre .0,
-      ((
-        record { expr = _; item = lists-at (p .0 .0 .lists) (p .0 .0 .most) _ _ (c .before .loop-test .taken) (c .item-at .ensures) },
-        p .0 .1,
-      ), p .1),
+      (
+        (
+          record { expr = _; item = lists-at (p .0 .0 .lists) (p .0 .0 .most) _ _ (c .before .loop-test .taken) (c .item-at .ensures) },
+          p .0 .1,
+        ),
+        p .1,
+      ),
     ))
     (λ c. omega (arith, c .before .before .before .before .before .before .before .pre .1 .0 .0 .most))
     (λ c. omega arith)

@@ -24,21 +24,19 @@ rewrite-subquery-alias-spec =
     (λ c κs. let p = c .before .before .before .before .before .pre in rw (p .0) (standing-plan (p .1 .0 .rests .placed .standing)))
     (λ c κs. let h = c .before .before .before .before .before .before .pre .1 .0 in record { image = _; expr = h .expr; shaped = h .rests .shaped })
     (λ c. omega (arith, c .before .before .before .before .before .before .before .pre .1 .0 .rests .placed .standing .small))
-    (λ c κs. let p = c .before .before .before .before .before .before .before .before .pre in
-    (rw (p .0) (plan-readable (p .1 .0 .rests .placed .standing)), (omega (arith, p .1 .1 .1), p .1 .1 .2, p .1 .1 .3)))
-    (λ c. omega (arith, c .before .before .before .before .before .before .before .before .before .before .before .pre .1 .0 .rests .placed .standing .small))
-    (λ c κs. let p = c .before .before .before .before .before .before .before .before .before .before .before .pre in
+    (λ c κs. let p = c .before .before .before .before .before .before .before .pre in
     let h = p .1 .0 .rests .placed in
     (omega arith, input-within _ (p .0) (omega arith) (alias-input (h .short) (h .standing))))
-    (λ c. omega (arith, c .before .before .before .before .before .before .before .before .before .before .before .before .pre .1 .0 .rests .placed .standing .small))
+    (λ c κs. let p = c .before .before .before .before .before .before .before .before .before .pre in
+    (rw (p .0) (plan-readable (p .1 .0 .rests .placed .standing)), (omega (arith, p .1 .1 .1), p .1 .1 .2, p .1 .1 .3)))
     (λ c. omega (arith, c .before .before .before .before .before .before .before .before .before .before .before .before .before .before .pre .1 .1 .1))
     (λ c κs. let p = c .before .before .before .before .before .before .before .before .before .before .before .before .before .before .pre in
     let o = p .1 .0 in
     let h = o .rests in
     let q = alias (o .qualifier) (o .plan) in
     let k = alias-input (h .placed .short) (h .placed .standing) in
-    let w = c .before .before .before .before .before .copy-some .ensures (planTree q) (rw (p .0) (h .placed .standing .here)) in (
-      c .before .before .from-record .ensures ∙ input-stretch _ (p .0) (omega arith) k,
+    let w = c .before .before .before .before .copy-some .ensures (planTree q) (rw (p .0) (h .placed .standing .here)) in (
+      c .before .before .before .before .before .before .from-record .ensures ∙ input-stretch _ (p .0) (omega arith) k,
       (
         record {
           expr = o .expr;
@@ -60,7 +58,7 @@ rewrite-subquery-alias-spec =
     (λ c. search needs)
     (λ c e i q h. let p = c .before .before .before .before .before .before .before .before .before .before .before .before .before .before .before .before .before .before .before .pre in
     let a = alias i q in
-    let w = c .before .before .before .before .before .before .before .before .before .before .copy-some .ensures (planTree a) (rw (p .0) (h .placed .standing .here)) in
+    let w = c .before .before .before .before .before .before .before .before .before .copy-some .ensures (planTree a) (rw (p .0) (h .placed .standing .here)) in
     let v = c .before .before .before .before .copy-renamed .ensures e q (schema a) (record {
       standing = alias-input (h .placed .short) (h .placed .standing);
       names = c .before .before .before .before .before .before .before .before .before .before .before .before .before .schema-columns .ensures a _ (rw (p .0) (h .placed .standing .here)) (c .before .before .before .before .before .before .before .before .before .before .before .before .before .before .no-fields .ensures);

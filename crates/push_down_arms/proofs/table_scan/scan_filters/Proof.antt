@@ -1,6 +1,6 @@
 -- `table_scan::scan_filters` meets its contract. The loop's invariant: what is listed, and then the filters that are left, are all.
 use mathlib.Core.List.{List}
-use Prim.Native.Nat.{ℕ, _*_, _-_}
+use Prim.Native.Nat.{ℕ, _*_}
 use native.Mathlib.Omega.{arith}
 use borrow.Author.Needs.{needs}
 use lib.ListN.{length-drop, length}

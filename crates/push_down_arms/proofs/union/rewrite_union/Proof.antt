@@ -1,6 +1,6 @@
 -- `union::rewrite_union` meets its contract. The loop's invariant: what is left of the inputs, each under its Filter, completes the output.
 use mathlib.Core.Path.{_≡_, refl, sym, _∙_}
-use Prim.Native.Nat.{_+_, _-_}
+use Prim.Native.Nat.{_+_}
 use native.Mathlib.Omega.{arith}
 use borrow.Author.Needs.{needs}
 use lib.ListN.{length, length-drop}

@@ -13,15 +13,18 @@ rewrite-window-spec =
     let o = p .1 .0 in
     let h = o .rests .placed in (
       p .0,
-      (record {
-        above = window (o .entries);
-        plan = o .plan;
-        stay = _;
-        move = _;
-        placed = h;
-        takes = window-takes (h .short) (o .entries) (h .standing);
-        divides = c .before .divide .ensures (o .expr) (window (o .entries) (o .plan)) (o .rests);
-      }, p .1 .1),
+      (
+        record {
+          above = window (o .entries);
+          plan = o .plan;
+          stay = _;
+          move = _;
+          placed = h;
+          takes = window-takes (h .short) (o .entries) (h .standing);
+          divides = c .before .divide .ensures (o .expr) (window (o .entries) (o .plan)) (o .rests);
+        },
+        p .1 .1,
+      ),
     ))
     (λ c. search needs)
     (λ c e ws q h. rw (window-pushed e ws q)
