@@ -1,5 +1,5 @@
 -- The kinds of plans whose input is their last child are frames.
-use Prim.Native.Nat.{ℕ, suc, _+_}
+use Prim.Native.Nat.{ℕ, suc, _+_, _-_}
 use native.Mathlib.Omega.{arith}
 use mathlib.Core.Path.{_≡_, refl, sym, ap, subst, _∙_}
 use mathlib.Core.List.{List, [], _∷_, _++_, append-assoc, append-nil}
@@ -14,10 +14,10 @@ use Rattle.plan.specs.Syntax.{Entry, Key, AggEntry, WinEntry, Plan, scan, proje
 use Rattle.plan.specs.Measure.{sizes}
 use Rattle.plan.specs.Trees.{labelP, kidsP, planTree, each, entryLabel, entryKids, keyLabel, keyKids, aggLabel, aggKids, winLabel}
 use Rattle.plan.specs.Trees.{winKids}
-use Rattle.push_down_base.specs.Around.{WroteAll, window as run}
+use Rattle.push_down_base.specs.Around.{WroteAll}
 use Rattle.push_down_base.specs.Frames.{Frame}
 use Rattle.push_down_base.proofs.Runs.{run-recs, run-count}
-use Rattle.push_down_base.proofs.Windows.{window-take, wrote-then, wrote-tree, tree-wrote}
+use Rattle.push_down_base.proofs.Windows.{wrote-then, wrote-tree, tree-wrote}
 
 -- a plan to read a frame's label from
 abbrev none-read : Plan
@@ -85,10 +85,10 @@ aggregate-frame gs ags = record {
 
 -- the plan's own records are written, and then another input
 pub wrote-framed : {f : Plan → Plan} {k : ℕ} {out out₁ out₂ : List ℕ} {at level y r₁ r₂ : ℕ} (x : ℕ) (p q : Plan) → Frame f k → length out ≡ workBytes
-    → y ≡ x + k → WroteAll out out₁ at r₁ (run x y x (recs level (planTree (f p)))) → Wrote out₁ out₂ r₁ (level + 1) r₂ (planTree q)
+    → y ≡ x + k → WroteAll out out₁ at r₁ (take (y - x) (recs level (planTree (f p)))) → Wrote out₁ out₂ r₁ (level + 1) r₂ (planTree q)
     → Wrote out out₂ at level r₂ (planTree (f q))
 wrote-framed {f} {k} {out} {out₁} {at = at} {level} {y} {r₁} x p q h long e w v =
-    let i : run x y x (recs level (planTree (f p))) ≡ h .own level =
-    ap (λ j. run x j x (recs level (planTree (f p)))) e ∙ window-take x k x (recs level (planTree (f p))) (omega arith)
-    ∙ ap (take k) (h .is level p) ∙ take-at (h .own level) (recs (level + 1) (planTree p)) k (sym (h .count level)) in
+    let n : y - x ≡ k = omega arith in
+    let i : take (y - x) (recs level (planTree (f p))) ≡ h .own level =
+    ap (λ j. take j (recs level (planTree (f p)))) n ∙ ap (take k) (h .is level p) ∙ take-at (h .own level) (recs (level + 1) (planTree p)) k (sym (h .count level)) in
     tree-wrote (h .is level q) (wrote-then long (subst (λ l. WroteAll out out₁ at r₁ l) i w) (wrote-tree v))

@@ -8,7 +8,7 @@ use mathlib.Core.List.{List, [], _∷_, _++_, append-assoc, append-nil}
 use Prim.Native.Nat.{ℕ, suc, _+_, _-_, _*_, _≤_, _<_}
 use native.Mathlib.Omega.{arith}
 use lib.ListN.{length, take, drop, getD, length-drop}
-use lib.Seq.{drop-drop, take-at, length-sets}
+use lib.Seq.{take-at, length-sets}
 use Rattle.image.specs.Limits.{workBytes, noRoom, maxBelow}
 use Rattle.image.specs.Room.{Wrote}
 use Rattle.image.specs.Tree.{Label, Forest, none, node, Deep, At}
@@ -19,14 +19,15 @@ use Rattle.plan.specs.Measure.{sizes}
 use Rattle.plan.specs.Syntax.{Expr, Field, scan}
 use Rattle.plan.specs.Trees.{labelE, kidsE, labelP, kidsP, exprTree, planTree, each, fieldLabel, nothingBelow}
 use Rattle.conjuncts.specs.Items.{Conjuncts, FALSE, listed, Lists}
-use Rattle.conjuncts.specs.Standing.{Standing}
+use Rattle.conjuncts.specs.Standing.{Standing, Stretch}
 use Rattle.conjuncts.proofs.Listed.{lists-none, next, at-end}
-use Rattle.push_down_base.specs.Around.{WroteAll, window}
+use Rattle.conjuncts.proofs.Operands.{part-of}
+use Rattle.push_down_base.specs.Around.{WroteAll}
 use Rattle.push_down_base.specs.Arms.{Placed}
 use Rattle.push_down_arms.specs.Scans.{Adds}
 use Rattle.push_down_base.proofs.Runs.{run-recs, run-count}
 use Rattle.push_down_arms.proofs.Shaping.{standing-item}
-use Rattle.push_down_base.proofs.Windows.{window-take, wrote-none, wrote-then, wrote-tree, tree-wrote}
+use Rattle.push_down_base.proofs.Windows.{wrote-none, wrote-then, wrote-tree, tree-wrote}
 
 -- ---- the scan's own filters
 
@@ -57,11 +58,11 @@ filters-start {fs = fs} {es} h k = record {
 abbrev pub Added : List ℕ → Label → ℕ → Conjuncts → Conjuncts → Type 0
 Added s l n c r = (ds : List Expr) → Lists s c ds → Adds s l n r ds
 
-pub filters-next : {s : List ℕ} {x y : ℕ} {r r′ : Conjuncts} {es : List Expr} (l : Label) (cs ns : Forest) → Filters s r es (node l cs ns)
-    → length s ≤ workBytes → x < y → At (record { label = l; below = cs }) (drop (32 * (y - x)) (drop (32 * x) s)) y → Deep cs maxBelow
+pub filters-next : {s part : List ℕ} {x y : ℕ} {r r′ : Conjuncts} {es : List Expr} (l : Label) (cs ns : Forest) → Filters s r es (node l cs ns)
+    → length s ≤ workBytes → Stretch s x part → x < y → At (record { label = l; below = cs }) (drop (32 * (y - x)) part) y → Deep cs maxBelow
     → Added s l y r r′ → Filters s r′ es ns
 unfolding each
-filters-next {s} {x} {y} {r} {r′} {es} l cs ns h short past here deep add = go (h .fields) (h .rest) (h .is) (h .fits) (h .completes)
+filters-next {s} {part} {x} {y} {r} {r′} {es} l cs ns h short stretch past here deep add = go (h .fields) (h .rest) (h .is) (h .fits) (h .completes)
   where
     go : (fields : List Field) (rest : List Expr) → node l cs ns ≡ each fieldLabel nothingBelow fields (each labelE kidsE rest none)
         → Every FitsE rest → h .done ++ rest ≡ es → Filters s r′ es ns
@@ -69,8 +70,7 @@ filters-next {s} {x} {y} {r} {r′} {es} l cs ns h short past here deep add = go
     go [] (x₁ ∷ rest) i f e =
         let il : l ≡ labelE x₁ = cc in
         let ic : cs ≡ kidsE x₁ = cc in
-        let n : 32 * x + 32 * (y - x) ≡ 32 * y = omega arith in
-        let t : At (exprTree x₁) (drop (32 * y) s) y = rw (il, ic, drop-drop, n) at here in
+        let t : At (exprTree x₁) (drop (32 * y) s) y = rw (il, ic, part-of s part x y stretch (omega arith)) at here in
         let st : Standing s y x₁ = record {
           within = omega (arith, t .head .room, length-drop (32 * y) s);
           here = t;
@@ -166,13 +166,12 @@ own-count level t fs = ap suc (run-count fieldLabel nothingBelow fs (level + 1) 
     go (f ∷ fs) = omega (arith, go fs)
 
 pub scan-wrote : {out out₁ out₂ : List ℕ} {at level r₁ r₂ : ℕ} (x k t : ℕ) (fs : List Field) (es ys : List Expr) → length out ≡ workBytes
-    → k ≡ length fs → WroteAll out out₁ at r₁ (window x (x + 1 + k) x (recs level (planTree (scan t fs es))))
+    → k ≡ length fs → WroteAll out out₁ at r₁ (take (x + 1 + k - x) (recs level (planTree (scan t fs es))))
     → WroteAll out₁ out₂ r₁ r₂ (run (level + 1) ys) → Wrote out out₂ at level r₂ (planTree (scan t fs ys))
 scan-wrote {out} {out₁} {at = at} {level} {r₁} x k t fs es ys long c w v =
-    let n : x + 1 + k ≡ x + suc (length fs) = omega arith in
-    let i : window x (x + 1 + k) x (recs level (planTree (scan t fs es))) ≡ own level t fs =
-    ap (λ j. window x j x (recs level (planTree (scan t fs es)))) n
-    ∙ window-take x (suc (length fs)) x (recs level (planTree (scan t fs es))) (omega arith)
+    let n : x + 1 + k - x ≡ suc (length fs) = omega arith in
+    let i : take (x + 1 + k - x) (recs level (planTree (scan t fs es))) ≡ own level t fs =
+    ap (λ j. take j (recs level (planTree (scan t fs es)))) n
     ∙ ap (take (suc (length fs))) (own-is level t fs es)
     ∙ take-at (own level t fs) (run (level + 1) es) (suc (length fs)) (own-count level t fs) in
     tree-wrote (own-is level t fs ys) (wrote-then long (subst (λ l. WroteAll out out₁ at r₁ l) i w) v)

@@ -8,11 +8,10 @@ use mathlib.Core.List.{List}
 use mathlib.Core.Option.{some}
 use lib.Dec.{eqb}
 use lib.ListN.{length, drop, length-drop}
-use lib.Seq.{drop-drop}
 use borrow.Author.Tests.{leb-true, eqb-true}
-use Rattle.image.specs.Limits.{maxList, maxFields, workBytes, maxBelow}
+use Rattle.image.specs.Limits.{maxList, maxFields, workBytes, maxBelow, maxDepth}
 use Rattle.image.specs.Room.{Put, Wrote}
-use Rattle.image.specs.Tree.{Label, Forest, none, node, Tree, Deep, At}
+use Rattle.image.specs.Tree.{Label, Forest, none, node, Tree, Deep, At, Readable}
 use Rattle.image.proofs.Room.{Left, put-start, left-next, left-end}
 use Rattle.image.proofs.Walking.{only}
 use Rattle.plan.specs.Syntax.{Name, Expr, Plan, Plans, pnil, pcons, filter, union}
@@ -26,13 +25,15 @@ use Rattle.acceptance.specs.NamesRule.{ok-all, rule}
 use Rattle.rewrite.specs.Utils.{replace-cols}
 use Rattle.rewrite.specs.Limits.{listP, listPs}
 use Rattle.rewrite.specs.PushDownFilter.{filter-each, renamed, ren, rewrite-filter}
-use Rattle.conjuncts.specs.Standing.{StandingP}
+use Rattle.conjuncts.specs.Standing.{StandingP, Stretch}
+use Rattle.conjuncts.proofs.Operands.{part-of}
 use Rattle.utils.specs.Fields.{Fields, Names}
 use Rattle.push_down_base.specs.Predicates.{Predicate, Perhaps}
 use Rattle.push_down_arms.specs.Renaming.{Renamed}
 use Rattle.push_down_base.specs.Arms.{Rests}
 use Rattle.push_down_base.proofs.Answering.{few}
 use Rattle.push_down_base.proofs.Plain.{renamed-parts}
+use Rattle.push_down_base.proofs.Steps.{deep-more}
 
 -- of the inputs, whose names are ns by place, `rest` is left, the trees of `f`: each of one width, and to be written from record `to` on
 pub record Inputs (ns : List Name) (e : Expr) (all : Plans) (out₀ : List ℕ) (at₀ level : ℕ) (out : List ℕ) (to : ℕ) (f : Forest) : Type 0 where
@@ -148,12 +149,11 @@ module _ {s : List ℕ} {x : ℕ} {from : Fields} {below : Predicate} {e : Expr}
 
   -- the first of those that are left may be written
   pub renames-first : {out₀ : List ℕ} {at₀ level : ℕ} {out : List ℕ} {to y : ℕ} {l : Label} {cs f : Forest}
-      (k : First (schema (union ps)) e ps out₀ at₀ level out to l cs f) → x < y
-      → At (record { label = l; below = cs }) (drop (32 * (y - x)) (drop (32 * x) s)) y → Deep cs maxBelow
+      {part : List ℕ} (k : First (schema (union ps)) e ps out₀ at₀ level out to l cs f) → Stretch s x part → x < y
+      → At (record { label = l; below = cs }) (drop (32 * (y - x)) part) y → Deep cs maxBelow
       → Renamed s from below y e (k .plan) (schema (union ps))
-  renames-first {y = y} {l} {cs} k past here deep =
-      let i : 32 * x + 32 * (y - x) ≡ 32 * y = omega arith in
-      let t : At (planTree (k .plan)) (drop (32 * y) s) y = rw (k .label, k .below, drop-drop, i) at here in
+  renames-first {y = y} {part = part} k stretch past here deep =
+      let t : At (planTree (k .plan)) (drop (32 * y) s) y = rw (k .label, k .below, part-of s part x y stretch (omega arith)) at here in
       record {
         standing = record {
           within = omega (arith, t .head .room, length-drop (32 * y) s);
@@ -168,6 +168,12 @@ module _ {s : List ℕ} {x : ℕ} {from : Fields} {below : Predicate} {e : Expr}
         most = h .most;
         changed = h .changed;
       }
+
+-- there is such a Union
+pub record SomeSpread (s : List ℕ) (x : ℕ) (from : Fields) (below : Predicate) : Type 0 where
+  pub expr : Expr
+  pub inputs : Plans
+  pub spread : Spread s x from below expr inputs
 
 pub spread-of : {s : List ℕ} {x : ℕ} {p : Predicate} {from : Fields} {below : Predicate} {e : Expr} {ps : Plans} → Rests s x p e (union ps)
     → Names from (schema (union ps)) → below .list .len ≤ maxList → ((σ : Name → Expr) → Perhaps s σ below (some (replace-cols σ e)))
@@ -189,6 +195,7 @@ pub union-wrote : {out₀ out₁ out : List ℕ} {at at₁ level to : ℕ} {l : 
 unfolding labelP kidsP rewrite-filter schema
 union-wrote e ps long p i h = rw i at (left-end long p h)
 
--- a tree that stands in one place is as deep as it is
-pub deep-as : {t v : Tree} {s : List ℕ} {b : ℕ} (d : ℕ) → At t s b → At v s b → Deep (v .below) d → Deep (t .below) d
-deep-as d h k e = subst (λ (x : Tree). Deep (x .below) d) (only k h) e
+-- a tree that stands below the top of a plan is no deeper than a plan
+pub readable-deep : {t : Tree} {s : List ℕ} {b : ℕ} → At t s b → Readable (maxDepth - 1) s b → Deep (t .below) maxBelow
+readable-deep {t} h r =
+    deep-more (t .below) (maxBelow - 1) maxBelow (subst (λ (x : Tree). Deep (x .below) (maxBelow - 1)) (only (r .at) h) (r .deep)) (omega arith)

@@ -1,4 +1,5 @@
 // The arm TableScan (1118 to 1195): the conjuncts that the scan takes join its filters, the rest stays above, volatile ones last.
+// `part` is the scan at record x, as its stretch of the image.
 use crate::through::keep_filter;
 use crate::with_filters::copy_some;
 use conjuncts::lists::Conjuncts;
@@ -17,7 +18,6 @@ use image::records::KIND;
 use image::records::LO;
 use image::records::NEXT_LINK;
 use image::records::from_record;
-use image::records::record_at;
 use image::words::word_at;
 use plan::kinds::FIELD;
 use plan::kinds::FILTER;
@@ -27,7 +27,7 @@ use push_down_base::predicates::Written;
 use utils::has_all_column_refs::columns_at;
 use utils::schema_columns::Fields;
 use utils::schema_columns::no_fields;
-use utils::schema_columns::schema_at;
+use utils::schema_columns::schema_columns;
 use utils::sets::is_within;
 use utils::sets::mark;
 use writing::conjunction::copy_item;
@@ -50,12 +50,13 @@ ghost use Rattle.plan.specs.Trees.{each, kidsE, labelE, planTree};
 ghost use Rattle.rewrite.specs.PushDownFilter.{marked, rewrite-filter};
 ghost use Rattle.rewrite.specs.Utils.{is-volatile, with-filters};
 ghost use Rattle.conjuncts.specs.Items.{Item, Known, Lists, Present};
+ghost use Rattle.conjuncts.specs.Standing.{Stretch};
 ghost use Rattle.utils.specs.Fields.{Names};
 ghost use Rattle.utils.specs.Masks.{Masks};
 ghost use Rattle.writing.specs.Plans.{ThereP};
 ghost use Rattle.push_down_base.specs.Arms.{Answers, Arm, Placed, Rests};
 ghost use Rattle.push_down_base.specs.Around.{WroteAll};
-ghost use Rattle.push_down_arms.specs.Scans.{Adds, OverScan, Shares, SomeScan, supports, told};
+ghost use Rattle.push_down_arms.specs.Scans.{Adds, OverScan, ScanHere, Shares, SomeScan, supports, told};
 
 // The scan's answer to the conjunct n: it takes one that has a column if all its columns are marked.
 pub fn supports_filters_pushdown(s: &[u8], n: usize, fields: Fields, marked: u64) -> bool
@@ -109,16 +110,16 @@ fn select_supported(s: &[u8], c: Conjuncts, fields: Fields, marked: u64, taken: 
     r
 }
 
-// The marked fields of the scan at record x, which has k: each is one record.
-fn marked_fields(s: &[u8], x: usize, k: usize) -> u64
-    requires { ⌜ SomeScan (now s) x k ⌝ }
-    ensures { λ r. ⌜ ((t : ℕ) (fs : List Field) (es : List Expr) → Placed (now (s .entry)) x (scan t fs es) → k ≡ length fs →
-        Masks r (schema (scan t fs es)) (marked fs)) ⌝ }
+// The marked fields of the scan, which has k: each is one record.
+fn marked_fields(part: &[u8], x: usize, k: usize) -> u64
+    requires { ⌜ ScanHere (now part) x k ⌝ }
+    ensures { λ r. ⌜ ((s : List ℕ) (t : ℕ) (fs : List Field) (es : List Expr) → Stretch s x (now (part .entry)) →
+        Placed s x (scan t fs es) → k ≡ length fs → Masks r (schema (scan t fs es)) (marked fs)) ⌝ }
 {
     let mut set = 0u64;
     let mut i = 0;
     while i < k {
-        let field = record_at(s, x + 1 + i);
+        let field = from_record(part, x, x + 1 + i);
         set = mark(set, i, word_at(field, LO) == MARKED);
         i += 1;
     }
@@ -132,16 +133,17 @@ pub struct Share {
     pub left: Conjuncts,
 }
 
-// The share of the scan at record x in the predicate p: of what is left the volatile conjuncts come last.
-pub fn share_of(s: &[u8], x: usize, p: Predicate) -> Share
+// The share of the scan in the predicate p: of what is left the volatile conjuncts come last.
+pub fn share_of(s: &[u8], part: &[u8], x: usize, p: Predicate) -> Share
+    requires { ⌜ Stretch (now s) x (now part) ⌝ }
     requires { ⌜ OverScan (now s) x p ⌝ }
     ensures { λ z. ⌜ ((e : Expr) (t : ℕ) (fs : List Field) (es : List Expr) → Rests (now (s .entry)) x p e (scan t fs es) →
         Shares (now (s .entry)) (z .fields) (z .taken) (z .left) fs e) ⌝ }
 {
     let list = p.list;
-    let fields = schema_at(s, x, no_fields());
+    let fields = schema_columns(part, x, MAX_DEPTH, no_fields());
     let k = fields.len;
-    let marked = marked_fields(s, x, k);
+    let marked = marked_fields(part, x, k);
     let lasting = add_volatile(s, empty(), list, false);
     let taken = select_supported(s, lasting, fields, marked, true);
     let rest = select_supported(s, lasting, fields, marked, false);
@@ -153,24 +155,23 @@ pub fn share_of(s: &[u8], x: usize, p: Predicate) -> Share
     }
 }
 
-// Appends the child at the start of `part`, which has the number n, unless it is a field.
-fn add_filter(c: Conjuncts, part: &[u8], n: usize) -> Conjuncts
-    requires { ⌜ (32 ≤ length (now part)) × (n < maxRecords) ⌝ }
-    ensures { λ r. ⌜ ((s : List ℕ) (ds : List Expr) → Lists s c ds → Adds s (labelAt (now (part .entry))) n r ds) ⌝ }
+// Appends a child, of which `child` is the stretch and n the number, unless it is a field.
+fn add_filter(c: Conjuncts, child: &[u8], n: usize) -> Conjuncts
+    requires { ⌜ (32 ≤ length (now child)) × (n < maxRecords) ⌝ }
+    ensures { λ r. ⌜ ((s : List ℕ) (ds : List Expr) → Lists s c ds → Adds s (labelAt (now (child .entry))) n r ds) ⌝ }
 {
-    if word_at(part, KIND) == FIELD {
+    if word_at(child, KIND) == FIELD {
         return c;
     }
     add(c, n)
 }
 
-// The filters of the scan at record x: its children that are no fields.
-fn scan_filters(s: &[u8], x: usize) -> Conjuncts
-    requires { ⌜ ((k : ℕ) × SomeScan (now s) x k) ⌝ }
-    ensures { λ r. ⌜ ((t : ℕ) (fs : List Field) (es : List Expr) → Placed (now (s .entry)) x (scan t fs es) →
-        Lists (now (s .entry)) r es) ⌝ }
+// The filters of the scan: its children that are no fields.
+fn scan_filters(part: &[u8], x: usize) -> Conjuncts
+    requires { ⌜ ((k : ℕ) × ScanHere (now part) x k) ⌝ }
+    ensures { λ r. ⌜ ((s : List ℕ) (t : ℕ) (fs : List Field) (es : List Expr) → Stretch s x (now (part .entry)) →
+        Placed s x (scan t fs es) → Lists s r es) ⌝ }
 {
-    let part = record_at(s, x);
     let mut r = empty();
     let mut at = word_at(part, FIRST_LINK);
     while at != 0 {
@@ -181,14 +182,22 @@ fn scan_filters(s: &[u8], x: usize) -> Conjuncts
     r
 }
 
-// Writes the items of a list, one after another. None has its columns replaced: the plan at record x serves as the map.
-fn copy_items(s: &[u8], x: usize, c: Conjuncts, out: &mut [u8], at: usize, level: usize) -> usize
+// Writes the items of a list, one after another. None has its columns replaced: the scan serves as the map.
+fn copy_items(
+    s: &[u8],
+    part: &[u8],
+    x: usize,
+    c: Conjuncts,
+    out: &mut [u8],
+    at: usize,
+    level: usize,
+) -> usize
+    requires { ⌜ Stretch (now s) x (now part) ⌝ }
     requires { ⌜ Known (now s) c × ThereP (now s) x ⌝ }
     requires { ⌜ BufferAt 2 level (now out) at ⌝ }
     ensures { λ r. ⌜ ((es : List Expr) → Lists (now (s .entry)) c es →
         WroteAll (now (out .entry)) (now (out .exit)) at r (recsAny level (each labelE kidsE es none))) ⌝ }
 {
-    let part = record_at(s, x);
     let n = c.len;
     let mut to = at;
     let mut i = 0;
@@ -199,9 +208,10 @@ fn copy_items(s: &[u8], x: usize, c: Conjuncts, out: &mut [u8], at: usize, level
     to
 }
 
-// Writes the scan at record x, which has k fields, with the filters of the list in the place of its own.
+// Writes the scan, which has k fields, with the filters of the list in the place of its own.
 fn write_scan(
     s: &[u8],
+    part: &[u8],
     x: usize,
     k: usize,
     filters: Conjuncts,
@@ -209,19 +219,20 @@ fn write_scan(
     at: usize,
     level: usize,
 ) -> usize
+    requires { ⌜ Stretch (now s) x (now part) ⌝ }
     requires { ⌜ SomeScan (now s) x k × Known (now s) filters ⌝ }
     requires { ⌜ BufferAt 3 level (now out) at ⌝ }
     ensures { λ r. ⌜ ((t : ℕ) (fs : List Field) (es ys : List Expr) → Placed (now (s .entry)) x (scan t fs es) → k ≡ length fs →
         Lists (now (s .entry)) filters ys → Wrote (now (out .entry)) (now (out .exit)) at level r (planTree (scan t fs ys))) ⌝ }
 {
-    let part = record_at(s, x);
-    let first = copy_some(part, x, MAX_DEPTH, x, x + 1 + k, out, at, level);
-    copy_items(s, x, filters, out, first, level + 1)
+    let first = copy_some(part, x, MAX_DEPTH, x + 1 + k, out, at, level);
+    copy_items(s, part, x, filters, out, first, level + 1)
 }
 
 // The same under a Filter of what stays above, if anything does.
 fn write_filtered(
     s: &[u8],
+    part: &[u8],
     x: usize,
     k: usize,
     above: Conjuncts,
@@ -230,6 +241,7 @@ fn write_filtered(
     at: usize,
     level: usize,
 ) -> usize
+    requires { ⌜ Stretch (now s) x (now part) ⌝ }
     requires { ⌜ SomeScan (now s) x k × Known (now s) above × Known (now s) filters ⌝ }
     requires { ⌜ BufferAt 4 level (now out) at ⌝ }
     ensures { λ r. ⌜ ((t : ℕ) (fs : List Field) (es xs ys : List Expr) → Placed (now (s .entry)) x (scan t fs es) → k ≡ length fs →
@@ -237,40 +249,51 @@ fn write_filtered(
         Wrote (now (out .entry)) (now (out .exit)) at level r (planTree (with-filters xs (scan t fs ys)))) ⌝ }
 {
     if above.len == 0 {
-        return write_scan(s, x, k, filters, out, at, level);
+        return write_scan(s, part, x, k, filters, out, at, level);
     }
-    let part = record_at(s, x);
     let predicate = put_kind(out, at, FILTER, 0, level);
     let input = copy_joined(s, part, x, MAX_DEPTH, above, out, predicate, level + 1);
-    write_scan(s, x, k, filters, out, input, level + 1)
+    write_scan(s, part, x, k, filters, out, input, level + 1)
 }
 
 // Filter over TableScan.
 pub fn rewrite_table_scan(
     s: &[u8],
+    part: &[u8],
     x: usize,
     p: Predicate,
     out: &mut [u8],
     at: usize,
     level: usize,
 ) -> Written
+    requires { ⌜ Stretch (now s) x (now part) ⌝ }
     requires { ⌜ OverScan (now s) x p ⌝ }
     requires { ⌜ Arm (now out) at level ⌝ }
     ensures { λ r. ⌜ ((e : Expr) (t : ℕ) (fs : List Field) (es : List Expr) → Rests (now (s .entry)) x p e (scan t fs es) →
         Answers (now (out .entry)) (now (out .exit)) at level r (rewrite-filter e (scan t fs es))) ⌝ }
 {
-    let share = share_of(s, x, p);
+    let share = share_of(s, part, x, p);
     let taken = share.taken;
     if taken.len == 0 {
-        return keep_filter(s, x, p, out, at, level);
+        return keep_filter(s, part, x, p, out, at, level);
     }
-    let filters = unique(s, scan_filters(s, x), taken);
+    let filters = unique(s, scan_filters(part, x), taken);
     if MAX_LIST < filters.len {
         return Written {
             next: NO_ROOM,
             flag: true,
         };
     }
-    let next = write_filtered(s, x, share.fields, share.left, filters, out, at, level);
+    let next = write_filtered(
+        s,
+        part,
+        x,
+        share.fields,
+        share.left,
+        filters,
+        out,
+        at,
+        level,
+    );
     Written { next, flag: true }
 }

@@ -1,4 +1,3 @@
-pub mod Stretches
 pub mod Preserved
 pub mod Partnering
 pub mod Growing

@@ -1,5 +1,4 @@
 // schema_columns (utils.rs 144 to 155): the fields of a plan's schema, by their names, in order.
-use image::limits::MAX_DEPTH;
 use image::limits::MAX_FIELDS;
 use image::limits::TOO_MANY_FIELDS;
 use image::records::FIRST_LINK;
@@ -7,7 +6,6 @@ use image::records::KIND;
 use image::records::NEXT_LINK;
 use image::records::from_record;
 use image::records::label_at;
-use image::records::record_at;
 use image::words::wide;
 use image::words::word_at;
 use plan::kinds::AGGREGATE;
@@ -34,7 +32,6 @@ ghost use Rattle.image.specs.Tree.{At, Readable, Tree, labelAt};
 ghost use Rattle.plan.specs.Schema.{schema};
 ghost use Rattle.plan.specs.Syntax.{Name, Plan, nm};
 ghost use Rattle.plan.specs.Trees.{planTree};
-ghost use Rattle.conjuncts.specs.Standing.{StandingP};
 ghost use Rattle.utils.specs.Fields.{Names, placeIn};
 ghost use Rattle.utils.specs.Inputs.{Input, PlanHere, below, called, calledLabel, made, makesAll, makesField, own};
 
@@ -247,12 +244,4 @@ pub fn schema_columns(part: &[u8], base: usize, depth: usize, into: Fields) -> F
     ensures { λ r. ⌜ ((p : Plan) (ns : List Name) → At (planTree p) (now (part .entry)) base → Names into ns → Names r (ns ++ schema p)) ⌝ }
 {
     add_schema(part, base, depth, into, false, 0)
-}
-
-// Appends the fields of the plan at record n of the image.
-pub fn schema_at(s: &[u8], n: usize, into: Fields) -> Fields
-    requires { ⌜ ((p : Plan) × StandingP (now s) n p) ⌝ }
-    ensures { λ r. ⌜ ((p : Plan) (ns : List Name) → StandingP (now (s .entry)) n p → Names into ns → Names r (ns ++ schema p)) ⌝ }
-{
-    schema_columns(record_at(s, n), n, MAX_DEPTH, into)
 }

@@ -8,17 +8,16 @@ use mathlib.Core.Path.{_≡_, refl, sym, ap, subst, _∙_}
 use mathlib.Core.List.{List, [], _∷_, _++_}
 use Prim.Native.Nat.{ℕ, zero, suc, _+_, _-_, _*_, _≤_, _<_}
 use native.Mathlib.Omega.{arith}
-use lib.ListN.{length, getD, take, drop, length-drop}
+use lib.ListN.{length, getD, take, drop}
 use lib.Seq.{take-suc}
-use Rattle.image.specs.Limits.{maxRecords, maxDepth, maxList}
-use Rattle.image.specs.Tree.{At, Readable}
+use Rattle.image.specs.Limits.{maxDepth, maxList}
+use Rattle.image.specs.Tree.{Readable}
 use Rattle.plan.specs.Syntax.{Name, Expr, bin, and, Plan}
 use Rattle.plan.specs.Trees.{exprTree, planTree}
 use Rattle.rewrite.specs.Utils.{replace-cols, conjoin, with-filters}
-use Rattle.conjuncts.specs.Standing.{Standing, StandingP, Stretch}
+use Rattle.conjuncts.specs.Standing.{Standing, StandingP}
 use Rattle.conjuncts.specs.Items.{Conjuncts, FALSE, most, listed, Holds, Item, Items, inil, icons, Lists, replacedBy}
 use Rattle.conjuncts.proofs.Listed.{count-is, whole}
-use Rattle.conjuncts.proofs.Operands.{part-of}
 use Rattle.writing.specs.Maps.{Maps}
 use Rattle.writing.specs.Pushed.{Pushed, Each, nil, cons, Pushes, One, Some}
 
@@ -35,17 +34,6 @@ standing-readable {e = e} h = record { tree = exprTree e; at = h .here; some = o
 -- a plan that stands at a record can be read from there
 pub plan-readable : {s : List ℕ} {n : ℕ} {p : Plan} → StandingP s n p → Readable maxDepth (drop (32 * n) s) n
 plan-readable {p = p} h = record { tree = planTree p; at = h .here; some = omega arith; deep = h .deep }
-
--- a plan that stands in the image, in a stretch that begins before it
-module _ {s part : List ℕ} {y : ℕ} {q : Plan} (x : ℕ) (h : Stretch s x part) (le : x ≤ y) (k : StandingP s y q) where
-  pub input-within : 32 * (y - x) ≤ length part
-  input-within = rw (h, length-drop) (omega (arith, k .within))
-
-  pub input-at : At (planTree q) (drop (32 * (y - x)) part) y
-  input-at = rw (part-of s part x y h le) (k .here)
-
-  pub input-readable : Readable maxDepth (drop (32 * (y - x)) part) y
-  input-readable = rw (part-of s part x y h le) (plan-readable k)
 
 -- FALSE has no columns
 pub false-stays : (σ : Name → Expr) → replace-cols σ FALSE ≡ FALSE

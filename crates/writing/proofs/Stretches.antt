@@ -3,12 +3,12 @@
 --     own-..      a plan that stands at its start
 --     input-..    a plan that stands at a later record
 -- Assumes nothing.
-use mathlib.Core.Path.{_≡_, refl, _∙_}
+use mathlib.Core.Path.{_≡_, _∙_}
 use mathlib.Core.List.{List}
 use Prim.Native.Nat.{ℕ, _+_, _-_, _*_, _≤_}
 use native.Mathlib.Omega.{arith}
 use lib.ListN.{length, drop, length-drop}
-use lib.Seq.{drop-drop}
+use Rattle.conjuncts.proofs.Operands.{part-of}
 use Rattle.image.specs.Limits.{maxDepth}
 use Rattle.image.specs.Tree.{At, Readable}
 use Rattle.plan.specs.Syntax.{Plan}
@@ -18,7 +18,7 @@ use Rattle.writing.proofs.Pushing.{plan-readable}
 
 module _ (s : List ℕ) {part : List ℕ} {x : ℕ} (e : Stretch s x part) {y : ℕ} (le : x ≤ y) where
   pub stretch-at : {sub : List ℕ} → sub ≡ drop (32 * (y - x)) part → Stretch s y sub
-  stretch-at i = let n : 32 * x + 32 * (y - x) ≡ 32 * y = omega arith in i ∙ rw (e, drop-drop, n) refl
+  stretch-at i = i ∙ part-of s part x y e le
 
   pub stretch-within : 32 * y ≤ length s → 32 * (y - x) ≤ length part
   stretch-within h = rw (e, length-drop) (omega arith)

@@ -1,8 +1,8 @@
 -- What is written for the items of a list: an expression as it stands, or with its columns replaced.
 use mathlib.Core.Path.{_≡_}
 use mathlib.Core.List.{List, [], _∷_}
-use Prim.Native.Nat.{ℕ, _-_, _≤_, _<_, _*_}
-use Rattle.image.specs.Limits.{maxRecords, maxList}
+use Prim.Native.Nat.{ℕ, _-_, _≤_, _<_}
+use Rattle.image.specs.Limits.{maxList}
 use Rattle.plan.specs.Syntax.{Name, Expr}
 use Rattle.rewrite.specs.Utils.{replace-cols, conjoin}
 use Rattle.conjuncts.specs.Items.{Conjuncts, Holds, Item, clauseBy, replacedBy}

@@ -20,55 +20,57 @@ pub push-some-spec : {M : Type 1} → statement M
 push-some-spec =
     tie.close
     (tie.spec
-    (λ c κs. let p = c .before .before .before .before .before .pre .0 in
-    let k = p .divides in (
+    (λ c κs. let p = c .before .before .before .before .before .before .pre in
+    let o = p .1 .0 in
+    let k = o .divides in (
+      p .0,
       (
-        record { exprs = p .move; lists = k .moved; most = k .moved-most },
-        record { plan = p .above (p .plan); standing = p .placed .standing },
+        (
+          record { exprs = o .move; lists = k .moved; most = k .moved-most },
+          record { plan = o .above (o .plan); standing = o .placed .standing },
+        ),
+        o .placed .short,
       ),
-      p .placed .short,
     ))
     (λ c f q us ds h t k. let o = ltb-true maxList (parts (mapOf (f q)) ds)
     (sym (c .before .is-over .ensures ds (f q) (k .moved) (k .moved-single) (h .standing)) ∙ c .if1 .taken) in
     let m = pushed-many h t k o in
     record { flag = some-moved ds (k .moved) (k .moved-most); fits = λ small. absurd (omega arith); over = λ many. (refl, refl) })
-    (λ c κs. c .before .before .before .before .before .before .before .pre .0 .placed .standing .within)
-    (λ c κs. (maxDepth, rw (c .record-at .ensures) (plan-readable (c .before .before .before .before .before .before .before .before .pre .0 .placed .standing))))
-    (λ c κs. let k = c .before .before .before .before .before .before .before .before .before .pre .0 .divides in
+    (λ c κs. let p = c .before .before .before .before .before .before .before .before .pre in (maxDepth, rw (p .0) (plan-readable (p .1 .0 .placed .standing))))
+    (λ c κs. let k = c .before .before .before .before .before .before .before .before .before .pre .1 .0 .divides in
     record { image = _; known = record { exprs = _; lists = k .moved; most = k .moved-most } })
     (λ c κs. let p = c .before .before .before .before .before .before .before .before .before .before .before .pre in
-    let k = p .0 .divides in
-    let q = p .0 .above (p .0 .plan) in
-    let h = p .0 .placed .standing in
-    let i = c .before .before .before .record-at .ensures in
-    let y = c .before .before .last-child .ensures (planTree q) (rw i (h .here)) ∙ p .0 .takes .last in
-    let w = c .before .changed .ensures _ (mapOf q) (p .0 .move) (k .moved) in (
+    let o = p .1 .0 in
+    let k = o .divides in
+    let q = o .above (o .plan) in
+    let h = o .placed .standing in
+    let y = c .before .before .last-child .ensures (planTree q) (rw (p .0) (h .here)) ∙ o .takes .last in
+    let w = c .before .changed .ensures _ (mapOf q) (o .move) (k .moved) in (
+      p .0,
       (
-        record {
-          mapping = mapOf q;
-          maps = rw i (plan-maps h);
-          expr = conjunction (p .0 .stay);
-          perhaps = kept-perhaps k (mapOf q);
-          most = k .kept-most;
-        },
-        record {
-          mapping = mapOf q;
-          maps = rw i (plan-maps h);
-          expr = conjunction (map (replace-cols (mapOf q)) (p .0 .move));
-          perhaps = moved-perhaps k (mapOf q) w;
-          most = moved-small k (mapOf q) w;
-        },
-      ),
-      (
-        (record { plan = q; standing = h }, record { plan = p .0 .plan; standing = rw y (p .0 .takes .input) }),
-        (omega (arith, p .1 .0), p .1 .1, p .1 .2),
+        (
+          record {
+            mapping = mapOf q;
+            maps = rw (p .0) (plan-maps h);
+            expr = conjunction (o .stay);
+            perhaps = kept-perhaps k (mapOf q);
+            most = k .kept-most;
+          },
+          record {
+            mapping = mapOf q;
+            maps = rw (p .0) (plan-maps h);
+            expr = conjunction (map (replace-cols (mapOf q)) (o .move));
+            perhaps = moved-perhaps k (mapOf q) w;
+            most = moved-small k (mapOf q) w;
+          },
+        ),
+        ((omega (arith, y), record { plan = o .plan; standing = rw y (o .takes .input) }), p .1 .1),
       ),
     ))
     (λ c. search needs)
     (λ c f q us ds h t k. let o = ltb-false maxList (parts (mapOf (f q)) ds)
-    (sym (c .before .before .before .before .before .before .before .before .is-over .ensures ds (f q) (k .moved) (k .moved-single) (h .standing))
-    ∙ c .before .before .before .before .before .before .before .if1 .left) in
-    let i = c .before .before .before .before .before .before .record-at .ensures in
+    (sym (c .before .before .before .before .before .before .before .is-over .ensures ds (f q) (k .moved) (k .moved-single) (h .standing)) ∙ c .before .before .before .before .before .before .if1 .left) in
+    let i = c .before .before .before .before .before .before .before .before .before .before .before .before .before .before .pre .0 in
     let y = c .before .before .before .before .before .last-child .ensures (planTree (f q)) (rw i (h .standing .here)) ∙ t .last in
     let w = c .before .before .before .before .changed .ensures _ (mapOf (f q)) ds (k .moved) in
     answers (some-moved ds (k .moved) (k .moved-most)) (pushed-few h t k o)

@@ -13,16 +13,15 @@ pub keep-filter-spec : {M : Type 1} → statement M
 keep-filter-spec =
     tie.close
     (tie.spec
-    (λ c κs. c .before .before .pre .0 .rests .placed .standing .within)
     (λ c κs. let p = c .before .before .before .before .before .pre in
-    let h = p .0 .rests in
+    let o = p .1 .0 in
+    let h = o .rests in
     let k = h .placed .standing in (
-      record { mapping = mapOf (p .0 .plan); expr = p .0 .expr; predicate = shaped-predicate (mapOf (p .0 .plan)) (h .shaped); most = h .shaped .most },
-      (rw (c .before .before .record-at .ensures) (plan-readable k), (record { plan = p .0 .plan; standing = k }, (omega (arith, p .1 .0), p .1 .1))),
+      record { mapping = mapOf (o .plan); expr = o .expr; predicate = shaped-predicate (mapOf (o .plan)) (h .shaped); most = h .shaped .most },
+      (rw (p .0) (plan-readable k), (rw (p .0) (plan-readable k), (omega (arith, p .1 .1 .0), p .1 .1 .1))),
     ))
     (λ c. search needs)
-    (λ c e q h. answers refl (filter-few q (h .shaped) (h .placed .lists))
-    (c .before .before .make-filter .ensures (mapOf q)
-    (rw (c .before .before .before .before .before .record-at .ensures) (plan-maps (h .placed .standing))) e
-    (shaped-predicate (mapOf q) (h .shaped)) q
-    (h .placed .standing))))
+    (λ c e q h. let i = c .before .before .before .before .before .before .before .before .pre .0 in
+    answers refl (filter-few q (h .shaped) (h .placed .lists))
+    (c .before .before .make-filter .ensures (mapOf q) (rw i (plan-maps (h .placed .standing))) e (shaped-predicate (mapOf q) (h .shaped)) q
+    (rw i (h .placed .standing .here)))))

@@ -18,40 +18,39 @@ pub push-filter-spec : {M : Type 1} → statement M
 push-filter-spec =
     tie.close
     (tie.spec
-    (λ c κs. c .before .before .pre .0 .rests .placed .standing .within)
-    (λ c κs. (maxDepth, rw (c .record-at .ensures) (plan-readable (c .before .before .before .pre .0 .rests .placed .standing))))
+    (λ c κs. let p = c .before .before .before .pre in (maxDepth, rw (p .0) (plan-readable (p .1 .0 .rests .placed .standing))))
     (λ c κs. search needs)
     (λ c κs. let p = c .before .before .before .before .before .before .pre in
-    let h = p .0 .rests in
-    let q = p .0 .above (p .0 .plan) in
+    let t = p .1 .0 in
+    let h = t .rests in
+    let q = t .above (t .plan) in
     let k = h .placed .standing in
-    let y = c .before .before .last-child .ensures (planTree q) (rw (c .before .before .before .record-at .ensures) (k .here)) ∙ p .0 .takes .last in (
+    let y = c .before .before .last-child .ensures (planTree q) (rw (p .0) (k .here)) ∙ t .takes .last in (
+      p .0,
       (
-        record {
-          mapping = mapOf q;
-          maps = rw (c .before .before .before .record-at .ensures) (plan-maps k);
-          expr = none;
-          perhaps = gone refl
-              (c .before .empty .ensures .1);
-          most = omega (arith, c .before .empty .ensures .1);
-        },
-        record {
-          mapping = mapOf q;
-          maps = rw (c .before .before .before .record-at .ensures) (plan-maps k);
-          expr = some (p .0 .expr);
-          perhaps =
-              shaped-perhaps (mapOf q) (h .shaped);
-          most = h .shaped .most;
-        },
+        (
+          record {
+            mapping = mapOf q;
+            maps = rw (p .0) (plan-maps k);
+            expr = none;
+            perhaps = gone refl (c .before .empty .ensures .1);
+            most = omega (arith, c .before .empty .ensures .1);
+          },
+          record {
+            mapping = mapOf q;
+            maps = rw (p .0) (plan-maps k);
+            expr = some (t .expr);
+            perhaps = shaped-perhaps (mapOf q) (h .shaped);
+            most = h .shaped .most;
+          },
+        ),
+        ((omega (arith, y), record { plan = t .plan; standing = rw y (t .takes .input) }), p .1 .1),
       ),
-      ((record { plan = q; standing = k }, record { plan = p .0 .plan; standing = rw y (p .0 .takes .input) }), (omega (arith, p .1 .0), p .1 .1, p .1 .2)),
     ))
     (λ c. search needs)
-    (λ c e q f h t. let k = h .placed .standing in
-    let y = c .before .before .before .before .before .last-child .ensures (planTree (f q))
-    (rw (c .before .before .before .before .before .before .record-at .ensures) (k .here)) ∙ t .last in
+    (λ c e q f h t. let i = c .before .before .before .before .before .before .before .before .before .pre .0 in
+    let k = h .placed .standing in
+    let y = c .before .before .before .before .before .last-child .ensures (planTree (f q)) (rw i (k .here)) ∙ t .last in
     answers refl (taken-few t h)
-    (c .before .before .write-over .ensures (mapOf (f q)) (rw (c .before .before .before .before .before .before .record-at .ensures) (plan-maps k))
-    none (some e) (gone refl (c .before .before .before .before .empty .ensures .1)) (shaped-perhaps (mapOf (f q)) (h .shaped)) f q (t .own)
-    (t .frame) y k
-    (rw y (t .input)))))
+    (c .before .before .write-over .ensures (mapOf (f q)) (rw i (plan-maps k)) none (some e) (gone refl (c .before .before .before .before .empty .ensures .1))
+    (shaped-perhaps (mapOf (f q)) (h .shaped)) f q (t .own) (t .frame) y k (rw y (t .input)))))

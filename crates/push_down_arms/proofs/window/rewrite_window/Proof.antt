@@ -8,20 +8,23 @@ pub rewrite-window-spec : {M : Type 1} → statement M
 rewrite-window-spec =
     tie.close
     (tie.spec
-    (λ c κs. let o = c .before .before .pre .0 in record { expr = o .expr; plan = _; rests = o .rests })
-    (λ c κs. let p = c .before .before .before .before .pre in
-    let o = p .0 in
+    (λ c κs. let p = c .before .before .before .pre in (p .0, record { expr = p .1 .0 .expr; plan = _; rests = p .1 .0 .rests }))
+    (λ c κs. let p = c .before .before .before .before .before .pre in
+    let o = p .1 .0 in
     let h = o .rests .placed in (
-      record {
-        above = window (o .entries);
-        plan = o .plan;
-        stay = _;
-        move = _;
-        placed = h;
-        takes = window-takes (h .short) (o .entries) (h .standing);
-        divides = c .before .divide .ensures (o .expr) (window (o .entries) (o .plan)) (o .rests);
-      },
-      p .1,
+      p .0,
+      (
+        record {
+          above = window (o .entries);
+          plan = o .plan;
+          stay = _;
+          move = _;
+          placed = h;
+          takes = window-takes (h .short) (o .entries) (h .standing);
+          divides = c .before .divide .ensures (o .expr) (window (o .entries) (o .plan)) (o .rests);
+        },
+        p .1 .1,
+      ),
     ))
     (λ c. search needs)
     (λ c e ws q h. rw (window-pushed e ws q)

@@ -1,12 +1,12 @@
 -- `with_filters::copy_some` meets its contract. The measure is the depth.
 -- The loop's invariant: what is left of the children completes the run.
-use mathlib.Core.Path.{sym, _∙_}
-use Prim.Native.Nat.{ℕ, _+_, _<_}
+use mathlib.Core.Path.{_≡_, sym, _∙_}
+use Prim.Native.Nat.{ℕ, _+_, _-_, _<_}
 use native.Mathlib.Omega.{arith}
 use lib.ListN.{length-drop}
 use Rattle.image.proofs.Walking.{Chain, chain, round, again, done, for-all}
 use Rattle.image.specs.Places.{left}
-use Rattle.push_down_base.proofs.Windows.{Rest, rest-all, rest-next, rest-end, wrote-none, window-past, yes-within}
+use Rattle.push_down_base.proofs.Windows.{Rest, rest-all, rest-next, rest-end, wrote-none, wrote-one}
 use borrow.Fn.Kinds.{In}
 use borrow.Fn.PlainCycle.{Measures, is, falls, and}
 use Rattle.push_down_arms.proofs.with_filters.copy_some.Reads as copy-some
@@ -14,7 +14,7 @@ use Rattle.push_down_arms.proofs.with_filters.copy_some.Kinds as kinds
 use Rattle.push_down_arms.proofs.with_filters.+copy_some.Lts-copy_some as lts
 use Rattle.image.proofs.records.from_record.Reads as from-record-reads
 use Rattle.image.proofs.words.word_at.Reads as word-at-reads
-use Rattle.push_down_arms.proofs.with_filters.put_if.Reads as put-if-reads
+use Rattle.image.proofs.copying.put_label.Reads as put-label-reads
 use Rattle.push_down_arms.proofs.with_filters.+copy_some.{statement}
 use Rattle.push_down_arms.proofs.with_filters.+copy_some.Tie.{close}
 
@@ -28,16 +28,16 @@ abbrev below-measure : ℕ → In 2 kinds.ps
 below-measure t = and 2 kinds.ps (falls 2 kinds.ps _<_ μ t) copy-some.Pre
 
 abbrev Inv-loop : lts.InvT-loop
-Inv-loop part base depth first end out₀ at level to₀ from₀ out to from =
-    Chain (λ t rest. Rest first end (level + 1) (base + 1) out₀ to₀ (t .below) out to from rest) depth part base from
+Inv-loop part base depth end out₀ at level to₀ from₀ out to from =
+    Chain (λ t rest. Rest end (level + 1) (base + 1) out₀ to₀ (t .below) out to from rest) depth part base from
 
 abbrev μ-loop : lts.MeasureT-loop
-μ-loop part base depth first end out₀ at level to₀ from₀ out to from = left part base from
+μ-loop part base depth end out₀ at level to₀ from₀ out to from = left part base from
 
 pub +copy-some-spec : {M : Type 1} → statement M
 +copy-some-spec = close μ λ t. lts.spec (
-  put-if-reads.Asked,
-  put-if-reads.Learnt,
+  put-label-reads.Asked,
+  put-label-reads.Learnt,
   word-at-reads.Asked,
   word-at-reads.Learnt,
   from-record-reads.Asked,
@@ -49,11 +49,11 @@ pub +copy-some-spec : {M : Type 1} → statement M
     copy-some.Post
     Inv-loop
     μ-loop
-    (λ c. λ t h. rw (window-past _ _ _ _ (c .if1 .taken)) (wrote-none _ _ (c .before .before .before .pre .1 .1 .2)))
-    (λ c κs. let p = c .before .before .before .before .pre .1 in (omega (arith, p .0 .at .head .room), p .1 .1, p .1 .2))
+    (λ c. λ t h. let z : c .before .before .before .args .end - c .before .before .before .args .base ≡ 0 = omega (arith, c .if1 .taken) in rw z (wrote-none _ _ (c .before .before .before .pre .1 .1 .2)))
+    (λ c κs. let p = c .before .before .before .before .pre .1 in (omega (arith, p .0 .at .head .room), p .1 .1))
     (λ c κs. omega (arith, c .before .before .before .before .before .before .before .pre .1 .0 .at .head .room))
     (λ c. let p = c .before .before .before .before .before .before .before .before .pre .1 in
-    rw (c .word-at .ensures .0) (chain _ (p .0) (rest-all _ _ _ _ _ (p .1 .1) (c .before .before .before .put-if .ensures) (p .0 .at .head .first))))
+    rw (c .word-at .ensures .0) (chain _ (p .0) (rest-all _ _ _ _ (p .1 .1) (wrote-one (c .before .before .before .put-label .ensures)) (p .0 .at .head .first))))
     (λ c κs. let u = round _ (c .before .loop .inv) (c .loop-test .taken) in omega (arith, u .turn .past, u .turn .fits))
     (λ c. omega (arith, c .before .before .loop .inv .some))
     (λ c. omega (arith, c .before .before .before .before .before .before .before .before .before .before .before .before .pre .1 .1 .0))
@@ -78,7 +78,7 @@ pub +copy-some-spec : {M : Type 1} → statement M
     rw (c .word-at2 .ensures .0, part) (again _ k u (rest-next (u .turn .child) (u .turn .after) (u .so-far) e (u .turn .number))))
     (λ c. c .before .loop .inv .so-far .long ∙ sym (c .before .before .before .before .before .before .before .before .before .before .pre .1 .1 .1))
     (λ c. let k = c .before .loop .inv in
-    let put = c .before .before .before .before .before .put-if .ensures in
+    let put = wrote-one (c .before .before .before .before .before .put-label .ensures) in
     for-all _ (k .stands) (rest-end _ _ (k .tree) (c .before .before .before .before .before .before .before .before .before .before .pre .1 .1 .1)
-    (yes-within _ _ _ (c .before .before .before .before .before .before .before .if1 .left)) (rw (← k .stands .head .label) put)
+    (omega (arith, c .before .before .before .before .before .before .before .if1 .left)) (rw (← k .stands .head .label) put)
     (done _ k (c .loop-test .left))))

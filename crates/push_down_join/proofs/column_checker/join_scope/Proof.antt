@@ -12,7 +12,7 @@ use Rattle.writing.proofs.Pushing.{plan-readable}
 use Rattle.push_down_join.specs.Partners.{partnerIn, orSelf}
 use Rattle.push_down_join.proofs.JoinScope.{plan-here, join-short, join-single, keys-read, swap-has}
 use Rattle.push_down_join.proofs.ScopeSets.{partner-records}
-use Rattle.push_down_join.proofs.Stretches.{input-within, input-at, input-here}
+use Rattle.writing.proofs.Stretches.{input-within, input-at, input-here}
 use Rattle.push_down_join.proofs.column_checker.join_scope.Statement.{statement}
 use Rattle.push_down_join.proofs.column_checker.join_scope.Tie as tie
 

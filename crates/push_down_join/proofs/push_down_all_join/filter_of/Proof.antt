@@ -4,7 +4,7 @@ use lib.ListN.{length-drop}
 use Rattle.image.specs.Limits.{maxDepth}
 use Rattle.writing.proofs.Pushing.{plan-readable}
 use Rattle.push_down_join.proofs.JoinParts.{last-found, last-after, last-room, last-own, last-bare}
-use Rattle.push_down_join.proofs.Stretches.{stretch-at, stretch-within}
+use Rattle.writing.proofs.Stretches.{stretch-at, stretch-within}
 use Rattle.push_down_join.proofs.push_down_all_join.filter_of.Statement.{statement}
 use Rattle.push_down_join.proofs.push_down_all_join.filter_of.Tie as tie
 

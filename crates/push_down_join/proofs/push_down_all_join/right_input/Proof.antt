@@ -1,6 +1,6 @@
 use native.Mathlib.Omega.{arith}
 use Rattle.push_down_join.proofs.JoinParts.{right-at}
-use Rattle.push_down_join.proofs.Stretches.{input-within, input-at}
+use Rattle.writing.proofs.Stretches.{input-within, input-at}
 use Rattle.push_down_base.proofs.Steps.{left-input}
 use Rattle.push_down_join.proofs.push_down_all_join.right_input.Statement.{statement}
 use Rattle.push_down_join.proofs.push_down_all_join.right_input.Tie as tie

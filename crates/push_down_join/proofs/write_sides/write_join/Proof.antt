@@ -3,7 +3,7 @@ use native.Mathlib.Omega.{arith}
 use borrow.Author.Needs.{needs}
 use Rattle.image.proofs.Room.{cap-le}
 use Rattle.writing.proofs.Pushing.{maps-readable, plan-readable}
-use Rattle.push_down_join.proofs.Stretches.{own-here, input-within, input-here, input-readable}
+use Rattle.writing.proofs.Stretches.{own-here, input-within, input-here, input-readable}
 use Rattle.push_down_join.proofs.JoinWritten.{left-side, right-side, left-some, right-some, conditions-known, join-wrote}
 use Rattle.push_down_join.proofs.write_sides.write_join.Statement.{statement}
 use Rattle.push_down_join.proofs.write_sides.write_join.Tie as tie
