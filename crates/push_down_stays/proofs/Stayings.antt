@@ -2,27 +2,25 @@
 use Prim.Native.Nat.{ℕ}
 use native.Mathlib.Omega.{arith}
 use mathlib.Core.Path.{_≡_, refl, sym, ap, subst, _∙_}
-use mathlib.Core.Bool.{Bool, true, false}
+use mathlib.Core.Bool.{Bool, true, false, not}
 use mathlib.Core.List.{List, []}
 use mathlib.Core.Option.{Option, none, some}
 use lib.Dec.{eqb}
 use lib.ListN.{length}
-use borrow.Author.Tests.{eq-eqb, ne-eqb, eqb-true, eqb-false}
+use borrow.Author.Tests.{eqb-true, eqb-false}
 use Rattle.image.proofs.Walking.{only}
 use Rattle.plan.specs.Columns.{on-cols}
-use Rattle.plan.specs.Lists.{_&_}
 use Rattle.plan.specs.Schema.{schema}
 use Rattle.plan.specs.Syntax.{Expr, Field, Entry, AggEntry, WinEntry, Pair, Kind, Plan}
 use Rattle.plan.specs.Syntax.{scan, filter, project, join, alias, union, distinct, sort, repartition, limit, aggregate, window}
 use Rattle.plan.specs.Trees.{labelP, planTree}
-use Rattle.plan.proofs.Lists.{and-l, and-true, and-false}
+use Rattle.plan.proofs.Lists.{and-l}
 use Rattle.acceptance.specs.NamesRule.{reads, rule, ok}
-use Rattle.rewrite.specs.Utils.{split-conjunction, split-conjunction?, conjunction, with-filters, is-empty}
+use Rattle.rewrite.specs.Utils.{split-conjunction, split-conjunction?, conjunction, with-filters}
 use Rattle.rewrite.specs.PushDownFilter.{Transformed, Transformed·no, supported-filters, in-groups, stay, move, nothing-moves, push-down-join}
 use Rattle.rewrite.specs.PushDownFilter.{simplify-filter, rewrite-filter, rewrite, merges}
 use Rattle.rewrite.proofs.Staying.{none-of, all-left, filtered, join-stays, bare-join-stays, filter-join-stays}
 use Rattle.rewrite.proofs.Exprs.{sameE-eq}
-use Rattle.conjuncts.specs.Items.{most}
 use Rattle.conjuncts.specs.Says.{Says, LeftDeep}
 use Rattle.conjuncts.specs.Standing.{Standing, StandingP}
 use Rattle.conjuncts.proofs.Equals.{is-same, same-exprs}
@@ -34,7 +32,6 @@ use Rattle.push_down_base.specs.Predicates.{Predicate}
 use Rattle.push_down_arms.specs.Through.{takesNone}
 use Rattle.push_down_arms.proofs.Divisions.{aggregate-pushed, window-pushed, project-kept}
 use Rattle.push_down_join.specs.JoinPlans.{FilterOf, has-none, has-one}
-use Rattle.push_down_join.proofs.MovedLists.{counts-none}
 use Rattle.push_down_merge.proofs.OneMerge.{input-placed, unmerged}
 use Rattle.push_down_base.proofs.Plain.{split-some}
 use Rattle.push_down_arms.proofs.ScanShares.{scan-kept}
@@ -81,20 +78,9 @@ no-conjuncts (some e) h = absurd (omega (arith, split-some e))
 
 -- ---- whether anything moves
 
-module _ (C L R : List Expr) where
-  pub left-moves : {n : ℕ} → n ≡ most (length L) → (n ≡ 0 → ⊥) → false ≡ (is-empty C & (is-empty L & is-empty R))
-  unfolding _&_
-  left-moves {n} h nz = rw (sym (counts-none n L h) ∙ ne-eqb n 0 nz) (sym (and-false (is-empty C)))
-
-  pub right-moves : {n : ℕ} → n ≡ most (length R) → (n ≡ 0 → ⊥) → false ≡ (is-empty C & (is-empty L & is-empty R))
-  right-moves {n} h nz = rw (sym (counts-none n R h) ∙ ne-eqb n 0 nz, and-false (is-empty L), and-false (is-empty C))
-
-  pub joined-moves : {l r c : ℕ} → l ≡ most (length L) → l ≡ 0 → r ≡ most (length R) → r ≡ 0 → c ≡ most (length C)
-      → eqb c 0 ≡ (is-empty C & (is-empty L & is-empty R))
-  unfolding _&_
-  joined-moves {l} {r} {c} hl zl hr zr hc =
-      counts-none c C hc
-      ∙ sym (rw (sym (counts-none l L hl) ∙ eq-eqb l 0 zl, sym (counts-none r R hr) ∙ eq-eqb r 0 zr, and-true (is-empty C)))
+pub not-not : (b : Bool) → not (not b) ≡ b
+not-not true = refl
+not-not false = refl
 
 -- ---- Joins
 

@@ -7,6 +7,7 @@ use conjuncts::split_conjunction::left_deep_at;
 use conjuncts::split_conjunction::split_at;
 use image::records::KIND;
 use image::records::P;
+use image::records::from_record;
 use image::records::record_at;
 use image::words::word_at;
 use plan::kinds::AGGREGATE;
@@ -24,11 +25,9 @@ use push_down_base::predicates::Predicate;
 use push_down_base::predicates::is_gone;
 use push_down_join::column_checker::join_scope;
 use push_down_join::push_down_all_join::filter_of;
-use push_down_join::push_down_all_join::join_conditions;
-use push_down_join::push_down_all_join::left_push;
+use push_down_join::push_down_all_join::moves_of;
 use push_down_join::push_down_all_join::own_filter;
 use push_down_join::push_down_all_join::right_input;
-use push_down_join::push_down_all_join::right_push;
 use push_down_merge::filter::filter_input;
 use push_down_merge::filter::simplify_filter;
 ghost use mathlib.Core.Path.{_≡_};
@@ -46,6 +45,7 @@ ghost use Rattle.rewrite.specs.PushDownFilter.{nothing-moves, push-down-join, r
 ghost use Rattle.rewrite.specs.RewriteAt.{Focus};
 ghost use Rattle.rewrite.specs.Utils.{conjunction, split-conjunction?};
 ghost use Rattle.conjuncts.specs.Says.{Says};
+ghost use Rattle.conjuncts.specs.Standing.{Stretch};
 ghost use Rattle.push_down_base.specs.Arms.{Placed, Rests, Shaped};
 ghost use Rattle.push_down_base.specs.Parting.{Reads};
 ghost use Rattle.push_down_arms.specs.Divided.{OverAggregate, OverProjection, OverWindow};
@@ -55,7 +55,7 @@ ghost use Rattle.push_down_merge.specs.Found.{Found, OnInput};
 ghost use Rattle.push_down_merge.specs.Merging.{FilterInside, Formed, Inside, is-filter};
 ghost use Rattle.push_down_stays.specs.Staying.{Kept, Stays, mayStay};
 
-// Whether the filter of the join at record x, if it has one, is joined left-deep.
+// Whether the filter of the join at the start of `part`, which is record x, is joined left-deep, if it has one.
 fn own_left_deep(s: &[u8], part: &[u8], x: usize) -> bool
     requires { ⌜ Stretch (now s) x (now part) ⌝ }
     requires { ⌜ JoinHere (now s) x ⌝ }
@@ -69,7 +69,7 @@ fn own_left_deep(s: &[u8], part: &[u8], x: usize) -> bool
     left_deep_at(s, y)
 }
 
-// Whether nothing of the predicates c above the join at record x, and of those of its own filter, g, moves.
+// Whether nothing of the predicates c above that join, and of those of its own filter, g, moves.
 fn nothing_moves(s: &[u8], part: &[u8], x: usize, c: Conjuncts, g: Conjuncts) -> bool
     requires { ⌜ Stretch (now s) x (now part) ⌝ }
     requires { ⌜ JoinBetween (now s) x c g ⌝ }
@@ -78,21 +78,13 @@ fn nothing_moves(s: &[u8], part: &[u8], x: usize, c: Conjuncts, g: Conjuncts) ->
         Reads (now (s .entry)) (schema l ++ schema r) g G → n ≡ nothing-moves k (schema l) (schema r) on P G) ⌝ }
 {
     let z = right_input(part, x);
-    let sc = join_scope(s, x, x + 1, z);
+    let sc = join_scope(part, x, z);
     let kind = word_at(part, P);
-    let left = left_push(s, c, g, sc, kind);
-    if left.len != 0 {
-        return false;
-    }
-    let right = right_push(s, c, g, sc, kind);
-    if right.len != 0 {
-        return false;
-    }
-    let joined = join_conditions(s, c, sc, kind);
-    joined.len == 0
+    let v = moves_of(s, c, g, sc, kind);
+    !v.flag
 }
 
-// The Join at record x: without a filter of its own it always stays.
+// That Join: without a filter of its own it always stays.
 fn join_stays(s: &[u8], part: &[u8], x: usize) -> bool
     requires { ⌜ Stretch (now s) x (now part) ⌝ }
     requires { ⌜ JoinHere (now s) x ⌝ }

@@ -14,7 +14,7 @@ use Rattle.plan.specs.Trees.{planTree}
 use Rattle.push_down_base.proofs.Answering.{answers}
 use Rattle.push_down_arms.proofs.Unions.{Inputs, Spread, spread-of, all-inputs, first, renames-first, more, none-more, union-lists, union-wrote, SomeSpread, readable-deep}
 use Rattle.utils.proofs.Appending.{standing-plan}
-use Rattle.writing.proofs.Pushing.{input-stretch}
+use Rattle.writing.proofs.Stretches.{input-at}
 use Rattle.push_down_arms.proofs.union.rewrite_union.Statement.{statement}
 use Rattle.push_down_arms.proofs.union.rewrite_union.Tie as tie
 
@@ -63,7 +63,7 @@ rewrite-union-spec =
     let u = round _ (k .2 (w .expr) (w .inputs) (w .spread)) (c .before .before .before .loop-test .taken) in
     let f = first _ _ _ (u .so-far) in
     let r = renames-first (w .spread) f (p .0) (u .turn .past) (u .turn .here) (readable-deep (u .turn .here) (u .readable)) in (
-      c .before .before .from-record .ensures ∙ input-stretch _ (p .0) (omega (arith, u .turn .past)) (r .standing),
+      input-at (r .standing) (p .0) (omega (arith, u .turn .past)) (c .before .before .from-record .ensures),
       (
         record { expr = w .expr; plan = f .plan; over = schema (union (w .inputs)); renamed = r },
         (omega (arith, k .0, p .1 .1 .0), omega (arith, p .1 .1 .1), u .so-far .left .long),

@@ -20,4 +20,4 @@ filter-input-spec =
     rw (stretch-at (p .image) (p .stretch) {y = c .before .before .args .x + 1} (omega arith) (c .from-record .ensures)) (filter-room (p .short) (p .there .standing)))
     (λ c s e q i n h.
     let k = rw (stretch-at s i {y = c .before .before .before .args .x + 1} (omega arith) (c .before .from-record .ensures)) at (c .word-at .ensures .0) in
-    record { link = k; standing = rw (k ∙ filter-next n h) (filter-input n h) }))
+    record { link = k; after = omega (arith, k, filter-next n h); standing = rw (k ∙ filter-next n h) (filter-input n h) }))

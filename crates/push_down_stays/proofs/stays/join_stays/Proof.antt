@@ -13,25 +13,27 @@ pub join-stays-spec : {M : Type 1} → statement M
 join-stays-spec =
     tie.close
     (tie.spec
-    (λ c κs. search needs)
+    (λ c κs. c .before .before .pre)
     (λ c k l r on f h. let g = c .before .before .own-filter .ensures k l r on f h in
     bare-join-kept k l r on f (lists-length (g .lists) (g .most) ∙ c .if1 .taken))
+    (λ c κs. c .before .before .before .before .before .pre)
     (λ c κs. search needs)
-    (λ c κs. search needs)
-    (λ c κs. let p = c .before .before .before .before .before .before .before .pre in
-    record {
-      kind = p .kind;
-      lhs = p .lhs;
-      rhs = p .rhs;
-      keys = p .keys;
-      condition = p .condition;
-      placed = p .placed;
-      above = [];
-      reads = reads-none (c .empty .ensures);
-      own = split-conjunction? (p .condition);
-      reads-own = c .before .before .before .before .before .own-filter .ensures (p .kind) (p .lhs) (p .rhs) (p .keys) (p .condition) (p .placed);
-    })
+    (λ c κs. let q = c .before .before .before .before .before .before .before .before .pre in
+    let p = q .1 in (
+      q .0,
+      record {
+        kind = p .kind;
+        lhs = p .lhs;
+        rhs = p .rhs;
+        keys = p .keys;
+        condition = p .condition;
+        placed = p .placed;
+        above = [];
+        reads = reads-none (c .empty .ensures);
+        own = split-conjunction? (p .condition);
+        reads-own = c .before .before .before .before .before .own-filter .ensures (p .kind) (p .lhs) (p .rhs) (p .keys) (p .condition) (p .placed);
+      },
+    ))
     (λ c k l r on f h. join-kept k l r on f (says-as (c .before .before .if2 .taken) (c .before .before .before .own-left-deep .ensures k l r on f h))
-    (c .nothing-moves .ensures k l r on f [] (split-conjunction? f) h (reads-none (c .before .empty .ensures))
-    (c .before .before .before .before .before .before .own-filter .ensures k l r on f h)))
+    (c .nothing-moves .ensures k l r on f [] (split-conjunction? f) h (reads-none (c .before .empty .ensures)) (c .before .before .before .before .before .before .own-filter .ensures k l r on f h)))
     (λ c k l r on f h. join-shallow k l r on f (says-as (c .if2 .left) (c .before .own-left-deep .ensures k l r on f h))))

@@ -10,6 +10,7 @@ pub over-projection-stays-spec : {M : Type 1} → statement M
 over-projection-stays-spec =
     tie.close
     (tie.spec
-    (λ c κs. let o = c .before .pre in record { expr = o .expr; plan = _; rests = o .rests })
+    (λ c κs. let p = c .before .before .pre in
+    (p .0, record { expr = p .1 .expr; plan = _; rests = p .1 .rests }))
     (λ c e es q h. let d = c .before .before .divide .ensures e (project es q) h in
     project-kept? e es q (sym (lists-length (d .moved) (d .moved-most)))))

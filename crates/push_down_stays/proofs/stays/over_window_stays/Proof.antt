@@ -10,12 +10,13 @@ pub over-window-stays-spec : {M : Type 1} → statement M
 over-window-stays-spec =
     tie.close
     (tie.spec
-    (λ c κs. let o = c .before .pre .0 in record { expr = o .expr; plan = _; rests = o .rests })
-    (λ c κs. let p = c .before .before .before .before .before .pre in
+    (λ c κs. let p = c .before .before .pre in
+    (p .0, record { expr = p .1 .0 .expr; plan = _; rests = p .1 .0 .rests }))
+    (λ c κs. let p = c .before .before .before .before .before .before .pre .1 in
     let h = p .0 .rests in
     (record { expr = p .0 .expr; standing = h .shaped .stands (p .1) }, h .placed .short))
     (λ c e ws q h. let d = c .before .before .before .before .divide .ensures e (window ws q) h in
     window-kept e ws q (lists-length (d .moved) (d .moved-most) ∙ c .before .if1 .taken) (c .left-deep-at .ensures e (h .shaped .stands
-    (c .before .before .before .before .before .before .pre .1))))
+    (c .before .before .before .before .before .before .before .pre .1 .1))))
     (λ c e ws q h. let d = c .before .before .before .divide .ensures e (window ws q) h in
     window-moves e ws q (λ z. c .if1 .left (sym (lists-length (d .moved) (d .moved-most)) ∙ z))))

@@ -18,20 +18,20 @@ stays-spec =
     (λ c κs. let f = c .before .before .before .before .pre in
     let a = a-filter (f .spot .plan)
     (sym (read-kind (c .before .before .record-at .ensures) (c .before .word-at .ensures .0) (stands-inside (f .inside))) ∙ c .if1 .taken) in
-    record { whole = f .whole; spot = f .spot; inside = f .inside; expr = a .expr; plan = a .plan; is = a .is })
+    (c .before .before .record-at .ensures, record { whole = f .whole; spot = f .spot; inside = f .inside; expr = a .expr; plan = a .plan; is = a .is }))
     (λ c. search needs)
     (λ c κs. let f = c .before .before .before .before .before .pre in
     let a = a-join (f .spot .plan)
     (sym (read-kind (c .before .before .before .record-at .ensures) (c .before .before .word-at .ensures .0) (stands-inside
     (f .inside))) ∙ c .if2 .taken) in
-    record {
+    (c .before .before .before .record-at .ensures, record {
       kind = a .kind;
       lhs = a .lhs;
       rhs = a .rhs;
       keys = a .keys;
       condition = a .condition;
       placed = placed-inside (f .inside) (a .is);
-    })
+    }))
     (λ c w f h. let a = a-join (f .plan)
     (sym (read-kind (c .before .before .before .before .record-at .ensures) (c .before .before .before .word-at .ensures .0)
     (stands-inside h)) ∙ c .before .if2 .taken) in
