@@ -48,7 +48,8 @@ fn resume_in_place(
     finish(s, spot, levels, new, work)
 }
 
-// A Filter with the predicate p over `input`, the plan at record x, in the place of record `node`.
+// A Filter with the predicate p over `input`, the plan at record x, in the place of record `node`. The arms are called in two places: what
+// is called in one only is compiled into it, and their lists would stand in the frame of every Filter of a stack.
 pub fn rewrite_filter(
     s: &[u8],
     node: usize,

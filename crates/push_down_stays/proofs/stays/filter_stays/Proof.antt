@@ -28,7 +28,10 @@ filter-stays-spec =
       short = p .inside .short;
       there = record { expr = p .expr; plan = p .plan; standing = placed-inside (p .inside) (p .is) .standing };
     })
-    (λ c κs. let p = c .before .before .pre in c .filter-input .ensures _ (p .expr) (p .plan) (u .0) (p .inside .short) (placed-inside (p .inside) (p .is) .standing) .within)
+    (λ c κs. let u = c .before .before .before .pre in
+    let p = u .1 in
+    let st = c .filter-input .ensures _ (p .expr) (p .plan) (u .0) (p .inside .short) (placed-inside (p .inside) (p .is) .standing) in
+    input-within (st .standing) (u .0) (st .after))
     (λ c κs. let u = c .before .before .before .before .pre in
     let p = u .1 in
     let st = c .before .filter-input .ensures _ (p .expr) (p .plan) (u .0) (p .inside .short) (placed-inside (p .inside) (p .is) .standing) in
