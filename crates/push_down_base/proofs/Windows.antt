@@ -49,7 +49,11 @@ wrote-then {out} {out₁} {out₂} {at} {r₁} {r₂} {xs} {ys} long h k = recor
     flats-append (x ∷ xs) ys = rw (flats-append xs ys, append-assoc)
 
 pub wrote-one : {out out₁ : List ℕ} {at r level : ℕ} {l : Label} → Put out out₁ at level r l → WroteAll out out₁ at r ((l, level) ∷ [])
-wrote-one {out} {at = at} {level = level} {l} h = record { next = h .next; bytes = h .bytes ∙ ap (sets out (32 * at)) (sym (append-nil (bytesOf l level 0))) }
+wrote-one {out} {at = at} {level = level} {l} h = record {
+  next = h .next;
+  bytes = h .bytes ∙ ap (sets out (32 * at))
+      (sym (append-nil (bytesOf l level 0)));
+}
 
 -- ---- a loop over the children of a record
 
