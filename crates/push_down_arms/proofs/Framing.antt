@@ -90,5 +90,6 @@ pub wrote-framed : {f : Plan → Plan} {k : ℕ} {out out₁ out₂ : List ℕ} 
 wrote-framed {f} {k} {out} {out₁} {at = at} {level} {y} {r₁} x p q h long e w v =
     let n : y - x ≡ k = omega arith in
     let i : take (y - x) (recs level (planTree (f p))) ≡ h .own level =
-    ap (λ j. take j (recs level (planTree (f p)))) n ∙ ap (take k) (h .is level p) ∙ take-at (h .own level) (recs (level + 1) (planTree p)) k (sym (h .count level)) in
+    ap (λ j. take j (recs level (planTree (f p)))) n ∙ ap (take k) (h .is level p) ∙ take-at (h .own level) (recs (level + 1) (planTree p)) k
+    (sym (h .count level)) in
     tree-wrote (h .is level q) (wrote-then long (subst (λ l. WroteAll out out₁ at r₁ l) i w) (wrote-tree v))

@@ -44,7 +44,8 @@ pub record Inputs (ns : List Name) (e : Expr) (all : Plans) (out₀ : List ℕ) 
   pub left : Left out₀ at₀ level (forestP (filter-each ns e all)) out to (forestP (filter-each ns e rest))
 
 -- the first of them
-pub record First (ns : List Name) (e : Expr) (all : Plans) (out₀ : List ℕ) (at₀ level : ℕ) (out : List ℕ) (to : ℕ) (l : Label) (cs ns′ : Forest) : Type 0 where
+pub record First (ns : List Name) (e : Expr) (all : Plans) (out₀ : List ℕ) (at₀ level : ℕ) (out : List ℕ) (to : ℕ) (l : Label)
+    (cs ns′ : Forest) : Type 0 where
   pub plan : Plan
   pub others : Plans
   pub label : l ≡ labelP plan

@@ -5,7 +5,7 @@ use native.Mathlib.Nat.{add-zero}
 use mathlib.Core.Path.{_≡_, refl, sym, ap, subst, _∙_}
 use mathlib.Core.List.{List, [], _∷_, _++_, append-assoc, append-nil}
 use lib.ListN.{length, take, length-append}
-use lib.Seq.{sets, length-sets}
+use lib.Seq.{sets, length-sets, take-nil}
 use Rattle.image.specs.Limits.{workBytes, noRoom}
 use Rattle.image.specs.Tree.{Label, Forest, none, node, Tree, size, link}
 use Rattle.image.specs.Flat.{bytesOf}
@@ -16,10 +16,6 @@ use Rattle.image.proofs.Relinking.{flats-length, flats-flat, recs-length}
 use Rattle.push_down_base.specs.Around.{WroteAll}
 
 -- ---- the first of some records
-
-take-none : (n : ℕ) → take {A = Rec} n [] ≡ []
-take-none zero = refl
-take-none (suc n) = refl
 
 -- of two runs, one behind the other
 take-both : (n : ℕ) (xs ys : List Rec) → take n (xs ++ ys) ≡ take n xs ++ take (n - length xs) ys
@@ -49,7 +45,11 @@ wrote-then {out} {out₁} {out₂} {at} {r₁} {r₂} {xs} {ys} long h k = recor
     flats-append (x ∷ xs) ys = rw (flats-append xs ys, append-assoc)
 
 pub wrote-one : {out out₁ : List ℕ} {at r level : ℕ} {l : Label} → Put out out₁ at level r l → WroteAll out out₁ at r ((l, level) ∷ [])
-wrote-one {out} {at = at} {level = level} {l} h = record { next = h .next; bytes = h .bytes ∙ ap (sets out (32 * at)) (sym (append-nil (bytesOf l level 0))) }
+wrote-one {out} {at = at} {level = level} {l} h = record {
+  next = h .next;
+  bytes = h .bytes ∙ ap (sets out (32 * at))
+      (sym (append-nil (bytesOf l level 0)));
+}
 
 -- ---- a loop over the children of a record
 
@@ -64,7 +64,7 @@ pub record Rest (end level b : ℕ) (out₀ : List ℕ) (at₀ : ℕ) (all : For
   pub small : to ≤ noRoom
 
 take-link : (end d m : ℕ) (f : Forest) → take (end - link m f) (recsAny d f) ≡ take (end - m) (recsAny d f)
-take-link end d m none = take-none (end - 0) ∙ sym (take-none (end - m))
+take-link end d m none = take-nil (end - 0) ∙ sym (take-nil (end - m))
 take-link end d m (node l cs ns) = refl
 
 -- before the loop all is left
@@ -107,7 +107,7 @@ pub rest-end : {end : ℕ} (level b : ℕ) {out out₀ : List ℕ} {at at₀ : �
 rest-end {end} level b {out} {at = at} t {out′ = out′} {to} {from} long lt w h =
     let i : suc (end - (b + 1)) ≡ end - b = omega arith in
     let e : (t .label, level) ∷ h .done ≡ take (end - b) (recs level t) =
-    ap (λ l. (t .label, level) ∷ l) (sym (append-nil (h .done)) ∙ ap (λ l. h .done ++ l) (sym (take-none (end - from))) ∙ h .is)
+    ap (λ l. (t .label, level) ∷ l) (sym (append-nil (h .done)) ∙ ap (λ l. h .done ++ l) (sym (take-nil (end - from))) ∙ h .is)
     ∙ ap (λ n. take n (recs level t)) i in
     subst (λ l. WroteAll out out′ at to l) e (wrote-then long w (h .wrote))
 

@@ -4,7 +4,6 @@ use conjuncts::lists::Conjuncts;
 use image::copying::copy_tree;
 use image::copying::put_kind;
 use image::limits::MAX_DEPTH;
-use image::records::record_at;
 use plan::kinds::FILTER;
 ghost use Prim.Native.Nat.{_+_};
 ghost use Rattle.image.specs.Buffers.{Buffer};
@@ -13,20 +12,8 @@ ghost use Rattle.image.specs.Room.{Wrote};
 ghost use Rattle.image.specs.Tree.{At, Readable};
 ghost use Rattle.plan.specs.Syntax.{Expr, Name, Plan, filter};
 ghost use Rattle.plan.specs.Trees.{planTree};
-ghost use Rattle.conjuncts.specs.Standing.{StandingP};
 ghost use Rattle.writing.specs.Maps.{Maps};
-ghost use Rattle.writing.specs.Plans.{ThereP};
 ghost use Rattle.writing.specs.Pushed.{Predicate, Predicated};
-
-// Writes the plan at record x.
-pub fn copy_plan(s: &[u8], x: usize, out: &mut [u8], at: usize, level: usize) -> usize
-    requires { ⌜ ThereP (now s) x ⌝ }
-    requires { ⌜ Buffer 1 level (now out) ⌝ }
-    ensures { λ r. ⌜ ((p : Plan) → StandingP (now (s .entry)) x p → Wrote (now (out .entry)) (now (out .exit)) at level r (planTree p)) ⌝ }
-{
-    let part = record_at(s, x);
-    copy_tree(part, x, MAX_DEPTH, out, at, level)
-}
 
 // Writes the plan at record x, of which `input` is the stretch of the image, under a Filter of a predicate.
 pub fn make_filter(

@@ -14,8 +14,10 @@ divide-groups-spec =
     (tie.spec
     (λ c κs. let p = c .before .before .pre in (maxDepth, rw (p .0) (plan-readable (p .1 .rests .placed .standing))))
     (λ c κs. let p = c .before .before .before .before .pre in (p .0, record { expr = p .1 .expr; plan = _; rests = p .1 .rests }))
-    (λ c e gs ags q h. let i = c .before .before .has-groups .ensures (planTree (aggregate gs ags q)) (rw (c .before .before .before .before .before .pre .0) (h .placed .standing .here)) in
+    (λ c e gs ags q h. let i = c .before .before .has-groups .ensures (planTree (aggregate gs ags q))
+    (rw (c .before .before .before .before .before .pre .0) (h .placed .standing .here)) in
     rw (← some-groups gs ags q (sym i ∙ c .before .if1 .taken)) (c .divide .ensures e (aggregate gs ags q) h))
     (λ c κs. search needs)
-    (λ c e gs ags q h. let i = c .before .before .before .has-groups .ensures (planTree (aggregate gs ags q)) (rw (c .before .before .before .before .before .before .pre .0) (h .placed .standing .here)) in
+    (λ c e gs ags q h. let i = c .before .before .before .has-groups .ensures (planTree (aggregate gs ags q))
+    (rw (c .before .before .before .before .before .before .pre .0) (h .placed .standing .here)) in
     divides-none gs ags q (h .shaped) (sym i ∙ c .before .before .if1 .left) refl (c .empty .ensures)))

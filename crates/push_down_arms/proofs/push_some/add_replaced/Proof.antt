@@ -21,7 +21,8 @@ add-replaced-spec =
     (rw (c .record-at .ensures) (omega (arith, w .here .head .room)), (maxDepth, rw (p .0) (plan-readable (p .1 .0 .1 .standing)))))
     (λ c κs. search needs)
     (λ c e p k i o h m. let w = i .some (c .before .before .before .before .if1 .left) in
-    let l = value-leads (c .before .before .before .record-at .ensures) (c .before .before .before .before .before .before .before .pre .0) w h (c .before .before .value-for .ensures) in
+    let l = value-leads (c .before .before .before .record-at .ensures) (c .before .before .before .before .before .before .before .pre .0) w h
+    (c .before .before .value-for .ensures) in
     counts-one {e = e} _ m i (value-single e p h l (c .before .if2 .taken) o) (c .add2 .ensures))
     (λ c κs. let p = c .before .before .before .before .before .before .pre in
     let h = p .1 .0 .1 .standing in
@@ -31,6 +32,7 @@ add-replaced-spec =
       (omega (arith, value-past _ _ h l (c .if2 .left)), p .1 .1),
     ))
     (λ c e p k i o h m. let w = i .some (c .before .before .before .before .if1 .left) in
-    let l = value-leads (c .before .before .before .record-at .ensures) (c .before .before .before .before .before .before .before .pre .0) w h (c .before .before .value-for .ensures) in
+    let l = value-leads (c .before .before .before .record-at .ensures) (c .before .before .before .before .before .before .before .pre .0) w h
+    (c .before .before .value-for .ensures) in
     let v = value-standing e p h l (c .before .before .before .before .before .before .before .pre .1 .1) (w .fits) (c .before .if2 .left) in
     counts-more (split-conjunction (replace-cols (mapOf p) e)) m (c .split-at .ensures (replace-cols (mapOf p) e) (m .exprs) v (m .lists))))

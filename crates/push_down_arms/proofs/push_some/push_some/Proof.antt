@@ -36,7 +36,8 @@ push-some-spec =
     (sym (c .before .is-over .ensures ds (f q) (k .moved) (k .moved-single) (h .standing)) ∙ c .if1 .taken) in
     let m = pushed-many h t k o in
     record { flag = some-moved ds (k .moved) (k .moved-most); fits = λ small. absurd (omega arith); over = λ many. (refl, refl) })
-    (λ c κs. let p = c .before .before .before .before .before .before .before .before .pre in (maxDepth, rw (p .0) (plan-readable (p .1 .0 .placed .standing))))
+    (λ c κs. let p = c .before .before .before .before .before .before .before .before .pre in
+    (maxDepth, rw (p .0) (plan-readable (p .1 .0 .placed .standing))))
     (λ c κs. let k = c .before .before .before .before .before .before .before .before .before .pre .1 .0 .divides in
     record { image = _; known = record { exprs = _; lists = k .moved; most = k .moved-most } })
     (λ c κs. let p = c .before .before .before .before .before .before .before .before .before .before .before .pre in
@@ -69,7 +70,8 @@ push-some-spec =
     ))
     (λ c. search needs)
     (λ c f q us ds h t k. let o = ltb-false maxList (parts (mapOf (f q)) ds)
-    (sym (c .before .before .before .before .before .before .before .is-over .ensures ds (f q) (k .moved) (k .moved-single) (h .standing)) ∙ c .before .before .before .before .before .before .if1 .left) in
+    (sym (c .before .before .before .before .before .before .before .is-over .ensures ds (f q) (k .moved) (k .moved-single) (h .standing))
+    ∙ c .before .before .before .before .before .before .if1 .left) in
     let i = c .before .before .before .before .before .before .before .before .before .before .before .before .before .before .pre .0 in
     let y = c .before .before .before .before .before .last-child .ensures (planTree (f q)) (rw i (h .standing .here)) ∙ t .last in
     let w = c .before .before .before .before .changed .ensures _ (mapOf (f q)) ds (k .moved) in

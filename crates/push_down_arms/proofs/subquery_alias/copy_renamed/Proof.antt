@@ -24,7 +24,8 @@ copy-renamed-spec =
     (λ c κs. let p = c .before .before .before .before .before .before .before .before .before .before .before .before .before .pre in
     let o = p .1 .0 in
     let h = o .renamed in
-    let to = c .before .before .before .before .before .before .before .schema-columns .ensures (o .plan) _ (rw (p .0) (h .standing .here)) (c .before .before .before .before .before .before .before .before .no-fields .ensures) in
+    let to = c .before .before .before .before .before .before .before .schema-columns .ensures (o .plan) _ (rw (p .0) (h .standing .here))
+    (c .before .before .before .before .before .before .before .before .no-fields .ensures) in
     let m = c .before .before .before .before .before .write-renames .ensures (o .over) (schema (o .plan)) (h .names) to (h .wide) in
     let σ : Name → Expr = λ x. col (ren (o .over) (schema (o .plan)) x) in (
       record { mapping = σ; expr = replace-cols σ (o .expr); predicate = whole-left (h .changed σ); most = h .most },
@@ -32,8 +33,10 @@ copy-renamed-spec =
     ))
     (λ c. search needs)
     (λ c. search needs)
-    (λ c e q ns h. let i = c .before .before .before .before .before .before .before .before .before .before .before .before .before .before .before .before .pre .0 in
-    let to = c .before .before .before .before .before .before .before .before .before .before .schema-columns .ensures q _ (rw i (h .standing .here)) (c .before .before .before .before .before .before .before .before .before .before .before .no-fields .ensures) in
+    (λ c e q ns h. let i = c .before .before .before .before .before .before .before .before .before .before .before .before .before .before .before
+    .before .pre .0 in
+    let to = c .before .before .before .before .before .before .before .before .before .before .schema-columns .ensures q _ (rw i (h .standing .here))
+    (c .before .before .before .before .before .before .before .before .before .before .before .no-fields .ensures) in
     let m = c .before .before .before .before .before .before .before .before .write-renames .ensures ns (schema q) (h .names) to (h .wide) in
     let σ : Name → Expr = λ x. col (ren ns (schema q) x) in
     c .before .before .make-filter .ensures σ m (replace-cols σ e) (whole-left (h .changed σ)) q (rw i (h .standing .here))))

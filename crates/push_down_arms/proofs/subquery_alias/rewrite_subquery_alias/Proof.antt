@@ -45,7 +45,8 @@ rewrite-subquery-alias-spec =
           over = schema q;
           renamed = record {
             standing = k;
-            names = c .before .before .before .before .before .before .before .before .schema-columns .ensures q _ (rw (p .0) (h .placed .standing .here)) (c .before .before .before .before .before .before .before .before .before .no-fields .ensures);
+            names = c .before .before .before .before .before .before .before .before .schema-columns .ensures q _
+                (rw (p .0) (h .placed .standing .here)) (c .before .before .before .before .before .before .before .before .before .no-fields .ensures);
             wide = alias-wide h;
             few = alias-few h;
             most = c .before .before .before .before .before .before .before .changed-predicate .ensures .0;
@@ -57,15 +58,22 @@ rewrite-subquery-alias-spec =
     ))
     (λ c. search needs)
     (λ c. search needs)
-    (λ c e i q h. let p = c .before .before .before .before .before .before .before .before .before .before .before .before .before .before .before .before .before .before .before .pre in
+    (λ c e i q h. let p = c .before .before .before .before .before .before .before .before .before .before .before .before .before .before .before
+    .before .before .before .before .pre in
     let a = alias i q in
-    let w = c .before .before .before .before .before .before .before .before .before .copy-some .ensures (planTree a) (rw (p .0) (h .placed .standing .here)) in
+    let w = c .before .before .before .before .before .before .before .before .before .copy-some .ensures (planTree a)
+    (rw (p .0) (h .placed .standing .here)) in
     let v = c .before .before .before .before .copy-renamed .ensures e q (schema a) (record {
       standing = alias-input (h .placed .short) (h .placed .standing);
-      names = c .before .before .before .before .before .before .before .before .before .before .before .before .before .schema-columns .ensures a _ (rw (p .0) (h .placed .standing .here)) (c .before .before .before .before .before .before .before .before .before .before .before .before .before .before .no-fields .ensures);
+      names = c .before .before .before .before .before .before .before .before .before .before .before .before .before .schema-columns .ensures a _
+          (rw (p .0) (h .placed .standing .here))
+          (c .before .before .before .before .before .before .before .before .before .before .before .before .before .before .no-fields .ensures);
       wide = alias-wide h;
       few = alias-few h;
       most = c .before .before .before .before .before .before .before .before .before .before .before .before .changed-predicate .ensures .0;
-      changed = λ σ. c .before .before .before .before .before .before .before .before .before .before .before .before .changed-predicate .ensures .1 _ σ e (h .shaped);
+      changed = λ σ. c .before .before .before .before .before .before .before .before .before .before .before
+          .before .changed-predicate .ensures .1 _ σ e (h .shaped);
     }) in
-    answers refl (alias-lists h) (wrote-framed (c .before .before .before .before .before .before .before .before .before .before .before .before .before .before .before .before .before .before .before .args .x) q (filter (renamed (schema a) (schema q) e) q) (alias-frame i) (p .1 .1 .2) refl w v)))
+    answers refl (alias-lists h) (wrote-framed
+    (c .before .before .before .before .before .before .before .before .before .before .before .before .before .before .before .before .before .before
+    .before .args .x) q (filter (renamed (schema a) (schema q) e) q) (alias-frame i) (p .1 .1 .2) refl w v)))

@@ -33,13 +33,16 @@ marked-fields-spec =
     (λ c. let p = c .before .before .before .pre .scan in omega (arith, p .placed .standing .small, scan-few (p .placed), p .count))
     (λ c κs. let h = c .before .before .before .pre in
     let p = h .scan in
-    let r = field-room (p .fields) (each labelE kidsE (p .filters) none) (c .before .loop .i) (scan-fields (p .placed)) (omega (arith, c .loop-test .taken, p .count)) in
+    let r = field-room (p .fields) (each labelE kidsE (p .filters) none) (c .before .loop .i) (scan-fields (p .placed))
+    (omega (arith, c .loop-test .taken, p .count)) in
     (omega arith, rw (h .stretch, length-drop) (omega (arith, r))))
     (λ c κs. let h = c .before .before .before .before .pre in
     let p = h .scan in
-    let r = field-room (p .fields) (each labelE kidsE (p .filters) none) (c .before .before .loop .i) (scan-fields (p .placed)) (omega (arith, c .before .loop-test .taken, p .count)) in
+    let r = field-room (p .fields) (each labelE kidsE (p .filters) none) (c .before .before .loop .i) (scan-fields (p .placed))
+    (omega (arith, c .before .loop-test .taken, p .count)) in
     rw (c .from-record .ensures, length-drop, h .stretch, length-drop) (omega (arith, r)))
-    (λ c κs. let p = c .before .before .before .before .before .pre .scan in omega (arith, scan-few (p .placed), p .count, c .before .before .loop-test .taken))
+    (λ c κs. let p = c .before .before .before .before .before .pre .scan in
+    omega (arith, scan-few (p .placed), p .count, c .before .before .loop-test .taken))
     (λ c. let p = c .before .before .before .before .before .before .pre .scan in omega (arith, scan-few (p .placed), p .count))
     (λ c. omega arith)
     (λ c. (
@@ -47,7 +50,12 @@ marked-fields-spec =
       λ s t fs es j h e. let i = c .before .before .before .before .loop .i in
           let x = c .before .before .before .before .before .before .args .x in
           passed-next h i (c .mark .ensures) (omega (arith, c .before .before .before .loop-test .taken))
-          (rw (c .before .word-at .ensures .0, c .before .before .from-record .ensures, part-of s (c .before .before .before .before .before .before .args .part .now) x (x + 1 + i) j (omega arith)))
+          (rw (
+            c .before .word-at .ensures .0,
+            c .before .before .from-record .ensures,
+            part-of s
+                (c .before .before .before .before .before .before .args .part .now) x (x + 1 + i) j (omega arith),
+          ))
           (c .before .before .before .before .loop .inv .1 s t fs es j h e),
     ))
     (λ c s t fs es j h e. passed-end h (c .before .loop .i) (omega (arith, c .loop-test .left)) (c .before .loop .inv .1 s t fs es j h e)))

@@ -42,17 +42,28 @@ scan-filters-spec =
     (omega (arith, u .turn .past), omega (arith, u .turn .fits)))
     (λ c κs. let h = c .before .before .before .before .before .before .pre .1 in
     let p = h .scan in
-    let u = round _ (c .before .before .loop .inv (h .image) (p .table) (p .fields) (p .filters) (h .stretch) (p .placed)) (c .before .loop-test .taken) in (
+    let u = round _ (c .before .before .loop .inv (h .image) (p .table) (p .fields) (p .filters) (h .stretch) (p .placed))
+    (c .before .loop-test .taken) in (
       rw (c .from-record .ensures, length-drop) (omega (arith, u .turn .fits)),
-      omega (arith, u .turn .fits, u .turn .past, p .placed .short, ap length (h .stretch), length-drop (32 * c .before .before .before .before .before .before .args .x) (h .image)),
+      omega (
+        arith,
+        u .turn .fits,
+        u .turn .past,
+        p .placed .short,
+        ap length (h .stretch),
+        length-drop
+            (32 * c .before .before .before .before .before .before .args .x) (h .image),
+      ),
     ))
     (λ c κs. let h = c .before .before .before .before .before .before .before .pre .1 in
     let p = h .scan in
-    let u = round _ (c .before .before .before .loop .inv (h .image) (p .table) (p .fields) (p .filters) (h .stretch) (p .placed)) (c .before .before .loop-test .taken) in
+    let u = round _ (c .before .before .before .loop .inv (h .image) (p .table) (p .fields) (p .filters) (h .stretch) (p .placed))
+    (c .before .before .loop-test .taken) in
     rw (c .before .from-record .ensures, length-drop) (omega (arith, u .turn .fits)))
     (λ c. let h = c .before .before .before .before .before .before .before .before .pre .1 in
     let p = h .scan in
-    let u = round _ (c .before .before .before .before .loop .inv (h .image) (p .table) (p .fields) (p .filters) (h .stretch) (p .placed)) (c .before .before .before .loop-test .taken) in
+    let u = round _ (c .before .before .before .before .loop .inv (h .image) (p .table) (p .fields) (p .filters) (h .stretch) (p .placed))
+    (c .before .before .before .loop-test .taken) in
     rw (c .word-at2 .ensures .0, c .before .before .from-record .ensures) (u .turn .less))
     (λ c s t fs es i h. let k = c .before .before .before .before .loop .inv s t fs es i h in
     let u = round _ k (c .before .before .before .loop-test .taken) in

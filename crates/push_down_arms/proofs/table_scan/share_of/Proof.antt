@@ -23,17 +23,21 @@ share-of-spec =
     (λ c κs. search needs)
     (λ c κs. let p = c .before .before .before .before .before .before .before .before .pre in
     let r = p .1 .rests in
-    let n = c .before .before .before .schema-columns .ensures _ _ (rw (p .0) (r .placed .standing .here)) (c .before .before .before .before .no-fields .ensures) in
+    let n = c .before .before .before .schema-columns .ensures _ _ (rw (p .0) (r .placed .standing .here))
+    (c .before .before .before .before .no-fields .ensures) in
     let l = c .add-volatile .ensures _ _ (lists-none (c .before .empty .ensures)) (r .shaped .listed) in
     (known-of l (lasting-few r), fields-most (r .placed) n))
     (λ c κs. let p = c .before .before .before .before .before .before .before .before .before .pre in
     let r = p .1 .rests in
-    let n = c .before .before .before .before .schema-columns .ensures _ _ (rw (p .0) (r .placed .standing .here)) (c .before .before .before .before .before .no-fields .ensures) in
+    let n = c .before .before .before .before .schema-columns .ensures _ _ (rw (p .0) (r .placed .standing .here))
+    (c .before .before .before .before .before .no-fields .ensures) in
     let l = c .before .add-volatile .ensures _ _ (lists-none (c .before .before .empty .ensures)) (r .shaped .listed) in
     (known-of l (lasting-few r), fields-most (r .placed) n))
-    (λ c κs. let r = c .before .before .before .before .before .before .before .before .before .before .pre .1 .rests in record { exprs = _; lists = r .shaped .listed; most = r .shaped .most })
+    (λ c κs. let r = c .before .before .before .before .before .before .before .before .before .before .pre .1 .rests in
+    record { exprs = _; lists = r .shaped .listed; most = r .shaped .most })
     (λ c e t fs es h. let i = c .before .before .before .before .before .before .before .before .before .before .before .pre .0 in
-    let n = c .before .before .before .before .before .before .schema-columns .ensures (scan t fs es) _ (rw i (h .placed .standing .here)) (c .before .before .before .before .before .before .before .no-fields .ensures) in
+    let n = c .before .before .before .before .before .before .schema-columns .ensures (scan t fs es) _ (rw i (h .placed .standing .here))
+    (c .before .before .before .before .before .before .before .no-fields .ensures) in
     let k = fields-count (h .placed) n in
     let m = c .before .before .before .before .before .marked-fields .ensures _ t fs es i (h .placed) k in
     let l = c .before .before .before .add-volatile .ensures _ _ (lists-none (c .before .before .before .before .empty .ensures)) (h .shaped .listed) in

@@ -18,10 +18,12 @@ pub write-filtered-spec : {M : Type 1} → statement M
 write-filtered-spec =
     tie.close
     (tie.spec
-    (λ c κs. let p = c .before .before .before .before .before .before .pre .1 in (c .before .before .before .before .before .before .pre .0, ((p .0 .0, p .0 .2), (omega (arith, p .1 .0), p .1 .1, p .1 .2))))
+    (λ c κs. let p = c .before .before .before .before .before .before .pre .1 in
+    (c .before .before .before .before .before .before .pre .0, ((p .0 .0, p .0 .2), (omega (arith, p .1 .0), p .1 .1, p .1 .2))))
     (λ c. search needs)
     (λ c t fs es xs ys h k a b. let p = c .before .before .before .before .before .before .before .before .before .pre .1 in
-    rw (filters-none xs (scan t fs ys) (lists-length a (p .0 .1 .most) ∙ c .before .before .before .before .if1 .taken)) (c .before .before .write-scan .ensures t fs es ys h k b))
+    rw (filters-none xs (scan t fs ys) (lists-length a (p .0 .1 .most) ∙ c .before .before .before .before .if1 .taken))
+    (c .before .before .write-scan .ensures t fs es ys h k b))
     (λ c κs. search needs)
     (λ c. search needs)
     (λ c κs. let p = c .before .before .before .before .before .before .before .before .before .before .pre .1 in
@@ -34,14 +36,20 @@ write-filtered-spec =
       },
       (
         rw (c .before .before .before .before .before .before .before .before .before .before .pre .0) (plan-readable h),
-        (omega (arith, c .before .before .before .before .before .if1 .left), (omega (arith, p .1 .0), rw (c .before .before .before .put-kind .ensures .bytes, length-sets) (p .1 .1))),
+        (
+          omega (arith, c .before .before .before .before .before .if1 .left),
+          (omega (arith, p .1 .0), rw (c .before .before .before .put-kind .ensures .bytes, length-sets) (p .1 .1)),
+        ),
       ),
     ))
     (λ c. search needs)
     (λ c κs. let p = c .before .before .before .before .before .before .before .before .before .before .before .before .before .before .pre .1 in
     let h = p .0 .0 .placed .standing in
-    let f = some-first (p .0 .1 .exprs) (λ z. c .before .before .before .before .before .before .before .before .before .if1 .left (sym (lists-length (p .0 .1 .lists) (p .0 .1 .most)) ∙ z)) in
-    let w = c .before .before .before .copy-joined .ensures (mapOf (scan (p .0 .0 .table) (p .0 .0 .fields) (p .0 .0 .filters))) (rw (c .before .before .before .before .before .before .before .before .before .before .before .before .before .before .pre .0) (plan-maps h))
+    let f = some-first (p .0 .1 .exprs)
+    (λ z. c .before .before .before .before .before .before .before .before .before .if1 .left
+    (sym (lists-length (p .0 .1 .lists) (p .0 .1 .most)) ∙ z)) in
+    let w = c .before .before .before .copy-joined .ensures (mapOf (scan (p .0 .0 .table) (p .0 .0 .fields) (p .0 .0 .filters)))
+    (rw (c .before .before .before .before .before .before .before .before .before .before .before .before .before .before .pre .0) (plan-maps h))
     (f .first) (f .others) (pushes-of (rw (f .is) at (p .0 .1 .lists))) in (
       c .before .before .before .before .before .before .before .before .before .before .before .before .before .before .pre .0,
       (
@@ -54,7 +62,11 @@ write-filtered-spec =
       ),
     ))
     (λ c. search needs)
-    (λ c t fs es xs ys h k a b. let p = c .before .before .before .before .before .before .before .before .before .before .before .before .before .before .before .before .before .pre in
-    wrote-filtered (p .1 .1 .1) xs (scan t fs ys) (λ z. c .before .before .before .before .before .before .before .before .before .before .before .before .if1 .left (sym (lists-length a (p .1 .0 .1 .most)) ∙ z)) (c .before .before .before .before .before .before .before .before .before .before .put-kind .ensures)
-    (λ e rest i. c .before .before .before .before .before .before .copy-joined .ensures (mapOf (scan t fs es)) (rw (p .0) (plan-maps (h .standing))) e rest (pushes-of (rw i at a)))
+    (λ c t fs es xs ys h k a b. let p = c .before .before .before .before .before .before .before .before .before .before .before .before .before
+    .before .before .before .before .pre in
+    wrote-filtered (p .1 .1 .1) xs (scan t fs ys)
+    (λ z. c .before .before .before .before .before .before .before .before .before .before .before .before .if1 .left
+    (sym (lists-length a (p .1 .0 .1 .most)) ∙ z)) (c .before .before .before .before .before .before .before .before .before .before .put-kind .ensures)
+    (λ e rest i. c .before .before .before .before .before .before .copy-joined .ensures (mapOf (scan t fs es))
+    (rw (p .0) (plan-maps (h .standing))) e rest (pushes-of (rw i at a)))
     (c .before .before .write-scan2 .ensures t fs es ys h k b)))

@@ -21,8 +21,10 @@ write-scan-spec =
     (λ c κs. let p = c .before .before .before .before .before .before .before .before .pre .1 in
     let h = p .0 .0 .placed .standing in
     let w = c .before .before .before .copy-some .ensures (planTree (scan (p .0 .0 .table) (p .0 .0 .fields) (p .0 .0 .filters)))
-    (rw (c .before .before .before .before .before .before .before .before .pre .0) (h .here)) in
-    (c .before .before .before .before .before .before .before .before .pre .0, ((p .0 .1, record { plan = _; standing = h }), (omega (arith, p .1 .0), wrote-long (p .1 .1) w, wrote-few w))))
+    (rw (c .before .before .before .before .before .before .before .before .pre .0) (h .here)) in (
+      c .before .before .before .before .before .before .before .before .pre .0,
+      ((p .0 .1, record { plan = _; standing = h }), (omega (arith, p .1 .0), wrote-long (p .1 .1) w, wrote-few w)),
+    ))
     (λ c. search needs)
     (λ c t fs es ys h k l. let p = c .before .before .before .before .before .before .before .before .before .before .before .pre .1 in
     let w = c .before .before .before .before .before .before .copy-some .ensures (planTree (scan t fs es))

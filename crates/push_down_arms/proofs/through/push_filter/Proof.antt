@@ -52,5 +52,6 @@ push-filter-spec =
     let k = h .placed .standing in
     let y = c .before .before .before .before .before .last-child .ensures (planTree (f q)) (rw i (k .here)) ∙ t .last in
     answers refl (taken-few t h)
-    (c .before .before .write-over .ensures (mapOf (f q)) (rw i (plan-maps k)) none (some e) (gone refl (c .before .before .before .before .empty .ensures .1))
+    (c .before .before .write-over .ensures (mapOf (f q)) (rw i (plan-maps k)) none (some e)
+    (gone refl (c .before .before .before .before .empty .ensures .1))
     (shaped-perhaps (mapOf (f q)) (h .shaped)) f q (t .own) (t .frame) y k (rw y (t .input)))))

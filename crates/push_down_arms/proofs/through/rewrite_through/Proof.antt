@@ -18,7 +18,8 @@ rewrite-through-spec =
     (p .0, (record { expr = o .expr; plan = o .plan; rests = o .rests }, p .1 .1)))
     (λ c. search needs)
     (λ c e q h i. let t : takesNone (labelP q) ≡ true = sym (ap takesNone (h .placed .standing .here .head .label))
-    ∙ (rw (c .before .before .before .before .before .before .before .before .before .pre .0) at (sym (c .before .before .before .before .before .takes-none .ensures) ∙ c .before .before .before .before .if1 .taken)) in
+    ∙ (rw (c .before .before .before .before .before .before .before .before .before .pre .0) at
+    (sym (c .before .before .before .before .before .takes-none .ensures) ∙ c .before .before .before .before .if1 .taken)) in
     rw (stays e q i t) (c .before .before .keep-filter .ensures e q h))
     (λ c κs. let p = c .before .before .before .before .before .before .pre in
     let o = p .1 .0 in
@@ -29,6 +30,7 @@ rewrite-through-spec =
     (p .0, (record { expr = o .expr; plan = k .input; above = k .above; rests = rests-as (k .is) h; takes = k .takes }, p .1 .1)))
     (λ c. search needs)
     (λ c e q h i. let t : takesNone (labelP q) ≡ false = sym (ap takesNone (h .placed .standing .here .head .label))
-    ∙ (rw (c .before .before .before .before .before .before .before .before .before .pre .0) at (sym (c .before .before .before .before .before .takes-none .ensures) ∙ c .before .before .before .before .if1 .left)) in
+    ∙ (rw (c .before .before .before .before .before .before .before .before .before .pre .0) at
+    (sym (c .before .before .before .before .before .takes-none .ensures) ∙ c .before .before .before .before .if1 .left)) in
     let k = passes e q (h .placed .short) (h .placed .standing) i t in
     rw (k .rewritten) (c .before .before .push-filter .ensures e (k .input) (k .above) (rests-as (k .is) h) (k .takes))))

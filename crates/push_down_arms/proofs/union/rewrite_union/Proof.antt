@@ -36,8 +36,10 @@ rewrite-union-spec =
     (λ c κs. search needs)
     (λ c κs. let p = c .before .before .before .before .before .pre in rw (p .0) (standing-plan (p .1 .0 .rests .placed .standing)))
     (λ c κs. let h = c .before .before .before .before .before .before .pre .1 .0 in record { image = _; expr = h .expr; shaped = h .rests .shaped })
-    (λ c κs. let p = c .before .before .before .before .before .before .before .before .pre in (rw (p .0) (omega (arith, p .1 .0 .rests .placed .standing .here .head .room)), p .1 .1 .2))
-    (λ c κs. let p = c .before .before .before .before .before .before .before .before .before .before .before .pre in rw (p .0) (omega (arith, p .1 .0 .rests .placed .standing .here .head .room)))
+    (λ c κs. let p = c .before .before .before .before .before .before .before .before .pre in
+    (rw (p .0) (omega (arith, p .1 .0 .rests .placed .standing .here .head .room)), p .1 .1 .2))
+    (λ c κs. let p = c .before .before .before .before .before .before .before .before .before .before .before .pre in
+    rw (p .0) (omega (arith, p .1 .0 .rests .placed .standing .here .head .room)))
     (λ c. let p = c .before .before .before .before .before .before .before .before .before .before .before .before .pre in
     let o = p .1 .0 in
     let h = o .rests in (
@@ -45,8 +47,10 @@ rewrite-union-spec =
       record {
         expr = o .expr;
         inputs = o .inputs;
-        spread = spread-of h (c .before .before .before .before .before .before .schema-columns .ensures (union (o .inputs)) _ (rw (p .0) (h .placed .standing .here)) (c .before .before .before .before .before .before .before .no-fields .ensures))
-            (c .before .before .before .before .before .changed-predicate .ensures .0) (λ σ. c .before .before .before .before .before .changed-predicate .ensures .1 _ σ (o .expr) (h .shaped));
+        spread = spread-of h (c .before .before .before .before .before .before .schema-columns .ensures (union (o .inputs)) _
+            (rw (p .0) (h .placed .standing .here)) (c .before .before .before .before .before .before .before .no-fields .ensures))
+            (c .before .before .before .before .before .changed-predicate .ensures .0)
+            (λ σ. c .before .before .before .before .before .changed-predicate .ensures .1 _ σ (o .expr) (h .shaped));
       },
       λ e ps w. rw (c .word-at .ensures .0)
           (chain _ (record { tree = planTree (union ps); at = rw (p .0) (w .standing .here); some = omega arith; deep = w .standing .deep })
@@ -56,8 +60,13 @@ rewrite-union-spec =
     let w = k .1 in
     let u = round _ (k .2 (w .expr) (w .inputs) (w .spread)) (c .loop-test .taken) in
     (omega (arith, u .turn .past), omega (arith, u .turn .fits)))
-    (λ c. omega (arith, c .before .before .before .before .before .before .before .before .before .before .before .before .before .before .before .before .before .pre .1 .1 .1))
-    (λ c κs. let p = c .before .before .before .before .before .before .before .before .before .before .before .before .before .before .before .before .before .pre in
+    (λ c. omega (
+      arith,
+      c .before .before .before .before .before .before .before .before .before .before .before .before .before .before .before
+          .before .before .pre .1 .1 .1,
+    ))
+    (λ c κs. let p = c .before .before .before .before .before .before .before .before .before .before .before .before .before .before .before .before
+    .before .pre in
     let k = c .before .before .before .before .loop .inv in
     let w = k .1 in
     let u = round _ (k .2 (w .expr) (w .inputs) (w .spread)) (c .before .before .before .loop-test .taken) in
@@ -75,7 +84,8 @@ rewrite-union-spec =
     rw (c .before .before .before .before .before .before .before .from-record .ensures, length-drop) (omega (arith, u .turn .fits)))
     (λ c. let k = c .before .before .before .before .before .before .before .before .before .before .loop .inv in
     let w = k .1 in
-    let u = round _ (k .2 (w .expr) (w .inputs) (w .spread)) (c .before .before .before .before .before .before .before .before .before .loop-test .taken) in
+    let u = round _ (k .2 (w .expr) (w .inputs) (w .spread))
+    (c .before .before .before .before .before .before .before .before .before .loop-test .taken) in
     rw (c .word-at2 .ensures .0, c .before .before .before .before .before .before .before .before .from-record .ensures) (u .turn .less))
     (λ c. (
       search needs,
@@ -84,16 +94,21 @@ rewrite-union-spec =
           let u = round _ k (c .before .before .before .before .before .before .before .before .before .loop-test .taken) in
           let f = first _ _ _ (u .so-far) in
           let w = c .before .before .before .before .before .copy-renamed .ensures e (f .plan) (schema (union ps))
-          (renames-first h f (c .before .before .before .before .before .before .before .before .before .before .before .before .before .before .before .before .before .before .before .before .before .before .before .pre .0) (u .turn .past) (u .turn .here) (readable-deep (u .turn .here) (u .readable))) in
+          (renames-first h f (c .before .before .before .before .before .before .before .before .before .before .before .before .before .before
+          .before .before .before .before .before .before .before .before .before .pre .0) (u .turn .past) (u .turn .here)
+          (readable-deep (u .turn .here) (u .readable))) in
           rw (c .word-at2 .ensures .0, c .before .before .before .before .before .before .before .before .from-record .ensures) (again _ k u (more f w)),
     ))
     (λ c. search needs)
     (λ c. let k = c .before .loop .inv in
     let w = k .1 in
-    k .2 (w .expr) (w .inputs) (w .spread) .so-far .left .long ∙ sym (c .before .before .before .before .before .before .before .before .before .before .before .before .before .before .pre .1 .1 .2))
+    k .2 (w .expr) (w .inputs) (w .spread) .so-far .left .long ∙ sym
+    (c .before .before .before .before .before .before .before .before .before .before .before .before .before .before .pre .1 .1 .2))
     (λ c e ps h. let p = c .before .before .before .before .before .before .before .before .before .before .before .before .before .before .pre in
-    let w = spread-of h (c .before .before .before .before .before .before .before .before .schema-columns .ensures (union ps) _ (rw (p .0) (h .placed .standing .here)) (c .before .before .before .before .before .before .before .before .before .no-fields .ensures))
-    (c .before .before .before .before .before .before .before .changed-predicate .ensures .0) (λ σ. c .before .before .before .before .before .before .before .changed-predicate .ensures .1 _ σ e (h .shaped)) in
+    let w = spread-of h (c .before .before .before .before .before .before .before .before .schema-columns .ensures (union ps) _
+    (rw (p .0) (h .placed .standing .here)) (c .before .before .before .before .before .before .before .before .before .no-fields .ensures))
+    (c .before .before .before .before .before .before .before .changed-predicate .ensures .0)
+    (λ σ. c .before .before .before .before .before .before .before .changed-predicate .ensures .1 _ σ e (h .shaped)) in
     answers refl (union-lists h)
     (union-wrote e ps (p .1 .1 .2) (c .before .before .before .before .before .put-label .ensures) (rw (p .0) (h .placed .standing .here .head .label))
     (none-more (done _ (c .before .loop .inv .2 e ps w) (c .loop-test .left))))))

@@ -49,11 +49,13 @@ pub +copy-some-spec : {M : Type 1} → statement M
     copy-some.Post
     Inv-loop
     μ-loop
-    (λ c. λ t h. let z : c .before .before .before .args .end - c .before .before .before .args .base ≡ 0 = omega (arith, c .if1 .taken) in rw z (wrote-none _ _ (c .before .before .before .pre .1 .1 .2)))
+    (λ c. λ t h. let z : c .before .before .before .args .end - c .before .before .before .args .base ≡ 0 = omega (arith, c .if1 .taken) in
+    rw z (wrote-none _ _ (c .before .before .before .pre .1 .1 .2)))
     (λ c κs. let p = c .before .before .before .before .pre .1 in (omega (arith, p .0 .at .head .room), p .1 .1))
     (λ c κs. omega (arith, c .before .before .before .before .before .before .before .pre .1 .0 .at .head .room))
     (λ c. let p = c .before .before .before .before .before .before .before .before .pre .1 in
-    rw (c .word-at .ensures .0) (chain _ (p .0) (rest-all _ _ _ _ (p .1 .1) (wrote-one (c .before .before .before .put-label .ensures)) (p .0 .at .head .first))))
+    rw (c .word-at .ensures .0) (chain _ (p .0)
+    (rest-all _ _ _ _ (p .1 .1) (wrote-one (c .before .before .before .put-label .ensures)) (p .0 .at .head .first))))
     (λ c κs. let u = round _ (c .before .loop .inv) (c .loop-test .taken) in omega (arith, u .turn .past, u .turn .fits))
     (λ c. omega (arith, c .before .before .loop .inv .some))
     (λ c. omega (arith, c .before .before .before .before .before .before .before .before .before .before .before .before .pre .1 .1 .0))
@@ -66,7 +68,8 @@ pub +copy-some-spec : {M : Type 1} → statement M
         (omega (arith, p .1 .1 .0, k .some), k .so-far .long, k .so-far .small),
       ),
     ))
-    (λ c κs. let u = round _ (c .before .before .before .before .before .before .loop .inv) (c .before .before .before .before .before .loop-test .taken) in
+    (λ c κs. let u = round _ (c .before .before .before .before .before .before .loop .inv)
+    (c .before .before .before .before .before .loop-test .taken) in
     rw (c .before .before .before .before .from-record .ensures, length-drop) (omega (arith, u .turn .fits)))
     (λ c. let u = round _ (c .before .before .before .before .before .before .before .loop .inv)
     (c .before .before .before .before .before .before .loop-test .taken) in
