@@ -21,6 +21,7 @@ ghost use Rattle.image.specs.Buffers.{ScratchMap};
 ghost use Rattle.plan.specs.Syntax.{Expr, Plan, filter};
 ghost use Rattle.rewrite.specs.PushDownFilter.{merges, merges-under, resume, rewrite, rewrite-filter};
 ghost use Rattle.rewrite.specs.RewriteAt.{Focus};
+ghost use Rattle.conjuncts.specs.Standing.{Stretch};
 ghost use Rattle.push_down_base.specs.Arms.{Rests};
 ghost use Rattle.push_down_merge.specs.Merging.{Inside};
 ghost use Rattle.push_down_rewrite.specs.Filters.{Left, LeftInside, OnFilter, OnPlan};

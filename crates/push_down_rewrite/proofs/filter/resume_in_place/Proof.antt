@@ -13,18 +13,21 @@ unfolding sizeP
 resume-in-place-spec =
     tie.close
     (tie.spec
-    (λ c κs. let p = c .before .before .before .before .before .before .pre in
+    (λ c κs. let p = c .before .before .before .before .before .before .before .pre .1 in
     let i = p .0 .inside in
     (sized i, (record { plan = p .0 .spot .plan; standing = stands-inside i }, (p .1 .1, p .1 .2))))
-    (λ c κs. let p = c .before .before .before .before .before .before .before .before .before .before .before .before .before .pre in
+    (λ c κs. let u = c .before .before .before .before .before .before .before .before .before .before .before .before .before .before .pre in
+    let p = u .1 in
     let i = p .0 .inside in
     let w = c .before .before .before .before .before .before .write-before in
     let b = w .ensures (p .0 .whole) (p .0 .spot) (i .root) (i .there) (stands-inside i) in (
-      record { option = p .0 .option; plan = p .0 .plan; left = p .0 .left },
-      (p .1 .0, omega (arith, level-small i (b .level)), w .kept .1 .1 .0 ∙ p .1 .1, omega (arith, end-within i, few-records i)),
+      u .0,
+      (
+        record { option = p .0 .option; plan = p .0 .plan; left = p .0 .left },
+        (p .1 .0, omega (arith, level-small i (b .level)), w .kept .1 .1 .0 ∙ p .1 .1, omega (arith, end-within i, few-records i)),
+      ),
     ))
-    (λ c κs. let p = c .before .before .before .before .before .before .before .before .before .before .before .before .before .before .before
-    .before .before .before .before .before .pre in
+    (λ c κs. let p = c .before .before .before .before .before .before .before .before .before .before .before .before .before .before .before .before .before .before .before .before .before .pre .1 in
     let i = p .0 .inside in
     let q = p .0 .plan in
     let w = c .before .before .before .before .before .before .before .before .before .before .before .before .before .write-before in
@@ -43,7 +46,7 @@ resume-in-place-spec =
           answers = r .ensures (p .0 .option) q (p .0 .left);
         };
       },
-      (r .kept .1 .1 .1 .1 .0 ∙ long, w .kept .1 .1 .1 .0 ∙ p .1 .2),
+      (r .kept .1 .1 .1 .1 .1 .0 ∙ long, w .kept .1 .1 .1 .0 ∙ p .1 .2),
     ))
     (λ c. search needs)
     (λ c. search needs)
@@ -52,10 +55,7 @@ resume-in-place-spec =
     (record {
       inside = h;
       before = _;
-      long = c .before .before .before .before .before .before .before .before .before .before .before .before .before .before .before .before
-          .write-before .kept .1 .1 .0 ∙ c .before .before .before .before .before .before .before .before .before .before .before .before .before
-          .before .before .before .before .before .before .before .before .before .before .pre .1 .1;
-      begun = c .before .before .before .before .before .before .before .before .before .before .before .before .before .before .before .before
-          .write-before .ensures w f (h .root) (h .there) (stands-inside h);
+      long = c .before .before .before .before .before .before .before .before .before .before .before .before .before .before .before .before .write-before .kept .1 .1 .0 ∙ c .before .before .before .before .before .before .before .before .before .before .before .before .before .before .before .before .before .before .before .before .before .before .before .before .pre .1 .1 .1;
+      begun = c .before .before .before .before .before .before .before .before .before .before .before .before .before .before .before .before .write-before .ensures w f (h .root) (h .there) (stands-inside h);
       answers = c .before .before .before .before .before .before .before .before .before .resume .ensures o q l;
     })))

@@ -12,134 +12,130 @@ pub rewrite-input-spec : {M : Type 1} → statement M
 rewrite-input-spec =
     tie.close
     (tie.spec
-    (λ c κs. search needs)
-    (λ c κs. let h = c .before .before .before .before .pre .0 .rests .placed .standing in rw (c .record-at .ensures) (omega (
+    (λ c κs. let h = c .before .before .before .before .pre .1 .0 .rests .placed .standing in rw (c .before .before .before .before .pre .0) (omega (
       arith,
       h .here
           .head .room,
     )))
-    (λ c κs. let r = c .before .before .before .before .before .before .before .pre .0 in (
-      over-scan r (read-kind (c .before .before .before .record-at .ensures) (c .before .before .word-at .ensures .0) (r .rests .placed
-          .standing)) (c .before .if1 .taken),
+    (λ c κs. let u = c .before .before .before .before .before .before .before .pre in
+    let r = u .1 .0 in (
+      u .0,
       (
-        c .before .before .before .before .before .before .before .pre .1 .1,
-        c .before .before .before .before
-            .before .before .before .pre .1 .2,
-        c .before .before .before .before .before .before .before .pre .1 .3,
+        over-scan r (read-kind (u .0) (c .before .before .word-at .ensures .0) (r .rests .placed
+            .standing)) (c .before .if1 .taken),
+        (
+          u .1 .1 .1,
+          u .1 .1 .2,
+          u .1 .1 .3,
+        ),
       ),
     ))
     (λ c. search needs)
     (λ c e q h i. by-scan (c .before .before .rewrite-table-scan .ensures) (c .before .before .before .before .if1 .taken) e q
-    (read-kind (c .before .before .before .before .before .before .record-at .ensures) (c .before .before .before .before .before .word-at
+    (read-kind (c .before .before .before .before .before .before .before .before .before .before .pre .0) (c .before .before .before .before .before .word-at
     .ensures .0) (h .placed .standing)) h)
-    (λ c κs. let r = c .before .before .before .before .before .before .before .before .pre .0 in (
-      over-project r (read-kind (c .before .before .before .before .record-at .ensures) (c .before .before .before .word-at .ensures .0) (r .rests
-          .placed .standing)) (c .before .if2 .taken),
+    (λ c κs. let u = c .before .before .before .before .before .before .before .before .pre in
+    let r = u .1 .0 in (
+      u .0,
       (
-        c .before .before .before .before .before .before .before .before .pre .1 .1,
-        c .before .before
-            .before .before .before .before .before .before .pre .1 .2,
-        c .before .before .before .before .before .before .before .before .pre .1 .3,
+        over-project r (read-kind (u .0) (c .before .before .before .word-at .ensures .0) (r .rests
+            .placed .standing)) (c .before .if2 .taken),
+        (
+          u .1 .1 .1,
+          u .1 .1 .2,
+          u .1 .1 .3,
+        ),
       ),
     ))
     (λ c. search needs)
     (λ c e q h i. by-project (c .before .before .rewrite-projection .ensures) (c .before .before .before .before .if2 .taken) e q
-    (read-kind (c .before .before .before .before .before .before .before .record-at .ensures) (c .before .before .before .before .before .before
-    .word-at .ensures .0) (h .placed .standing)) h)
-    (λ c κs. let r = c .before .before .before .before .before .before .before .before .before .before .pre .0 in (
-      over-join r (read-kind (c .before .before .before .before .before .before .record-at .ensures) (c .before .before .before .before .before
-          .word-at .ensures .0) (r .rests .placed .standing)) (c .before .before .if3 .taken),
-      c .before .before .before .before .before .before
-          .before .before .before .before .pre .1,
-    ))
-    (λ c. search needs)
-    (λ c. search needs)
-    (λ c e q h i. by-join (c .before .before .before .before .rewrite-join .ensures) (c .before .before .before .before .before .before .before
-    .if3 .taken) e q
-    (read-kind (c .before .before .before .before .before .before .before .before .before .before .before .record-at .ensures) (c .before .before
-    .before .before .before .before .before .before .before .before .word-at .ensures .0) (h .placed .standing)) h)
-    (λ c κs. let r = c .before .before .before .before .before .before .before .before .before .before .before .pre .0 in (
-      over-alias r (read-kind (c .before .before .before .before .before .before .before .record-at .ensures) (c .before .before .before .before
-          .before .before .word-at .ensures .0) (r .rests .placed .standing)) (c .before .before .if4 .taken),
-      c .before .before .before .before
-          .before .before .before .before .before .before .before .pre .1,
-    ))
-    (λ c. search needs)
-    (λ c. search needs)
-    (λ c e q h i. by-alias (c .before .before .before .before .rewrite-subquery-alias .ensures) (c .before .before .before .before .before .before .before
-    .if4 .taken) e q
-    (read-kind (c .before .before .before .before .before .before .before .before .before .before .before .before .record-at .ensures) (c .before
-    .before .before .before .before .before .before .before .before .before .before .word-at .ensures .0) (h .placed .standing)) h)
-    (λ c κs. let r = c .before .before .before .before .before .before .before .before .before .before .before .before .pre .0 in (
-      over-union r (read-kind (c .before .before .before .before .before .before .before .before .record-at .ensures) (c .before .before .before
-          .before .before .before .before .word-at .ensures .0) (r .rests .placed .standing)) (c .before .before .if5 .taken),
-      c .before .before .before .before .before .before .before .before .before .before .before .before .pre .1,
-    ))
-    (λ c. search needs)
-    (λ c. search needs)
-    (λ c e q h i. by-union (c .before .before .before .before .rewrite-union .ensures) (c .before .before .before .before .before .before .before
-    .if5 .taken) e q
-    (read-kind (c .before .before .before .before .before .before .before .before .before .before .before .before .before .record-at .ensures) (c
-    .before .before .before .before .before .before .before .before .before .before .before .before .word-at .ensures .0) (h .placed .standing)) h)
-    (λ c κs. let r = c .before .before .before .before .before .before .before .before .before .before .before .before .pre .0 in (
-      over-aggregate r (read-kind (c .before .before .before .before .before .before .before .before .record-at .ensures) (c .before .before
-          .before .before .before .before .before .word-at .ensures .0) (r .rests .placed .standing)) (c .before .if6 .taken),
+    (read-kind (c .before .before .before .before .before .before .before .before .before .before .before .pre .0) (c .before .before .before .before .before .before .word-at .ensures .0) (h .placed .standing)) h)
+    (λ c κs. let u = c .before .before .before .before .before .before .before .before .before .before .pre in
+    let r = u .1 .0 in (
+      u .0,
       (
-        c .before .before
-            .before .before .before .before .before .before .before .before .before .before .pre .1 .1,
-        c .before .before .before .before .before .before
-            .before .before .before .before .before .before .pre .1 .2,
-        c .before .before .before .before .before .before .before .before .before .before
-            .before .before .pre .1 .3,
+        over-join r (read-kind (u .0) (c .before .before .before .before .before .word-at .ensures .0) (r .rests .placed .standing)) (c .before .before .if3 .taken),
+        u .1 .1,
+      ),
+    ))
+    (λ c. search needs)
+    (λ c. search needs)
+    (λ c e q h i. by-join (c .before .before .before .before .rewrite-join .ensures) (c .before .before .before .before .before .before .before .if3 .taken) e q
+    (read-kind (c .before .before .before .before .before .before .before .before .before .before .before .before .before .before .before .pre .0) (c .before .before .before .before .before .before .before .before .before .before .word-at .ensures .0) (h .placed .standing)) h)
+    (λ c κs. let u = c .before .before .before .before .before .before .before .before .before .before .before .pre in
+    let r = u .1 .0 in (
+      u .0,
+      (
+        over-alias r (read-kind (u .0) (c .before .before .before .before .before .before .word-at .ensures .0) (r .rests .placed .standing)) (c .before .before .if4 .taken),
+        u .1 .1,
+      ),
+    ))
+    (λ c. search needs)
+    (λ c. search needs)
+    (λ c e q h i. by-alias (c .before .before .before .before .rewrite-subquery-alias .ensures) (c .before .before .before .before .before .before .before .if4 .taken) e q
+    (read-kind (c .before .before .before .before .before .before .before .before .before .before .before .before .before .before .before .before .pre .0) (c .before .before .before .before .before .before .before .before .before .before .before .word-at .ensures .0) (h .placed .standing)) h)
+    (λ c κs. let u = c .before .before .before .before .before .before .before .before .before .before .before .before .pre in
+    let r = u .1 .0 in (
+      u .0,
+      (
+        over-union r (read-kind (u .0) (c .before .before .before .before .before .before .before .word-at .ensures .0) (r .rests .placed .standing)) (c .before .before .if5 .taken),
+        u .1 .1,
+      ),
+    ))
+    (λ c. search needs)
+    (λ c. search needs)
+    (λ c e q h i. by-union (c .before .before .before .before .rewrite-union .ensures) (c .before .before .before .before .before .before .before .if5 .taken) e q
+    (read-kind (c .before .before .before .before .before .before .before .before .before .before .before .before .before .before .before .before .before .pre .0) (c .before .before .before .before .before .before .before .before .before .before .before .before .word-at .ensures .0) (h .placed .standing)) h)
+    (λ c κs. let u = c .before .before .before .before .before .before .before .before .before .before .before .before .pre in
+    let r = u .1 .0 in (
+      u .0,
+      (
+        over-aggregate r (read-kind (u .0) (c .before .before .before .before .before .before .before .word-at .ensures .0) (r .rests .placed .standing)) (c .before .if6 .taken),
+        (
+          u .1 .1 .1,
+          u .1 .1 .2,
+          u .1 .1 .3,
+        ),
       ),
     ))
     (λ c. search needs)
     (λ c e q h i. by-aggregate (c .before .before .rewrite-aggregate .ensures) (c .before .before .before .before .if6 .taken) e q
-    (read-kind (c .before .before .before .before .before .before .before .before .before .before .before .record-at .ensures) (c .before .before
-    .before .before .before .before .before .before .before .before .word-at .ensures .0) (h .placed .standing)) h)
-    (λ c κs. let r = c .before .before .before .before .before .before .before .before .before .before .before .before .before .pre .0 in (
-      over-window r (read-kind (c .before .before .before .before .before .before .before .before .before .record-at .ensures) (c .before .before
-          .before .before .before .before .before .before .word-at .ensures .0) (r .rests .placed .standing)) (c .before .if7 .taken),
+    (read-kind (c .before .before .before .before .before .before .before .before .before .before .before .before .before .before .before .pre .0) (c .before .before .before .before .before .before .before .before .before .before .word-at .ensures .0) (h .placed .standing)) h)
+    (λ c κs. let u = c .before .before .before .before .before .before .before .before .before .before .before .before .before .pre in
+    let r = u .1 .0 in (
+      u .0,
       (
-        c .before
-            .before .before .before .before .before .before .before .before .before .before .before .before .pre .1 .1,
-        c .before .before .before .before
-            .before .before .before .before .before .before .before .before .before .pre .1 .2,
-        c .before .before .before .before .before .before .before
-            .before .before .before .before .before .before .pre .1 .3,
+        over-window r (read-kind (u .0) (c .before .before .before .before .before .before .before .before .word-at .ensures .0) (r .rests .placed .standing)) (c .before .if7 .taken),
+        (
+          u .1 .1 .1,
+          u .1 .1 .2,
+          u .1 .1 .3,
+        ),
       ),
     ))
     (λ c. search needs)
     (λ c e q h i. by-window (c .before .before .rewrite-window .ensures) (c .before .before .before .before .if7 .taken) e q
-    (read-kind (c .before .before .before .before .before .before .before .before .before .before .before .before .record-at .ensures) (c .before
-    .before .before .before .before .before .before .before .before .before .before .word-at .ensures .0) (h .placed .standing)) h)
-    (λ c κs. let r = c .before .before .before .before .before .before .before .before .before .before .before .before .before .pre .0 in let y =
-    read-kind (c .before .before .before .before .before .before .before .before .before .record-at .ensures) (c .before .before .before .before
-    .before .before .before .before .word-at .ensures .0) (r .rests .placed .standing) in (
-      record {
-        expr = r .expr;
-        plan = r .plan;
-        rests = r .rests;
-        is = when-through (r .plan) (r .other) (λ e. c .before .before .before .before
-            .before .before .before .if1 .left (y ∙ e)) (λ e. c .before .before .before .before .before .before .if2 .left (y ∙ e)) (λ e. c .before
-            .before .before .before .before .if3 .left (y ∙ e)) (λ e. c .before .before .before .before .if4 .left (y ∙ e)) (λ e. c .before .before
-            .before .if5 .left (y ∙ e)) (λ e. c .before .before .if6 .left (y ∙ e)) (λ e. c .before .if7 .left (y ∙ e));
-      },
+    (read-kind (c .before .before .before .before .before .before .before .before .before .before .before .before .before .before .before .before .pre .0) (c .before .before .before .before .before .before .before .before .before .before .before .word-at .ensures .0) (h .placed .standing)) h)
+    (λ c κs. let u = c .before .before .before .before .before .before .before .before .before .before .before .before .before .pre in
+    let r = u .1 .0 in
+    let y = read-kind (u .0) (c .before .before .before .before .before .before .before .before .word-at .ensures .0) (r .rests .placed .standing) in (
+      u .0,
       (
-        c .before .before .before
-            .before .before .before .before .before .before .before .before .before .before .pre .1 .1,
-        c .before .before .before .before .before .before
-            .before .before .before .before .before .before .before .pre .1 .2,
-        c .before .before .before .before .before .before .before .before .before
-            .before .before .before .before .pre .1 .3,
+        record {
+          expr = r .expr;
+          plan = r .plan;
+          rests = r .rests;
+          is = when-through (r .plan) (r .other) (λ e. c .before .before .before .before .before .before .before .if1 .left (y ∙ e)) (λ e. c .before .before .before .before .before .before .if2 .left (y ∙ e)) (λ e. c .before .before .before .before .before .if3 .left (y ∙ e)) (λ e. c .before .before .before .before .if4 .left (y ∙ e)) (λ e. c .before .before .before .if5 .left (y ∙ e)) (λ e. c .before .before .if6 .left (y ∙ e)) (λ e. c .before .if7 .left (y ∙ e));
+        },
+        (
+          u .1 .1 .1,
+          u .1 .1 .2,
+          u .1 .1 .3,
+        ),
       ),
     ))
     (λ c. search needs)
-    (λ c e q h i. let y = read-kind (c .before .before .before .before .before .before .before .before .before .before .before .before .record-at
-    .ensures) (c .before .before .before .before .before .before .before .before .before .before .before .word-at .ensures .0) (h .placed
+    (λ c e q h i. let y = read-kind (c .before .before .before .before .before .before .before .before .before .before .before .before .before .before .before .before .pre .0) (c .before .before .before .before .before .before .before .before .before .before .before .word-at .ensures .0) (h .placed
     .standing) in
-    c .before .before .rewrite-through .ensures e q h (when-through q i (λ z. c .before .before .before .before .before .before .before .before
-    .before .before .if1 .left (y ∙ z)) (λ z. c .before .before .before .before .before .before .before .before .before .if2 .left (y ∙ z)) (λ z.
-    c .before .before .before .before .before .before .before .before .if3 .left (y ∙ z)) (λ z. c .before .before .before .before .before .before
-    .before .if4 .left (y ∙ z)) (λ z. c .before .before .before .before .before .before .if5 .left (y ∙ z)) (λ z. c .before .before .before
-    .before .before .if6 .left (y ∙ z)) (λ z. c .before .before .before .before .if7 .left (y ∙ z)))))
+    c .before .before .rewrite-through .ensures e q h (when-through q i (λ z. c .before .before .before .before .before .before .before .before .before .before .if1 .left (y ∙ z)) (λ z. c .before .before .before .before .before .before .before .before .before .if2 .left (y ∙ z)) (λ z.
+    c .before .before .before .before .before .before .before .before .if3 .left (y ∙ z)) (λ z. c .before .before .before .before .before .before .before .if4 .left (y ∙ z)) (λ z. c .before .before .before .before .before .before .if5 .left (y ∙ z)) (λ z. c .before .before .before .before .before .if6 .left (y ∙ z)) (λ z. c .before .before .before .before .if7 .left (y ∙ z)))))

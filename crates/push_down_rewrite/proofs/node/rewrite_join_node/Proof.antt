@@ -19,25 +19,28 @@ unfolding sizeP
 rewrite-join-node-spec =
     tie.close
     (tie.spec
-    (λ c κs. let p = c .before .before .before .before .before .before .pre in
+    (λ c κs. let p = c .before .before .before .before .before .before .before .pre .1 in
     let i = p .0 .inside in
     (sized i, (record { plan = p .0 .spot .plan; standing = stands-inside i }, (p .1 .1, p .1 .2))))
     (λ c κs. search needs)
-    (λ c κs. let p = c .before .before .before .before .before .before .before .before .before .before .before .before .before .before .pre in
+    (λ c κs. let u = c .before .before .before .before .before .before .before .before .before .before .before .before .before .before .before .pre in
+    let p = u .1 in
     let j = p .0 in
     let i = j .inside in
     let b = c .before .before .before .before .before .before .before .write-before .ensures (j .whole) (j .spot) (i .root) (i .there)
     (stands-inside i) in (
-      none-under (placed-inside i (j .is)) (c .before .before .empty .ensures),
+      u .0,
       (
-        p .1 .0,
-        omega (arith, level-small i (b .level)),
-        c .before .before .before .before .before .before .before .write-before .kept .1 .1 .0 ∙ p .1 .1,
-        omega (arith, end-within i, few-records i),
+        none-under (placed-inside i (j .is)) (c .before .before .empty .ensures),
+        (
+          p .1 .0,
+          omega (arith, level-small i (b .level)),
+          c .before .before .before .before .before .before .before .write-before .kept .1 .1 .0 ∙ p .1 .1,
+          omega (arith, end-within i, few-records i),
+        ),
       ),
     ))
-    (λ c κs. let p = c .before .before .before .before .before .before .before .before .before .before .before .before .before .before .before
-    .before .before .before .before .before .before .pre in
+    (λ c κs. let p = c .before .before .before .before .before .before .before .before .before .before .before .before .before .before .before .before .before .before .before .before .before .before .pre .1 in
     let j = p .0 in
     let i = j .inside in
     let b = c .before .before .before .before .before .before .before .before .before .before .before .before .before .before .write-before
@@ -59,28 +62,22 @@ rewrite-join-node-spec =
         };
       },
       (
-        c .before .before .before .before .before .before .push-down-join .kept .1 .1 .1 .1 .0 ∙ long,
-        c .before .before .before .before .before
-            .before .before .before .before .before .before .before .before .before .write-before .kept .1 .1 .1 .0 ∙ p .1 .2,
+        c .before .before .before .before .before .before .push-down-join .kept .1 .1 .1 .1 .1 .0 ∙ long,
+        c .before .before .before .before .before .before .before .before .before .before .before .before .before .before .write-before .kept .1 .1 .1 .0 ∙ p .1 .2,
       ),
     ))
     (λ c. search needs)
     (λ c. search needs)
     (λ c. search needs)
-    (λ c w f h. let a = the-join (c .before .before .before .before .before .before .before .before .before .before .before .before .before
-    .before .before .before .before .before .before .before .before .before .before .before .pre .0) h in
+    (λ c w f h. let a = the-join (c .before .before .before .before .before .before .before .before .before .before .before .before .before .before .before .before .before .before .before .before .before .before .before .before .before .pre .1 .0) h in
     join-outcomes (a .is)
     (c .before .before .finish .ensures _ w f (push-down-join (a .kind) (a .lhs) (a .rhs) (a .keys) (a .condition) [])
     (record {
       inside = h;
       before = _;
-      long = c .before .before .before .before .before .before .before .before .before .before .before .before .before .before .before .before
-          .before .write-before .kept .1 .1 .0 ∙ c .before .before .before .before .before .before .before .before .before .before .before
-          .before .before .before .before .before .before .before .before .before .before .before .before .before .pre .1 .1;
-      begun = c .before .before .before .before .before .before .before .before .before .before .before .before .before .before .before .before
-          .before .write-before .ensures w f (h .root) (h .there) (stands-inside h);
+      long = c .before .before .before .before .before .before .before .before .before .before .before .before .before .before .before .before .before .write-before .kept .1 .1 .0 ∙ c .before .before .before .before .before .before .before .before .before .before .before .before .before .before .before .before .before .before .before .before .before .before .before .before .before .pre .1 .1 .1;
+      begun = c .before .before .before .before .before .before .before .before .before .before .before .before .before .before .before .before .before .write-before .ensures w f (h .root) (h .there) (stands-inside h);
       answers = c .before .before .before .before .before .before .before .before .before .push-down-join .ensures (a .kind) (a .lhs) (a .rhs) (a
           .keys) (a .condition) []
-          (placed-inside h (a .is)) (reads-none (c .before .before .before .before .before .before .before .before .before .before .before
-          .before .empty .ensures)) anil;
+          (placed-inside h (a .is)) (reads-none (c .before .before .before .before .before .before .before .before .before .before .before .before .empty .ensures)) anil;
     }))))

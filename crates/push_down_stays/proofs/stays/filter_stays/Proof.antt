@@ -57,12 +57,15 @@ filter-stays-spec =
     let k = shaped-written (omega arith) pred (c .split-at .ensures (p .expr) [] pred (lists-none (c .before .empty .ensures)))
     (own-few _ _ (placed-inside (p .inside) (p .is) .lists)) in (
       input-at (st .standing) (u .0) (st .after) (c .before .before .before .before .from-record .ensures),
-      (record {
-        expr = p .expr;
-        plan = p .plan;
-        rests = rests-written (p .expr) (p .plan) (placed-inside (p .inside) (p .is)) k (st .standing);
-        other = may-stay-other (p .plan) (sym m ∙ told (c .before .before .if1 .left));
-      }, λ z. omega arith),
+      (
+        record {
+          expr = p .expr;
+          plan = p .plan;
+          rests = rests-written (p .expr) (p .plan) (placed-inside (p .inside) (p .is)) k (st .standing);
+          other = may-stay-other (p .plan) (sym m ∙ told (c .before .before .if1 .left));
+        },
+        λ z. omega arith,
+      ),
     ))
     (λ c κs. let u = c .before .before .before .before .before .before .before .before .before .before .pre in
     let p = u .1 in

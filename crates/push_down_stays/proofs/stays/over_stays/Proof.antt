@@ -19,37 +19,45 @@ over-stays-spec =
     (λ c e q h o. when-scan (stays-over _ _ _ e _) (c .over-scan-stays .ensures e) q
     (sym (read-kind (c .before .before .before .before .before .pre .0) (c .before .before .word-at .ensures .0)
     (h .placed .standing)) ∙ c .before .if1 .taken) h)
-    (λ c κs. let r = c .before .before .before .before .before .pre .1 .0 in
-    (c .before .before .before .before .before .pre .0, over-project r (read-kind (c .before .before .before .before .before .pre .0) (c .before .before .word-at .ensures .0)
-    (r .rests .placed .standing)) (c .if2 .taken)))
+    (λ c κs. let r = c .before .before .before .before .before .pre .1 .0 in (
+      c .before .before .before .before .before .pre .0,
+      over-project r (read-kind (c .before .before .before .before .before .pre .0) (c .before .before .word-at .ensures .0)
+          (r .rests .placed .standing)) (c .if2 .taken),
+    ))
     (λ c e q h o. when-project (stays-over _ _ _ e _) (c .over-projection-stays .ensures e) q
     (sym (read-kind (c .before .before .before .before .before .before .pre .0) (c .before .before .before .word-at .ensures .0)
     (h .placed .standing)) ∙ c .before .if2 .taken) h)
     (λ c κs. let r = c .before .before .before .before .before .before .pre .1 .0 in (
       c .before .before .before .before .before .before .pre .0,
-      (over-join r (read-kind (c .before .before .before .before .before .before .pre .0) (c .before .before .before .word-at .ensures .0)
-          (r .rests .placed .standing)) (c .if3 .taken),
-      c .before .before .before .before .before .before .pre .1 .1),
+      (
+        over-join r (read-kind (c .before .before .before .before .before .before .pre .0) (c .before .before .before .word-at .ensures .0)
+            (r .rests .placed .standing)) (c .if3 .taken),
+        c .before .before .before .before .before .before .pre .1 .1,
+      ),
     ))
     (λ c e q h o. when-join (stays-over _ _ _ e _) (c .over-join-stays .ensures e) q
     (sym (read-kind (c .before .before .before .before .before .before .before .pre .0) (c .before .before .before .before .word-at .ensures .0)
     (h .placed .standing)) ∙ c .before .if3 .taken) h)
     (λ c κs. let r = c .before .before .before .before .before .before .before .pre .1 .0 in (
       c .before .before .before .before .before .before .before .pre .0,
-      (over-aggregate r (read-kind (c .before .before .before .before .before .before .before .pre .0)
-          (c .before .before .before .before .word-at .ensures .0) (r .rests .placed .standing))
-          (c .if4 .taken),
-      c .before .before .before .before .before .before .before .pre .1 .1),
+      (
+        over-aggregate r (read-kind (c .before .before .before .before .before .before .before .pre .0)
+            (c .before .before .before .before .word-at .ensures .0) (r .rests .placed .standing))
+            (c .if4 .taken),
+        c .before .before .before .before .before .before .before .pre .1 .1,
+      ),
     ))
     (λ c e q h o. when-aggregate (stays-over _ _ _ e _) (c .over-aggregate-stays .ensures e) q
     (sym (read-kind (c .before .before .before .before .before .before .before .before .pre .0)
     (c .before .before .before .before .before .word-at .ensures .0) (h .placed .standing)) ∙ c .before .if4 .taken) h)
     (λ c κs. let r = c .before .before .before .before .before .before .before .before .pre .1 .0 in (
       c .before .before .before .before .before .before .before .before .pre .0,
-      (over-window r (read-kind (c .before .before .before .before .before .before .before .before .pre .0)
-          (c .before .before .before .before .before .word-at .ensures .0) (r .rests .placed .standing))
-          (c .if5 .taken),
-      c .before .before .before .before .before .before .before .before .pre .1 .1),
+      (
+        over-window r (read-kind (c .before .before .before .before .before .before .before .before .pre .0)
+            (c .before .before .before .before .before .word-at .ensures .0) (r .rests .placed .standing))
+            (c .if5 .taken),
+        c .before .before .before .before .before .before .before .before .pre .1 .1,
+      ),
     ))
     (λ c e q h o. when-window (stays-over _ _ _ e _) (c .over-window-stays .ensures e) q
     (sym (read-kind (c .before .before .before .before .before .before .before .before .before .pre .0)

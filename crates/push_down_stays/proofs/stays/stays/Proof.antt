@@ -23,15 +23,17 @@ stays-spec =
     (λ c κs. let f = c .before .before .before .before .before .pre in
     let a = a-join (f .spot .plan)
     (sym (read-kind (c .before .before .before .record-at .ensures) (c .before .before .word-at .ensures .0) (stands-inside
-    (f .inside))) ∙ c .if2 .taken) in
-    (c .before .before .before .record-at .ensures, record {
-      kind = a .kind;
-      lhs = a .lhs;
-      rhs = a .rhs;
-      keys = a .keys;
-      condition = a .condition;
-      placed = placed-inside (f .inside) (a .is);
-    }))
+    (f .inside))) ∙ c .if2 .taken) in (
+      c .before .before .before .record-at .ensures,
+      record {
+        kind = a .kind;
+        lhs = a .lhs;
+        rhs = a .rhs;
+        keys = a .keys;
+        condition = a .condition;
+        placed = placed-inside (f .inside) (a .is);
+      },
+    ))
     (λ c w f h. let a = a-join (f .plan)
     (sym (read-kind (c .before .before .before .before .record-at .ensures) (c .before .before .before .word-at .ensures .0)
     (stands-inside h)) ∙ c .before .if2 .taken) in
