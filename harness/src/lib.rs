@@ -16,6 +16,7 @@ pub mod row_tests;
 pub mod rows;
 pub mod sets;
 pub mod source;
+pub mod stored;
 pub mod sweeps;
 pub mod terms;
 pub mod text;

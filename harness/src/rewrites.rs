@@ -2,10 +2,12 @@
 
 mod near_limits;
 
+use crate::checker::{check, Verdict};
 use crate::edges::{conjunction, near, Nesting};
 use crate::image::{Tree, RECORD_BYTES};
 use crate::kinds::*;
 use crate::limits::RECORDS;
+use crate::meaning::bent;
 use crate::random::{accepted, drawn_for, size, Aim, Draw, Field, Random};
 use near_limits::{near_depth, near_list, near_records};
 
@@ -21,6 +23,12 @@ struct Family {
     name: &'static str,
     draw: fn(&mut Random) -> Tree,
 }
+
+/// So many of 100 plans are bent to tables over which they have rows; the others stay as they were drawn.
+const BENT: usize = 80;
+
+/// A plan of more records than this is not bent: those near a limit stay where they are.
+const MOST_BENT: usize = 400;
 
 const FAMILIES: [Family; 11] = [
     Family { percent: 38, name: "drawn for the rewrite", draw: drawn },
@@ -41,7 +49,9 @@ pub fn case(seed: u64, number: u64) -> Case {
     let mut drawn = random.below(100);
     for Family { percent, name, draw } in FAMILIES {
         if drawn < percent {
-            return Case { family: name, plan: draw(random) };
+            let plan = draw(random);
+            let is_bent = random.chance(BENT) && plan.size() <= MOST_BENT && check(&plan.image()) == Verdict::ACCEPTED;
+            return Case { family: name, plan: if is_bent { bent(random, plan) } else { plan } };
         }
         drawn -= percent;
     }
@@ -206,7 +216,6 @@ fn groupless(random: &mut Random) -> Tree {
 #[cfg(test)]
 mod tests {
     use super::*;
-    use crate::checker::{check, Verdict};
     use std::collections::BTreeMap;
 
     #[test]
