@@ -40,7 +40,9 @@ impl RowCounts {
             println!("rows of plans that hold a {kind}: {not_empty} of {all} not empty, {}%", 100 * not_empty / all);
         }
         let RowCounts { compared, not_empty, too_many, .. } = self;
-        println!("rows compared: {compared}, of these not empty {not_empty}; left out, as there were too many: {too_many}");
+        println!(
+            "rows compared: {compared}, of these not empty {not_empty}; left out, as there were too many: {too_many}"
+        );
         match 2 * not_empty < *compared {
             true => Err("less than half of the rows that were compared are not empty".to_string()),
             false => Ok(()),

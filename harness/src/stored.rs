@@ -321,7 +321,9 @@ mod tests {
 
     #[test]
     fn wrong_lines_are_named() {
-        for line in ["image 4: 4294967296", "image 5: 1", "image 1: 256", "rewrite 0", "test 0 values 1 marks 0", "what"] {
+        for line in
+            ["image 4: 4294967296", "image 5: 1", "image 1: 256", "rewrite 0", "test 0 values 1 marks 0", "what"]
+        {
             assert_eq!(read(&format!("# one\n{line}\n")), Err(2), "{line}");
         }
     }

@@ -66,7 +66,10 @@ fn compare() -> Result<String, String> {
     }
     let unlike = exported_unlike(&lines);
     if let Some(at) = unlike.first() {
-        return Err(format!("crates/replay/stdin:{at}: the exported function answers otherwise, in {} lines", unlike.len()));
+        return Err(format!(
+            "crates/replay/stdin:{at}: the exported function answers otherwise, in {} lines",
+            unlike.len()
+        ));
     }
     Ok(counts(&lines))
 }
@@ -142,6 +145,11 @@ fn counts(lines: &[Line]) -> String {
         format!("{of}: {}\n", numbers.join(", "))
     };
     let sorts: String = ["checks", "rewrites", "passes", "row tests"].into_iter().map(of_sort).collect();
-    let exported = if ffi::LINKED { "the exported functions answer the same" } else { "the exported functions are not linked" };
-    format!("{sorts}stored list: {} images, {} calls, 0 differ; {exported}", count(lines, "images"), numbers.values().sum::<usize>())
+    let exported =
+        if ffi::LINKED { "the exported functions answer the same" } else { "the exported functions are not linked" };
+    format!(
+        "{sorts}stored list: {} images, {} calls, 0 differ; {exported}",
+        count(lines, "images"),
+        numbers.values().sum::<usize>()
+    )
 }

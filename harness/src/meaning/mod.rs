@@ -8,13 +8,13 @@ mod values;
 use crate::image::{Label, Tree};
 use crate::kinds::*;
 use crate::random::Random;
+pub use bending::bent;
 use joins::Sides;
 use std::collections::hash_map::DefaultHasher;
 use std::collections::{BTreeMap, HashSet};
 use std::hash::{Hash, Hasher};
 use tables::{drawn_value, tables_for};
 use values::{both, compared, in_list, in_sort, negated, tested};
-pub use bending::bent;
 pub use values::{Row, Value};
 use Value::{Integer, Null, Truth};
 

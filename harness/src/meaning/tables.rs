@@ -152,7 +152,8 @@ impl Wants {
     fn pools(&self, random: &mut Random) -> BTreeMap<Origin, Vec<Value>> {
         let mut pools = self.fitting.clone();
         for (left, right) in &self.equal {
-            let mut shared = [pools.get(left), pools.get(right)].into_iter().flatten().flatten().copied().collect::<Vec<_>>();
+            let mut shared =
+                [pools.get(left), pools.get(right)].into_iter().flatten().flatten().copied().collect::<Vec<_>>();
             if shared.is_empty() {
                 let of = self.types[&left.0][left.1];
                 shared = vec![drawn_value(random, of), drawn_value(random, of)];

@@ -7,7 +7,8 @@ use Rattle.replay.proofs.numbers.read_line.Statement.{statement}
 use Rattle.replay.proofs.numbers.read_line.Tie as tie
 
 abbrev Inv-loop : tie.InvT-loop
-Inv-loop chunk₀ numbers₀ unread₀ first is-end scan₀ i₀ chunk numbers unread scan i = (i ≤ 1000000) × (length chunk ≡ length chunk₀) × (length numbers ≡ length numbers₀)
+Inv-loop chunk₀ numbers₀ unread₀ first is-end scan₀ i₀ chunk numbers unread scan i =
+    (i ≤ 1000000) × (length chunk ≡ length chunk₀) × (length numbers ≡ length numbers₀)
 
 abbrev μ-loop : tie.MeasureT-loop
 μ-loop chunk₀ numbers₀ unread₀ first is-end scan₀ i₀ chunk numbers unread scan i = 1000000 - i
