@@ -16,6 +16,8 @@ use lines::UNKNOWN;
 use lines::run_line;
 use numbers::Unread;
 use numbers::read_line;
+ghost use mathlib.Core.Path.{_≡_};
+ghost use lib.ListN.{length};
 
 // How many lines are read at most.
 const MAX_LINES: usize = 1000000;
@@ -90,25 +92,53 @@ fn print_sort(tally: &[u64], sort: usize, name: &[u8]) {
     io::write_all(1, b" differ\n");
 }
 
-fn main() {
-    let mut chunk = [0u8; 65536];
-    let mut numbers = [0u64; 16500];
-    let mut image = [0u8; 65600];
-    let mut spelt = [0u8; 65600];
-    let mut output = [0u8; 65600];
+fn print_tally(tally: &[u64]) {
+    print_sort(tally, IMAGE, b" images, ");
+    print_sort(tally, CHECK, b" checks, ");
+    print_sort(tally, REWRITE, b" rewrites, ");
+    print_sort(tally, PASS, b" passes, ");
+    print_sort(tally, TEST, b" row tests, ");
+    print_sort(tally, UNKNOWN, b" other lines, ");
+}
+
+// Replays the input in space that is lent, and prints what there was.
+fn replay_and_print(
+    chunk: &mut [u8],
+    numbers: &mut [u64],
+    image: &mut [u8],
+    spelt: &mut [u8],
+    output: &mut [u8],
+) {
     let mut tally = [0u64; 15];
-    replay(
+    replay(chunk, numbers, image, spelt, output, &mut tally);
+    print_tally(&tally);
+}
+
+// Space for an image, which may be a record too long, or an output. A caller knows of it the length alone.
+fn space() -> [u8; 65600]
+    ensures { λ r. ⌜ 65600 ≡ length r ⌝ }
+{
+    [0; 65600]
+}
+
+// Space for the numbers of a line.
+fn space_of_numbers() -> [u64; 16500]
+    ensures { λ r. ⌜ 16500 ≡ length r ⌝ }
+{
+    [0; 16500]
+}
+
+fn main() {
+    let mut chunk = space();
+    let mut numbers = space_of_numbers();
+    let mut image = space();
+    let mut spelt = space();
+    let mut output = space();
+    replay_and_print(
         &mut chunk,
         &mut numbers,
         &mut image,
         &mut spelt,
         &mut output,
-        &mut tally,
     );
-    print_sort(&tally, IMAGE, b" images, ");
-    print_sort(&tally, CHECK, b" checks, ");
-    print_sort(&tally, REWRITE, b" rewrites, ");
-    print_sort(&tally, PASS, b" passes, ");
-    print_sort(&tally, TEST, b" row tests, ");
-    print_sort(&tally, UNKNOWN, b" other lines, ");
 }
