@@ -34,55 +34,70 @@ pub fn check_agrees(numbers: &[u64], image: &[u8]) -> bool {
     (v.number as u64 == numbers[0]) & (v.record as u64 == numbers[1])
 }
 
-// NUMBER RECORD FLAG RECORDS
+// The exported functions, of whose contracts nothing is asked here: what they answer is compared.
+fn rewrite(image: &[u8], node: u32, output: &mut [u8]) -> Rewritten {
+    push_down_filter_rewrite(image, node, output)
+}
+
+fn pass(image: &[u8], budget: u64, output: &mut [u8]) -> Passed {
+    push_down_filter_pass(image, budget, output)
+}
+
+// NODE ROOM NUMBER RECORD FLAG RECORDS
 fn is_rewritten(numbers: &[u64], r: Rewritten) -> bool {
-    if numbers.len() != 4 {
+    if numbers.len() < 6 {
         return false;
     }
-    (r.number as u64 == numbers[0])
-        & (r.record as u64 == numbers[1])
-        & (r.flag as u64 == numbers[2])
-        & (r.records as u64 == numbers[3])
-}
-
-// At that record, with just that output; the numbers are what is answered.
-pub fn rewrite_agrees(
-    node: u64,
-    numbers: &[u64],
-    is_spelt: bool,
-    image: &[u8],
-    spelt: &[u8],
-    output: &mut [u8],
-) -> bool {
-    spoil(output);
-    let r = push_down_filter_rewrite(image, node_of(node), output);
-    is_rewritten(numbers, r) & is_stored(output, r.number as u64, is_spelt, image, spelt)
-}
-
-// NUMBER RECORD VISITS CHANGED FINISHED RECORDS
-fn is_passed(numbers: &[u64], r: Passed) -> bool {
-    if numbers.len() != 6 {
-        return false;
-    }
-    (r.number as u64 == numbers[0])
-        & (r.record as u64 == numbers[1])
-        & (r.visits == numbers[2])
-        & (r.changed == numbers[3])
-        & (r.finished as u64 == numbers[4])
+    (r.number as u64 == numbers[2])
+        & (r.record as u64 == numbers[3])
+        & (r.flag as u64 == numbers[4])
         & (r.records as u64 == numbers[5])
 }
 
-// With that budget, likewise.
-pub fn pass_agrees(
-    budget: u64,
+// With just that output.
+pub fn rewrite_agrees(
     numbers: &[u64],
     is_spelt: bool,
     image: &[u8],
     spelt: &[u8],
     output: &mut [u8],
 ) -> bool {
+    if numbers.len() < 1 {
+        return false;
+    }
+    let node = node_of(numbers[0]);
     spoil(output);
-    let r = push_down_filter_pass(image, budget, output);
+    let r = rewrite(image, node, output);
+    is_rewritten(numbers, r) & is_stored(output, r.number as u64, is_spelt, image, spelt)
+}
+
+// BUDGET ROOM NUMBER RECORD VISITS CHANGED FINISHED RECORDS
+fn is_passed(numbers: &[u64], r: Passed) -> bool {
+    if numbers.len() < 8 {
+        return false;
+    }
+    (r.number as u64 == numbers[2])
+        & (r.record as u64 == numbers[3])
+        & (r.visits == numbers[4])
+        & (r.changed == numbers[5])
+        & (r.finished as u64 == numbers[6])
+        & (r.records as u64 == numbers[7])
+}
+
+// With just that output.
+pub fn pass_agrees(
+    numbers: &[u64],
+    is_spelt: bool,
+    image: &[u8],
+    spelt: &[u8],
+    output: &mut [u8],
+) -> bool {
+    if numbers.len() < 1 {
+        return false;
+    }
+    let budget = numbers[0];
+    spoil(output);
+    let r = pass(image, budget, output);
     is_passed(numbers, r) & is_stored(output, r.number as u64, is_spelt, image, spelt)
 }
 

@@ -112,43 +112,27 @@ fn spell(sort: usize, numbers: &[u64], mark: u8, spelt: &mut [u8], before: usize
     put_words(&numbers[head..], spelt)
 }
 
-// A rewrite or a pass: NODE or BUDGET, ROOM, then what is answered.
+// A rewrite or a pass, with an output of the room that the line says.
 fn run_writing(
     sort: usize,
     numbers: &[u64],
-    mark: u8,
+    is_spelt: bool,
     image: &[u8],
     spelt: &[u8],
     output: &mut [u8],
 ) -> bool {
-    let head = head_of(sort);
-    if numbers.len() < head {
-        return false;
-    }
-    let room = length_of(numbers[1]);
-    if output.len() < room {
-        return false;
-    }
-    let is_spelt = mark != COLON;
-    let answered = &numbers[2..head];
     if sort == REWRITE {
-        return rewrite_agrees(
-            numbers[0],
-            answered,
-            is_spelt,
-            image,
-            spelt,
-            &mut output[..room],
-        );
+        return rewrite_agrees(numbers, is_spelt, image, spelt, output);
     }
-    pass_agrees(
-        numbers[0],
-        answered,
-        is_spelt,
-        image,
-        spelt,
-        &mut output[..room],
-    )
+    pass_agrees(numbers, is_spelt, image, spelt, output)
+}
+
+// How long the output is: the second number.
+fn room_of(numbers: &[u64]) -> usize {
+    if numbers.len() < 2 {
+        return 0;
+    }
+    length_of(numbers[1])
 }
 
 // A call on the image that is kept.
@@ -167,7 +151,18 @@ fn run_call(
         return test_agrees(numbers, image);
     }
     if (sort == REWRITE) | (sort == PASS) {
-        return run_writing(sort, numbers, mark, image, spelt, output);
+        let room = room_of(numbers);
+        if output.len() < room {
+            return false;
+        }
+        return run_writing(
+            sort,
+            numbers,
+            mark != COLON,
+            image,
+            spelt,
+            &mut output[..room],
+        );
     }
     sort == COMMENT
 }
