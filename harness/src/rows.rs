@@ -108,3 +108,37 @@ fn kind(tree: &Tree) -> Option<String> {
         _ => None,
     }
 }
+
+#[cfg(test)]
+mod tests {
+    use super::*;
+    use crate::meaning::bent;
+
+    fn table(number: u32) -> Tree {
+        let fields = [1, 2].map(|name| field(number, name, OF_INTEGER, false));
+        scan(number, fields.to_vec())
+    }
+
+    fn has_rows(plan: &Tree) -> bool {
+        let random = &mut Random::of_seed(1);
+        (0..10).any(|_| drawn(random, plan).1.is_some_and(|rows| !rows.is_empty()))
+    }
+
+    /// A literal far from the small numbers that tables hold otherwise, behind an alias and a key.
+    #[test]
+    fn tables_have_the_literals_of_the_plan() {
+        let keys = key_pair(column(7, 1), column(2, 1));
+        let joined = join(INNER, vec![alias(7, table(1)), table(2), keys]);
+        assert!(has_rows(&filter(binary(EQ, column(7, 2), integer(123_456_789)), joined)));
+    }
+
+    #[test]
+    fn a_plan_is_bent_until_it_has_rows() {
+        let one = binary(EQ, column(1, 1), integer(1));
+        let none = binary(GT, column(1, 2), null(OF_INTEGER));
+        let plan = limit(0, 5, filter(and(and(one, binary(LT, column(1, 1), integer(1))), none), table(1)));
+        assert!(!has_rows(&plan));
+        let bent: Vec<Tree> = (0..10).map(|seed| bent(&mut Random::of_seed(seed), plan.clone())).collect();
+        assert!(bent.iter().filter(|plan| has_rows(plan)).count() > 5);
+    }
+}
