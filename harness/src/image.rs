@@ -166,16 +166,6 @@ pub fn to_hex(image: &[u8]) -> String {
     image.iter().map(|byte| format!("{byte:02x}")).collect()
 }
 
-/// `count` bytes from a hexadecimal number, the highest first; digits that are missing in front are zeros.
-pub fn of_hex(count: usize, digits: &str) -> Option<Vec<u8>> {
-    let padded = format!("{digits:0>width$}", width = 2 * count);
-    let (over, digits) = padded.split_at(padded.len() - 2 * count);
-    if over.bytes().any(|digit| digit != b'0') {
-        return None;
-    }
-    (0..count).map(|byte| u8::from_str_radix(&digits[2 * byte..2 * byte + 2], 16).ok()).collect()
-}
-
 #[cfg(test)]
 mod tests {
     use super::*;
@@ -212,13 +202,5 @@ mod tests {
         let kinds: Vec<_> = (0..4).map(|at| tree.node_mut(at).map(|n| n.label.kind)).collect();
         assert_eq!(kinds, [Some(10), Some(11), Some(12), Some(13)]);
         assert!(tree.node_mut(4).is_none());
-    }
-
-    #[test]
-    fn hexadecimal_numbers_are_bytes() {
-        assert_eq!(of_hex(3, "1ff00"), Some(vec![1, 255, 0]));
-        assert_eq!(of_hex(0, "0"), Some(vec![]));
-        assert_eq!(of_hex(1, "100"), None);
-        assert_eq!(of_hex(2, &to_hex(&[7, 9])), Some(vec![7, 9]));
     }
 }

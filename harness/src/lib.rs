@@ -16,8 +16,8 @@ pub mod row_tests;
 pub mod rows;
 pub mod sets;
 pub mod source;
+pub mod stored;
 pub mod sweeps;
-pub mod terms;
 pub mod text;
 
 /// The limits of an image. Every other file takes them from here.

@@ -6,6 +6,7 @@ use crate::edges::{conjunction, near, Nesting};
 use crate::image::{Tree, RECORD_BYTES};
 use crate::kinds::*;
 use crate::limits::RECORDS;
+use crate::meaning::bent;
 use crate::random::{accepted, drawn_for, size, Aim, Draw, Field, Random};
 use near_limits::{near_depth, near_list, near_records};
 
@@ -15,33 +16,42 @@ pub struct Case {
     pub plan: Tree,
 }
 
-/// A way of drawing plans, and how many of 100 are drawn so.
+/// A way of drawing plans, how many of 100 are drawn so, and whether some are bent: those near a limit stay where they are.
 struct Family {
     percent: usize,
     name: &'static str,
     draw: fn(&mut Random) -> Tree,
+    bends: bool,
 }
 
+/// So many of 100 plans are bent to tables over which they have rows; the others stay as they were drawn.
+const BENT: usize = 80;
+
+/// A plan of more records than this is not bent, which would take long.
+const MOST_BENT: usize = 400;
+
 const FAMILIES: [Family; 11] = [
-    Family { percent: 38, name: "drawn for the rewrite", draw: drawn },
-    Family { percent: 6, name: "drawn for the check", draw: drawn_for_check },
-    Family { percent: 10, name: "stacked Filters", draw: stacked },
-    Family { percent: 10, name: "bounds", draw: bounds },
-    Family { percent: 14, name: "joins with keys", draw: keyed_join },
-    Family { percent: 6, name: "Projections of functions", draw: projected },
-    Family { percent: 3, name: "Aggregates without groups", draw: groupless },
-    Family { percent: 6, name: "lists near 128", draw: near_list },
-    Family { percent: 2, name: "depth near 256", draw: near_depth },
-    Family { percent: 3, name: "records near 2,048", draw: near_records },
-    Family { percent: 2, name: "images near a limit", draw: near },
+    Family { percent: 38, name: "drawn for the rewrite", draw: drawn, bends: true },
+    Family { percent: 6, name: "drawn for the check", draw: drawn_for_check, bends: true },
+    Family { percent: 10, name: "stacked Filters", draw: stacked, bends: true },
+    Family { percent: 10, name: "bounds", draw: bounds, bends: true },
+    Family { percent: 14, name: "joins with keys", draw: keyed_join, bends: true },
+    Family { percent: 6, name: "Projections of functions", draw: projected, bends: true },
+    Family { percent: 3, name: "Aggregates without groups", draw: groupless, bends: true },
+    Family { percent: 6, name: "lists near 128", draw: near_list, bends: false },
+    Family { percent: 2, name: "depth near 256", draw: near_depth, bends: false },
+    Family { percent: 3, name: "records near 2,048", draw: near_records, bends: false },
+    Family { percent: 2, name: "images near a limit", draw: near, bends: false },
 ];
 
 pub fn case(seed: u64, number: u64) -> Case {
     let random = &mut Random::of_case(seed, number);
     let mut drawn = random.below(100);
-    for Family { percent, name, draw } in FAMILIES {
+    for Family { percent, name, draw, bends } in FAMILIES {
         if drawn < percent {
-            return Case { family: name, plan: draw(random) };
+            let plan = draw(random);
+            let is_bent = bends && random.chance(BENT) && plan.size() <= MOST_BENT;
+            return Case { family: name, plan: if is_bent { bent(random, plan) } else { plan } };
         }
         drawn -= percent;
     }

@@ -93,7 +93,7 @@ fn value_of(of: u32, value: i64, mark: u8) -> Option<Value> {
 }
 
 /// The types of a plan's fields, by place.
-fn types(plan: &Tree) -> Vec<u32> {
+pub fn types(plan: &Tree) -> Vec<u32> {
     let children = &plan.children;
     let of_parts = |input: &Tree| {
         let fields = fields(input);
@@ -236,7 +236,7 @@ fn without_functions(random: &mut Random, expr: &mut Tree, fields: &[Field]) {
 }
 
 /// The integers of a predicate.
-fn literals(predicate: &Tree) -> Vec<i64> {
+pub fn literals(predicate: &Tree) -> Vec<i64> {
     let nodes = predicate.parent_first();
     let literals = nodes.iter().map(|(_, tree)| tree.label).filter(|label| label.kind == INTEGER);
     literals.map(|label| (u64::from(label.hi) << 32 | u64::from(label.lo)) as i64).collect()

@@ -1,84 +1,144 @@
-// Replays stored images from standard input: each comes with the number and the record that the check must answer. Prints how many there
-// were and how many differ.
-use image::words::word_at;
-use push_down_filter::push_down_filter_check;
-ghost use Prim.Native.Nat.{_≤_};
+// Replays the list of calls on standard input, whose head says what its lines are: each call is made and compared with the answer that
+// stands in its line, with every byte of an output. Prints which lines differ, then how many there were of each sort and how many of them
+// differ.
+mod calls;
+mod lines;
+mod numbers;
+mod outputs;
 
-// A case begins with three words: the length of the image in bytes, the number, the record.
-const HEAD_BYTES: usize = 12;
+use lines::CHECK;
+use lines::IMAGE;
+use lines::Kept;
+use lines::PASS;
+use lines::REWRITE;
+use lines::TEST;
+use lines::UNKNOWN;
+use lines::run_line;
+use numbers::Unread;
+use numbers::read_line;
+ghost use mathlib.Core.Path.{_≡_};
+ghost use lib.ListN.{length};
 
-// How many cases are read at most.
-const MAX_CASES: usize = 1000;
+// How many lines are read at most.
+const MAX_LINES: usize = 1000000;
 
-// Cases counted, and those that differ.
-struct Count {
-    pub cases: usize,
-    pub differ: usize,
-}
+// The tally: lines by sort, as lines.rt numbers them; those that differ, by sort; all that differ.
+const DIFFER: usize = 7;
 
-// Reads an image into the buffer; whether it is all there and the check answers as stored.
-fn agrees(image: &mut [u8], number: usize, place: usize) -> bool {
-    let len = image.len();
-    let got = io::read_full(0, image);
-    if got < len {
-        return false;
+const ALL: usize = 14;
+
+// So many of the lines that differ are named.
+const MAX_NAMED: u64 = 20;
+
+// Counts one more.
+fn add(tally: &mut [u64], at: usize) {
+    if at < tally.len() {
+        tally[at] = tally[at] % 1000000000 + 1;
     }
-    let v = push_down_filter_check(image);
-    (v.number as usize == number) & (v.record as usize == place)
 }
 
-// Reads one case: none at the end of the input.
-fn replay_one(buffer: &mut [u8]) -> Count
-    ensures { λ r. ⌜ (r .cases ≤ 1) × (r .differ ≤ 1) ⌝ }
+fn counted(tally: &[u64], at: usize) -> u64 {
+    if at < tally.len() {
+        return tally[at];
+    }
+    0
+}
+
+// Counts a line, and names it if it differs and not many did before it.
+fn count(tally: &mut [u64], sort: usize, agrees: bool, line: usize) {
+    add(tally, sort);
+    if agrees {
+        return;
+    }
+    add(tally, DIFFER + sort % DIFFER);
+    add(tally, ALL);
+    if counted(tally, ALL) <= MAX_NAMED {
+        io::write_all(1, b"line ");
+        io::print_decimal(1, line as u64);
+        io::write_all(1, b" differs\n");
+    }
+}
+
+// Runs the lines from the first on.
+fn replay(
+    chunk: &mut [u8],
+    numbers: &mut [u64],
+    image: &mut [u8],
+    spelt: &mut [u8],
+    output: &mut [u8],
+    tally: &mut [u64],
+) {
+    let mut kept = Kept { image: 0, spelt: 0 };
+    let mut unread = Unread { at: 0, end: 0 };
+    let mut line = 0usize;
+    while line < MAX_LINES {
+        line += 1;
+        let read = read_line(chunk, unread, numbers);
+        if read.is_end {
+            return;
+        }
+        unread = read.unread;
+        let ran = run_line(read, numbers, kept, image, spelt, output);
+        kept = ran.kept;
+        count(tally, ran.sort, ran.agrees, line);
+    }
+}
+
+// Prints how many lines of a sort there were and how many of them differ.
+fn print_sort(tally: &[u64], sort: usize, name: &[u8]) {
+    io::print_decimal(1, counted(tally, sort));
+    io::write_all(1, name);
+    io::print_decimal(1, counted(tally, DIFFER + sort % DIFFER));
+    io::write_all(1, b" differ\n");
+}
+
+fn print_tally(tally: &[u64]) {
+    print_sort(tally, IMAGE, b" images, ");
+    print_sort(tally, CHECK, b" checks, ");
+    print_sort(tally, REWRITE, b" rewrites, ");
+    print_sort(tally, PASS, b" passes, ");
+    print_sort(tally, TEST, b" row tests, ");
+    print_sort(tally, UNKNOWN, b" other lines, ");
+}
+
+// Replays the input in space that is lent, and prints what there was.
+fn replay_and_print(
+    chunk: &mut [u8],
+    numbers: &mut [u64],
+    image: &mut [u8],
+    spelt: &mut [u8],
+    output: &mut [u8],
+) {
+    let mut tally = [0u64; 15];
+    replay(chunk, numbers, image, spelt, output, &mut tally);
+    print_tally(&tally);
+}
+
+// Space for an image, which may be a record too long, or an output. A caller knows of it the length alone.
+fn space() -> [u8; 65600]
+    ensures { λ r. ⌜ 65600 ≡ length r ⌝ }
 {
-    let mut head = [0u8; 12];
-    let got = io::read_full(0, &mut head);
-    if got < HEAD_BYTES {
-        return Count {
-            cases: 0,
-            differ: 0,
-        };
-    }
-    let len = word_at(&head, 0);
-    if buffer.len() < len {
-        return Count {
-            cases: 1,
-            differ: 1,
-        };
-    }
-    let number = word_at(&head, 4);
-    let place = word_at(&head, 8);
-    if agrees(&mut buffer[..len], number, place) {
-        return Count {
-            cases: 1,
-            differ: 0,
-        };
-    }
-    Count {
-        cases: 1,
-        differ: 1,
-    }
+    [0; 65600]
 }
 
-// Replays all cases.
-fn replay(buffer: &mut [u8]) -> Count {
-    let mut cases = 0usize;
-    let mut differ = 0usize;
-    let mut i = 0usize;
-    while i < MAX_CASES {
-        let one = replay_one(buffer);
-        cases += one.cases;
-        differ += one.differ;
-        i += 1;
-    }
-    Count { cases, differ }
+// Space for the numbers of a line.
+fn space_of_numbers() -> [u64; 16500]
+    ensures { λ r. ⌜ 16500 ≡ length r ⌝ }
+{
+    [0; 16500]
 }
 
 fn main() {
-    let mut buffer = [0u8; 65568];
-    let all = replay(&mut buffer);
-    io::print_decimal(1, all.cases as u64);
-    io::write_all(1, b" images, ");
-    io::print_decimal(1, all.differ as u64);
-    io::write_all(1, b" differ\n");
+    let mut chunk = space();
+    let mut numbers = space_of_numbers();
+    let mut image = space();
+    let mut spelt = space();
+    let mut output = space();
+    replay_and_print(
+        &mut chunk,
+        &mut numbers,
+        &mut image,
+        &mut spelt,
+        &mut output,
+    );
 }

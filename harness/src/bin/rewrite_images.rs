@@ -82,6 +82,10 @@ fn main() -> ExitCode {
         }
     }
     print(&counts);
+    if let Err(trouble) = counts.rows.print() {
+        println!("{trouble}");
+        return ExitCode::FAILURE;
+    }
     println!("all: {} rewrites of {} plans, {:.1} s", counts.calls, options.plans, start.elapsed().as_secs_f64());
     ExitCode::SUCCESS
 }
@@ -113,10 +117,6 @@ fn print(counts: &Counts) {
     print_all("passes with number", &counts.passes);
     println!("passes that were granted and left nodes unvisited: {}", counts.unfinished);
     println!("compared with the exported rewrite: {}, pass: {}", counts.exported, counts.exported_passes);
-    let RowCounts { compared, not_empty, too_many } = counts.rows;
-    println!(
-        "rows compared: {compared}, of these not empty {not_empty}; left out, as there were too many rows: {too_many}"
-    );
 }
 
 fn print_all<K: Display>(what: &str, counts: &BTreeMap<K, u64>) {

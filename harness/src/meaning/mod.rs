@@ -1,15 +1,19 @@
 //! What a plan means: its rows over given tables, written from the scope's section 'Meaning' alone.
 
+mod bending;
 mod joins;
+mod tables;
 mod values;
 
 use crate::image::{Label, Tree};
 use crate::kinds::*;
 use crate::random::Random;
+pub use bending::bent;
 use joins::Sides;
 use std::collections::hash_map::DefaultHasher;
 use std::collections::{BTreeMap, HashSet};
 use std::hash::{Hash, Hasher};
+use tables::{drawn_value, tables_for};
 use values::{both, compared, in_list, in_sort, negated, tested};
 pub use values::{Row, Value};
 use Value::{Integer, Null, Truth};
@@ -27,15 +31,9 @@ pub struct World {
 const MOST_ROWS: usize = 3000;
 
 impl World {
-    /// Small tables with the fields that the scans of the plan have.
+    /// Small tables, drawn for the plan, and any meaning of functions.
     pub fn for_plan(random: &mut Random, plan: &Tree) -> World {
-        let mut tables = BTreeMap::new();
-        for (_, tree) in plan.parent_first() {
-            if tree.label.kind == SCAN {
-                tables.entry(tree.label.p).or_insert_with(|| drawn_rows(random, tree));
-            }
-        }
-        World { tables, functions: random.word() }
+        World { tables: tables_for(random, plan), functions: random.word() }
     }
 
     /// The rows of a plan, in order; none if a node has too many.
@@ -242,22 +240,6 @@ pub fn schema(plan: &Tree) -> Vec<Name> {
             _ => [schema(&plan.children[0]), schema(&plan.children[1])].concat(),
         },
         _ => schema(last(plan)),
-    }
-}
-
-/// A few rows of the scan's types.
-fn drawn_rows(random: &mut Random, scan: &Tree) -> Vec<Row> {
-    let types: Vec<u32> = parts(scan, FIELD).iter().map(|field| field.label.r).collect();
-    let count = if random.chance(10) { 0 } else { random.within(1, 12) };
-    (0..count).map(|_| types.iter().map(|of| drawn_value(random, *of)).collect()).collect()
-}
-
-/// Small numbers, so that values meet; one in seven is NULL.
-fn drawn_value(random: &mut Random, of: u32) -> Value {
-    match (random.below(7), of) {
-        (0, _) => Null,
-        (_, OF_BOOLEAN) => Truth(random.chance(65)),
-        _ => Integer(*random.pick(&[-1, 0, 0, 1, 1, 2, 2, 3, 5])),
     }
 }
 

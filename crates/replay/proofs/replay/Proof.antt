@@ -1,16 +1,19 @@
--- `replay` meets its contract: it ends, and no count grows past the number of turns. The buffer keeps its length.
+-- `replay` meets its contract: it ends, and what is lent keeps its length.
 use Prim.Native.Nat.{_≤_, _-_}
-use mathlib.Core.Path.{_≡_}
 use borrow.Author.Needs.{needs}
 use lib.ListN.{length}
+use mathlib.Core.Path.{_≡_}
 use Rattle.replay.proofs.replay.Statement.{statement}
 use Rattle.replay.proofs.replay.Tie as tie
 
 abbrev Inv-loop : tie.InvT-loop
-Inv-loop buffer₀ cases₀ differ₀ i₀ buffer cases differ i = (i ≤ 1000) × (cases ≤ i) × (differ ≤ i) × (length buffer ≡ length buffer₀)
+Inv-loop chunk₀ numbers₀ image₀ spelt₀ output₀ tally₀ kept₀ unread₀ line₀ chunk numbers image spelt output tally kept unread line =
+    (line ≤ 1000000) × (length chunk ≡ length chunk₀) × (length numbers ≡ length numbers₀) × (length image ≡ length image₀) ×
+    (length spelt ≡ length spelt₀) × (length output ≡ length output₀) × (length tally ≡ length tally₀)
 
 abbrev μ-loop : tie.MeasureT-loop
-μ-loop buffer₀ cases₀ differ₀ i₀ buffer cases differ i = 1000 - i
+μ-loop chunk₀ numbers₀ image₀ spelt₀ output₀ tally₀ kept₀ unread₀ line₀ chunk numbers image spelt output tally kept unread line =
+    1000000 - line
 
 pub replay-spec : {M : Type 1} → statement M
 replay-spec =
@@ -19,7 +22,19 @@ replay-spec =
     Inv-loop
     μ-loop
     (λ c. search needs)
+    (λ c. search needs)
     (λ c κs. search needs)
+    (λ c. search needs)
+    (λ c. search needs)
+    (λ c. search needs)
+    (λ c. search needs)
+    (λ c. search needs)
+    (λ c. search needs)
+    (λ c. search needs)
+    (λ c κs. search needs)
+    (λ c κs. search needs)
+    (λ c. search needs)
+    (λ c. search needs)
     (λ c. search needs)
     (λ c. search needs)
     (λ c. search needs)

@@ -1,1 +1,0 @@
-// The definitions of this crate stand in specs/, the laws about them in proofs/.

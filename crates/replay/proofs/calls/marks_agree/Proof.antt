@@ -1,0 +1,30 @@
+-- `marks_agree` meets its contract: each part that is lent lies inside what it is a part of.
+use borrow.Author.Needs.{needs}
+use lib.ListN.{length-drop, length-take}
+use native.Mathlib.Omega.{arith}
+use Rattle.replay.proofs.calls.marks_agree.Statement.{statement}
+use Rattle.replay.proofs.calls.marks_agree.Tie as tie
+
+pub marks-agree-spec : {M : Type 1} → statement M
+marks-agree-spec =
+    tie.close
+    (tie.spec
+    (λ c. search needs)
+    (λ c. search needs)
+    (λ c κs. search needs)
+    (λ c. search needs)
+    (λ c. search needs)
+    (λ c. search needs)
+    (λ c. search needs)
+    (λ c. search needs)
+    (λ c. simp (length-take, length-drop) (omega arith))
+    (λ c. search needs)
+    (λ c κs. search needs)
+    (λ c. search needs)
+    (λ c. search needs)
+    (λ c. search needs)
+    (λ c. search needs)
+    (λ c. search needs)
+    (λ c. simp (length-take, length-drop) (omega arith))
+    (λ c κs. search needs)
+    (λ c. search needs))

@@ -1,0 +1,19 @@
+-- `holds` meets its contract: the part that is compared lies inside the output.
+use borrow.Author.Needs.{needs}
+use lib.ListN.{length-take}
+use native.Mathlib.Omega.{arith}
+use Rattle.replay.proofs.outputs.holds.Statement.{statement}
+use Rattle.replay.proofs.outputs.holds.Tie as tie
+
+pub holds-spec : {M : Type 1} → statement M
+holds-spec =
+    tie.close
+    (tie.spec
+    (λ c. search needs)
+    (λ c. simp length-take (omega arith))
+    (λ c κs. search needs)
+    (λ c. search needs)
+    (λ c. search needs)
+    (λ c. search needs)
+    (λ c κs. search needs)
+    (λ c. search needs))
