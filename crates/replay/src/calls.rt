@@ -1,6 +1,4 @@
 // Each exported function called as a line says, and compared with the answer behind it.
-use crate::outputs::is_stored;
-use crate::outputs::spoil;
 use plan::values::signed;
 use push_down_filter::Passed;
 use push_down_filter::Rewritten;
@@ -8,6 +6,8 @@ use push_down_filter::push_down_filter_check;
 use push_down_filter::push_down_filter_pass;
 use push_down_filter::push_down_filter_rewrite;
 use push_down_filter::push_down_filter_row_test;
+use stored::outputs::is_stored;
+use stored::outputs::spoil;
 ghost use Prim.Native.Nat.{_<_};
 
 // A row has at most so many values and marks.

@@ -4,8 +4,8 @@ use crate::calls::length_of;
 use crate::calls::pass_agrees;
 use crate::calls::rewrite_agrees;
 use crate::calls::test_agrees;
-use crate::numbers::Line;
-use crate::outputs::put_words;
+use stored::numbers::Line;
+use stored::outputs::put_words;
 ghost use Prim.Native.Nat.{_≤_};
 
 // What a line is.

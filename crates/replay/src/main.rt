@@ -3,8 +3,6 @@
 // differ.
 mod calls;
 mod lines;
-mod numbers;
-mod outputs;
 
 use lines::CHECK;
 use lines::IMAGE;
@@ -14,8 +12,8 @@ use lines::REWRITE;
 use lines::TEST;
 use lines::UNKNOWN;
 use lines::run_line;
-use numbers::Unread;
-use numbers::read_line;
+use stored::numbers::Unread;
+use stored::numbers::read_line;
 ghost use mathlib.Core.Path.{_≡_};
 ghost use lib.ListN.{length};
 

@@ -2,8 +2,8 @@
 use Prim.Native.Nat.{_≤_, _-_}
 use borrow.Author.Needs.{needs}
 use lib.ListN.{length}
-use Rattle.replay.proofs.outputs.same.Statement.{statement}
-use Rattle.replay.proofs.outputs.same.Tie as tie
+use Rattle.stored.proofs.outputs.same.Statement.{statement}
+use Rattle.stored.proofs.outputs.same.Tie as tie
 
 abbrev Inv-loop : tie.InvT-loop
 Inv-loop a b i₀ i = i ≤ length a

@@ -3,8 +3,8 @@ use Prim.Native.Nat.{_≤_, _-_}
 use borrow.Author.Needs.{needs}
 use lib.ListN.{length}
 use mathlib.Core.Path.{_≡_}
-use Rattle.replay.proofs.numbers.read_line.Statement.{statement}
-use Rattle.replay.proofs.numbers.read_line.Tie as tie
+use Rattle.stored.proofs.numbers.read_line.Statement.{statement}
+use Rattle.stored.proofs.numbers.read_line.Tie as tie
 
 abbrev Inv-loop : tie.InvT-loop
 Inv-loop chunk₀ numbers₀ unread₀ first is-end scan₀ i₀ chunk numbers unread scan i =

@@ -2,8 +2,8 @@
 use borrow.Author.Needs.{needs}
 use lib.ListN.{length-take}
 use native.Mathlib.Omega.{arith}
-use Rattle.replay.proofs.outputs.holds.Statement.{statement}
-use Rattle.replay.proofs.outputs.holds.Tie as tie
+use Rattle.stored.proofs.outputs.holds.Statement.{statement}
+use Rattle.stored.proofs.outputs.holds.Tie as tie
 
 pub holds-spec : {M : Type 1} → statement M
 holds-spec =

@@ -3,8 +3,8 @@ use Prim.Native.Nat.{_-_}
 use borrow.Author.Needs.{needs}
 use lib.ListN.{length}
 use mathlib.Core.Path.{_≡_}
-use Rattle.replay.proofs.outputs.spoil.Statement.{statement}
-use Rattle.replay.proofs.outputs.spoil.Tie as tie
+use Rattle.stored.proofs.outputs.spoil.Statement.{statement}
+use Rattle.stored.proofs.outputs.spoil.Tie as tie
 
 abbrev Inv-loop : tie.InvT-loop
 Inv-loop output₀ i₀ output i = length output ≡ length output₀

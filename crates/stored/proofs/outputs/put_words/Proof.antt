@@ -3,8 +3,8 @@ use Prim.Native.Nat.{_≤_, _-_}
 use borrow.Author.Needs.{needs}
 use lib.ListN.{length}
 use mathlib.Core.Path.{_≡_}
-use Rattle.replay.proofs.outputs.put_words.Statement.{statement}
-use Rattle.replay.proofs.outputs.put_words.Tie as tie
+use Rattle.stored.proofs.outputs.put_words.Statement.{statement}
+use Rattle.stored.proofs.outputs.put_words.Tie as tie
 
 abbrev Inv-loop : tie.InvT-loop
 Inv-loop words bytes₀ at₀ i₀ bytes at i = (at ≤ length bytes) × (length bytes ≡ length bytes₀)

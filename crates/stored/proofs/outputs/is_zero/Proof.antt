@@ -2,8 +2,8 @@
 use Prim.Native.Nat.{_≤_, _-_}
 use borrow.Author.Needs.{needs}
 use lib.ListN.{length}
-use Rattle.replay.proofs.outputs.is_zero.Statement.{statement}
-use Rattle.replay.proofs.outputs.is_zero.Tie as tie
+use Rattle.stored.proofs.outputs.is_zero.Statement.{statement}
+use Rattle.stored.proofs.outputs.is_zero.Tie as tie
 
 abbrev Inv-loop : tie.InvT-loop
 Inv-loop s i₀ i = i ≤ length s
