@@ -16,14 +16,13 @@ small v s e h = rw (e ∙ ap (λ (x : Verdict). x .place) h) (place-within s)
 both-are : {v w : Verdict} {n p : ℕ} → n ≡ v .number → p ≡ v .place → v ≡ w → verdict n p ≡ w
 both-are e f h = ap₂ verdict e f ∙ h
 
-cast : tie.Need-cast-t5
-cast c =
-    let h = small _ (c .before .before .before .before .args .image .now) (c .before .place-of .ensures) (c .before .before .check .ensures) in
-    omega arith
-
-returns : tie.Need-returns
-returns c = both-are (c .number-of .ensures) (c .before .place-of .ensures) (c .before .before .check .ensures)
-
 pub push-down-filter-check-spec : {M : Type 1} → statement M
 push-down-filter-check-spec =
-    tie.close (tie.spec (λ c κs. search needs) (λ c κs. search needs) (λ c κs. search needs) cast returns)
+    tie.close
+    (tie.spec
+    (λ c κs. search needs)
+    (λ c κs. search needs)
+    (λ c κs. search needs)
+    (λ c. let h = small _ (c .before .before .before .before .args .image .now) (c .before .place-of .ensures) (c .before .before .check .ensures) in
+    omega arith)
+    (λ c. both-are (c .number-of .ensures) (c .before .place-of .ensures) (c .before .before .check .ensures)))

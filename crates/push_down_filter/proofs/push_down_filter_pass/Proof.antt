@@ -35,19 +35,6 @@ all-are : {t u : Passed} {a b d e f g : ℕ} {o : List ℕ} → a ≡ t .number 
     → record { number = a; place = b; visits = d; changed = e; finished = f; records = g; output = o } ≡ u
 all-are {t} i j k l m n o p = rw (i, j, k, l, m, n, o) p
 
-place-fits : tie.Need-cast-t10
-place-fits c =
-    let a = c .before .before .before .before .before .pass-bytes in
-    let h : c .before .before .place-of .result < 4294967296 = small-place (a .result) (a .ensures .0) (c .before .before .place-of .ensures []) in
-    search needs
-
-records-fit : tie.Need-cast-t14
-records-fit c =
-    let a = c .before .before .before .before .before .before .before .before .pass-bytes in
-    let h : c .before .before .before .before .records-of .result < 4294967296 = small-count (a .result) (a .ensures .0) (c .before .before
-    .before .before .records-of .ensures []) in
-    search needs
-
 pub push-down-filter-pass-spec : {M : Type 1} → statement M
 push-down-filter-pass-spec =
     tie.close
@@ -56,11 +43,16 @@ push-down-filter-pass-spec =
     (λ c κs. search needs)
     (λ c κs. search needs)
     (λ c κs. search needs)
-    place-fits
+    (λ c. let a = c .before .before .before .before .before .pass-bytes in
+    let h : c .before .before .place-of .result < 4294967296 = small-place (a .result) (a .ensures .0) (c .before .before .place-of .ensures []) in
+    search needs)
     (λ c κs. search needs)
     (λ c κs. search needs)
     (λ c κs. search needs)
-    records-fit
+    (λ c. let a = c .before .before .before .before .before .before .before .before .pass-bytes in
+    let h : c .before .before .before .before .records-of .result < 4294967296 =
+    small-count (a .result) (a .ensures .0) (c .before .before .before .before .records-of .ensures []) in
+    search needs)
     (λ c. search needs)
     (λ c. all-are (c .before .before .before .number-of .ensures _) (c .before .before .before .before .before .place-of .ensures _) (c .before
     .before .visits-of .ensures _) (c .before .changed-of .ensures _)

@@ -71,25 +71,13 @@ all-are : {t u : Rewritten} {a b d e : ℕ} {o : List ℕ} → a ≡ t .number �
     → record { number = a; place = b; flag = d; records = e; output = o } ≡ u
 all-are {t} e f g h i j = rw (e, f, g, h, i) j
 
--- read off an answer
-read : (f : Rewritten → ℕ) {t u : Rewritten} {a : ℕ} → a ≡ f t → t ≡ u → f u < 4294967296 → a < 4294967296
-read f e i h = rw (e, i) h
+-- read off an answer, whatever the node
+module _ (s : List ℕ) (n room : ℕ) {t : Rewritten} {a : ℕ} (i : t ≡ rewrite-bytes s n room) (l : n < 4294967296) where
+  place-fits : a ≡ t .place → a < 4294967296
+  place-fits e = rw (e, i) (small n l s room .0)
 
-place-fits : tie.Need-cast-t10
-place-fits c =
-    let args = c .before .before .before .before .before .before .before .before .before .args in
-    let h : c .before .before .place-of .result < 4294967296 =
-    read (λ t. t .place) (c .before .before .place-of .ensures _) (c .before .before .before .before .before .rewrite-bytes .ensures) (small
-    (args .node) (search needs) _ _ .0) in
-    search needs
-
-records-fit : tie.Need-cast-t12
-records-fit c =
-    let args = c .before .before .before .before .before .before .before .before .before .before .args in
-    let h : c .before .before .records-of .result < 4294967296 =
-    read (λ t. t .records) (c .before .before .records-of .ensures _) (c .before .before .before .before .before .before .rewrite-bytes .ensures)
-    (small (args .node) (search needs) _ _ .1) in
-    search needs
+  records-fit : a ≡ t .records → a < 4294967296
+  records-fit e = rw (e, i) (small n l s room .1)
 
 pub push-down-filter-rewrite-spec : {M : Type 1} → statement M
 push-down-filter-rewrite-spec =
@@ -99,9 +87,13 @@ push-down-filter-rewrite-spec =
     (λ c κs. search needs)
     (λ c κs. search needs)
     (λ c κs. search needs)
-    place-fits
+    (λ c. let h : c .before .before .place-of .result < 4294967296 =
+    place-fits _ _ _ (c .before .before .before .before .before .rewrite-bytes .ensures) (search needs) (c .before .before .place-of .ensures _) in
+    search needs)
     (λ c κs. search needs)
-    records-fit
+    (λ c. let h : c .before .before .records-of .result < 4294967296 =
+    records-fit _ _ _ (c .before .before .before .before .before .before .rewrite-bytes .ensures) (search needs) (c .before .before .records-of .ensures _) in
+    search needs)
     (λ c. search needs)
     (λ c. all-are (c .before .number-of .ensures _) (c .before .before .before .place-of .ensures _) (c .flag-of .ensures _) (c .before .before
     .records-of .ensures _) (output-is (c .before .before .before .before .before .before .rewrite-bytes .result) _)

@@ -61,20 +61,21 @@ all-are : {t u : Tested} {a b d : ℕ} → a ≡ t .number → b ≡ t .place �
     → record { number = a; place = b; truth = d } ≡ u
 all-are {t} e f g h = rw (e, f, g) h
 
-cast : tie.Need-cast-t8
-cast c =
-    let args = c .before .before .before .before .before .args in
-    let h : c .before .place-of .result < 4294967296 =
-    rw (c .before .place-of .ensures, c .before .before .row-test .ensures)
-    (small (args .node) (args .values .now) (args .marks .now) (search needs) (args .image .now)) in
-    search needs
-
-returns : tie.Need-returns
-returns c =
-    all-are (c .before .number-of .ensures) (c .before .before .place-of .ensures) (c .truth-number .ensures)
-    (c .before .before .before .row-test .ensures)
+-- read off an answer, whatever the node
+place-fits : (s : List ℕ) (n : ℕ) (zs : List ℤ) (ms : List ℕ) {t : Tested} {a : ℕ} → t ≡ row-test-bytes s n zs ms → n < 4294967296
+    → a ≡ t .place → a < 4294967296
+place-fits s n zs ms i l e = rw (e, i) (small n zs ms l s)
 
 pub push-down-filter-row-test-spec : {M : Type 1} → statement M
 push-down-filter-row-test-spec =
     tie.close
-    (tie.spec (λ c κs. search needs) (λ c κs. search needs) (λ c κs. search needs) cast (λ c κs. search needs) returns)
+    (tie.spec
+    (λ c κs. search needs)
+    (λ c κs. search needs)
+    (λ c κs. search needs)
+    (λ c. let h : c .before .place-of .result < 4294967296 =
+    place-fits _ _ _ _ (c .before .before .row-test .ensures) (search needs) (c .before .place-of .ensures) in
+    search needs)
+    (λ c κs. search needs)
+    (λ c. all-are (c .before .number-of .ensures) (c .before .before .place-of .ensures) (c .truth-number .ensures)
+    (c .before .before .before .row-test .ensures)))
