@@ -5,8 +5,8 @@
 
 use harness::edges::edges;
 use harness::ffi;
-use harness::image::{read, write, Record, RECORD_BYTES};
-use harness::kinds::{boolean, filter, is_plan, scan};
+use harness::image::{read, write, Record, Tree, RECORD_BYTES};
+use harness::kinds::{alias, boolean, filter, is_plan, join, scan, union};
 use harness::limits::{DEPTH, RECORDS};
 use harness::rewrites;
 use harness::row_tests;
@@ -27,14 +27,23 @@ fn chained(link: fn(&mut Record, u32)) -> Vec<u8> {
     write(&records)
 }
 
-/// As many Filters as an image may have, one over the other: each is merged into the next, one call inside the other.
-fn stacked_filters() -> Vec<u8> {
-    (1..DEPTH).fold(scan(1, vec![]), |input, _| filter(boolean(true), input)).image()
+/// As many Filters as an image may have, one over the other, over each plan: each is merged into the next, one call inside the other, and
+/// the arm is called inside all of them.
+fn stacked_filters() -> Vec<Vec<u8>> {
+    let inputs = || vec![scan(1, vec![]), scan(1, vec![])];
+    let stack = |bottom, height| (0..height).fold(bottom, |input, _| filter(boolean(true), input)).image();
+    let deep = |input: Tree| stack(input, DEPTH - 2);
+    vec![
+        stack(scan(1, vec![]), DEPTH - 1),
+        deep(join(1, inputs())),
+        deep(union(inputs())),
+        deep(alias(1, scan(1, vec![]))),
+    ]
 }
 
 fn images() -> Vec<Vec<u8>> {
     let mut images = vec![chained(|record, to| record.first = to), chained(|record, to| record.next = to)];
-    images.push(stacked_filters());
+    images.extend(stacked_filters());
     images.extend(edges().into_iter().map(|edge| edge.image));
     images.extend(sets().iter().chain(&rewrite_sets()).flat_map(|set| set.images()));
     images.extend((0..200).map(|case| rewrites::case(9, case).plan.image()));

@@ -74,7 +74,8 @@ fn rewrite_input(
     rewrite_through(s, input, x, p, out, at, level)
 }
 
-// What is done with the predicate p that is left over `input`, the plan at record x: the plan alone where none is (821 to 825), else the match.
+// What is done with the predicate p that is left over `input`, the plan at record x: the plan alone where none is (819 to 823), else the
+// match.
 pub fn resume(
     s: &[u8],
     input: &[u8],
