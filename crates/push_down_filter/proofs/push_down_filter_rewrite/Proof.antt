@@ -92,7 +92,8 @@ push-down-filter-rewrite-spec =
     search needs)
     (λ c κs. search needs)
     (λ c. let h : c .before .before .records-of .result < 4294967296 =
-    records-fit _ _ _ (c .before .before .before .before .before .before .rewrite-bytes .ensures) (search needs) (c .before .before .records-of .ensures _) in
+    records-fit _ _ _ (c .before .before .before .before .before .before .rewrite-bytes .ensures) (search needs)
+    (c .before .before .records-of .ensures _) in
     search needs)
     (λ c. search needs)
     (λ c. all-are (c .before .number-of .ensures _) (c .before .before .before .place-of .ensures _) (c .flag-of .ensures _) (c .before .before

@@ -13,8 +13,11 @@ cell-at-spec =
     tie.close
     (tie.spec
     (λ c κs. search needs)
-    (λ c. let e = c .null-of .ensures in
-    (right-null e, valued-null e (none-there _ (c .before .before .before .before .args .types .now) _ (c .before .if1 .taken)) (lent-short _ _ _ _ (first (c .before .if1 .taken)))))
+    (λ c. let e = c .null-of .ensures in (
+      right-null e,
+      valued-null e (none-there _ (c .before .before .before .before .args .types .now) _ (c .before .if1 .taken))
+          (lent-short _ _ _ _ (first (c .before .if1 .taken))),
+    ))
     (λ c. search needs)
     (λ c. search needs)
     (λ c κs. search needs)
@@ -39,7 +42,8 @@ cell-at-spec =
     (λ c κs. search needs)
     (λ c. let h = long-by (c .before .before .before .before .before .before .before .before .before .args .i)
     (length (c .before .before .before .before .before .before .before .before .before .args .values .now))
-    (length (c .before .before .before .before .before .before .before .before .before .args .marks .now)) (c .before .before .before .before .if2 .left) in (
+    (length (c .before .before .before .before .before .before .before .before .before .args .marks .now))
+    (c .before .before .before .before .if2 .left) in (
       c .cell-of .ensures .0,
       record {
         type = c .cell-of .ensures .1 .type ∙ search needs;

@@ -16,7 +16,8 @@ column-spec = tie.close (tie.spec (λ c κs. search needs) (λ c κs. search nee
         value = c .cell-at .ensures .1 .value ∙ rw (c .before .place-in .ensures ns h)
             (look-place null ns _ _ (omega (
               arith,
-              lent-length (c .before .before .before .before .args .types .now) (c .before .before .before .before .args .values .now) (c .before .before .before .before .args .marks .now),
+              lent-length (c .before .before .before .before .args .types .now) (c .before .before .before .before .args .values .now)
+                  (c .before .before .before .before .args .marks .now),
             )));
       },
     )))

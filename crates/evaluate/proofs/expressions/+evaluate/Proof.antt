@@ -108,7 +108,8 @@ pub +evaluate-spec : {M : Type 1} → statement M
       c .before .with-operand .ensures .0,
       λ ns n le. seen-next (c .before .before .evaluate .result) (u .turn .child)
           (u .so-far .1 ns n le)
-          (c .before .before .evaluate .ensures .1 (u .turn .child) ns (rw (c .before .before .before .from-record .ensures) (u .turn .here)) n le .value)
+          (c .before .before .evaluate .ensures .1 (u .turn .child) ns (rw (c .before .before .before .from-record .ensures)
+          (u .turn .here)) n le .value)
           (c .before .with-operand .ensures .1),
     )))
     (λ c κs. done _ (c .before .loop .inv) (c .loop-test .left) .0)

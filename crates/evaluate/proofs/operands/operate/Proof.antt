@@ -18,7 +18,8 @@ operate-spec =
     (λ c. (
       c .value-of .ensures .0,
       λ vs h. record {
-        type = c .value-of .ensures .1 .type ∙ type-operator (c .before .before .before .before .before .before .args .l) 5 (c .before .before .if1 .taken) refl;
+        type = c .value-of .ensures .1 .type ∙ type-operator (c .before .before .before .before .before .before .args .l) 5
+            (c .before .before .if1 .taken) refl;
         value = c .value-of .ensures .1 .value ∙ c .before .binary .ensures ∙ by-binary h _ _ (c .before .before .if1 .taken);
       },
     ))
@@ -28,7 +29,8 @@ operate-spec =
     (λ c. (
       c .value-of2 .ensures .0,
       λ vs h. record {
-        type = c .value-of2 .ensures .1 .type ∙ type-operator (c .before .before .before .before .before .before .before .before .args .l) 6 (c .before .before .before .if2 .taken) refl;
+        type = c .value-of2 .ensures .1 .type ∙ type-operator (c .before .before .before .before .before .before .before .before .args .l) 6
+            (c .before .before .before .if2 .taken) refl;
         value = c .value-of2 .ensures .1 .value ∙ c .before .not .ensures ∙ ap not3 (c .before .before .truth-of .ensures)
             ∙ by-not h _ _ (c .before .before .before .if2 .taken);
       },
@@ -39,7 +41,8 @@ operate-spec =
     (λ c. (
       c .value-of3 .ensures .0,
       λ vs h. record {
-        type = c .value-of3 .ensures .1 .type ∙ type-operator (c .before .before .before .before .before .before .before .before .before .args .l) 7 (c .before .before .before .if3 .taken) refl;
+        type = c .value-of3 .ensures .1 .type ∙ type-operator
+            (c .before .before .before .before .before .before .before .before .before .args .l) 7 (c .before .before .before .if3 .taken) refl;
         value = c .value-of3 .ensures .1 .value ∙ c .before .known .ensures ∙ ap truth (c .before .before .tested .ensures)
             ∙ by-test h _ _ (c .before .before .before .if3 .taken);
       },
@@ -50,8 +53,10 @@ operate-spec =
     (λ c. (
       c .value-of4 .ensures .0,
       λ vs h. record {
-        type = c .value-of4 .ensures .1 .type ∙ type-operator (c .before .before .before .before .before .before .before .before .before .before .args .l) 8 (c .before .before .before .if4 .taken) refl;
-        value = c .value-of4 .ensures .1 .value ∙ c .before .negated .ensures ∙ ap (negate (eqb (c .before .before .before .before .before .before .before .before .before .before .args .l .p) 1))
+        type = c .value-of4 .ensures .1 .type ∙ type-operator
+            (c .before .before .before .before .before .before .before .before .before .before .args .l) 8 (c .before .before .before .if4 .taken) refl;
+        value = c .value-of4 .ensures .1 .value ∙ c .before .negated .ensures ∙ ap (negate (eqb
+            (c .before .before .before .before .before .before .before .before .before .before .args .l .p) 1))
             (c .before .before .within .ensures) ∙ by-between h _ _ (c .before .before .before .if4 .taken);
       },
     ))
@@ -61,8 +66,11 @@ operate-spec =
     (λ c. (
       c .value-of5 .ensures .0,
       λ vs h. record {
-        type = c .value-of5 .ensures .1 .type ∙ type-operator (c .before .before .before .before .before .before .before .before .before .before .before .args .l) 9 (c .before .before .before .if5 .taken) refl;
-        value = c .value-of5 .ensures .1 .value ∙ c .before .negated2 .ensures ∙ ap (negate (eqb (c .before .before .before .before .before .before .before .before .before .before .before .args .l .p) 1))
+        type = c .value-of5 .ensures .1 .type ∙ type-operator
+            (c .before .before .before .before .before .before .before .before .before .before .before .args .l) 9
+            (c .before .before .before .if5 .taken) refl;
+        value = c .value-of5 .ensures .1 .value ∙ c .before .negated2 .ensures ∙ ap (negate (eqb
+            (c .before .before .before .before .before .before .before .before .before .before .before .args .l .p) 1))
             (c .before .before .in-list .ensures) ∙ by-list h _ _ (c .before .before .before .if5 .taken);
       },
     ))
@@ -71,13 +79,17 @@ operate-spec =
       right-null (c .null-of .ensures),
       λ vs h. valued-null (c .null-of .ensures)
           (type-function (c .before .before .before .before .before .before .before .before .before .before .args .l) (c .before .if6 .taken))
-          (by-none h _ _ (c .before .before .before .before .before .before .if1 .left) (c .before .before .before .before .before .if2 .left) (c .before .before .before .before .if3 .left) (c .before .before .before .if4 .left) (c .before .before .if5 .left)),
+          (by-none h _ _ (c .before .before .before .before .before .before .if1 .left) (c .before .before .before .before .before .if2 .left)
+          (c .before .before .before .before .if3 .left) (c .before .before .before .if4 .left) (c .before .before .if5 .left)),
     ))
     (λ c κs. search needs)
     (λ c. (
       right-null (c .null-of2 .ensures),
       λ vs h. valued-null (c .null-of2 .ensures)
-          (type-none (c .before .before .before .before .before .before .before .before .before .before .args .l) (c .before .before .before .before .before .before .if1 .left) (c .before .before .before .before .before .if2 .left) (c .before .before .before .before .if3 .left) (c .before .before .before .if4 .left)
+          (type-none (c .before .before .before .before .before .before .before .before .before .before .args .l)
+          (c .before .before .before .before .before .before .if1 .left) (c .before .before .before .before .before .if2 .left)
+          (c .before .before .before .before .if3 .left) (c .before .before .before .if4 .left)
           (c .before .before .if5 .left) (c .before .if6 .left))
-          (by-none h _ _ (c .before .before .before .before .before .before .if1 .left) (c .before .before .before .before .before .if2 .left) (c .before .before .before .before .if3 .left) (c .before .before .before .if4 .left) (c .before .before .if5 .left)),
+          (by-none h _ _ (c .before .before .before .before .before .before .if1 .left) (c .before .before .before .before .before .if2 .left)
+          (c .before .before .before .before .if3 .left) (c .before .before .before .if4 .left) (c .before .before .if5 .left)),
     )))

@@ -13,14 +13,17 @@ with-operand-spec = tie.close (tie.spec
     (λ c κs. let p = c .before .before .before .before .pre in (p .0 .first, p .1))
     (λ c. let p = c .before .before .before .before .before .before .before .pre in (
       record { first = p .0 .first; second = p .1; third = p .0 .third },
-      λ vs h. seen-second (c .before .before .before .before .before .before .before .args .v) _ (rw (c .before .before .equals .ensures)) vs h (c .if2 .taken),
+      λ vs h. seen-second (c .before .before .before .before .before .before .before .args .v) _ (rw
+          (c .before .before .equals .ensures)) vs h (c .if2 .taken),
     ))
     (λ c. let p = c .before .before .before .before .before .before .before .before .pre in (
       record { first = p .0 .first; second = p .0 .second; third = p .1 },
-      λ vs h. seen-third (c .before .before .before .before .before .before .before .before .args .v) _ (rw (c .before .before .before .equals .ensures)) vs h (c .if3 .taken),
+      λ vs h. seen-third (c .before .before .before .before .before .before .before .before .args .v) _ (rw
+          (c .before .before .before .equals .ensures)) vs h (c .if3 .taken),
     ))
     (λ c. let p = c .before .before .before .before .before .before .before .before .pre in (
       record { first = p .0 .first; second = p .0 .second; third = p .0 .third },
-      λ vs h. seen-more (c .before .before .before .before .before .before .before .before .args .v) _ (rw (c .before .before .before .equals .ensures)) vs h
+      λ vs h. seen-more (c .before .before .before .before .before .before .before .before .args .v) _ (rw
+          (c .before .before .before .equals .ensures)) vs h
           (c .before .before .before .before .if1 .left) (c .before .if2 .left) (c .if3 .left),
     )))

@@ -11,5 +11,7 @@ kind-of-spec =
     (tie.spec
     (λ c κs. search needs)
     (λ c. kind-null (c .before .before .args .v .case) (sym (c .before .is-null .ensures) ∙ c .if1 .taken))
-    (λ c. kind-boolean _ (c .before .before .before .before .args .v .case) (c .before .before .before .before .pre) (sym (c .before .before .before .is-null .ensures) ∙ c .before .before .if1 .left) (c .if2 .taken))
-    (λ c. kind-integer _ (c .before .before .before .before .args .v .case) (c .before .before .before .before .pre) (sym (c .before .before .before .is-null .ensures) ∙ c .before .before .if1 .left) (c .if2 .left)))
+    (λ c. kind-boolean _ (c .before .before .before .before .args .v .case) (c .before .before .before .before .pre) (sym
+    (c .before .before .before .is-null .ensures) ∙ c .before .before .if1 .left) (c .if2 .taken))
+    (λ c. kind-integer _ (c .before .before .before .before .args .v .case) (c .before .before .before .before .pre) (sym
+    (c .before .before .before .is-null .ensures) ∙ c .before .before .if1 .left) (c .if2 .left)))

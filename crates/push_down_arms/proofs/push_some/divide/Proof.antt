@@ -30,7 +30,8 @@ divide-spec =
     (λ c κs. let p = c .before .before .before .before .before .before .before .pre in
     let h = p .1 .rests .placed in
     let k = p .1 .rests .shaped in
-    let f = c .before .before .schema-columns .ensures (p .1 .plan) [] (rw (p .0) (h .standing .here)) (c .before .before .before .no-fields .ensures) in
+    let f = c .before .before .schema-columns .ensures (p .1 .plan) [] (rw (p .0) (h .standing .here))
+    (c .before .before .before .no-fields .ensures) in
     (record { exprs = split-conjunction (p .1 .expr); lists = k .listed; most = k .most }, names-fit f (fields-few h)))
     (λ c e q h. let i = c .before .before .before .before .before .before .before .before .pre .0 in
     let k = h .placed .standing in

@@ -30,7 +30,11 @@ rewrite-subquery-alias-spec =
     input-within (alias-input (h .short) (h .standing)) (p .0) (omega arith))
     (λ c κs. let p = c .before .before .before .before .before .before .before .before .before .pre in
     (rw (p .0) (plan-readable (p .1 .0 .rests .placed .standing)), (omega (arith, p .1 .1 .1), p .1 .1 .2, p .1 .1 .3)))
-    (λ c. omega (arith, c .before .before .before .before .before .before .before .before .before .before .before .before .before .before .pre .1 .1 .1))
+    (λ c. omega (
+      arith,
+      c .before .before .before .before .before .before .before .before .before .before .before .before .before .before .pre
+          .1 .1 .1,
+    ))
     (λ c κs. let p = c .before .before .before .before .before .before .before .before .before .before .before .before .before .before .pre in
     let o = p .1 .0 in
     let h = o .rests in
@@ -46,7 +50,8 @@ rewrite-subquery-alias-spec =
           renamed = record {
             standing = k;
             names = c .before .before .before .before .before .before .before .before .schema-columns .ensures q _
-                (rw (p .0) (h .placed .standing .here)) (c .before .before .before .before .before .before .before .before .before .no-fields .ensures);
+                (rw (p .0) (h .placed .standing .here))
+                (c .before .before .before .before .before .before .before .before .before .no-fields .ensures);
             wide = alias-wide h;
             few = alias-few h;
             most = c .before .before .before .before .before .before .before .changed-predicate .ensures .0;

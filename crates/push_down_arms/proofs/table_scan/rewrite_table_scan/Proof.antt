@@ -30,7 +30,8 @@ rewrite-table-scan-spec =
     let own = c .before .before .before .scan-filters .ensures _ t fs es
     (c .before .before .before .before .before .before .before .before .before .before .before .pre .0) (h .placed) in
     let l = c .before .before .unique .ensures _ _ own (z .takes) in
-    rw (scan-pushed h (λ n. c .before .before .before .before .if1 .left (sym (lists-length (z .takes) (known-of (z .takes) (taken-few h) .most)) ∙ n)))
+    rw (scan-pushed h (λ n. c .before .before .before .before .if1 .left (sym (lists-length (z .takes) (known-of (z .takes)
+    (taken-few h) .most)) ∙ n)))
     (pushed-over t fs _ _ refl refl l (c .if2 .taken)))
     (λ c κs. let p = c .before .before .before .before .before .before .before .before .before .before .before .before .pre in
     let h = p .1 .0 .rests in
@@ -44,7 +45,8 @@ rewrite-table-scan-spec =
       ),
     ))
     (λ c. search needs)
-    (λ c e t fs es h. let z = c .before .before .before .before .before .before .before .before .before .before .before .share-of .ensures e t fs es h in
+    (λ c e t fs es h. let z = c .before .before .before .before .before .before .before .before .before .before .before .share-of
+    .ensures e t fs es h in
     let own = c .before .before .before .before .before .before .before .scan-filters .ensures _ t fs es
     (c .before .before .before .before .before .before .before .before .before .before .before .before .before .before .before .pre .0) (h .placed) in
     let l = c .before .before .before .before .before .before .unique .ensures _ _ own (z .takes) in

@@ -40,7 +40,8 @@ share-of-spec =
     (c .before .before .before .before .before .before .before .no-fields .ensures) in
     let k = fields-count (h .placed) n in
     let m = c .before .before .before .before .before .marked-fields .ensures _ t fs es i (h .placed) k in
-    let l = c .before .before .before .add-volatile .ensures _ _ (lists-none (c .before .before .before .before .empty .ensures)) (h .shaped .listed) in
+    let l = c .before .before .before .add-volatile .ensures _ _ (lists-none (c .before .before .before .before .empty .ensures))
+    (h .shaped .listed) in
     let r = c .before .select-supported2 .ensures _ (schema (scan t fs es)) (λ a. marked fs a) l n (lasting-over h) m in
     record {
       count = k;

@@ -66,7 +66,8 @@ write-filtered-spec =
     .before .before .before .before .pre in
     wrote-filtered (p .1 .1 .1) xs (scan t fs ys)
     (λ z. c .before .before .before .before .before .before .before .before .before .before .before .before .if1 .left
-    (sym (lists-length a (p .1 .0 .1 .most)) ∙ z)) (c .before .before .before .before .before .before .before .before .before .before .put-kind .ensures)
+    (sym (lists-length a (p .1 .0 .1 .most)) ∙ z))
+    (c .before .before .before .before .before .before .before .before .before .before .put-kind .ensures)
     (λ e rest i. c .before .before .before .before .before .before .copy-joined .ensures (mapOf (scan t fs es))
     (rw (p .0) (plan-maps (h .standing))) e rest (pushes-of (rw i at a)))
     (c .before .before .write-scan2 .ensures t fs es ys h k b)))

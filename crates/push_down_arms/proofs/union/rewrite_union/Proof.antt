@@ -97,7 +97,8 @@ rewrite-union-spec =
           (renames-first h f (c .before .before .before .before .before .before .before .before .before .before .before .before .before .before
           .before .before .before .before .before .before .before .before .before .pre .0) (u .turn .past) (u .turn .here)
           (readable-deep (u .turn .here) (u .readable))) in
-          rw (c .word-at2 .ensures .0, c .before .before .before .before .before .before .before .before .from-record .ensures) (again _ k u (more f w)),
+          rw (c .word-at2 .ensures .0, c .before .before .before .before .before .before .before .before .from-record .ensures) (again _ k u
+          (more f w)),
     ))
     (λ c. search needs)
     (λ c. let k = c .before .loop .inv in
@@ -110,5 +111,6 @@ rewrite-union-spec =
     (c .before .before .before .before .before .before .before .changed-predicate .ensures .0)
     (λ σ. c .before .before .before .before .before .before .before .changed-predicate .ensures .1 _ σ e (h .shaped)) in
     answers refl (union-lists h)
-    (union-wrote e ps (p .1 .1 .2) (c .before .before .before .before .before .put-label .ensures) (rw (p .0) (h .placed .standing .here .head .label))
+    (union-wrote e ps (p .1 .1 .2) (c .before .before .before .before .before .put-label .ensures) (rw (p .0)
+    (h .placed .standing .here .head .label))
     (none-more (done _ (c .before .loop .inv .2 e ps w) (c .loop-test .left))))))

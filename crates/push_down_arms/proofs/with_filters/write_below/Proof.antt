@@ -14,7 +14,15 @@ write-below-spec =
     tie.close
     (tie.spec
     (λ c κs. let p = c .before .before .before .pre in let i = p .1 .1 .0 in input-within (i .1 .standing) (p .0) (i .0))
-    (λ c κs. let p = c .before .before .before .before .before .pre .1 in (maps-readable (p .0 .maps), (omega (arith, p .1 .1 .0), p .1 .1 .1, p .1 .1 .2)))
+    (λ c κs. let p = c .before .before .before .before .before .pre .1 in (
+      maps-readable (p .0 .maps),
+      (
+        omega
+            (arith, p .1 .1 .0),
+        p .1 .1 .1,
+        p .1 .1 .2,
+      ),
+    ))
     (λ c. omega (arith, c .before .before .before .before .before .before .before .before .before .pre .1 .1 .1 .0))
     (λ c κs. let p = c .before .before .before .before .before .before .before .before .before .pre in
     let m = p .1 .0 .maps in
@@ -30,4 +38,5 @@ write-below-spec =
     (λ c σ m o h f q k g e x y. let p = c .before .before .before .before .before .before .before .before .before .before .before .before .pre in
     let w = c .before .before .before .before .before .before .copy-some .ensures (planTree (f q)) (rw (p .0) (x .here)) in
     wrote-framed _ q (under o q) g (p .1 .1 .1 .1) e w
-    (c .before .before .with-filters .ensures σ m o h q (input-here y (p .0) (p .1 .1 .0 .0) (c .before .before .before .before .before .before .before .before .from-record .ensures)))))
+    (c .before .before .with-filters .ensures σ m o h q (input-here y (p .0) (p .1 .1 .0 .0)
+    (c .before .before .before .before .before .before .before .before .from-record .ensures)))))

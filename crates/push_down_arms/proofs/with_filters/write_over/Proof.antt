@@ -26,7 +26,14 @@ write-over-spec =
     (λ c κs. let p = c .before .before .before .before .before .before .before .before .before .before .before .pre .1 in (
       predicated (p .0 .0) (sym (c .before .before .before .before .before .before .before .is-gone .ensures)
           ∙ c .before .before .before .before .before .before .if1 .left),
-      (maps-readable (p .0 .0 .maps), (omega (arith, p .1 .1 .0), rw (c .before .before .before .put-kind .ensures .bytes, length-sets) (p .1 .1 .1))),
+      (
+        maps-readable (p .0 .0 .maps),
+        (
+          omega (arith, p .1 .1 .0),
+          rw (c .before .before .before .put-kind .ensures .bytes, length-sets)
+              (p .1 .1 .1),
+        ),
+      ),
     ))
     (λ c. omega (
       arith,
@@ -45,7 +52,8 @@ write-over-spec =
           p .1 .1 .0,
           (
             omega (arith, p .1 .1 .1 .0),
-            rw (w .bytes, length-sets, c .before .before .before .before .before .before .before .put-kind .ensures .bytes, length-sets) (p .1 .1 .1 .1),
+            rw (w .bytes, length-sets, c .before .before .before .before .before .before .before .put-kind .ensures .bytes, length-sets)
+                (p .1 .1 .1 .1),
             rw (w .next) (cap-le _),
           ),
         ),

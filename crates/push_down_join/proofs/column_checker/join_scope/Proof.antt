@@ -23,22 +23,31 @@ join-scope-spec =
     (λ c. omega (arith, c .before .pre .join-at .standing .small))
     (λ c κs. let j = c .before .pre .join-at in input-within (j .first) (j .stretch) (omega arith))
     (λ c κs. search needs)
-    (λ c κs. let j = c .before .before .before .pre .join-at in rw (input-at (j .first) (j .stretch) (omega arith) (c .before .from-record .ensures)) (plan-here (j .first)))
+    (λ c κs. let j = c .before .before .before .pre .join-at in rw (input-at (j .first) (j .stretch) (omega arith)
+    (c .before .from-record .ensures)) (plan-here (j .first)))
     (λ c κs. let j = c .before .before .before .before .pre .join-at in input-within (j .second) (j .stretch) (j .after))
-    (λ c κs. let j = c .before .before .before .before .before .pre .join-at in rw (input-at (j .second) (j .stretch) (j .after) (c .from-record2 .ensures)) (plan-here (j .second)))
+    (λ c κs. let j = c .before .before .before .before .before .pre .join-at in rw (input-at (j .second) (j .stretch) (j .after)
+    (c .from-record2 .ensures)) (plan-here (j .second)))
     (λ c κs. let p = c .before .before .before .before .before .before .pre in
     let j = p .join-at in
-    let first = c .before .before .schema-columns .ensures (p .lhs) [] (input-here (j .first) (j .stretch) (omega arith) (c .before .before .before .before .from-record .ensures))
+    let first = c .before .before .schema-columns .ensures (p .lhs) [] (input-here (j .first) (j .stretch) (omega arith)
+    (c .before .before .before .before .from-record .ensures))
     (c .before .before .before .no-fields .ensures) in
-    let both = c .schema-columns2 .ensures (p .rhs) (schema (p .lhs)) (input-here (j .second) (j .stretch) (j .after) (c .before .from-record2 .ensures))
-    first in
-    ((maxDepth, rw (j .stretch) (plan-readable (j .standing))), names-fit both (join-short (p .kind) (p .lhs) (p .rhs) (p .keys) (p .condition) (j .rules))))
+    let both = c .schema-columns2 .ensures (p .rhs) (schema (p .lhs)) (input-here (j .second) (j .stretch) (j .after)
+    (c .before .from-record2 .ensures))
+    first in (
+      (maxDepth, rw (j .stretch) (plan-readable (j .standing))),
+      names-fit both (join-short (p .kind) (p .lhs) (p .rhs) (p .keys)
+          (p .condition) (j .rules)),
+    ))
     (λ c κs. let p = c .before .before .before .before .before .before .before .pre in
     let j = p .join-at in
     let short = join-short (p .kind) (p .lhs) (p .rhs) (p .keys) (p .condition) (j .rules) in
-    let first = c .before .before .before .schema-columns .ensures (p .lhs) [] (input-here (j .first) (j .stretch) (omega arith) (c .before .before .before .before .before .from-record .ensures))
+    let first = c .before .before .before .schema-columns .ensures (p .lhs) [] (input-here (j .first) (j .stretch) (omega arith)
+    (c .before .before .before .before .before .from-record .ensures))
     (c .before .before .before .before .no-fields .ensures) in
-    let both = c .before .schema-columns2 .ensures (p .rhs) (schema (p .lhs)) (input-here (j .second) (j .stretch) (j .after) (c .before .before .from-record2 .ensures))
+    let both = c .before .schema-columns2 .ensures (p .rhs) (schema (p .lhs)) (input-here (j .second) (j .stretch) (j .after)
+    (c .before .before .from-record2 .ensures))
     first in
     let t = join (p .kind) (p .lhs) (p .rhs) (p .keys) (p .condition) in
     let w = c .swap-keys .ensures (planTree t) _ (rw (j .stretch) (j .standing .here)) both in
@@ -46,9 +55,11 @@ join-scope-spec =
     let m = length-map (schema (p .lhs) ++ schema (p .rhs)) (λ x. orSelf x (partnerIn x (kidsP t))) in
     (names-fit both short, names-fit first (omega (arith, short, n)), names-fit (w .to) (omega (arith, short, m))))
     (λ c k l r on f j. let short = join-short k l r on f (j .rules) in
-    let first = c .before .before .before .before .schema-columns .ensures l [] (input-here (j .first) (j .stretch) (omega arith) (c .before .before .before .before .before .before .from-record .ensures))
+    let first = c .before .before .before .before .schema-columns .ensures l [] (input-here (j .first) (j .stretch) (omega arith)
+    (c .before .before .before .before .before .before .from-record .ensures))
     (c .before .before .before .before .before .no-fields .ensures) in
-    let both = c .before .before .schema-columns2 .ensures r (schema l) (input-here (j .second) (j .stretch) (j .after) (c .before .before .before .from-record2 .ensures)) first in
+    let both = c .before .before .schema-columns2 .ensures r (schema l) (input-here (j .second) (j .stretch) (j .after)
+    (c .before .before .before .from-record2 .ensures)) first in
     let w = c .before .swap-keys .ensures (planTree (join k l r on f)) _ (rw (j .stretch) (j .standing .here)) both in
     let n = length-append (schema l) (schema r) in
     c .scope-of .ensures (schema l) (schema r) on (kidsP (join k l r on f)) both (sym (names-count first (names-fit first (omega (arith, short, n)))))

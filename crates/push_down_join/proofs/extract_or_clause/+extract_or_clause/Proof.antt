@@ -132,23 +132,35 @@ pub +extract-or-clause-spec : {M : Type 1} → statement M
     (λ c κs. let u = parts-of (c .before .before .before .before .before .before .before .before .before .before .before .pre .1 .0)
     (c .before .before .before .before .before .before .before .before .before .operator .ensures)
     (c .before .before .before .before .before .before .before .before .if1 .left) in let v = halves u
-    (c .before .before .before .before .before .before .before .word-at .ensures .0) (c .before .before .before .before .before .before .from-record .ensures)
+    (c .before .before .before .before .before .before .before .word-at .ensures .0)
+    (c .before .before .before .before .before .before .from-record .ensures)
     (c .before .before .before .before .before .word-at2 .ensures .0) (c .before .before .before .before .from-record2 .ensures) in (
-      omega (arith, c .before .before .before .before .before .before .before .before .before .before .before .pre .0, c .before .before .before .before .before .before .before .before .before .before .before .pre .1 .0 .some),
+      omega (
+        arith,
+        c .before .before .before .before .before .before .before .before .before .before .before .pre .0,
+        c .before .before
+            .before .before .before .before .before .before .before .before .before .pre .1 .0 .some,
+      ),
       (v .last, c .before .before .before .before .before .before .before .before .before .before .before .pre .1 .1),
     ))
     (λ c. search needs)
     (λ c. search needs)
     (λ c e ns d h g held k. let u = sides-or (c .before .before .before .before .before .before .before .before .before .before .word-at .ensures .0)
-    (c .before .before .before .before .before .before .before .before .before .from-record .ensures) (c .before .before .before .before .before .before .before .before .word-at2 .ensures .0)
-    (c .before .before .before .before .before .before .before .from-record2 .ensures) e h (c .before .before .before .before .before .before .before .before .before .before .before .before .operator .ensures)
-    (c .before .before .before .before .before .before .before .before .before .before .before .if1 .left) (c .before .before .before .before .before .before .if3 .left) in
+    (c .before .before .before .before .before .before .before .before .before .from-record .ensures)
+    (c .before .before .before .before .before .before .before .before .word-at2 .ensures .0)
+    (c .before .before .before .before .before .before .before .from-record2 .ensures) e h
+    (c .before .before .before .before .before .before .before .before .before .before .before .before .operator .ensures)
+    (c .before .before .before .before .before .before .before .before .before .before .before .if1 .left)
+    (c .before .before .before .before .before .before .if3 .left) in
     or-nothing-right d u (c .before .before .extract-or-clause4 .ensures (u .rhs) ns d (u .at-right) g (held-right u (has ns) held) k)
     (c .enum-told4 .given .1))
     (λ c e ns d h g held k. let u = sides-or (c .before .before .before .before .before .before .before .before .before .before .word-at .ensures .0)
-    (c .before .before .before .before .before .before .before .before .before .from-record .ensures) (c .before .before .before .before .before .before .before .before .word-at2 .ensures .0)
-    (c .before .before .before .before .before .before .before .from-record2 .ensures) e h (c .before .before .before .before .before .before .before .before .before .before .before .before .operator .ensures)
-    (c .before .before .before .before .before .before .before .before .before .before .before .if1 .left) (c .before .before .before .before .before .before .if3 .left) in
+    (c .before .before .before .before .before .before .before .before .before .from-record .ensures)
+    (c .before .before .before .before .before .before .before .before .word-at2 .ensures .0)
+    (c .before .before .before .before .before .before .before .from-record2 .ensures) e h
+    (c .before .before .before .before .before .before .before .before .before .before .before .before .operator .ensures)
+    (c .before .before .before .before .before .before .before .before .before .before .before .if1 .left)
+    (c .before .before .before .before .before .before .if3 .left) in
     or-made d u (c .before .before .before .before .before .extract-or-clause3 .ensures (u .lhs) ns d (u .at-left) g (held-left u (has ns) held) k)
     (c .before .before .before .enum-told .given .1)
     (c .before .before .extract-or-clause4 .ensures (u .rhs) ns d (u .at-right) g (held-right u (has ns) held) k) (c .enum-told3 .given .1))

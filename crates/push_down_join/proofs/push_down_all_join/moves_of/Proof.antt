@@ -39,8 +39,11 @@ moves-of-spec =
       (q .1, p .scopes .most),
     ))
     (λ c κs. search needs)
-    (λ c κs. let g = c .before .before .before .before .before .before .before .before .before .before .before .before .pre .0 .1 in
-    (smalls-of (known-reads (c .before .before .before .before .before .before .parts-of2 .ensures (g .lefts) (g .rights) (g .keys) (g .exprs) (g .scopes) (g .reads) .rest)), omega arith))
+    (λ c κs. let g = c .before .before .before .before .before .before .before .before .before .before .before .before .pre .0 .1 in (
+      smalls-of (known-reads (c .before .before .before .before .before .before .parts-of2 .ensures (g .lefts) (g .rights) (g .keys) (g .exprs)
+          (g .scopes) (g .reads) .rest)),
+      omega arith,
+    ))
     (λ c κs. search needs)
     (λ c k l r on P G σ e sc h g w.
     let above = c .before .before .before .before .before .before .before .before .before .before .parts-of .ensures l r on P sc h in
@@ -48,10 +51,14 @@ moves-of-spec =
     let over = c .before .before .before .before .before .before .before .before .before .before .before .lr-is-preserved .ensures k e in
     let at = c .before .before .before .before .before .before .before .before .before .on-lr-is-preserved .ensures k e in
     let inner = c .before .before .before .before .before .before .before .before .before .before .before .before .is-inner .ensures k e in
-    let left = rw (left-push-is k l r on P G σ w (over .0) (over .1) (at .0) (at .1) inner (All-append (above .left .keyed .over) (own .left .keyed .over)))
-    at (c .before .before .before .before .before .before .before .side-push .ensures σ (l ++ r) (has l) _ _ _ _ _ _ (above .left) (own .left) (sc .names) (sc .left)) in
-    let right = rw (right-push-is k l r on P G σ w (over .0) (over .1) (at .0) (at .1) inner (All-append (above .right .keyed .over) (own .right .keyed .over)))
-    at (c .before .before .before .before .before .before .side-push2 .ensures σ (l ++ r) (has r) _ _ _ _ _ _ (above .right) (own .right) (sc .names) (sc .right)) in
+    let left = rw (left-push-is k l r on P G σ w (over .0) (over .1) (at .0) (at .1) inner (All-append (above .left .keyed .over)
+    (own .left .keyed .over)))
+    at (c .before .before .before .before .before .before .before .side-push .ensures σ (l ++ r) (has l) _ _ _ _ _ _ (above .left) (own .left)
+    (sc .names) (sc .left)) in
+    let right = rw (right-push-is k l r on P G σ w (over .0) (over .1) (at .0) (at .1) inner (All-append (above .right .keyed .over)
+    (own .right .keyed .over)))
+    at (c .before .before .before .before .before .before .side-push2 .ensures σ (l ++ r) (has r) _ _ _ _ _ _ (above .right) (own .right)
+    (sc .names) (sc .right)) in
     let rest = rw (over .0, over .1) at (above .rest) in
     let joined = rw inner at (c .before .before .before .before .before .if-list .ensures _ _ _ rest) in
     let stays = rw (at .0, at .1) at (own .rest) in

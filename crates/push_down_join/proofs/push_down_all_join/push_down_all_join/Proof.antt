@@ -47,21 +47,30 @@ push-down-all-join-spec =
     })
     (λ c κs. let p = c .before .before .before .before .before .before .before .before .before .before .before .before .before .pre in
     let q = p .1 .0 in
-    let z = c .before .before .before .before .before .before .before .before .right-input .ensures _ (q .kind) (q .lhs) (q .rhs) (q .keys) (q .condition) (p .0) (q .placed) in
-    let sc = c .before .before .before .before .before .before .before .join-scope .ensures (q .kind) (q .lhs) (q .rhs) (q .keys) (q .condition) (join-at (p .0) (q .placed) z) in
+    let z = c .before .before .before .before .before .before .before .before .right-input .ensures _ (q .kind) (q .lhs) (q .rhs) (q .keys)
+    (q .condition) (p .0) (q .placed) in
+    let sc = c .before .before .before .before .before .before .before .join-scope .ensures (q .kind) (q .lhs) (q .rhs) (q .keys)
+    (q .condition) (join-at (p .0) (q .placed) z) in
     (sc .most, omega (arith, sc .most, p .1 .1 .0)))
-    (λ c κs. let p = c .before .before .before .before .before .before .before .before .before .before .before .before .before .before .before .before .before .before .pre in
+    (λ c κs. let p = c .before .before .before .before .before .before .before .before .before .before .before .before .before .before .before
+    .before .before .before .pre in
     let q = p .1 .0 in
     let h = q .placed in
-    let z = c .before .before .before .before .before .before .before .before .before .before .before .before .before .right-input .ensures _ (q .kind) (q .lhs) (q .rhs) (q .keys) (q .condition) (p .0) h in
-    let sc = c .before .before .before .before .before .before .before .before .before .before .before .before .join-scope .ensures (q .kind) (q .lhs) (q .rhs) (q .keys) (q .condition) (join-at (p .0) h z) in
-    let e = kind-is (h .standing) (p .0) (c .before .before .before .before .before .before .before .before .before .before .before .word-at .ensures .0) in
+    let z = c .before .before .before .before .before .before .before .before .before .before .before .before .before .right-input .ensures _
+    (q .kind) (q .lhs) (q .rhs) (q .keys) (q .condition) (p .0) h in
+    let sc = c .before .before .before .before .before .before .before .before .before .before .before .before .join-scope .ensures (q .kind)
+    (q .lhs) (q .rhs) (q .keys) (q .condition) (join-at (p .0) h z) in
+    let e = kind-is (h .standing) (p .0)
+    (c .before .before .before .before .before .before .before .before .before .before .before .word-at .ensures .0) in
     let ns = schema (q .lhs) ++ schema (q .rhs) in
     let σ : Name → Expr = λ x. col (ren ns (map (swap (q .keys)) ns) x) in
-    let v = c .before .before .before .before .before .before .before .before .before .before .moves-of .ensures (q .kind) (schema (q .lhs)) (schema (q .rhs)) (q .keys) (q .above) (q .own) σ e sc (q .reads) (q .reads-own)
+    let v = c .before .before .before .before .before .before .before .before .before .before .moves-of .ensures (q .kind) (schema (q .lhs))
+    (schema (q .rhs)) (q .keys) (q .above) (q .own) σ e sc (q .reads) (q .reads-own)
     (renames-swap ns (q .keys)) in
-    let m = c .before .before .before .before .write-renames .ensures ns (map (swap (q .keys)) ns) (sc .names) (sc .to) (sym (length-map ns (swap (q .keys)))) in
-    let few = fits-each _ _ _ (sym (c .before .before .before .before .before .before .before .before .before .fits2 .ensures) ∙ told _ (c .before .before .before .before .before .before .before .before .if1 .left)) in (
+    let m = c .before .before .before .before .write-renames .ensures ns (map (swap (q .keys)) ns) (sc .names) (sc .to) (sym (length-map ns
+    (swap (q .keys)))) in
+    let few = fits-each _ _ _ (sym (c .before .before .before .before .before .before .before .before .before .fits2 .ensures) ∙ told _
+    (c .before .before .before .before .before .before .before .before .if1 .left)) in (
       p .0,
       (
         record {
@@ -81,15 +90,23 @@ push-down-all-join-spec =
     (λ c. search needs)
     (λ c. search needs)
     (λ c k l r on f P G h q g p w.
-    let i = c .before .before .before .before .before .before .before .before .before .before .before .before .before .before .before .before .before .before .before .before .before .pre .0 in
-    let z = c .before .before .before .before .before .before .before .before .before .before .before .before .before .before .before .before .right-input .ensures _ k l r on f i h in
-    let sc = c .before .before .before .before .before .before .before .before .before .before .before .before .before .before .before .join-scope .ensures k l r on f (join-at i h z) in
-    let e = kind-is (h .standing) i (c .before .before .before .before .before .before .before .before .before .before .before .before .before .before .word-at .ensures .0) in
+    let i = c .before .before .before .before .before .before .before .before .before .before .before .before .before .before .before .before
+    .before .before .before .before .before .pre .0 in
+    let z = c .before .before .before .before .before .before .before .before .before .before .before .before .before .before .before .before
+    .right-input .ensures _ k l r on f i h in
+    let sc = c .before .before .before .before .before .before .before .before .before .before .before .before .before .before .before
+    .join-scope .ensures k l r on f (join-at i h z) in
+    let e = kind-is (h .standing) i
+    (c .before .before .before .before .before .before .before .before .before .before .before .before .before .before .word-at .ensures .0) in
     let ns = schema l ++ schema r in
     let σ : Name → Expr = λ x. col (ren ns (map (swap on) ns) x) in
-    let v = c .before .before .before .before .before .before .before .before .before .before .before .before .before .moves-of .ensures k (schema l) (schema r) on P G σ e sc q g (renames-swap ns on) in
-    let m = c .before .before .before .before .before .before .before .write-renames .ensures ns (map (swap on) ns) (sc .names) (sc .to) (sym (length-map ns (swap on))) in
-    let few = fits-each _ _ _ (sym (c .before .before .before .before .before .before .before .before .before .before .before .before .fits2 .ensures) ∙ told _ (c .before .before .before .before .before .before .before .before .before .before .before .if1 .left)) in
+    let v = c .before .before .before .before .before .before .before .before .before .before .before .before .before .moves-of .ensures k
+    (schema l) (schema r) on P G σ e sc q g (renames-swap ns on) in
+    let m = c .before .before .before .before .before .before .before .write-renames .ensures ns (map (swap on) ns) (sc .names) (sc .to) (sym
+    (length-map ns (swap on))) in
+    let few = fits-each _ _ _ (sym
+    (c .before .before .before .before .before .before .before .before .before .before .before .before .fits2 .ensures) ∙ told _
+    (c .before .before .before .before .before .before .before .before .before .before .before .if1 .left)) in
     let below = inputs-few k l r on f (h .lists) in
     answers (v .flag) (fits-few k l r on v p w (below .0) (below .1) (few .0) (few .1) (few .2))
     (c .before .before .write-kept .ensures k l r on f P G σ (carries h z m sc v few))))

@@ -31,5 +31,6 @@ push-down-join-spec =
     ))
     (λ c. search needs)
     (λ c. search needs)
-    (λ c k l r on f P h q p. c .before .before .before .before .push-down-all-join .ensures k l r on f P (split-conjunction? f) h q (c .before .before .before .before .before .before .before .own-filter .ensures k l r on f h) p
+    (λ c k l r on f P h q p. c .before .before .before .before .push-down-all-join .ensures k l r on f P (split-conjunction? f) h q
+    (c .before .before .before .before .before .before .before .own-filter .ensures k l r on f h) p
     (split-plain? f)))

@@ -15,7 +15,12 @@ copy-sided-filtered-spec =
     (tie.spec
     (λ c κs. let p = c .before .before .before .before .before .before .pre .1 .1 .1 in (p .0, (omega (arith, p .1), p .1 .1)))
     (λ c. search needs)
-    (λ c σ ns d g es h p k. rw (filters-none es p (omega (arith, sides-length h (c .before .before .before .before .before .before .before .before .before .pre .0 .most), c .before .before .before .before .if1 .taken)))
+    (λ c σ ns d g es h p k. rw (filters-none es p (omega (
+      arith,
+      sides-length h
+          (c .before .before .before .before .before .before .before .before .before .pre .0 .most),
+      c .before .before .before .before .if1 .taken,
+    )))
     (c .before .before .copy-tree .ensures (planTree p) k))
     (λ c κs. search needs)
     (λ c. search needs)
@@ -25,14 +30,37 @@ copy-sided-filtered-spec =
         p .1 .0,
         (
           p .1 .1 .0,
-          (omega (arith, c .before .before .before .before .before .if1 .left), (omega (arith, p .1 .1 .1 .1), c .before .before .before .put-kind .kept .0 ∙ p .1 .1 .1 .1 .1)),
+          (
+            omega (arith, c .before .before .before .before .before .if1 .left),
+            (
+              omega
+                  (arith, p .1 .1 .1 .1),
+              c .before .before .before .put-kind .kept .0 ∙ p .1 .1 .1 .1 .1,
+            ),
+          ),
         ),
       ),
     ))
     (λ c. search needs)
-    (λ c κs. let p = c .before .before .before .before .before .before .before .before .before .before .before .before .before .before .pre .1 .1 .1 in
-    (p .0, (omega (arith, p .1), c .before .before .before .copy-sided-joined .kept .1 .1 .1 .1 .1 .0 ∙ (c .before .before .before .before .before .before .before .put-kind .kept .0 ∙ p .1 .1))))
+    (λ c κs. let p = c .before .before .before .before .before .before .before .before .before .before .before .before .before .before .pre .1
+    .1 .1 in (
+      p .0,
+      (
+        omega (arith, p .1),
+        c .before .before .before .copy-sided-joined .kept .1 .1 .1 .1 .1 .0 ∙
+            (c .before .before .before .before .before .before .before .put-kind .kept .0 ∙ p .1 .1),
+      ),
+    ))
     (λ c. search needs)
-    (λ c σ ns d g es h p k. let q = c .before .before .before .before .before .before .before .before .before .before .before .before .before .before .before .before .before .pre in
-    wrote-filtered (q .1 .1 .1 .1 .1) es p (λ z. omega (arith, sides-length h (q .0 .most), c .before .before .before .before .before .before .before .before .before .before .before .before .if1 .left)) (c .before .before .before .before .before .before .before .before .before .before .put-kind .ensures)
-    (λ e rest same. c .before .before .before .before .before .before .copy-sided-joined .ensures σ ns d g e rest (rw same at h)) (c .before .before .copy-tree2 .ensures (planTree p) k)))
+    (λ c σ ns d g es h p k.
+    let q = c .before .before .before .before .before .before .before .before .before .before .before .before .before .before .before .before
+    .before .pre in
+    wrote-filtered (q .1 .1 .1 .1 .1) es p (λ z. omega (
+      arith,
+      sides-length h
+          (q .0 .most),
+      c .before .before .before .before .before .before .before .before .before .before .before .before .if1 .left,
+    ))
+    (c .before .before .before .before .before .before .before .before .before .before .put-kind .ensures)
+    (λ e rest same. c .before .before .before .before .before .before .copy-sided-joined .ensures σ ns d g e rest (rw same at h))
+    (c .before .before .copy-tree2 .ensures (planTree p) k)))

@@ -14,10 +14,15 @@ filter-input-spec =
     tie.close
     (tie.spec
     (λ c. omega (arith, c .before .pre .there .standing .small))
-    (λ c κs. let p = c .before .pre in
-    (omega arith, stretch-within (p .image) (p .stretch) {y = c .before .args .x + 1} (omega arith) (filter-predicate (p .short) (p .there .standing) .within)))
+    (λ c κs. let p = c .before .pre in (
+      omega arith,
+      stretch-within (p .image) (p .stretch) {y = c .before .args .x + 1} (omega arith) (filter-predicate (p .short)
+          (p .there .standing) .within),
+    ))
     (λ c κs. let p = c .before .before .pre in
-    rw (stretch-at (p .image) (p .stretch) {y = c .before .before .args .x + 1} (omega arith) (c .from-record .ensures)) (filter-room (p .short) (p .there .standing)))
+    rw (stretch-at (p .image) (p .stretch) {y = c .before .before .args .x + 1} (omega arith) (c .from-record .ensures)) (filter-room
+    (p .short) (p .there .standing)))
     (λ c s e q i n h.
-    let k = rw (stretch-at s i {y = c .before .before .before .args .x + 1} (omega arith) (c .before .from-record .ensures)) at (c .word-at .ensures .0) in
+    let k = rw (stretch-at s i {y = c .before .before .before .args .x + 1} (omega arith) (c .before .from-record .ensures)) at
+    (c .word-at .ensures .0) in
     record { link = k; after = omega (arith, k, filter-next n h); standing = rw (k ∙ filter-next n h) (filter-input n h) }))

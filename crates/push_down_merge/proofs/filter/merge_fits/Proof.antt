@@ -43,7 +43,8 @@ merge-fits-spec =
         ),
       ),
     ))
-    (λ c κs. let u = c .before .before .before .before .before .before .before .before .before .before .before .before .before .before .before .before .before .before .before .before .pre in
+    (λ c κs. let u = c .before .before .before .before .before .before .before .before .before .before .before .before .before .before .before
+    .before .before .before .before .before .pre in
     let p = u .1 in
     let i = p .0 .inside in
     let b = c .before .before .before .before .before .before .before .before .before .before .write-before .ensures (p .0 .whole)
@@ -64,28 +65,41 @@ merge-fits-spec =
     ))
     (λ c. search needs)
     (λ c. search needs)
-    (λ c w f h e q m k l. let u = c .before .before .before .before .before .before .before .before .before .before .before .before .before .before .before .before .before .before .before .before .before .before .before .before .pre in
+    (λ c w f h e q m k l.
+    let u = c .before .before .before .before .before .before .before .before .before .before .before .before .before .before .before .before
+    .before .before .before .before .before .before .before .before .pre in
     let p = u .1 in
-    let b = c .before .before .before .before .before .before .before .before .before .before .before .before .before .before .write-before .ensures w f (h .root) (h .there) (stands-inside h) in
-    let v = c .before .before .before .before .before .before .before .before .make-filter .ensures (mapOf q) (rw (u .0) (plan-maps k)) e (made-predicate _ m) q (own-here k (u .0)) in
+    let b = c .before .before .before .before .before .before .before .before .before .before .before .before .before .before .write-before
+    .ensures w f (h .root) (h .there) (stands-inside h) in
+    let v = c .before .before .before .before .before .before .before .before .make-filter .ensures (mapOf q) (rw (u .0) (plan-maps k)) e
+    (made-predicate _ m) q (own-here k (u .0)) in
     let a = c .before .before .before .write-records .ensures (planTree w) (h .root .here) (few-records h)
     (omega (arith, b .records)) (b .depths) in
     sym (fits-over (f .back (filter e q)) (spliced w _ f (h .there) (filter e q)
-    (c .before .before .before .before .before .before .before .before .before .before .before .before .before .before .write-before .kept .1 .1 .0 ∙ p .1 .0) (few-records h) b v a) (c .if2 .taken)))
+    (c .before .before .before .before .before .before .before .before .before .before .before .before .before .before .write-before .kept .1
+    .1 .0 ∙ p .1 .0) (few-records h) b v a) (c .if2 .taken)))
     (λ c κs. let l = c .before .before .before .before .write-records .kept .1 .1 .1 .1 .0 ∙
     (c .before .before .before .before .before .before .before .before .before .make-filter .kept .1 .1 .1 .1 .1 .1 .1 .1 .0 ∙
-    (c .before .before .before .before .before .before .before .before .before .before .before .before .before .before .before .write-before .kept .1 .1 .0 ∙ c .before .before .before .before .before .before .before .before .before .before .before .before .before .before .before .before .before .before .before .before .before .before .before .before .before .pre .1 .1 .0)) in
+    (c .before .before .before .before .before .before .before .before .before .before .before .before .before .before .before .write-before
+    .kept .1 .1 .0 ∙ c .before .before .before .before .before .before .before .before .before .before .before .before .before .before .before
+    .before .before .before .before .before .before .before .before .before .before .pre .1 .1 .0)) in
     (c .before .if2 .left, omega (arith, l, c .before .if2 .left)))
     (λ c. search needs)
     (λ c. search needs)
-    (λ c w f h e q m k l. let u = c .before .before .before .before .before .before .before .before .before .before .before .before .before .before .before .before .before .before .before .before .before .before .before .before .before .before .pre in
+    (λ c w f h e q m k l.
+    let u = c .before .before .before .before .before .before .before .before .before .before .before .before .before .before .before .before
+    .before .before .before .before .before .before .before .before .before .before .pre in
     let p = u .1 in
-    let b = c .before .before .before .before .before .before .before .before .before .before .before .before .before .before .before .before .write-before .ensures w f (h .root) (h .there) (stands-inside h) in
-    let v = c .before .before .before .before .before .before .before .before .before .before .make-filter .ensures (mapOf q) (rw (u .0) (plan-maps k)) e (made-predicate _ m) q (own-here k (u .0)) in
+    let b = c .before .before .before .before .before .before .before .before .before .before .before .before .before .before .before .before
+    .write-before .ensures w f (h .root) (h .there) (stands-inside h) in
+    let v = c .before .before .before .before .before .before .before .before .before .before .make-filter .ensures (mapOf q) (rw (u .0)
+    (plan-maps k)) e (made-predicate _ m) q (own-here k (u .0)) in
     let a = c .before .before .before .before .before .write-records .ensures (planTree w) (h .root .here) (few-records h)
     (omega (arith, b .records)) (b .depths) in
     let g = spliced w _ f (h .there) (filter e q)
-    (c .before .before .before .before .before .before .before .before .before .before .before .before .before .before .before .before .write-before .kept .1 .1 .0 ∙ p .1 .0) (few-records h) b v a in
+    (c .before .before .before .before .before .before .before .before .before .before .before .before .before .before .before .before
+    .write-before .kept .1 .1 .0 ∙ p .1 .0) (few-records h) b v a in
     let few = c .before .before .if2 .left in
     c .is-shallow .ensures (planTree (f .back (filter e q))) (g .rest) (begun-count g few) (g .bytes few) ∙ fits-is (f .back (filter e q)) g few
-    (few-lists h m q l (c .before .before .before .before .before .before .before .before .before .before .before .before .before .before .before .before .before .before .before .if1 .left))))
+    (few-lists h m q l (c .before .before .before .before .before .before .before .before .before .before .before .before .before .before
+    .before .before .before .before .before .if1 .left))))

@@ -123,7 +123,8 @@ pub +merge-filter+rewrite-filter-spec : {M : Type 1} → statement M
     (λ c w f i e b q k. let a = c .before .before .before .before .before .before .before .before in
     let h = k .placed in
     let l = a .before .split-at .ensures b _ (filter-predicate (h .short) (h .standing)) (lists-none (a .before .before .empty .ensures)) in
-    let m = one-merge k (λ n j. a .merge .ensures e b n (k .shaped) l j) (a .before .before .before .before .filter-input .ensures _ b q (a .before .before .before .before .before .before .before .before .before .before .pre .1 .0) (h .short) (h .standing) .standing) in
+    let m = one-merge k (λ n j. a .merge .ensures e b n (k .shaped) l j) (a .before .before .before .before .filter-input .ensures _ b q
+    (a .before .before .before .before .before .before .before .before .before .before .pre .1 .0) (h .short) (h .standing) .standing) in
     let fit = c .before .before .before .before .before .merge-fits .ensures w f i (m .expr) q (m .made) (m .input .standing) (m .input .lists) in
     merge-unfit e b q (m .is) refl (sym fit ∙ untold (c .if1 .taken)))
     (λ c κs. let a = c .before .before .before .before .before .before .before .before .before .before .before in
@@ -156,10 +157,12 @@ pub +merge-filter+rewrite-filter-spec : {M : Type 1} → statement M
     (λ c. search needs)
     (λ c. search needs)
     (λ c. search needs)
-    (λ c w f i e b q k. let a = c .before .before .before .before .before .before .before .before .before .before .before .before .before .before .before .before .before .before in
+    (λ c w f i e b q k. let a = c .before .before .before .before .before .before .before .before .before .before .before .before .before
+    .before .before .before .before .before in
     let h = k .placed in
     let l = a .before .split-at .ensures b _ (filter-predicate (h .short) (h .standing)) (lists-none (a .before .before .empty .ensures)) in
-    let m = one-merge k (λ n j. a .merge .ensures e b n (k .shaped) l j) (a .before .before .before .before .filter-input .ensures _ b q (a .before .before .before .before .before .before .before .before .before .before .pre .1 .0) (h .short) (h .standing) .standing) in
+    let m = one-merge k (λ n j. a .merge .ensures e b n (k .shaped) l j) (a .before .before .before .before .filter-input .ensures _ b q
+    (a .before .before .before .before .before .before .before .before .before .before .pre .1 .0) (h .short) (h .standing) .standing) in
     let fit = c .before .before .before .before .before .before .before .before .before .before .before .before .before .before .before .merge-fits
     .ensures w f i (m .expr) q (m .made) (m .input .standing) (m .input .lists) in
     let yes = sym fit ∙ told (c .before .before .before .before .before .before .before .before .before .before .if1 .left) in
@@ -202,7 +205,8 @@ pub +merge-filter+rewrite-filter-spec : {M : Type 1} → statement M
     (λ c w f i e q h. let a = c .before .before .before .before .before .before .before .before .before .before in
     let l = left-gone h (a .before .before .simplify-filter .ensures .0 e (h .shaped)) (sym (a .before .is-gone .ensures) ∙ a .if1 .taken) in
     at-rest e l (c .before .before .before .before .before .before .resume-in-place .ensures w f i _ q l))
-    (λ c κs. let u = c .before .before .before .before .before .before .before .before .pre .1 in rw (u .0) (omega (arith, u .1 .0 .rests .placed .standing .here .head .room)))
+    (λ c κs. let u = c .before .before .before .before .before .before .before .before .pre .1 in rw (u .0) (omega
+    (arith, u .1 .0 .rests .placed .standing .here .head .room)))
     (λ c κs. let a = c .before .before .before in
     let u = a .before .before .before .before .before .before .before .before .before .before .pre in
     let p = u .1 .1 .0 in
@@ -232,7 +236,8 @@ pub +merge-filter+rewrite-filter-spec : {M : Type 1} → statement M
     (λ c. search needs)
     (λ c w f i e q h. let a = c .before .before .before .before .before .before .before .before .before .before in
     let k = a .before .before .before .before .simplify-filter .ensures .0 e (h .shaped) in
-    let n = read-kind (a .before .before .before .before .before .before .before .before .before .before .pre .1 .0) (a .before .word-at .ensures .0) (h .placed .standing) in
+    let n = read-kind (a .before .before .before .before .before .before .before .before .before .before .pre .1 .0)
+    (a .before .word-at .ensures .0) (h .placed .standing) in
     let o = rests-over h k n (a .if2 .taken) (sym (a .before .before .before .is-gone .ensures) ∙ a .before .before .if1 .left) in
     with-left h k o (c .before .before .before .before .before .before .merge-filter .ensures w f i (o .upper) (o .below .expr) (o .below .plan)
     (o .rests)))
@@ -258,6 +263,7 @@ pub +merge-filter+rewrite-filter-spec : {M : Type 1} → statement M
     (λ c. search needs)
     (λ c. search needs)
     (λ c w f i e q h. let a = c .before .before .before .before .before .before .before .before .before .before in
-    let n = read-kind (a .before .before .before .before .before .before .before .before .before .before .pre .1 .0) (a .before .word-at .ensures .0) (h .placed .standing) in
+    let n = read-kind (a .before .before .before .before .before .before .before .before .before .before .pre .1 .0)
+    (a .before .word-at .ensures .0) (h .placed .standing) in
     let l = left-other h (a .before .before .before .before .simplify-filter .ensures .0 e (h .shaped)) n (a .if2 .left) in
     at-rest e l (c .before .before .before .before .before .before .resume-in-place2 .ensures w f i _ q l)))

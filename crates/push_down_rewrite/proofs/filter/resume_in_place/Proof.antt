@@ -27,7 +27,8 @@ resume-in-place-spec =
         (p .1 .0, omega (arith, level-small i (b .level)), w .kept .1 .1 .0 ∙ p .1 .1, omega (arith, end-within i, few-records i)),
       ),
     ))
-    (λ c κs. let p = c .before .before .before .before .before .before .before .before .before .before .before .before .before .before .before .before .before .before .before .before .before .pre .1 in
+    (λ c κs. let p = c .before .before .before .before .before .before .before .before .before .before .before .before .before .before .before
+    .before .before .before .before .before .before .pre .1 in
     let i = p .0 .inside in
     let q = p .0 .plan in
     let w = c .before .before .before .before .before .before .before .before .before .before .before .before .before .write-before in
@@ -55,7 +56,11 @@ resume-in-place-spec =
     (record {
       inside = h;
       before = _;
-      long = c .before .before .before .before .before .before .before .before .before .before .before .before .before .before .before .before .write-before .kept .1 .1 .0 ∙ c .before .before .before .before .before .before .before .before .before .before .before .before .before .before .before .before .before .before .before .before .before .before .before .before .pre .1 .1 .1;
-      begun = c .before .before .before .before .before .before .before .before .before .before .before .before .before .before .before .before .write-before .ensures w f (h .root) (h .there) (stands-inside h);
+      long = c .before .before .before .before .before .before .before .before .before .before .before .before .before .before .before .before
+          .write-before .kept .1 .1 .0
+          ∙ c .before .before .before .before .before .before .before .before .before .before .before .before .before .before .before .before
+          .before .before .before .before .before .before .before .before .pre .1 .1 .1;
+      begun = c .before .before .before .before .before .before .before .before .before .before .before .before .before .before .before
+          .before .write-before .ensures w f (h .root) (h .there) (stands-inside h);
       answers = c .before .before .before .before .before .before .before .before .before .resume .ensures o q l;
     })))

@@ -29,5 +29,6 @@ resume-spec =
     (u .0, (record { expr = l .expr; plan = p .0 .plan; rests = l .rests; other = l .other }, p .1)))
     (λ c. search needs)
     (λ c. search needs)
-    (λ c o q h. let l = left-on h (sym (c .before .before .before .before .before .before .before .before .is-gone .ensures) ∙ c .before .before .before .before .before .before .before .if1 .left) in
+    (λ c o q h. let l = left-on h (sym (c .before .before .before .before .before .before .before .before .is-gone .ensures)
+    ∙ c .before .before .before .before .before .before .before .if1 .left) in
     rw (l .is) (c .before .before .before .before .rewrite-input .ensures (l .expr) q (l .rests) (l .other))))

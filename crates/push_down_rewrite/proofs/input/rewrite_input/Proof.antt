@@ -32,7 +32,8 @@ rewrite-input-spec =
     ))
     (λ c. search needs)
     (λ c e q h i. by-scan (c .before .before .rewrite-table-scan .ensures) (c .before .before .before .before .if1 .taken) e q
-    (read-kind (c .before .before .before .before .before .before .before .before .before .before .pre .0) (c .before .before .before .before .before .word-at
+    (read-kind (c .before .before .before .before .before .before .before .before .before .before .pre .0)
+    (c .before .before .before .before .before .word-at
     .ensures .0) (h .placed .standing)) h)
     (λ c κs. let u = c .before .before .before .before .before .before .before .before .pre in
     let r = u .1 .0 in (
@@ -49,48 +50,61 @@ rewrite-input-spec =
     ))
     (λ c. search needs)
     (λ c e q h i. by-project (c .before .before .rewrite-projection .ensures) (c .before .before .before .before .if2 .taken) e q
-    (read-kind (c .before .before .before .before .before .before .before .before .before .before .before .pre .0) (c .before .before .before .before .before .before .word-at .ensures .0) (h .placed .standing)) h)
+    (read-kind (c .before .before .before .before .before .before .before .before .before .before .before .pre .0)
+    (c .before .before .before .before .before .before .word-at .ensures .0) (h .placed .standing)) h)
     (λ c κs. let u = c .before .before .before .before .before .before .before .before .before .before .pre in
     let r = u .1 .0 in (
       u .0,
       (
-        over-join r (read-kind (u .0) (c .before .before .before .before .before .word-at .ensures .0) (r .rests .placed .standing)) (c .before .before .if3 .taken),
+        over-join r (read-kind (u .0) (c .before .before .before .before .before .word-at .ensures .0) (r .rests .placed .standing))
+            (c .before .before .if3 .taken),
         u .1 .1,
       ),
     ))
     (λ c. search needs)
     (λ c. search needs)
-    (λ c e q h i. by-join (c .before .before .before .before .rewrite-join .ensures) (c .before .before .before .before .before .before .before .if3 .taken) e q
-    (read-kind (c .before .before .before .before .before .before .before .before .before .before .before .before .before .before .before .pre .0) (c .before .before .before .before .before .before .before .before .before .before .word-at .ensures .0) (h .placed .standing)) h)
+    (λ c e q h i. by-join (c .before .before .before .before .rewrite-join .ensures)
+    (c .before .before .before .before .before .before .before .if3 .taken) e q
+    (read-kind (c .before .before .before .before .before .before .before .before .before .before .before .before .before .before .before .pre
+    .0) (c .before .before .before .before .before .before .before .before .before .before .word-at .ensures .0) (h .placed .standing)) h)
     (λ c κs. let u = c .before .before .before .before .before .before .before .before .before .before .before .pre in
     let r = u .1 .0 in (
       u .0,
       (
-        over-alias r (read-kind (u .0) (c .before .before .before .before .before .before .word-at .ensures .0) (r .rests .placed .standing)) (c .before .before .if4 .taken),
+        over-alias r (read-kind (u .0) (c .before .before .before .before .before .before .word-at .ensures .0) (r .rests .placed .standing))
+            (c .before .before .if4 .taken),
         u .1 .1,
       ),
     ))
     (λ c. search needs)
     (λ c. search needs)
-    (λ c e q h i. by-alias (c .before .before .before .before .rewrite-subquery-alias .ensures) (c .before .before .before .before .before .before .before .if4 .taken) e q
-    (read-kind (c .before .before .before .before .before .before .before .before .before .before .before .before .before .before .before .before .pre .0) (c .before .before .before .before .before .before .before .before .before .before .before .word-at .ensures .0) (h .placed .standing)) h)
+    (λ c e q h i. by-alias (c .before .before .before .before .rewrite-subquery-alias .ensures)
+    (c .before .before .before .before .before .before .before .if4 .taken) e q
+    (read-kind (c .before .before .before .before .before .before .before .before .before .before .before .before .before .before .before
+    .before .pre .0) (c .before .before .before .before .before .before .before .before .before .before .before .word-at .ensures .0)
+    (h .placed .standing)) h)
     (λ c κs. let u = c .before .before .before .before .before .before .before .before .before .before .before .before .pre in
     let r = u .1 .0 in (
       u .0,
       (
-        over-union r (read-kind (u .0) (c .before .before .before .before .before .before .before .word-at .ensures .0) (r .rests .placed .standing)) (c .before .before .if5 .taken),
+        over-union r (read-kind (u .0) (c .before .before .before .before .before .before .before .word-at .ensures .0)
+            (r .rests .placed .standing)) (c .before .before .if5 .taken),
         u .1 .1,
       ),
     ))
     (λ c. search needs)
     (λ c. search needs)
-    (λ c e q h i. by-union (c .before .before .before .before .rewrite-union .ensures) (c .before .before .before .before .before .before .before .if5 .taken) e q
-    (read-kind (c .before .before .before .before .before .before .before .before .before .before .before .before .before .before .before .before .before .pre .0) (c .before .before .before .before .before .before .before .before .before .before .before .before .word-at .ensures .0) (h .placed .standing)) h)
+    (λ c e q h i. by-union (c .before .before .before .before .rewrite-union .ensures)
+    (c .before .before .before .before .before .before .before .if5 .taken) e q
+    (read-kind (c .before .before .before .before .before .before .before .before .before .before .before .before .before .before .before
+    .before .before .pre .0)
+    (c .before .before .before .before .before .before .before .before .before .before .before .before .word-at .ensures .0) (h .placed .standing)) h)
     (λ c κs. let u = c .before .before .before .before .before .before .before .before .before .before .before .before .pre in
     let r = u .1 .0 in (
       u .0,
       (
-        over-aggregate r (read-kind (u .0) (c .before .before .before .before .before .before .before .word-at .ensures .0) (r .rests .placed .standing)) (c .before .if6 .taken),
+        over-aggregate r (read-kind (u .0) (c .before .before .before .before .before .before .before .word-at .ensures .0)
+            (r .rests .placed .standing)) (c .before .if6 .taken),
         (
           u .1 .1 .1,
           u .1 .1 .2,
@@ -100,12 +114,14 @@ rewrite-input-spec =
     ))
     (λ c. search needs)
     (λ c e q h i. by-aggregate (c .before .before .rewrite-aggregate .ensures) (c .before .before .before .before .if6 .taken) e q
-    (read-kind (c .before .before .before .before .before .before .before .before .before .before .before .before .before .before .before .pre .0) (c .before .before .before .before .before .before .before .before .before .before .word-at .ensures .0) (h .placed .standing)) h)
+    (read-kind (c .before .before .before .before .before .before .before .before .before .before .before .before .before .before .before .pre
+    .0) (c .before .before .before .before .before .before .before .before .before .before .word-at .ensures .0) (h .placed .standing)) h)
     (λ c κs. let u = c .before .before .before .before .before .before .before .before .before .before .before .before .before .pre in
     let r = u .1 .0 in (
       u .0,
       (
-        over-window r (read-kind (u .0) (c .before .before .before .before .before .before .before .before .word-at .ensures .0) (r .rests .placed .standing)) (c .before .if7 .taken),
+        over-window r (read-kind (u .0) (c .before .before .before .before .before .before .before .before .word-at .ensures .0)
+            (r .rests .placed .standing)) (c .before .if7 .taken),
         (
           u .1 .1 .1,
           u .1 .1 .2,
@@ -115,17 +131,23 @@ rewrite-input-spec =
     ))
     (λ c. search needs)
     (λ c e q h i. by-window (c .before .before .rewrite-window .ensures) (c .before .before .before .before .if7 .taken) e q
-    (read-kind (c .before .before .before .before .before .before .before .before .before .before .before .before .before .before .before .before .pre .0) (c .before .before .before .before .before .before .before .before .before .before .before .word-at .ensures .0) (h .placed .standing)) h)
+    (read-kind (c .before .before .before .before .before .before .before .before .before .before .before .before .before .before .before
+    .before .pre .0) (c .before .before .before .before .before .before .before .before .before .before .before .word-at .ensures .0)
+    (h .placed .standing)) h)
     (λ c κs. let u = c .before .before .before .before .before .before .before .before .before .before .before .before .before .pre in
     let r = u .1 .0 in
-    let y = read-kind (u .0) (c .before .before .before .before .before .before .before .before .word-at .ensures .0) (r .rests .placed .standing) in (
+    let y = read-kind (u .0) (c .before .before .before .before .before .before .before .before .word-at .ensures .0)
+    (r .rests .placed .standing) in (
       u .0,
       (
         record {
           expr = r .expr;
           plan = r .plan;
           rests = r .rests;
-          is = when-through (r .plan) (r .other) (λ e. c .before .before .before .before .before .before .before .if1 .left (y ∙ e)) (λ e. c .before .before .before .before .before .before .if2 .left (y ∙ e)) (λ e. c .before .before .before .before .before .if3 .left (y ∙ e)) (λ e. c .before .before .before .before .if4 .left (y ∙ e)) (λ e. c .before .before .before .if5 .left (y ∙ e)) (λ e. c .before .before .if6 .left (y ∙ e)) (λ e. c .before .if7 .left (y ∙ e));
+          is = when-through (r .plan) (r .other) (λ e. c .before .before .before .before .before .before .before .if1 .left (y ∙ e))
+              (λ e. c .before .before .before .before .before .before .if2 .left (y ∙ e))
+              (λ e. c .before .before .before .before .before .if3 .left (y ∙ e)) (λ e. c .before .before .before .before .if4 .left (y ∙ e))
+              (λ e. c .before .before .before .if5 .left (y ∙ e)) (λ e. c .before .before .if6 .left (y ∙ e)) (λ e. c .before .if7 .left (y ∙ e));
         },
         (
           u .1 .1 .1,
@@ -135,7 +157,14 @@ rewrite-input-spec =
       ),
     ))
     (λ c. search needs)
-    (λ c e q h i. let y = read-kind (c .before .before .before .before .before .before .before .before .before .before .before .before .before .before .before .before .pre .0) (c .before .before .before .before .before .before .before .before .before .before .before .word-at .ensures .0) (h .placed
+    (λ c e q h i. let y = read-kind
+    (c .before .before .before .before .before .before .before .before .before .before .before .before .before .before .before .before .pre
+    .0) (c .before .before .before .before .before .before .before .before .before .before .before .word-at .ensures .0) (h .placed
     .standing) in
-    c .before .before .rewrite-through .ensures e q h (when-through q i (λ z. c .before .before .before .before .before .before .before .before .before .before .if1 .left (y ∙ z)) (λ z. c .before .before .before .before .before .before .before .before .before .if2 .left (y ∙ z)) (λ z.
-    c .before .before .before .before .before .before .before .before .if3 .left (y ∙ z)) (λ z. c .before .before .before .before .before .before .before .if4 .left (y ∙ z)) (λ z. c .before .before .before .before .before .before .if5 .left (y ∙ z)) (λ z. c .before .before .before .before .before .if6 .left (y ∙ z)) (λ z. c .before .before .before .before .if7 .left (y ∙ z)))))
+    c .before .before .rewrite-through .ensures e q h (when-through q i
+    (λ z. c .before .before .before .before .before .before .before .before .before .before .if1 .left (y ∙ z))
+    (λ z. c .before .before .before .before .before .before .before .before .before .if2 .left (y ∙ z)) (λ z.
+    c .before .before .before .before .before .before .before .before .if3 .left (y ∙ z))
+    (λ z. c .before .before .before .before .before .before .before .if4 .left (y ∙ z))
+    (λ z. c .before .before .before .before .before .before .if5 .left (y ∙ z)) (λ z. c .before .before .before .before .before .if6 .left (y
+    ∙ z)) (λ z. c .before .before .before .before .if7 .left (y ∙ z)))))

@@ -36,21 +36,26 @@ rewrite-anew-spec =
       there = record { expr = a .expr; plan = a .plan; standing = placed-inside i (a .is) .standing };
     })
     (λ c κs. let i = c .before .before .before .before .before .before .before .before .before .pre .0 .inside in
-    let a = a-filter (c .before .before .before .before .before .before .before .before .before .pre .0 .spot .plan) (sym (read-kind (c .before .before .before .before .record-at .ensures) (c .before .before .before .word-at .ensures .0)
+    let a = a-filter (c .before .before .before .before .before .before .before .before .before .pre .0 .spot .plan) (sym (read-kind
+    (c .before .before .before .before .record-at .ensures) (c .before .before .before .word-at .ensures .0)
     (stands-inside i)) ∙ c .before .before .if1 .taken) in
-    let g = c .filter-input .ensures _ (a .expr) (a .plan) (c .before .before .before .before .record-at .ensures) (i .short) (placed-inside i (a .is) .standing) in
+    let g = c .filter-input .ensures _ (a .expr) (a .plan) (c .before .before .before .before .record-at .ensures) (i .short) (placed-inside i
+    (a .is) .standing) in
     input-within (g .standing) (c .before .before .before .before .record-at .ensures) (g .after))
     (λ c κs. let f = c .before .before .before .before .before .before .before .before .before .before .before .before .before .pre .0 in
     let i = f .inside in
     let a = a-filter (f .spot .plan) (sym (read-kind (c .before .before .before .before .before .before .before .before .record-at .ensures)
-    (c .before .before .before .before .before .before .before .word-at .ensures .0) (stands-inside i)) ∙ c .before .before .before .before .before .before .if1
+    (c .before .before .before .before .before .before .before .word-at .ensures .0) (stands-inside i))
+    ∙ c .before .before .before .before .before .before .if1
     .taken) in
     let e = a .expr in
     let q = a .plan in
     let h = placed-inside i (a .is) in
     let k = c .before .before .before .before .before .predicate-at .ensures e (filter-predicate (i .short) (h .standing)) (own-few e q (h .lists)) in
-    let g = c .before .before .before .before .filter-input .ensures _ e q (c .before .before .before .before .before .before .before .before .record-at .ensures) (i .short) (h .standing) in (
-      input-at (g .standing) (c .before .before .before .before .before .before .before .before .record-at .ensures) (g .after) (c .before .before .before .from-record .ensures),
+    let g = c .before .before .before .before .filter-input .ensures _ e q
+    (c .before .before .before .before .before .before .before .before .record-at .ensures) (i .short) (h .standing) in (
+      input-at (g .standing) (c .before .before .before .before .before .before .before .before .record-at .ensures) (g .after)
+          (c .before .before .before .from-record .ensures),
       (
         record {
           whole = f .whole;
@@ -67,16 +72,22 @@ rewrite-anew-spec =
     (λ c. search needs)
     (λ c. search needs)
     (λ c w f i.
-    let a = a-filter (f .plan) (sym (read-kind (c .before .before .before .before .before .before .before .before .before .before .before .before .before .before .before .record-at .ensures) (c .before .before .before .before .before .before .before .before .before .before .before .before .before .before .word-at .ensures .0) (stands-inside i)) ∙ c .before .before .before .before .before .before .before .before .before .before .before .before .before .if1
+    let a = a-filter (f .plan) (sym (read-kind
+    (c .before .before .before .before .before .before .before .before .before .before .before .before .before .before .before .record-at
+    .ensures) (c .before .before .before .before .before .before .before .before .before .before .before .before .before .before .word-at
+    .ensures .0) (stands-inside i)) ∙ c .before .before .before .before .before .before .before .before .before .before .before .before .before .if1
     .taken) in
     let e = a .expr in
     let q = a .plan in
     let h = placed-inside i (a .is) in
-    let k = c .before .before .before .before .before .before .before .before .before .before .before .before .predicate-at .ensures e (filter-predicate
+    let k = c .before .before .before .before .before .before .before .before .before .before .before .before .predicate-at .ensures e
+    (filter-predicate
     (i .short) (h .standing)) (own-few e q (h .lists)) in
     filter-outcomes (a .is)
     (c .before .before .before .before .before .before .rewrite-filter .ensures w f i e q (rests-written e q h k
-    (c .before .before .before .before .before .before .before .before .before .before .before .filter-input .ensures _ e q (c .before .before .before .before .before .before .before .before .before .before .before .before .before .before .before .record-at .ensures) (i .short) (h .standing) .standing))))
+    (c .before .before .before .before .before .before .before .before .before .before .before .filter-input .ensures _ e q
+    (c .before .before .before .before .before .before .before .before .before .before .before .before .before .before .before .record-at
+    .ensures) (i .short) (h .standing) .standing))))
     (λ c κs. let p = c .before .before .before .before .before .before .before .before .before .before .before .pre in
     let f = p .0 in
     let a = a-join (f .spot .plan)

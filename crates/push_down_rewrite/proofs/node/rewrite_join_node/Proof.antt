@@ -40,7 +40,8 @@ rewrite-join-node-spec =
         ),
       ),
     ))
-    (λ c κs. let p = c .before .before .before .before .before .before .before .before .before .before .before .before .before .before .before .before .before .before .before .before .before .before .pre .1 in
+    (λ c κs. let p = c .before .before .before .before .before .before .before .before .before .before .before .before .before .before .before
+    .before .before .before .before .before .before .before .pre .1 in
     let j = p .0 in
     let i = j .inside in
     let b = c .before .before .before .before .before .before .before .before .before .before .before .before .before .before .write-before
@@ -63,21 +64,29 @@ rewrite-join-node-spec =
       },
       (
         c .before .before .before .before .before .before .push-down-join .kept .1 .1 .1 .1 .1 .0 ∙ long,
-        c .before .before .before .before .before .before .before .before .before .before .before .before .before .before .write-before .kept .1 .1 .1 .0 ∙ p .1 .2,
+        c .before .before .before .before .before .before .before .before .before .before .before .before .before .before .write-before .kept
+            .1 .1 .1 .0 ∙ p .1 .2,
       ),
     ))
     (λ c. search needs)
     (λ c. search needs)
     (λ c. search needs)
-    (λ c w f h. let a = the-join (c .before .before .before .before .before .before .before .before .before .before .before .before .before .before .before .before .before .before .before .before .before .before .before .before .before .pre .1 .0) h in
+    (λ c w f h. let a = the-join
+    (c .before .before .before .before .before .before .before .before .before .before .before .before .before .before .before .before .before
+    .before .before .before .before .before .before .before .before .pre .1 .0) h in
     join-outcomes (a .is)
     (c .before .before .finish .ensures _ w f (push-down-join (a .kind) (a .lhs) (a .rhs) (a .keys) (a .condition) [])
     (record {
       inside = h;
       before = _;
-      long = c .before .before .before .before .before .before .before .before .before .before .before .before .before .before .before .before .before .write-before .kept .1 .1 .0 ∙ c .before .before .before .before .before .before .before .before .before .before .before .before .before .before .before .before .before .before .before .before .before .before .before .before .before .pre .1 .1 .1;
-      begun = c .before .before .before .before .before .before .before .before .before .before .before .before .before .before .before .before .before .write-before .ensures w f (h .root) (h .there) (stands-inside h);
+      long = c .before .before .before .before .before .before .before .before .before .before .before .before .before .before .before .before
+          .before .write-before .kept .1 .1 .0
+          ∙ c .before .before .before .before .before .before .before .before .before .before .before .before .before .before .before .before
+          .before .before .before .before .before .before .before .before .before .pre .1 .1 .1;
+      begun = c .before .before .before .before .before .before .before .before .before .before .before .before .before .before .before
+          .before .before .write-before .ensures w f (h .root) (h .there) (stands-inside h);
       answers = c .before .before .before .before .before .before .before .before .before .push-down-join .ensures (a .kind) (a .lhs) (a .rhs) (a
           .keys) (a .condition) []
-          (placed-inside h (a .is)) (reads-none (c .before .before .before .before .before .before .before .before .before .before .before .before .empty .ensures)) anil;
+          (placed-inside h (a .is)) (reads-none
+          (c .before .before .before .before .before .before .before .before .before .before .before .before .empty .ensures)) anil;
     }))))

@@ -39,19 +39,23 @@ filter-stays-spec =
     (λ c w f h. let u = c .before .before .before .before .before .before .pre in
     let a = the-filter (u .1) h in
     let st = c .before .before .before .filter-input .ensures _ (a .expr) (a .plan) (u .0) (h .short) (placed-inside h (a .is) .standing) in
-    let m = (rw (input-at (st .standing) (u .0) (st .after) (c .before .before .from-record .ensures)) at (c .before .may-stay .ensures)) ∙ ap mayStay (st .standing .here .head .label) in
+    let m = (rw (input-at (st .standing) (u .0) (st .after) (c .before .before .from-record .ensures)) at (c .before .may-stay .ensures))
+    ∙ ap mayStay (st .standing .here .head .label) in
     rw (a .is) (filter-goes (a .expr) (a .plan) (sym m ∙ untold (c .if1 .taken))))
     (λ c. omega (arith, stands-inside (c .before .before .before .before .before .before .pre .1 .inside) .small))
     (λ c κs. search needs)
     (λ c κs. let u = c .before .before .before .before .before .before .before .pre in
-    let p = u .1 in
-    (record { expr = p .expr; standing = filter-predicate (p .inside .short) (placed-inside (p .inside) (p .is) .standing) }, (omega arith, p .inside .short)))
+    let p = u .1 in (
+      record { expr = p .expr; standing = filter-predicate (p .inside .short) (placed-inside (p .inside) (p .is) .standing) },
+      (omega arith, p .inside .short),
+    ))
     (λ c κs. let u = c .before .before .before .before .before .before .before .before .pre in
     let p = u .1 in
     let at = placed-inside (p .inside) (p .is) .standing in
     let x = c .before .before .before .before .before .filter-input .ensures in
     let st = x _ (p .expr) (p .plan) (u .0) (p .inside .short) at in
-    let m = (rw (input-at (st .standing) (u .0) (st .after) (c .before .before .before .before .from-record .ensures)) at (c .before .before .before .may-stay .ensures)) ∙ ap mayStay
+    let m = (rw (input-at (st .standing) (u .0) (st .after) (c .before .before .before .before .from-record .ensures)) at
+    (c .before .before .before .may-stay .ensures)) ∙ ap mayStay
     (st .standing .here .head .label) in
     let pred = filter-predicate (p .inside .short) at in
     let k = shaped-written (omega arith) pred (c .split-at .ensures (p .expr) [] pred (lists-none (c .before .empty .ensures)))

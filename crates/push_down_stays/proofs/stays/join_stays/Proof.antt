@@ -35,5 +35,6 @@ join-stays-spec =
       },
     ))
     (λ c k l r on f h. join-kept k l r on f (says-as (c .before .before .if2 .taken) (c .before .before .before .own-left-deep .ensures k l r on f h))
-    (c .nothing-moves .ensures k l r on f [] (split-conjunction? f) h (reads-none (c .before .empty .ensures)) (c .before .before .before .before .before .before .own-filter .ensures k l r on f h)))
+    (c .nothing-moves .ensures k l r on f [] (split-conjunction? f) h (reads-none (c .before .empty .ensures))
+    (c .before .before .before .before .before .before .own-filter .ensures k l r on f h)))
     (λ c k l r on f h. join-shallow k l r on f (says-as (c .if2 .left) (c .before .own-left-deep .ensures k l r on f h))))

@@ -35,8 +35,11 @@ over-join-stays-spec =
         reads-own = c .own-filter .ensures (p .kind) (p .lhs) (p .rhs) (p .keys) (p .condition) (h .placed);
       },
     ))
-    (λ c e k l r on f h. over-join-kept k l r on f e (says-as (c .before .before .before .if2 .taken) (c .before .before .before .before .own-left-deep .ensures k l r on f (h .placed)))
-    (says-as (told (c .before .before .before .before .before .if1 .left)) (c .before .before .before .before .before .before .left-deep-at .ensures e (h .shaped .stands (c .before .before .before .before .before .before .before .before .before .pre .1 .1))))
+    (λ c e k l r on f h. over-join-kept k l r on f e (says-as (c .before .before .before .if2 .taken)
+    (c .before .before .before .before .own-left-deep .ensures k l r on f (h .placed)))
+    (says-as (told (c .before .before .before .before .before .if1 .left))
+    (c .before .before .before .before .before .before .left-deep-at .ensures e (h .shaped .stands
+    (c .before .before .before .before .before .before .before .before .before .pre .1 .1))))
     (c .nothing-moves .ensures k l r on f (split-conjunction e) (split-conjunction? f) (h .placed) (over-reads h)
     (c .before .own-filter .ensures k l r on f (h .placed))))
     (λ c e k l r on f h. over-join-shallow k l r on f e (says-as (c .if2 .left) (c .before .own-left-deep .ensures k l r on f (h .placed)))))

@@ -14,8 +14,11 @@ over-stays-spec =
     tie.close
     (tie.spec
     (λ c κs. let h = c .before .before .pre .1 .0 .rests .placed .standing in rw (c .before .before .pre .0) (omega (arith, h .here .head .room)))
-    (λ c κs. let r = c .before .before .before .before .pre .1 .0 in
-    (c .before .before .before .before .pre .0, over-scan r (read-kind (c .before .before .before .before .pre .0) (c .before .word-at .ensures .0) (r .rests .placed .standing)) (c .if1 .taken)))
+    (λ c κs. let r = c .before .before .before .before .pre .1 .0 in (
+      c .before .before .before .before .pre .0,
+      over-scan r (read-kind (c .before .before .before .before .pre .0)
+          (c .before .word-at .ensures .0) (r .rests .placed .standing)) (c .if1 .taken),
+    ))
     (λ c e q h o. when-scan (stays-over _ _ _ e _) (c .over-scan-stays .ensures e) q
     (sym (read-kind (c .before .before .before .before .before .pre .0) (c .before .before .word-at .ensures .0)
     (h .placed .standing)) ∙ c .before .if1 .taken) h)
@@ -70,4 +73,5 @@ over-stays-spec =
     (λ z. c .before .before .before .before .if2 .left (y ∙ z)) (λ z. c .before .before .before .if3 .left (y ∙ z))
     (λ z. c .before .before .if4 .left (y ∙ z))
     (λ z. c .before .if5 .left (y ∙ z))
-    ((rw (c .before .before .before .before .before .before .before .before .before .pre .0) at (c .takes-none .ensures)) ∙ ap takesNone (h .placed .standing .here .head .label))))
+    ((rw (c .before .before .before .before .before .before .before .before .before .pre .0) at (c .takes-none .ensures)) ∙ ap takesNone
+    (h .placed .standing .here .head .label))))

@@ -15,4 +15,5 @@ own-left-deep-spec =
     let p = q .1 .placed in
     let t = own-there (c .before .filter-of .ensures _ _ _ _ _ _ (q .0) p) (c .if1 .left) in
     (t .0, p .short))
-    (λ c k l r on f h. own-deep (c .before .before .filter-of .ensures _ k l r on f (c .before .before .before .before .before .pre .0) h) (c .before .if1 .left) (c .left-deep-at .ensures)))
+    (λ c k l r on f h. own-deep (c .before .before .filter-of .ensures _ k l r on f (c .before .before .before .before .before .pre .0) h)
+    (c .before .if1 .left) (c .left-deep-at .ensures)))

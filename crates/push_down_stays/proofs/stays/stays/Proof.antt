@@ -17,8 +17,18 @@ stays-spec =
     (λ c κs. rw (c .record-at .ensures) (omega (arith, stands-inside (c .before .before .pre .inside) .here .head .room)))
     (λ c κs. let f = c .before .before .before .before .pre in
     let a = a-filter (f .spot .plan)
-    (sym (read-kind (c .before .before .record-at .ensures) (c .before .word-at .ensures .0) (stands-inside (f .inside))) ∙ c .if1 .taken) in
-    (c .before .before .record-at .ensures, record { whole = f .whole; spot = f .spot; inside = f .inside; expr = a .expr; plan = a .plan; is = a .is }))
+    (sym (read-kind (c .before .before .record-at .ensures) (c .before .word-at .ensures .0) (stands-inside (f .inside))) ∙ c .if1 .taken) in (
+      c .before .before .record-at .ensures,
+      record {
+        whole = f .whole;
+        spot = f .spot;
+        inside = f .inside;
+        expr = a .expr;
+        plan = a
+            .plan;
+        is = a .is;
+      },
+    ))
     (λ c. search needs)
     (λ c κs. let f = c .before .before .before .before .before .pre in
     let a = a-join (f .spot .plan)

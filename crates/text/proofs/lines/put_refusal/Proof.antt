@@ -18,5 +18,8 @@ put-refusal-spec =
     (λ c κs. search needs)
     (λ c. search needs)
     (λ c. let j = c .before .before .before .before .before .before in
-    let i = j .before .before .before .before .before in
-    (appended (i .put-name-and-number .ensures .0) (appended (j .put-name-and-number2 .ensures .0) (c .before .before .put-byte .ensures)), omega arith)))
+    let i = j .before .before .before .before .before in (
+      appended (i .put-name-and-number .ensures .0) (appended (j .put-name-and-number2 .ensures .0)
+          (c .before .before .put-byte .ensures)),
+      omega arith,
+    )))
