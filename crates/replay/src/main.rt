@@ -1,17 +1,15 @@
 // Replays the list of calls on standard input, whose head says what its lines are: each call is made and compared with the answer that
 // stands in its line, with every byte of an output. Names the first lines that differ, then says how many there were of each sort and how
 // many of them differ.
-mod calls;
-mod lines;
 
-use lines::CHECK;
-use lines::IMAGE;
-use lines::Kept;
-use lines::PASS;
-use lines::REWRITE;
-use lines::TEST;
-use lines::UNKNOWN;
-use lines::run_line;
+use replaying::lines::CHECK;
+use replaying::lines::IMAGE;
+use replaying::lines::Kept;
+use replaying::lines::PASS;
+use replaying::lines::REWRITE;
+use replaying::lines::TEST;
+use replaying::lines::UNKNOWN;
+use replaying::lines::run_line;
 use stored::numbers::Unread;
 use stored::numbers::read_line;
 ghost use mathlib.Core.Path.{_≡_};

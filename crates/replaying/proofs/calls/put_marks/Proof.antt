@@ -3,8 +3,8 @@ use Prim.Native.Nat.{_-_}
 use borrow.Author.Needs.{needs}
 use lib.ListN.{length}
 use mathlib.Core.Path.{_≡_}
-use Rattle.replay.proofs.calls.put_marks.Statement.{statement}
-use Rattle.replay.proofs.calls.put_marks.Tie as tie
+use Rattle.replaying.proofs.calls.put_marks.Statement.{statement}
+use Rattle.replaying.proofs.calls.put_marks.Tie as tie
 
 abbrev Inv-loop : tie.InvT-loop
 Inv-loop numbers marks₀ i₀ marks i = length marks ≡ length marks₀

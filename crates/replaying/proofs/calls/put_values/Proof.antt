@@ -3,8 +3,8 @@ use Prim.Native.Nat.{_-_}
 use borrow.Author.Needs.{needs}
 use lib.ListN.{length}
 use mathlib.Core.Path.{_≡_}
-use Rattle.replay.proofs.calls.put_values.Statement.{statement}
-use Rattle.replay.proofs.calls.put_values.Tie as tie
+use Rattle.replaying.proofs.calls.put_values.Statement.{statement}
+use Rattle.replaying.proofs.calls.put_values.Tie as tie
 
 abbrev Inv-loop : tie.InvT-loop
 Inv-loop numbers values₀ i₀ values i = length values ≡ length values₀

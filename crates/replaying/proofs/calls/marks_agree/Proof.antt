@@ -2,8 +2,8 @@
 use borrow.Author.Needs.{needs}
 use lib.ListN.{length-drop, length-take}
 use native.Mathlib.Omega.{arith}
-use Rattle.replay.proofs.calls.marks_agree.Statement.{statement}
-use Rattle.replay.proofs.calls.marks_agree.Tie as tie
+use Rattle.replaying.proofs.calls.marks_agree.Statement.{statement}
+use Rattle.replaying.proofs.calls.marks_agree.Tie as tie
 
 pub marks-agree-spec : {M : Type 1} → statement M
 marks-agree-spec =

@@ -2,8 +2,8 @@
 use borrow.Author.Needs.{needs}
 use lib.ListN.{length-take}
 use native.Mathlib.Omega.{arith}
-use Rattle.replay.proofs.lines.run_line.Statement.{statement}
-use Rattle.replay.proofs.lines.run_line.Tie as tie
+use Rattle.replaying.proofs.lines.run_line.Statement.{statement}
+use Rattle.replaying.proofs.lines.run_line.Tie as tie
 
 pub run-line-spec : {M : Type 1} → statement M
 run-line-spec =

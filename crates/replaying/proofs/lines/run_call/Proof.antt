@@ -2,8 +2,8 @@
 use borrow.Author.Needs.{needs}
 use lib.ListN.{length-take}
 use native.Mathlib.Omega.{arith}
-use Rattle.replay.proofs.lines.run_call.Statement.{statement}
-use Rattle.replay.proofs.lines.run_call.Tie as tie
+use Rattle.replaying.proofs.lines.run_call.Statement.{statement}
+use Rattle.replaying.proofs.lines.run_call.Tie as tie
 
 pub run-call-spec : {M : Type 1} → statement M
 run-call-spec =

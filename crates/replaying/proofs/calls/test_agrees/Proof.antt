@@ -2,8 +2,8 @@
 use borrow.Author.Needs.{needs}
 use lib.ListN.{length-drop, length-take}
 use native.Mathlib.Omega.{arith}
-use Rattle.replay.proofs.calls.test_agrees.Statement.{statement}
-use Rattle.replay.proofs.calls.test_agrees.Tie as tie
+use Rattle.replaying.proofs.calls.test_agrees.Statement.{statement}
+use Rattle.replaying.proofs.calls.test_agrees.Tie as tie
 
 pub test-agrees-spec : {M : Type 1} → statement M
 test-agrees-spec =
