@@ -36,6 +36,11 @@ impl World {
         World { tables: tables_for(random, plan), functions: random.word() }
     }
 
+    /// Given tables, by number, and any meaning of functions.
+    pub fn of_tables(tables: BTreeMap<u32, Vec<Row>>) -> World {
+        World { tables, functions: 0 }
+    }
+
     /// The rows of a plan, in order; none if a node has too many.
     pub fn rows(&self, plan: &Tree) -> Option<Vec<Row>> {
         let rows = match plan.label.kind {
