@@ -6,7 +6,7 @@
 use std::fs;
 use std::path::{Path, PathBuf};
 
-const PAGES: &str = "README.md docs/FORMAT.md docs/MEANING.md docs/TRUST.md \
+const PAGES: &str = "README.md docs/FORMAT.md docs/MEANING.md docs/REWRITE.md docs/GLOSSARY.md docs/TRUST.md \
     docs/PORT.md docs/DECISIONS.md docs/DIFFERENCES.md docs/SPEED.md harness/README.md";
 const SOURCES: [&str; 10] = [".rt", ".antt", ".edit", ".rs", ".toml", ".c", ".h", "crates.txt", "run", "test"];
 const ENDINGS: [&str; 6] = [".rt", ".antt", ".edit", ".rs", ".md", ".txt"];
