@@ -1,4 +1,4 @@
-//! What a plan means: its rows over given tables, written from the scope's section 'Meaning' alone.
+//! What a plan means: its rows over given tables, written from the rules of docs/MEANING.md alone.
 
 mod bending;
 mod joins;
@@ -322,7 +322,7 @@ mod tests {
     }
 
     #[test]
-    fn in_list_and_between_are_as_the_scope_says() {
+    fn in_list_and_between_are_as_the_page_says() {
         let world = world(&[], &[]);
         let value = |expr: &Tree| world.value(expr, &[], &[]);
         let nothing = || null(OF_INTEGER);
