@@ -25,15 +25,19 @@ fn columns<const N: usize>(lines: &[String]) -> [String; N] {
     columns
 }
 
+/// The plan in an output.
+fn answer(output: &[u8], records: u32) -> Tree {
+    Tree::of_records(&image::read(&output[..records as usize * RECORD_BYTES]))
+}
+
 /// Compares a plan with what a rewrite at its root makes of it, by the library where it is linked and by the patched source.
 fn assert_rewritten(place: &str, before: &str, after: &str, flag: u32) -> Tree {
     let plan = plan_of(place, before);
     for (result, output) in
         [calls::rewrite(&plan.image(), 0, ROOM), rewriting::rewrite(PATCHED, &plan.image(), 0, ROOM)]
     {
-        let made = Tree::of_records(&image::read(&output[..result.records as usize * RECORD_BYTES]));
-        assert_eq!(lines_of(&text::write(&made)), lines_of(after), "{place}");
         assert_eq!((result.number, result.flag), (0, flag), "{place}: number and flag");
+        assert_eq!(lines_of(&text::write(&answer(&output, result.records))), lines_of(after), "{place}");
     }
     plan
 }
@@ -77,10 +81,9 @@ fn assert_pass(block: &Block) {
     let [before, after] = columns(&lines.iter().map(|line| format!(" {line}")).collect::<Vec<_>>());
     let image = plan_of(place, &before).image();
     for (result, output) in [calls::pass(&image, budget, ROOM), rewriting::pass(PATCHED, &image, budget, ROOM)] {
-        let made = Tree::of_records(&image::read(&output[..result.records as usize * RECORD_BYTES]));
-        assert_eq!(lines_of(&text::write(&made)), lines_of(&after), "{place}");
-        let stated = format!("visits {} changed {} finished {}", result.visits, result.changed, result.finished);
-        assert_eq!(&stated, counts, "{place}");
+        let answered = format!("visits {} changed {} finished {}", result.visits, result.changed, result.finished);
+        assert_eq!((result.number, &answered), (0, counts), "{place}");
+        assert_eq!(lines_of(&text::write(&answer(&output, result.records))), lines_of(&after), "{place}");
     }
 }
 
