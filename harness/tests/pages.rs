@@ -9,8 +9,8 @@
 //! - `tables`: the tables of the plans that follow, a row a line under `table N`.
 //! - `values`: expressions and their values, `EXPR -> VALUE`, several in a line between bars.
 //! - `rewrite`: a plan and what a rewrite at its root makes of it, side by side; the first line has the flag. Rows over drawn tables are
-//!   compared too. `cases`: the same, each plan
-//!   behind the name of its case, the flag in a third column. `pass`: the same of a pass, with the budget and the counts.
+//!   compared too. `cases`: the same, each plan behind the name of its case, the flag in a third column. `pass`: the same of a pass, with
+//!   the budget and the counts.
 //! - `row_test`: a Filter as text, then rows with their truth.
 //! - `text`: nothing that is read.
 
