@@ -1,7 +1,7 @@
 //! The check: which images are accepted, and the number and record of the first test that an image meets.
 //!
-//! Written from the scope's text and the list of settled readings alone, so that the ported check and this one have no
-//! line in common. Parents stand before their children: whatever flows down is settled by one walk forward over the
+//! Written from the rules of docs/FORMAT.md and the settled readings (docs/DECISIONS.md) alone, so that the ported check and
+//! this one have no line in common. Parents stand before their children: whatever flows down is settled by one walk forward over the
 //! records, whatever flows up by one walk backward, and no depth of the image is a depth of the stack.
 
 use crate::image::{self, Record, RECORD_BYTES};
@@ -457,7 +457,7 @@ mod tests {
     }
 
     #[test]
-    fn the_worked_example_stands_as_the_scope_writes_it() {
+    fn the_worked_example_stands_as_the_page_writes_it() {
         let words: Vec<[u32; 8]> = worked_example().records().iter().map(Record::words).collect();
         let expected = [
             [33, 0, 0, 0, 0, 0, 1, 0],

@@ -1,4 +1,4 @@
-//! The calls `rewrite` and `pass` as the scope settles them, over the source: number, record, flag, counts and every byte
+//! The calls `rewrite` and `pass` as docs/FORMAT.md settles them, over the source: number, record, flag, counts and every byte
 //! of the output. Tests 1 to 7 are the checker's; 8, 11 and 12 stand here.
 
 use crate::checker::{check, Verdict};

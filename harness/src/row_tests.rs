@@ -1,4 +1,4 @@
-//! The row test: the answer that the scope settles, and calls of it from a seed. Tests 1 to 7 are the checker's, truth is
+//! The row test: the answer that docs/REWRITE.md settles, and calls of it from a seed. Tests 1 to 7 are the checker's, truth is
 //! the meaning's; 8, 9 and 10 stand here.
 
 use crate::checker::{check, Verdict};

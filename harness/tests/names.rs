@@ -1,4 +1,5 @@
-//! What the pages name is there: a name in back quotes stands in the sources, outside their comments, and a path is one of the tree's.
+//! What the pages name is there: a name in back quotes stands in the sources, outside their comments, a path is one of the tree's, and a
+//! link leads to a file and a heading.
 //!
 //! A quotation is taken apart at blanks and signs: `c >= 5` is the name c, `World .fun` two names, `crates/plan` a path. Numbers, words in
 //! capitals (NULL, CRATE) and blocks of code are passed over, and so are the first two words of a command of `rt`, `cargo` or `valgrind`.
@@ -6,8 +7,8 @@
 use std::fs;
 use std::path::{Path, PathBuf};
 
-const PAGES: &str =
-    "README.md docs/TRUST.md docs/PORT.md docs/DECISIONS.md docs/DIFFERENCES.md docs/SPEED.md harness/README.md";
+const PAGES: &str = "README.md docs/FORMAT.md docs/MEANING.md docs/REWRITE.md docs/GLOSSARY.md docs/TRUST.md \
+    docs/PORT.md docs/DECISIONS.md docs/DIFFERENCES.md docs/SPEED.md harness/README.md";
 const SOURCES: [&str; 10] = [".rt", ".antt", ".edit", ".rs", ".toml", ".c", ".h", "crates.txt", "run", "test"];
 const ENDINGS: [&str; 6] = [".rt", ".antt", ".edit", ".rs", ".md", ".txt"];
 const COMMANDS: [&str; 3] = ["rt ", "cargo ", "valgrind "];
@@ -126,4 +127,47 @@ fn every_name_is_there() {
     }
     println!("{count} quotations");
     assert!(wrong.is_empty(), "these stand nowhere:\n{}", wrong.join("\n"));
+}
+
+/// The headings of a page, as links name them.
+fn headings(page: &str) -> Vec<String> {
+    let mut block = false;
+    let mut found = Vec::new();
+    for line in page.lines() {
+        block ^= line.starts_with("```");
+        if let Some(title) = line.trim_start_matches('#').strip_prefix(' ').filter(|_| !block && line.starts_with('#'))
+        {
+            let plain = title.to_lowercase().replace(' ', "-");
+            found.push(plain.chars().filter(|c| c.is_alphanumeric() || "-_".contains(*c)).collect());
+        }
+    }
+    found
+}
+
+fn has_heading(page: &Path, heading: &str) -> bool {
+    headings(&fs::read_to_string(page).unwrap()).iter().any(|found| found == heading)
+}
+
+/// The links of a page, by what stands between their round brackets.
+fn links(page: &str) -> impl Iterator<Item = &str> {
+    page.split("](").skip(1).filter_map(|rest| rest.split(')').next())
+}
+
+/// A link leads to a file, and to a heading of it if it names one.
+#[test]
+fn every_link_leads_somewhere() {
+    let (mut count, mut wrong) = (0, Vec::new());
+    for page in PAGES.split(' ') {
+        let folder = root().join(page).parent().unwrap().to_path_buf();
+        let whole = fs::read_to_string(root().join(page)).unwrap_or_else(|e| panic!("{page}: {e}"));
+        for link in links(&whole) {
+            let (file, heading) = link.split_once('#').unwrap_or((link, ""));
+            let path = if file.is_empty() { root().join(page) } else { folder.join(file) };
+            let is_there = path.exists() && (heading.is_empty() || has_heading(&path, heading));
+            wrong.extend((!is_there).then(|| format!("{page}: {link}")));
+            count += 1;
+        }
+    }
+    println!("{count} links");
+    assert!(wrong.is_empty(), "these lead nowhere:\n{}", wrong.join("\n"));
 }

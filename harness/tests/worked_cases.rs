@@ -1,4 +1,4 @@
-//! The scope's worked cases, answered by the patched source; what the unchanged source makes of the smallest input of each
+//! The worked cases K1 to K12 (docs/REWRITE.md), answered by the patched source; what the unchanged source makes of the smallest input of each
 //! difference; and the refusals of a call.
 
 use harness::image::{Tree, RECORD_BYTES};

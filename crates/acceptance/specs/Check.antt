@@ -1,5 +1,6 @@
 -- The check of an image: seven tests, and the answer is the first that is met, at the lowest record that meets it (Link: the first met).
--- Form (5) stands in plan/specs/Form.antt, Name (6) in Names.antt, Type (7) in Types.antt.
+-- In plain words, each with an image: docs/FORMAT.md, Refusals. Form (5) stands in plan/specs/Form.antt, Name (6) in Names.antt, Type (7)
+-- in Types.antt.
 use mathlib.Core.Bool.{Bool, not, cond}
 use mathlib.Core.List.{List}
 use Prim.Native.Nat.{ℕ, zero, suc, _+_, _/_, _%_}

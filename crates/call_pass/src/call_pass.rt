@@ -179,7 +179,7 @@ pub fn pass_bytes(image: &[u8], budget: u64, out: &mut [u8]) -> Answer
     pass_on(image, budget, out)
 }
 
-// Document 01's number of an answer.
+// The number of an answer, 0 or one of the refusals of docs/FORMAT.md.
 pub fn number_of(answer: Answer) -> u32
     ensures { λ r. ⌜ ((out : List ℕ) → r ≡ passedOf answer out .number) ⌝ }
 {

@@ -192,7 +192,7 @@ pub fn rewrite_bytes(image: &[u8], node: u32, out: &mut [u8]) -> Answer
     rewrite_at(image, node as usize, out)
 }
 
-// Document 01's number of an answer.
+// The number of an answer, 0 or one of the refusals of docs/FORMAT.md.
 pub fn number_of(answer: Answer) -> u32
     ensures { λ r. ⌜ ((out : List ℕ) → r ≡ rewrittenOf answer out .number) ⌝ }
 {

@@ -114,7 +114,7 @@ pub fn row_test(image: &[u8], node: u32, values: &[i64], marks: &[u8]) -> Answer
     test_at(image, node as usize, values, marks)
 }
 
-// Document 01's number of an answer.
+// The number of an answer, 0 or one of the refusals of docs/FORMAT.md.
 pub fn number_of(answer: Answer) -> u32
     ensures { λ r. ⌜ r ≡ testedOf answer .number ⌝ }
 {

@@ -56,7 +56,7 @@ pub fn check(s: &[u8]) -> Checked
     }
 }
 
-// Document 01's number of an answer.
+// The number of an answer, 0 or one of the refusals of docs/FORMAT.md.
 pub fn number_of(answer: Checked) -> u32
     ensures { λ r. ⌜ r ≡ verdictOf answer .number ⌝ }
 {

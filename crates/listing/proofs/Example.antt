@@ -1,4 +1,4 @@
--- Document 01's example, from the bytes that are read to the bytes that are printed: the files stdin and stdout of the crate lister.
+-- The example of docs/FORMAT.md, from the bytes that are read to those that are printed: the files stdin and stdout of the crate lister.
 use Prim.Native.Nat.{ℕ}
 use mathlib.Core.Path.{_≡_, refl}
 use mathlib.Core.List.{List, [], _∷_, _++_}

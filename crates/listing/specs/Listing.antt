@@ -1,6 +1,5 @@
--- What the lister prints, in bytes. To be read beside the end of document 01's section 'Dishes for the table': it "reads an image from
--- standard input, runs a pass of budget 10,000, and prints depth, kind, p, q, r, lo, hi per record, then the counts (or only "refused N at
--- R")".
+-- What the lister prints, in bytes (docs/FORMAT.md, The lister). It reads an image from standard input, runs a pass of budget 10,000, and
+-- prints depth, kind, p, q, r, lo and hi of each record, then the counts; of a refused pass only "refused N at R".
 use Prim.Native.Nat.{ℕ}
 use mathlib.Core.List.{List, _++_}
 use Rattle.image.specs.Limits.{workBytes}

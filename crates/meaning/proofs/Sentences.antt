@@ -1,4 +1,4 @@
--- Sentences of document 01's section 'Meaning', each as a law of the definitions that is seen by computing.
+-- Rules of docs/MEANING.md, each as a law of the definitions that is seen by computing.
 use Prim.Native.Nat.{ℕ}
 use mathlib.Core.Path.{_≡_, refl}
 use mathlib.Core.Bool.{Bool, true, false}

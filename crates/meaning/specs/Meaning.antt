@@ -1,8 +1,8 @@
--- The meaning of expressions and plans: what document 01's section 'Meaning' says of values and rows, quoted above what says it. Where it is
--- silent ISO/IEC 9075 speaks: truth in three values, Projection, SubqueryAlias. Assumes nothing.
+-- The meaning of expressions and plans: the rules of docs/MEANING.md, each above what says it. Where the rules are silent ISO/IEC 9075
+-- speaks: truth in three values, Projection, SubqueryAlias. Assumes nothing.
 --
--- A thing is defined before it is used, so the sentences about values come first, then those about each kind of plan, in the document's
--- order; `rows`, at the end, has the plan kinds in that order too.
+-- A thing is defined before it is used, so the rules about values come first, then those about each kind of plan; `rows` stands at the
+-- end.
 use Prim.Native.Nat.{ℕ, suc}
 use mathlib.Core.Bool.{Bool, true, false, not, _||_, cond}
 use mathlib.Core.List.{List, [], _∷_, _++_, map}
@@ -25,8 +25,8 @@ use Rattle.plan.specs.Syntax.{union, distinct, sort, repartition, limit, aggreg
 abbrev pub Row : Type 0
 Row = List Value
 
--- what is not in the plan: the functions' meaning, by p, q, r and the arguments; the tables, by number, so that "scans of one table read
--- the same rows"
+-- what is not in the plan: the functions' meaning, by p, q, r and the arguments; the tables, by number, so that scans of one table read the
+-- same rows
 pub record World : Type 0 where
   pub fun : ℕ → ℕ → ℕ → List Value → Value
   pub table : ℕ → List Row
@@ -71,7 +71,7 @@ or3 a b = tri (isT a || isT b) (isF a & isF b)
 abbrev pub not3 : Value → Value
 not3 a = tri (isF a) (isT a)
 
--- Between and InList: "p negated"
+-- Between and InList may be negated
 abbrev pub negate : Bool → Value → Value
 negate true a = not3 a
 negate false a = a
@@ -87,7 +87,7 @@ tested isNotTrue a = not (isT a)
 tested isNotFalse a = not (isF a)
 tested isNotUnknown a = isT a || isF a
 
--- ---- comparisons: "Operands of comparisons, Between and InList share a type, FALSE below TRUE" (section 'The image')
+-- ---- comparisons: operands of comparisons, Between and InList share a type (docs/FORMAT.md, Types); FALSE is below TRUE
 
 abbrev pub kindOf : Value → ℕ
 kindOf null = 0
@@ -113,15 +113,15 @@ holds ge a b = leZ b a
 abbrev pub comparable : Value → Value → Bool
 comparable a b = not (isN a) & eqb (kindOf a) (kindOf b)
 
--- "A comparison with NULL is UNKNOWN."
+-- a comparison with NULL is UNKNOWN
 abbrev pub compared : Cmp → Value → Value → Value
 compared c a b = cond (comparable a b) (truth (holds c (code a) (code b))) null
 
--- "Between is low <= operand AND operand <= high."
+-- Between is low <= operand AND operand <= high
 abbrev pub within : Value → Value → Value → Value
 within operand low high = and3 (compared le low operand) (compared le operand high)
 
--- "InList is UNKNOWN for a NULL operand, TRUE if an item equals it, else FALSE."
+-- InList is UNKNOWN for a NULL operand, TRUE if an item equals it, else FALSE
 abbrev pub in-list : Value → List Value → Value
 in-list operand items = cond (isN operand) null (truth (any (λ item. isT (compared eq operand item)) items))
 
@@ -156,11 +156,11 @@ module _ (W : World) where
 
   -- ---- TableScan, Filter
 
-  -- "where the predicate is TRUE"
+  -- the predicate is TRUE of the row
   abbrev pub sat : List Name → Expr → Row → Bool
   sat s e r = isT (eval (look s r) e)
 
-  -- "for which all its filters are TRUE"
+  -- all filters of a scan are TRUE of the row
   abbrev pub sats : List Name → List Expr → Row → Bool
   sats s es r = all (λ e. sat s e r) es
 
@@ -171,7 +171,7 @@ module _ (W : World) where
 
 -- ---- Join: `m` says which rows match, `nl` and `nr` how many fields each side has
 
--- "missing sides are NULL"
+-- a missing side is NULL in every field
 abbrev pub nulls : ℕ → Row
 nulls n = replicate n null
 
@@ -180,12 +180,12 @@ abbrev pub or-else : {A : Type 0} → A → List A → List A
 or-else d [] = d ∷ []
 or-else d (x ∷ xs) = x ∷ xs
 
--- a loop over `xs`: "each takes its matches in the other side's order", put together by `f`; one without a match gives `d`
+-- a loop over `xs`: each takes its matches in the other side's order, put together by `f`; one without a match gives `d`
 abbrev pub outer : {A B C : Type 0} → (A → B → Bool) → (A → B → C) → (A → C) → List A → List B → List C
 outer m f d xs ys = flatten (λ x. or-else (d x) (map (f x) (keep (m x) ys))) xs
 
--- "Right, RightSemi and RightAnti loop over right rows, other joins over left rows"; "a semi join gives a row of its own side once if any
--- row matches, an anti join once if none does, with that side's fields only; Full adds unmatched right rows last"
+-- Right, RightSemi and RightAnti loop over the right rows, other joins over the left rows. A semi join gives a row of its own side once if
+-- any row matches it, an anti join once if none does, with that side's fields only. Full adds the unmatched right rows last
 abbrev pub joined : Kind → (Row → Row → Bool) → ℕ → ℕ → List Row → List Row → List Row
 joined inner m nl nr ls rs = flatten (λ l. map (l ++_) (keep (m l) rs)) ls
 joined left m nl nr ls rs = outer m _++_ (_++ nulls nr) ls rs
@@ -199,17 +199,17 @@ joined leftAnti m nl nr ls rs = keep (λ l. not (any (m l) rs)) ls
 joined rightAnti m nl nr ls rs = keep (λ r. not (any (λ l. m l r) ls)) rs
 
 module _ (W : World) where
-  -- "Eq of every key pair", TRUE
+  -- Eq of every key pair is TRUE
   abbrev pub keys-match : List Name → List Name → List Pair → Row → Row → Bool
   keys-match s t on l r = all (λ (k : Pair). isT (compared eq (eval W (look s l) (k .lhs)) (eval W (look t r) (k .rhs)))) on
 
-  -- "Rows match in a join if Eq of every key pair and the filter are TRUE", the filter over the fields of both sides
+  -- rows match in a join if Eq of every key pair and the filter are TRUE, the filter over the fields of both sides
   abbrev pub matching : List Name → List Name → List Pair → Option Expr → Row → Row → Bool
   matching s t on f l r = keys-match s t on l r & sat? W (s ++ t) f (l ++ r)
 
 -- ---- Distinct, and what Aggregate and Window group by
 
--- "Groups, partitions and Distinct take NULL as equal to NULL."
+-- groups, partitions and Distinct take NULL as equal to NULL
 abbrev pub sameV : Value → Value → Bool
 sameV a b = eqb (kindOf a) (kindOf b) & holds eq (code a) (code b)
 
@@ -219,14 +219,14 @@ sameRow [] (w ∷ s) = false
 sameRow (v ∷ r) [] = false
 sameRow (v ∷ r) (w ∷ s) = sameV v w & sameRow r s
 
--- "Distinct and Aggregate go by first occurrence"
+-- Distinct and Aggregate go by first occurrence
 abbrev pub first-occurrences : List Row → List Row
 first-occurrences [] = []
 first-occurrences (r ∷ rs) = r ∷ keep (λ s. not (sameRow r s)) (first-occurrences rs)
 
 -- ---- Sort
 
--- "NULL last", descending too: `a` stands strictly before `b` under one key
+-- NULL comes last, descending too: `a` stands strictly before `b` under one key
 unfoldable pub sortsBefore : Bool → Value → Value → Bool
 sortsBefore desc a b = not (isN a) & (isN b || cond desc (ltZ (code b) (code a)) (ltZ (code a) (code b)))
 
@@ -242,7 +242,7 @@ module _ (W : World) where
       lex (λ a b. sortsBefore (k .desc) (eval W (look s a) (k .expr)) (eval W (look s b) (k .expr))) (sorts-before s ks) a b
 
 module _ {A : Type 0} (under : A → A → Bool) where
-  -- "Sort is stable": `x` goes in front of the first that does not stand strictly before it, so that equals keep their order
+  -- a Sort is stable: `x` goes in front of the first that does not stand strictly before it, so that equals keep their order
   abbrev pub insertRow : A → List A → List A
   insertRow x [] = x ∷ []
   insertRow x (y ∷ ys) = cond (under y x) (y ∷ insertRow x ys) (x ∷ y ∷ ys)
@@ -251,25 +251,25 @@ module _ {A : Type 0} (under : A → A → Bool) where
   sorted [] = []
   sorted (x ∷ xs) = insertRow x (sorted xs)
 
--- "then takes its fetch"
+-- a Sort then takes its fetch, if it has one
 abbrev pub fetched : {A : Type 0} → Option ℕ → List A → List A
 fetched none xs = xs
 fetched (some n) xs = take n xs
 
 -- ---- Limit
 
--- "Limit skips, then takes"
+-- a Limit skips, then takes
 abbrev pub limited : {A : Type 0} → ℕ → ℕ → List A → List A
 limited fetch skip xs = take fetch (drop skip xs)
 
 -- ---- Aggregate, Window
 
--- "Count counts values that are not NULL"
+-- Count counts the values that are not NULL
 abbrev pub counted : List Value → ℕ
 counted [] = 0
 counted (v ∷ vs) = cond (isN v) (counted vs) (suc (counted vs))
 
--- "Min and Max skip NULL, and give NULL for none": the value that `under` puts first
+-- Min and Max skip NULL, and give NULL for no value: the one that `under` puts first
 abbrev pub extreme : (ℤ → ℤ → Bool) → List Value → Value
 extreme under [] = null
 extreme under (v ∷ vs) = let w = extreme under vs in cond (isN v) w (cond (isN w) v (cond (under (code w) (code v)) w v))
@@ -279,7 +279,7 @@ aggregated count vs = int (pos (counted vs))
 aggregated min vs = extreme ltZ vs
 aggregated max vs = extreme (λ a b. ltZ b a) vs
 
--- the keys of the groups; "one row if it has no group entries"
+-- the keys of the groups; an Aggregate without group entries has one, and so one row
 abbrev pub group-keys : List Entry → List Row → List Row
 group-keys [] ks = [] ∷ []
 group-keys (g ∷ gs) ks = first-occurrences ks
@@ -289,7 +289,7 @@ module _ (W : World) where
   abbrev pub agg-entries : List Name → List AggEntry → List Row → Row
   agg-entries s ags rs = map (λ (a : AggEntry). aggregated (a .fun) (map (λ r. eval W (look s r) (a .expr)) rs)) ags
 
-  -- "Aggregate gives group entries, then entries"
+  -- an Aggregate gives its group entries, then its entries
   abbrev pub grouped : List Name → List Entry → List AggEntry → List Row → List Row
   grouped s gs ags rs =
       map (λ k. k ++ agg-entries s ags (keep (λ r. sameRow k (entries W s gs r)) rs))
@@ -301,20 +301,20 @@ module _ (W : World) where
       aggregated (w .fun)
       (map (λ t. eval W (look s t) (w .expr)) (keep (λ t. sameRow (map (look s r) (w .parts)) (map (look s t) (w .parts))) rs))
 
-  -- "Window adds entries to its input's fields"; "Window and Repartition keep their input's order"
+  -- a Window adds its entries to its input's fields, and keeps its input's order
   abbrev pub windowed : List Name → List WinEntry → List Row → List Row
   windowed s ws rs = map (λ r. r ++ map (win-entry s rs r) ws) rs
 
--- ---- the rows of a plan: "Rows form a list"
+-- ---- the rows of a plan: they form a list
 
 module _ (W : World) where
   unfoldable mutual
     unfolding schema
 
     pub rows : Plan → List Row
-    -- "A scan hands up its table's rows, in order, for which all its filters are TRUE"
+    -- a scan hands up its table's rows, in order, for which all its filters are TRUE
     rows (scan t fs es) = keep (sats W (map (λ (f : Field). f .name) fs) es) (W .table t)
-    -- "A Filter keeps rows where the predicate is TRUE."
+    -- a Filter keeps the rows where the predicate is TRUE
     rows (filter e p) = keep (sat W (schema p) e) (rows p)
     rows (join k l r on f) =
         joined k (matching W (schema l) (schema r) on f) (length (schema l)) (length (schema r)) (rows l) (rows r)
@@ -323,11 +323,11 @@ module _ (W : World) where
     rows (sort f ks p) = fetched f (sorted (sorts-before W (schema p) ks) (rows p))
     rows (limit n k p) = limited n k (rows p)
     rows (window ws p) = windowed W (schema p) ws (rows p)
-    -- "Window and Repartition keep their input's order"
+    -- a Repartition keeps its input's order
     rows (repartition p) = rows p
-    -- "Union gives its inputs' rows, one input after another."
+    -- a Union gives its inputs' rows, one input after another
     rows (union ps) = rows-all ps
-    -- Projection gives its entries for each row, SubqueryAlias the rows themselves
+    -- a Projection gives its entries for each row, a SubqueryAlias the rows themselves
     rows (project es p) = map (entries W (schema p) es) (rows p)
     rows (alias q p) = rows p
 

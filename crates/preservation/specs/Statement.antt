@@ -1,5 +1,5 @@
 -- Demand 3: no list of calls of rewrite, at any nodes, in any order, of any length, changes the rows of the root.
--- To be read beside document 01's section 'Promises'. The proof is proofs/Demand3.antt.
+-- In plain words: docs/REWRITE.md, The three demands. The proof is proofs/Demand3.antt.
 use Prim.Native.Nat.{ℕ, _*_}
 use mathlib.Core.Path.{_≡_}
 use mathlib.Core.List.{List, [], _∷_}
@@ -20,23 +20,23 @@ use Rattle.preservation.specs.Volatile.{NoVolatile}
 abbrev pub Step : Type 0
 Step = List ℕ → List ℕ
 
--- "The next call gets just those bytes as its image."
+-- the next call gets just the bytes that the one before left
 unfoldable pub after : List Step → List ℕ → List ℕ
 after [] s = s
 after (step ∷ steps) s = after steps (step s)
 
 -- ---- images
 
--- "An image is accepted if it meets no test at the places Buffer to Type."
+-- an image is accepted if it meets none of the tests 1 to 7, at the places Buffer to Type
 pub record Image (s : List ℕ) : Type 0 where
   pub bytes : Bytes s
   pub accepted : check s ≡ verdict 0 0
 
--- "the root's rows by Meaning"
+-- the rows of the root (docs/MEANING.md)
 abbrev pub rows-of : World → List ℕ → List Row
 rows-of W s = rows W (planIn s)
 
--- the tables of a world fit the scans of an image, and its functions give what document 01 says
+-- the tables of a world fit the scans of an image, and its functions give a value of their type or NULL
 pub record Fits (W : World) (s : List ℕ) : Type 0 where
   pub tables : TablesFit W (planIn s)
   pub functions : FunctionsFit W
@@ -55,12 +55,12 @@ Preserves step = (s : List ℕ) → Image s → NoVolatile (planIn s) → Preser
 
 -- ---- calls of rewrite
 
--- "each with any record number and any output length"
+-- each call has any record number and any output length
 pub record Call : Type 0 where
   pub node : ℕ
   pub room : ℕ
 
--- "A granted call leaves its answer, without the zeros after it, a refused one the plan it got."
+-- a granted call leaves its answer, without the zeros behind it, a refused one the image it got
 unfoldable pub leaves : ℕ → ℕ → List ℕ → List ℕ → List ℕ
 leaves number records output got = choose (eqb number 0) (take (recordBytes * records) output) got
 
@@ -76,7 +76,7 @@ unfoldable pub calls : List Call → List Step
 calls [] = []
 calls (c ∷ cs) = call c ∷ calls cs
 
--- Demand 3, as a type; "the list may be empty". What is left after each call of a list is what is left after the list of the calls so
+-- Demand 3, as a type; the list may be empty. What is left after each call of a list is what is left after the list of the calls so
 -- far, which is a list of calls too.
 abbrev pub Demand3 : Type 0
 Demand3 = (cs : List Call) (s : List ℕ) → Image s → NoVolatile (planIn s) → Preserved s (after (calls cs) s)

@@ -9,7 +9,7 @@ use Rattle.plan.specs.Kinds.{expr, Function, isKind}
 use Rattle.plan.specs.Syntax.{Plan}
 use Rattle.plan.specs.Trees.{planTree}
 
--- "A function is volatile if its q is 1 or 3."
+-- a function is volatile if its q is 1 or 3
 unfoldable pub volatile : Label → Bool
 volatile l = isKind (expr Function) l & (eqb (l .q) 1 || eqb (l .q) 3)
 

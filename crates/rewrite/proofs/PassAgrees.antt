@@ -1,5 +1,5 @@
--- The pass that document 01 defines, by children, is the pass from one record that holds a plan to the next. A visit by children, where it goes on,
--- comes to the plan and the counts at which the pass by records stands when it has done the records of the subtree.
+-- The pass by children (docs/REWRITE.md, The pass) is the pass from one record that holds a plan to the next. A visit by children, where it
+-- goes on, comes to the plan and the counts at which the pass by records stands when it has done the records of the subtree.
 use Prim.Native.Nat.{ℕ, zero, suc, _+_, _-_, _≤_, _<_}
 use native.Mathlib.Omega.{arith}
 use mathlib.Core.Path.{_≡_, refl, sym, ap, _∙_}

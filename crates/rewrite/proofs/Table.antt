@@ -1,4 +1,4 @@
--- The cases K1 to K12 of document 01: one table, one theorem. A case is a plan, and what a rewrite at its root answers.
+-- The cases K1 to K12 of docs/REWRITE.md: one table, one theorem. A case is a plan, and what a rewrite at its root answers.
 use Prim.Native.Nat.{ℕ}
 use mathlib.Core.Path.{_≡_, refl}
 use mathlib.Core.Bool.{true, false}

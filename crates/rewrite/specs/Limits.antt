@@ -30,7 +30,7 @@ unfoldable mutual
   listPs pnil = 0
   listPs (pcons p ps) = larger (listP p) (listPs ps)
 
--- test 11: "over 2,048 records, depth 256 or 128 in a list"
+-- test 11 is met by what is over 2,048 records, depth 256 or 128 in a list
 unfoldable pub within-limits : Plan → Bool
 within-limits p =
     leb (sizeP p) maxRecords

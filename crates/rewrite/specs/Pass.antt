@@ -1,6 +1,6 @@
--- The pass, an addition of document 01: it "visits the root, rewrites it, then visits likewise, in order, the plans among the children of
--- what stands there now. Each visit is one unit of the caller's budget. It reports visits, flags raised, and finished 1, or 0 if nodes
--- remain. A refused rewrite refuses the whole pass, with its record in the plan as it then stood."
+-- The pass, an addition to the source (docs/REWRITE.md, The pass): it visits the root, rewrites it, then visits likewise, in order, the
+-- plans among the children of what stands there now. Each visit is one unit of the caller's budget. It reports visits, flags raised, and
+-- finished 1, or 0 if nodes remain. A refused rewrite refuses the whole pass, with its record in the plan as it then stood.
 use Prim.Native.Nat.{ℕ, zero, suc, _+_, _*_}
 use mathlib.Core.Option as O
 use mathlib.Core.Option.{Option, some}
@@ -82,13 +82,13 @@ pub data PassAnswer : Type 0 where
   passed : ℕ → ℕ → ℕ → Plan → PassAnswer
   pass-refused : ℕ → ℕ → PassAnswer
 
--- "It reports visits, flags raised, and finished 1, or 0 if nodes remain."
+-- visits, flags raised, and finished 1, or 0 if nodes remain
 abbrev pub report : Walk → PassAnswer
 report (walking p b v c) = passed v c 1 p
 report (spent p v c) = passed v c 0 p
 report (failed k r) = pass-refused k r
 
--- "visits the root": the record 0
+-- the pass begins at the root, which is record 0
 unfoldable pub pass : ℕ → Plan → PassAnswer
 pass budget p = report (visit maxDepth 0 p budget 0 0)
 

@@ -1,5 +1,6 @@
--- src/push_down_filter.rs, with D4 and D5: PushDownFilter::rewrite on plans. Definitions only; that it keeps the rows is proved in
--- proofs/Rewrite.antt, that it keeps a plan well-formed in proofs/Granted.antt of the crate preservation.
+-- src/push_down_filter.rs, with D4 and D5: PushDownFilter::rewrite on plans, whose rules docs/REWRITE.md has with examples. Definitions
+-- only; that it keeps the rows is proved in proofs/Rewrite.antt, that it keeps a plan well-formed in proofs/Granted.antt of the crate
+-- preservation.
 use Prim.Native.Nat.{ℕ}
 use mathlib.Core.Bool.{Bool, true, false, not, _||_, cond}
 use mathlib.Core.List.{List, [], _∷_, _++_, map}
@@ -55,7 +56,7 @@ right-preserved rightSemi = true
 right-preserved leftAnti = false
 right-preserved rightAnti = true
 
--- on_lr_is_preserved: a predicate of the join's own filter may move to its left input ("Sides preserved for a join's own filter")
+-- on_lr_is_preserved: a predicate of the join's own filter may move to its left input
 abbrev pub on-left-preserved : Kind → Bool
 on-left-preserved inner = true
 on-left-preserved left = false
@@ -96,7 +97,7 @@ both-or none o = none
 both-or (some a) none = none
 both-or (some a) (some b) = some (bin or a b)
 
--- an AND: "keeps each operand that yields"
+-- an AND keeps each operand that yields
 unfoldable pub either-and : Option Expr → Option Expr → Option Expr
 either-and none o = o
 either-and (some a) none = some a
@@ -123,7 +124,7 @@ extract-or-clause c (between n a l u) = guarded (on-cols c (between n a l u)) (b
 extract-or-clause c (inlist n a xs) = guarded (on-cols c (inlist n a xs)) (inlist n a xs)
 extract-or-clause c (fn p q r xs) = guarded (on-cols c (fn p q r xs)) (fn p q r xs)
 
--- "A conjunct that is an OR at its top"
+-- a conjunct that is an OR at its top
 unfoldable pub is-or : Expr → Bool
 is-or (bin and a b) = false
 is-or (bin or a b) = true
@@ -202,7 +203,7 @@ if-list true es = es
 if-list false es = []
 
 -- `P` is the predicates above, `G` those of the join's filter, `s` and `t` the inputs' schemas. `can_evaluate_as_join_condition` holds of
--- every expression of document 01.
+-- every expression that an image can have.
 module _ (k : Kind) (s t : List Name) (on : List Pair) (P G : List Expr) where
   -- of the predicates above, those that move to no side
   abbrev pub unpushed : List Expr
@@ -304,7 +305,8 @@ rewrite-projection e es p =
 abbrev pub marked : List Field → Name → Bool
 marked fs x = any (λ (f : Field). same (f .name) x & f .exact) fs
 
--- supports_filters_pushdown is Exact: "A scan takes a non-volatile predicate exactly if it has a column and all its columns are marked."
+-- supports_filters_pushdown is Exact: a scan takes a predicate that is not volatile exactly if it has a column and all its columns are
+-- marked
 abbrev pub supports-pushdown : List Field → Expr → Bool
 supports-pushdown fs e = not (no-columns e) & on-cols (marked fs) e
 
@@ -444,7 +446,7 @@ merges-under e (limit n k p) = []
 merges-under e (aggregate gs ags p) = []
 merges-under e (window ws p) = []
 
--- "the plan after a merge of Filters": the merged Filter in the place of both, not yet rewritten
+-- the plan after a merge of Filters: the merged Filter in the place of both, not yet rewritten
 unfoldable pub merges : Plan → List Plan
 merges (filter e p) = if-some (simplify-filter e) (λ x. merges-under x p)
 merges (scan t fs es) = []

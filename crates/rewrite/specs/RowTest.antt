@@ -1,4 +1,4 @@
--- The row test: the meaning of a named Filter's predicate on one row over its input's schema.
+-- The row test (docs/REWRITE.md): the meaning of a named Filter's predicate on one row over its input's schema.
 use Prim.Native.Nat.{ℕ}
 use mathlib.Core.Bool.{Bool, true, false, not, _||_, cond}
 use mathlib.Core.List.{List, [], _∷_}

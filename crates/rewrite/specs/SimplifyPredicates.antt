@@ -123,7 +123,7 @@ eq-part x (d ∷ l) = choose (all (λ e. sameV (val d) (val e)) l) (eq-expr x (f
 abbrev pub gtZ : ℤ → ℤ → Bool
 gtZ a b = ltZ b a
 
--- "Within a column: equality, lower bound, upper bound."
+-- within a column: equality, lower bound, upper bound
 abbrev pub simplify-column-predicates : Group → List Expr
 simplify-column-predicates g =
     eq-part (g .key) (g .eqs)
@@ -204,7 +204,7 @@ view (fn p q r xs) = none
 
 -- ---- simplify_predicates: the others first, in order; then the groups, columns ascending
 
--- "columns ascending by qualifier, then name"
+-- columns ascending by qualifier, then name
 abbrev pub name-under : Name → Name → Bool
 name-under (nm q n) (nm r m) = ltb q r || (eqb q r & ltb n m)
 
@@ -245,7 +245,7 @@ unfoldable pub sort-out : List Expr → Sorted
 sort-out [] = record { others = []; groups = [] }
 sort-out (e ∷ es) = add e (view e) (sort-out es)
 
--- simplify_predicates: "All others come first, in order; then columns ascending"
+-- simplify_predicates: all others come first, in order; then columns ascending
 unfoldable pub simplify-predicates : List Expr → List Expr
 unfolding bound-of
 simplify-predicates es = let s = sort-out es in s .others ++ flatten simplify-column-predicates (s .groups)

@@ -1,5 +1,5 @@
 //! Runs row tests of random plans and rows, some of them damaged or wrong, through the exported function and compares
-//! number, record and truth with those that the scope settles. Options: --cases N --seed S. Stops at the first
+//! number, record and truth with those that docs/FORMAT.md and MEANING.md settle. Options: --cases N --seed S. Stops at the first
 //! difference, prints the call, and exits non-zero.
 
 use harness::ffi;

@@ -1,4 +1,4 @@
-//! What a plan means: its rows over given tables, written from the scope's section 'Meaning' alone.
+//! What a plan means: its rows over given tables, written from the rules of docs/MEANING.md alone.
 
 mod bending;
 mod joins;
@@ -34,6 +34,11 @@ impl World {
     /// Small tables, drawn for the plan, and any meaning of functions.
     pub fn for_plan(random: &mut Random, plan: &Tree) -> World {
         World { tables: tables_for(random, plan), functions: random.word() }
+    }
+
+    /// Given tables, by number, and any meaning of functions.
+    pub fn of_tables(tables: BTreeMap<u32, Vec<Row>>) -> World {
+        World { tables, functions: 0 }
     }
 
     /// The rows of a plan, in order; none if a node has too many.
@@ -317,7 +322,7 @@ mod tests {
     }
 
     #[test]
-    fn in_list_and_between_are_as_the_scope_says() {
+    fn in_list_and_between_are_as_the_page_says() {
         let world = world(&[], &[]);
         let value = |expr: &Tree| world.value(expr, &[], &[]);
         let nothing = || null(OF_INTEGER);

@@ -153,7 +153,7 @@ impl ExtensionNode {
     }
 }
 
-/// What a scan's keeper answers about a predicate.
+/// What a table's provider answers about a predicate.
 #[derive(Clone, Copy, Debug, PartialEq, Eq)]
 pub enum TableProviderFilterPushDown {
     Unsupported,

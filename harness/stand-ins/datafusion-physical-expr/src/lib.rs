@@ -1,6 +1,6 @@
 //! Stand-in for `datafusion-physical-expr`: the value of a predicate over the batch of utils.rs, whose one column is NULL.
 //!
-//! Values are those of the scope's 'Meaning'. A predicate with another column, or with a function, has none: the schema
+//! Values are those of docs/MEANING.md. A predicate with another column, or with a function, has none: the schema
 //! lacks the column, and no image says what a function does. The source then takes it for one that may keep NULLs.
 
 use arrow::array::RecordBatch;
