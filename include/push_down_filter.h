@@ -1,7 +1,7 @@
 /*
  * Filter push-down over plans that travel as images: check an image, rewrite a plan at a node, pass over the whole plan, try a
- * Filter on a row. Link with libpush_down_filter.a, which `rt staticlib push_down_filter` makes in target/staticlib; it needs no
- * other library. C99 or later, or C++.
+ * Filter on a row. Link with libpush_down_filter.a, which `rt staticlib push_down_filter` makes in target/staticlib. Of other
+ * libraries it needs memcpy, memmove and memset of the C library alone. C99 or later, or C++.
  *
  * An image is 1 to 2,048 records of 32 bytes: eight little-endian 32-bit words kind, p, q, r, lo, hi, first, next. Any bytes may be
  * given: what is no image of a plan is refused with a number and a record.
@@ -17,7 +17,10 @@
  * Threads. The functions keep nothing between calls and do no input or output: any number of threads may call them at once, each
  * with an output of its own. They allocate nothing.
  *
- * Stack. 1 MiB was enough for every call that was tried (768 KiB was too).
+ * Stack. Give a thread that calls them 1 MiB. On the hardest images known, on x86-64, check and row_test ran in threads of 640 KiB,
+ * rewrite in 704 and pass in 768, and each not in 64 KiB less (harness/tests/stack.rs). So none is for threads with small stacks, such
+ * as 128 KiB: a rewrite takes 76 KiB at once and a pass 140 KiB, whatever the image. A frame of more than a page touches each of its
+ * pages, so that a stack that is too small ends in its guard page.
  */
 #ifndef PUSH_DOWN_FILTER_H
 #define PUSH_DOWN_FILTER_H
