@@ -43,7 +43,7 @@ extern "C" {
 #define PUSH_DOWN_FILTER_RESTRICT restrict
 #endif
 
-/* ---- what an image is made of ---- */
+/* ---- what an image is made of; docs/FORMAT.md of the sources has the rules ---- */
 
 enum {
     PUSH_DOWN_FILTER_RECORD_BYTES = 32,
