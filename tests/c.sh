@@ -1,6 +1,6 @@
 #!/usr/bin/env bash
-# The header and the C programs: each is compiled as C99, C11 and C++17 without a warning, by every compiler that is there; the example
-# prints what it should, and the boundary test finds nothing. Needs target/staticlib.
+# The header and the C programs: compiled as C99, C11 and C++17 without a warning, by cc and, where it is there, by clang; the example
+# prints what it should, and the test of the boundary finds nothing. Needs the library in target/staticlib.
 set -u
 cd "$(dirname "$0")/.." || exit 1
 fail() { echo "c: $1" >&2; exit 1; }
@@ -8,25 +8,29 @@ library=target/staticlib/libpush_down_filter.a
 [ -f $library ] || fail "$library is not there: ./run or rt staticlib push_down_filter makes it"
 place=$(mktemp -d) || exit 1
 trap 'rm -rf "$place"' EXIT
+warnings="-Wall -Wextra -Wpedantic -Wshadow -Wconversion -Werror"
 
-built=0
-for compiler in cc gcc clang; do
-    command -v $compiler >/dev/null || continue
-    for standard in c99 c11 c++17; do
-        for program in examples/c/example.c tests/c/boundary.c; do
-            language=${standard%%[0-9]*}
-            $compiler -x "$language" -std=$standard -O2 -Wall -Wextra -Wpedantic -Wshadow -Wconversion -Werror -I include $program \
-                -x none $library -o "$place/$(basename $program .c)-$compiler-$standard" || fail "$program by $compiler as $standard"
-            built=$((built + 1))
-        done
+# Compiles both programs by a compiler as a standard; the warnings are words.
+# shellcheck disable=SC2086
+compile() {
+    local compiler=$1 standard=$2 program
+    for program in examples/c/example.c tests/c/boundary.c; do
+        $compiler -x "${standard%%[0-9]*}" -std="$standard" -O2 $warnings -I include $program -x none $library \
+            -o "$place/$(basename $program .c)-$compiler-$standard" || fail "$program by $compiler as $standard"
+        compiled=$((compiled + 1))
     done
-done
-[ $built -gt 0 ] || fail "there is no C compiler"
+}
 
-for program in "$place"/example-*; do
-    "$program" | diff examples/expected.txt - || fail "$(basename "$program") prints something else"
+compiled=0
+compilers=cc
+command -v clang >/dev/null && compilers="cc clang"
+for compiler in $compilers; do
+    for standard in c99 c11 c++17; do compile "$compiler" "$standard"; done
 done
-for program in "$place"/boundary-*-c99; do
-    "$program" || fail "$(basename "$program") failed"
+for example in "$place"/example-*; do
+    "$example" | diff examples/expected.txt - || fail "$(basename "$example") prints something else"
 done
-echo "the C programs: $built compiled as C99, C11 and C++17 without a warning"
+for compiler in $compilers; do
+    "$place/boundary-$compiler-c99" || fail "the boundary test by $compiler fails"
+done
+echo "compiled without a warning: $compiled, two C programs as C99, C11 and C++17 by $compilers"
