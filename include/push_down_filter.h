@@ -1,19 +1,26 @@
 /*
  * Filter push-down over plans that travel as images: check an image, rewrite a plan at a node, pass over the whole plan, try a
- * Filter on a row. Link with target/staticlib/libpush_down_filter.a, which `rt staticlib push_down_filter` makes.
+ * Filter on a row. Link with libpush_down_filter.a, which `rt staticlib push_down_filter` makes in target/staticlib. Of other
+ * libraries it needs memcpy, memmove and memset of the C library alone. C99 or later, or C++.
  *
  * An image is 1 to 2,048 records of 32 bytes: eight little-endian 32-bit words kind, p, q, r, lo, hi, first, next. Any bytes may be
  * given: what is no image of a plan is refused with a number and a record.
  *
- * Pointers and lengths. A pointer goes with the number of its elements, which may be 0; it is never NULL, not even then. Images,
- * marks and outputs are bytes and need no alignment; values are aligned as every int64_t array is. What a call reads must not
- * change while it runs, and an output must not overlap what is read.
+ * Pointers and lengths. A pointer goes with the number of its elements, which may be 0; a pointer whose length is 0 may be NULL, and
+ * nothing is read or written there. Images, marks and outputs are bytes and need no alignment; values are aligned as every int64_t
+ * array is. What a call reads must not change while it runs. If the output of a call overlaps anything that it reads, its behaviour
+ * is undefined: to put an answer in the place of its image, write it elsewhere and copy it.
  *
  * Outputs. A granted call writes the answer's records, then zeros to the end of the output; a refused call writes zeros alone. No
  * answer is longer than PUSH_DOWN_FILTER_MAX_BYTES.
  *
  * Threads. The functions keep nothing between calls and do no input or output: any number of threads may call them at once, each
- * with an output of its own. They allocate nothing; 1 MiB of stack was enough for every call that was tried (768 KiB was too).
+ * with an output of its own. They allocate nothing.
+ *
+ * Stack. Give a thread that calls them 1 MiB. On the hardest images known, on x86-64, check and row_test ran in threads of 640 KiB,
+ * rewrite in 704 and pass in 768, and each not in 64 KiB less (harness/tests/stack.rs). So none is for threads with small stacks, such
+ * as 128 KiB: a rewrite takes 76 KiB at once and a pass 140 KiB, whatever the image. A frame of more than a page touches each of its
+ * pages, so that a stack that is too small ends in its guard page.
  */
 #ifndef PUSH_DOWN_FILTER_H
 #define PUSH_DOWN_FILTER_H
@@ -21,15 +28,141 @@
 #include <stddef.h>
 #include <stdint.h>
 
+/* The version of this header; push_down_filter_version answers that of the library that is linked. */
+#define PUSH_DOWN_FILTER_VERSION_MAJOR 0
+#define PUSH_DOWN_FILTER_VERSION_MINOR 1
+#define PUSH_DOWN_FILTER_VERSION_PATCH 0
+#define PUSH_DOWN_FILTER_VERSION                                                                                                 \
+    (1000000 * PUSH_DOWN_FILTER_VERSION_MAJOR + 1000 * PUSH_DOWN_FILTER_VERSION_MINOR + PUSH_DOWN_FILTER_VERSION_PATCH)
+
+/* C++ has no restrict. */
 #ifdef __cplusplus
+#define PUSH_DOWN_FILTER_RESTRICT
 extern "C" {
+#else
+#define PUSH_DOWN_FILTER_RESTRICT restrict
 #endif
+
+/* ---- what an image is made of; docs/FORMAT.md of the sources has the rules ---- */
 
 enum {
     PUSH_DOWN_FILTER_RECORD_BYTES = 32,
     PUSH_DOWN_FILTER_MAX_RECORDS = 2048,
-    PUSH_DOWN_FILTER_MAX_BYTES = PUSH_DOWN_FILTER_RECORD_BYTES * PUSH_DOWN_FILTER_MAX_RECORDS
+    PUSH_DOWN_FILTER_MAX_BYTES = PUSH_DOWN_FILTER_RECORD_BYTES * PUSH_DOWN_FILTER_MAX_RECORDS,
+    PUSH_DOWN_FILTER_MAX_DEPTH = 256, /* records from the root down to the deepest, both counted */
+    PUSH_DOWN_FILTER_MAX_FIELDS = 64, /* fields of a schema, and of both inputs of a join together */
+    PUSH_DOWN_FILTER_MAX_LIST = 128   /* conjuncts of a Filter or of a join's filter; filters of a scan */
 };
+
+/* The byte of a record at which each of its words begins. A word that the kind does not use is 0. */
+enum {
+    PUSH_DOWN_FILTER_AT_KIND = 0,
+    PUSH_DOWN_FILTER_AT_P = 4,
+    PUSH_DOWN_FILTER_AT_Q = 8,
+    PUSH_DOWN_FILTER_AT_R = 12,
+    PUSH_DOWN_FILTER_AT_LO = 16,
+    PUSH_DOWN_FILTER_AT_HI = 20,
+    PUSH_DOWN_FILTER_AT_FIRST_LINK = 24, /* the record of the first child, or 0 */
+    PUSH_DOWN_FILTER_AT_NEXT_LINK = 28   /* the record of the next sibling, or 0 */
+};
+
+/* The kinds of records: the words that each uses, then its children in order. A name is never 0; the qualifier 0 is none. */
+enum {
+    /* expressions */
+    PUSH_DOWN_FILTER_KIND_COLUMN = 1,          /* p qualifier, q name */
+    PUSH_DOWN_FILTER_KIND_INTEGER_LITERAL = 2, /* lo, hi: the halves of a signed 64-bit number */
+    PUSH_DOWN_FILTER_KIND_BOOLEAN_LITERAL = 3, /* p 0 or LITERAL_TRUE */
+    PUSH_DOWN_FILTER_KIND_NULL_LITERAL = 4,    /* p type */
+    PUSH_DOWN_FILTER_KIND_BINARY_EXPR = 5,     /* p operator; left, right */
+    PUSH_DOWN_FILTER_KIND_NOT = 6,             /* operand */
+    PUSH_DOWN_FILTER_KIND_TEST = 7,            /* p test; operand */
+    PUSH_DOWN_FILTER_KIND_BETWEEN = 8,         /* p 0 or NEGATED; operand, low, high */
+    PUSH_DOWN_FILTER_KIND_IN_LIST = 9,         /* p 0 or NEGATED; operand, one or more items */
+    PUSH_DOWN_FILTER_KIND_FUNCTION = 10,       /* p number, q marks, r type; any arguments */
+    /* plans */
+    PUSH_DOWN_FILTER_KIND_TABLE_SCAN = 32,     /* p table; fields, filters */
+    PUSH_DOWN_FILTER_KIND_FILTER = 33,         /* predicate, input */
+    PUSH_DOWN_FILTER_KIND_PROJECTION = 34,     /* one or more entries, input */
+    PUSH_DOWN_FILTER_KIND_JOIN = 35,           /* p join; left, right, key pairs, at most one filter */
+    PUSH_DOWN_FILTER_KIND_SUBQUERY_ALIAS = 36, /* p qualifier, not 0; input */
+    PUSH_DOWN_FILTER_KIND_UNION = 37,          /* two or more inputs */
+    PUSH_DOWN_FILTER_KIND_DISTINCT = 38,       /* input */
+    PUSH_DOWN_FILTER_KIND_SORT = 39,           /* p 0 or SORT_FETCHES, lo then the fetch; sort keys, input */
+    PUSH_DOWN_FILTER_KIND_REPARTITION = 40,    /* input */
+    PUSH_DOWN_FILTER_KIND_LIMIT = 41,          /* lo fetch, hi skip; input */
+    PUSH_DOWN_FILTER_KIND_AGGREGATE = 42,      /* entries to group by, aggregate entries, at least one of these; input */
+    PUSH_DOWN_FILTER_KIND_WINDOW = 43,         /* one or more window entries, input */
+    /* parts of plans */
+    PUSH_DOWN_FILTER_KIND_FIELD = 48,           /* p qualifier, q name, r type, lo 0 or FIELD_MARKED */
+    PUSH_DOWN_FILTER_KIND_ENTRY = 49,           /* p, q qualifier and name of what comes out; expression */
+    PUSH_DOWN_FILTER_KIND_PAIR = 50,            /* an expression over the left input, one over the right */
+    PUSH_DOWN_FILTER_KIND_SORT_KEY = 51,        /* p 0 or KEY_DESCENDING; expression */
+    PUSH_DOWN_FILTER_KIND_AGGREGATE_ENTRY = 52, /* p, q as an entry, r aggregate; expression */
+    PUSH_DOWN_FILTER_KIND_WINDOW_ENTRY = 53     /* p, q, r as an aggregate entry; expression, partition columns */
+};
+
+/* The operator of a BINARY_EXPR: p. */
+enum {
+    PUSH_DOWN_FILTER_OPERATOR_AND = 1,
+    PUSH_DOWN_FILTER_OPERATOR_OR = 2,
+    PUSH_DOWN_FILTER_OPERATOR_EQ = 3,
+    PUSH_DOWN_FILTER_OPERATOR_NOT_EQ = 4,
+    PUSH_DOWN_FILTER_OPERATOR_LT = 5,
+    PUSH_DOWN_FILTER_OPERATOR_LT_EQ = 6,
+    PUSH_DOWN_FILTER_OPERATOR_GT = 7,
+    PUSH_DOWN_FILTER_OPERATOR_GT_EQ = 8
+};
+
+/* The test of a TEST: p. */
+enum {
+    PUSH_DOWN_FILTER_TEST_IS_NULL = 1,
+    PUSH_DOWN_FILTER_TEST_IS_NOT_NULL = 2,
+    PUSH_DOWN_FILTER_TEST_IS_TRUE = 3,
+    PUSH_DOWN_FILTER_TEST_IS_FALSE = 4,
+    PUSH_DOWN_FILTER_TEST_IS_UNKNOWN = 5,
+    PUSH_DOWN_FILTER_TEST_IS_NOT_TRUE = 6,
+    PUSH_DOWN_FILTER_TEST_IS_NOT_FALSE = 7,
+    PUSH_DOWN_FILTER_TEST_IS_NOT_UNKNOWN = 8
+};
+
+/* The kind of a JOIN: p. */
+enum {
+    PUSH_DOWN_FILTER_JOIN_INNER = 1,
+    PUSH_DOWN_FILTER_JOIN_LEFT = 2,
+    PUSH_DOWN_FILTER_JOIN_RIGHT = 3,
+    PUSH_DOWN_FILTER_JOIN_FULL = 4,
+    PUSH_DOWN_FILTER_JOIN_LEFT_SEMI = 5,
+    PUSH_DOWN_FILTER_JOIN_RIGHT_SEMI = 6,
+    PUSH_DOWN_FILTER_JOIN_LEFT_ANTI = 7,
+    PUSH_DOWN_FILTER_JOIN_RIGHT_ANTI = 8
+};
+
+/* The aggregate of an AGGREGATE_ENTRY or a WINDOW_ENTRY: r. */
+enum { PUSH_DOWN_FILTER_AGGREGATE_COUNT = 1, PUSH_DOWN_FILTER_AGGREGATE_MIN = 2, PUSH_DOWN_FILTER_AGGREGATE_MAX = 3 };
+
+/* The type of a NULL_LITERAL: p; of a FIELD or a FUNCTION: r. */
+enum { PUSH_DOWN_FILTER_TYPE_INTEGER = 1, PUSH_DOWN_FILTER_TYPE_BOOLEAN = 2 };
+
+/* The marks of a FUNCTION: q. 0 is none; the third is both. */
+enum {
+    PUSH_DOWN_FILTER_FUNCTION_VOLATILE = 1,
+    PUSH_DOWN_FILTER_FUNCTION_LEAFWARD = 2,
+    PUSH_DOWN_FILTER_FUNCTION_VOLATILE_LEAFWARD = 3
+};
+
+/* Words that are 0 or 1. */
+enum {
+    PUSH_DOWN_FILTER_LITERAL_TRUE = 1,   /* p of a BOOLEAN_LITERAL */
+    PUSH_DOWN_FILTER_NEGATED = 1,        /* p of a BETWEEN or an IN_LIST */
+    PUSH_DOWN_FILTER_SORT_FETCHES = 1,   /* p of a SORT */
+    PUSH_DOWN_FILTER_KEY_DESCENDING = 1, /* p of a SORT_KEY */
+    PUSH_DOWN_FILTER_FIELD_MARKED = 1    /* lo of a FIELD: a scan can filter by it exactly */
+};
+
+/* ---- the calls ---- */
+
+/* PUSH_DOWN_FILTER_VERSION of the library. */
+uint32_t push_down_filter_version(void);
 
 /* The `number` of a result. Of several that are met the lowest is given, then the lowest record; of 3 the record whose link is the first
  * bad one met in reading, else the first that no link leads to. */
@@ -67,7 +200,8 @@ typedef struct {
     uint32_t records; /* how many records the answer has; 0 for a refusal */
 } push_down_filter_rewritten;
 
-push_down_filter_rewritten push_down_filter_rewrite(const uint8_t *image, size_t length, uint32_t node, uint8_t *out, size_t room);
+push_down_filter_rewritten push_down_filter_rewrite(const uint8_t *PUSH_DOWN_FILTER_RESTRICT image, size_t length, uint32_t node,
+                                                    uint8_t *PUSH_DOWN_FILTER_RESTRICT out, size_t room);
 
 /* A pass: the root is rewritten, then likewise, in order, the plans below what stands there now. It ends after `budget` visits, if
  * there are as many. Numbers 0 to 7, 11 and 12. All counts of a refusal are 0. */
@@ -80,7 +214,8 @@ typedef struct {
     uint32_t records;
 } push_down_filter_passed;
 
-push_down_filter_passed push_down_filter_pass(const uint8_t *image, size_t length, uint64_t budget, uint8_t *out, size_t room);
+push_down_filter_passed push_down_filter_pass(const uint8_t *PUSH_DOWN_FILTER_RESTRICT image, size_t length, uint64_t budget,
+                                              uint8_t *PUSH_DOWN_FILTER_RESTRICT out, size_t room);
 
 /* The `truth` of a row test. */
 enum { PUSH_DOWN_FILTER_FALSE = 0, PUSH_DOWN_FILTER_TRUE = 1, PUSH_DOWN_FILTER_UNKNOWN = 2 };

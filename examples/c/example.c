@@ -3,44 +3,64 @@
  * left, depth, kind, p, q, r, lo and hi of each record, then the counts. From the root of the repository:
  *
  *   cc -std=c99 -I include examples/c/example.c target/staticlib/libpush_down_filter.a -o example && ./example
+ *
+ * or, once the library is installed: cc -std=c99 example.c $(pkg-config --cflags --libs push_down_filter) -o example && ./example
  */
 #include "push_down_filter.h"
 
 #include <inttypes.h>
 #include <stdio.h>
 
-enum { WORDS = 8, LABEL_WORDS = 6, FIRST = 6, NEXT = 7 };
+/* The table, its qualifier t and the name of its field c: the caller's own numbers. */
+enum { TABLE = 1, T = 1, C = 1 };
 
-/* kind, p, q, r, lo, hi, first, next */
-static const uint32_t plan[][WORDS] = {
-    {33, 0, 0, 0, 0, 0, 1, 0}, /* Filter: its predicate, then its input */
-    {5, 7, 0, 0, 0, 0, 2, 4},  /* greater than */
-    {1, 1, 1, 0, 0, 0, 0, 3},  /* the column t.c: qualifier 1, name 1 */
-    {2, 0, 0, 0, 5, 0, 0, 0},  /* the integer 5 */
-    {32, 1, 0, 0, 0, 0, 5, 0}, /* the scan of table 1 */
-    {48, 1, 1, 1, 1, 0, 0, 0}, /* its field t.c, an integer, marked */
+struct record {
+    uint32_t kind, p, q, r, lo, hi, first, next;
+};
+
+static const struct record plan[] = {
+    /* the Filter: its predicate, then its input */
+    {PUSH_DOWN_FILTER_KIND_FILTER, 0, 0, 0, 0, 0, 1, 0},
+    /* t.c > 5 */
+    {PUSH_DOWN_FILTER_KIND_BINARY_EXPR, PUSH_DOWN_FILTER_OPERATOR_GT, 0, 0, 0, 0, 2, 4},
+    {PUSH_DOWN_FILTER_KIND_COLUMN, T, C, 0, 0, 0, 0, 3},
+    {PUSH_DOWN_FILTER_KIND_INTEGER_LITERAL, 0, 0, 0, 5, 0, 0, 0},
+    /* the scan, and its field t.c */
+    {PUSH_DOWN_FILTER_KIND_TABLE_SCAN, TABLE, 0, 0, 0, 0, 5, 0},
+    {PUSH_DOWN_FILTER_KIND_FIELD, T, C, PUSH_DOWN_FILTER_TYPE_INTEGER, PUSH_DOWN_FILTER_FIELD_MARKED, 0, 0, 0},
 };
 
 enum { RECORDS = sizeof plan / sizeof plan[0] };
 
-/* Where a word of a record begins. */
-static size_t place(uint32_t record, int word)
+static void put_word(uint8_t *bytes, uint32_t word)
 {
-    return (size_t)record * PUSH_DOWN_FILTER_RECORD_BYTES + 4 * (size_t)word;
+    for (int byte = 0; byte < 4; byte++)
+        bytes[byte] = (uint8_t)(word >> (8 * byte));
+}
+
+static uint32_t word_at(const uint8_t *bytes)
+{
+    return bytes[0] | (uint32_t)bytes[1] << 8 | (uint32_t)bytes[2] << 16 | (uint32_t)bytes[3] << 24;
 }
 
 static void write_image(uint8_t *image)
 {
-    for (uint32_t record = 0; record < RECORDS; record++)
-        for (int word = 0; word < WORDS; word++)
-            for (size_t byte = 0; byte < 4; byte++)
-                image[place(record, word) + byte] = (uint8_t)(plan[record][word] >> (8 * byte));
+    for (int i = 0; i < RECORDS; i++) {
+        uint8_t *bytes = image + i * PUSH_DOWN_FILTER_RECORD_BYTES;
+        put_word(bytes + PUSH_DOWN_FILTER_AT_KIND, plan[i].kind);
+        put_word(bytes + PUSH_DOWN_FILTER_AT_P, plan[i].p);
+        put_word(bytes + PUSH_DOWN_FILTER_AT_Q, plan[i].q);
+        put_word(bytes + PUSH_DOWN_FILTER_AT_R, plan[i].r);
+        put_word(bytes + PUSH_DOWN_FILTER_AT_LO, plan[i].lo);
+        put_word(bytes + PUSH_DOWN_FILTER_AT_HI, plan[i].hi);
+        put_word(bytes + PUSH_DOWN_FILTER_AT_FIRST_LINK, plan[i].first);
+        put_word(bytes + PUSH_DOWN_FILTER_AT_NEXT_LINK, plan[i].next);
+    }
 }
 
-static uint32_t read_word(const uint8_t *image, uint32_t record, int word)
+static const uint8_t *record_at(const uint8_t *image, uint32_t record)
 {
-    const uint8_t *bytes = image + place(record, word);
-    return bytes[0] | (uint32_t)bytes[1] << 8 | (uint32_t)bytes[2] << 16 | (uint32_t)bytes[3] << 24;
+    return image + (size_t)record * PUSH_DOWN_FILTER_RECORD_BYTES;
 }
 
 /* Parents stand before their children, so that a record's depth is known when it is printed. */
@@ -48,13 +68,15 @@ static void list(const uint8_t *image, uint32_t records)
 {
     static uint32_t depth[PUSH_DOWN_FILTER_MAX_RECORDS];
     depth[0] = 1;
-    for (uint32_t record = 0; record < records; record++) {
-        printf("%" PRIu32, depth[record]);
-        for (int word = 0; word < LABEL_WORDS; word++)
-            printf(" %" PRIu32, read_word(image, record, word));
+    for (uint32_t at = 0; at < records; at++) {
+        const uint8_t *bytes = record_at(image, at);
+        printf("%" PRIu32, depth[at]);
+        for (int word = PUSH_DOWN_FILTER_AT_KIND; word <= PUSH_DOWN_FILTER_AT_HI; word += 4)
+            printf(" %" PRIu32, word_at(bytes + word));
         printf("\n");
-        for (uint32_t child = read_word(image, record, FIRST); child != 0; child = read_word(image, child, NEXT))
-            depth[child] = depth[record] + 1;
+        uint32_t child = word_at(bytes + PUSH_DOWN_FILTER_AT_FIRST_LINK);
+        for (; child != 0; child = word_at(record_at(image, child) + PUSH_DOWN_FILTER_AT_NEXT_LINK))
+            depth[child] = depth[at] + 1;
     }
 }
 

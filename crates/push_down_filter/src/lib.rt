@@ -9,8 +9,25 @@ ghost use mathlib.Core.Path.{_≡_};
 ghost use lib.ListN.{length};
 ghost use Rattle.rewrite.specs.OnBytes.{pass-bytes, rewrite-bytes};
 ghost use Rattle.rewrite.specs.RowTest.{row-test-bytes};
-ghost use Rattle.push_down_filter.specs.Boundary.{passedIs, rewrittenIs, testedIs, verdictIs};
+ghost use Rattle.push_down_filter.specs.Boundary.{passedIs, rewrittenIs, testedIs, verdictIs, version};
 ghost use Rattle.acceptance.specs.Check as Check;
+
+// The version is that of include/push_down_filter.h; harness/tests/header.rs compares them.
+const MAJOR: u32 = 0;
+
+const MINOR: u32 = 1;
+
+const PATCH: u32 = 0;
+
+const VERSION: u32 = 1000000 * MAJOR + 1000 * MINOR + PATCH;
+
+// The version of the library that a caller linked.
+#[no_mangle]
+pub extern "C" fn push_down_filter_version() -> u32
+    ensures { λ r. ⌜ r ≡ version ⌝ }
+{
+    VERSION
+}
 
 // Number and record of a refusal; 0 and 0 for an accepted image.
 #[repr(C)]
