@@ -1,0 +1,44 @@
+# What ./run and ./test share; sourced, from the root of the repository.
+
+fail() { echo "$1" >&2; exit 1; }
+
+# The tools that a command needs, and what each is.
+need() {
+    local tool
+    for tool in "$@"; do
+        command -v "$tool" >/dev/null && continue
+        case $tool in
+        rt) fail "rt, the command of the Rattle kit, is not on the PATH: README.md, 'What it needs'" ;;
+        cargo) fail "cargo, of Rust, is not on the PATH: README.md, 'What it needs'" ;;
+        *) fail "$tool is not on the PATH: README.md, 'What it needs'" ;;
+        esac
+    done
+    [ "$(uname -sm)" = "Linux x86_64" ] || fail "this is $(uname -sm): the library is compiled for x86-64 Linux"
+}
+
+# rt waits for a whole batch of proofs before it begins the next, so that four at a time leave less of two cores idle than two. One
+# takes up to 2.3 GB.
+batches() {
+    local free
+    free=$(awk '/^MemAvailable/ { print int($2 / 1048576) }' /proc/meminfo)
+    [ -n "${RT_JOBS:-}" ] || [ "${free:-0}" -lt 10 ] || export RT_JOBS=4
+}
+
+# Reads what rt prints and tells it line by line: the crate or the edit, how many of how many, how long it took, and what an error says.
+progress() { # CRATES EDITS
+    awk -v crates="$1" -v edits="$2" '
+        function took() { return match($0, /[0-9]+ s\)$/) ? " (" substr($0, RSTART) : "" }
+        /^rt: [a-z_]+ proved \(unchanged/ { ++proved; next }
+        /^rt: [a-z_]+ proved/ { printf "proved  %3d of %d  %s%s\n", ++proved, crates, $2, took() }
+        /^rt: must-fail .*: refused/ { sub(/:$/, "", $3); printf "refused %3d of %d  %s%s\n", ++refused, edits, $3, took() }
+        /: error/ && errors < 10 { errors++; print substr($0, 1, 400) }
+        /^rt: .*(NOT|FAILED|BAD|ran)/ { print substr($0, 5) }
+        { fflush() }'
+}
+
+# Builds the static library, unless it is of what was proved last: rt staticlib proves the topmost crate once more.
+build_library() {
+    local folder=target/staticlib
+    cmp -s target/stamp/push_down_filter $folder/made-of && [ -f $folder/libpush_down_filter.a ] && return
+    rt staticlib push_down_filter && cp target/stamp/push_down_filter $folder/made-of
+}
