@@ -3,6 +3,7 @@
 use crate::ffi;
 use crate::rewriting::{self, Passed, Rewritten};
 use crate::source::{Build, ALL};
+use push_down_filter::Reason;
 
 const PATCHED: Build = Build::Patched(ALL);
 
@@ -24,19 +25,5 @@ pub fn answered_by() -> &'static str {
 
 /// What a refusal with the number says.
 pub fn reason(number: u32) -> &'static str {
-    match number {
-        1 => "length 0, not whole records, or over 2,048 records",
-        2 => "an unknown kind or a word out of range",
-        3 => "a bad link, or records that no link leads to",
-        4 => "deeper than 256",
-        5 => "wrong children, a root that is no plan, or a list over 128",
-        6 => "a reference or schema rule broken, or over 64 fields",
-        7 => "a type rule broken",
-        8 => "no plan at the record asked for, or, in a row test, no Filter",
-        9 => "values or marks not as the input's fields ask",
-        10 => "the predicate holds a function",
-        11 => "the answer, or the plan after a merge of Filters, is over 2,048 records, depth 256 or 128 in a list",
-        12 => "the output is shorter than the answer",
-        _ => "no such number",
-    }
+    Reason::of_number(number).words()
 }

@@ -1,4 +1,4 @@
-//! The functions as include/push_down_filter.h declares them, each behind one on slices.
+//! The functions as include/push_down_filter.h declares them, each behind one on slices that answers number and record as they come.
 
 #[repr(C)]
 pub struct Verdict {
