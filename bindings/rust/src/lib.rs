@@ -19,6 +19,7 @@
 
 #[cfg(feature = "library")]
 mod calls;
+mod explain;
 #[cfg(feature = "library")]
 pub mod exported;
 pub mod image;
@@ -28,6 +29,7 @@ pub mod text;
 
 #[cfg(feature = "library")]
 pub use calls::{check, pass, rewrite, row_test, Passed, Rewritten, Truth};
+pub use explain::explain;
 pub use image::RECORD_BYTES;
 pub use refusals::{Reason, Refusal};
 

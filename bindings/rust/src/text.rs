@@ -1,14 +1,16 @@
 //! Plans as text: a line for each plan, the plans that it reads below it. text/grammar.txt says how each is written.
 
 mod exprs;
+mod names;
 mod reader;
 mod reading;
 mod tokens;
 pub mod words;
 mod writing;
 
+pub use names::{Named, Names};
 pub use reading::{read, Written};
-pub use writing::{lines, write};
+pub use writing::{expr, line, lines, write};
 
 /// How plans are written, for readers.
 pub const GRAMMAR: &str = include_str!("text/grammar.txt");
@@ -16,7 +18,9 @@ pub const GRAMMAR: &str = include_str!("text/grammar.txt");
 /// A place in a text; line and column are counted from 1.
 #[derive(Clone, Copy, Debug, PartialEq, Eq)]
 pub struct Place {
+    /// The line, from 1.
     pub line: usize,
+    /// The character in its line, from 1.
     pub column: usize,
 }
 
@@ -31,7 +35,9 @@ impl Place {
 /// Why a text cannot be read, and where.
 #[derive(Clone, Debug, PartialEq, Eq)]
 pub struct Trouble {
+    /// Where the text stops being readable.
     pub place: Place,
+    /// What was expected there, or what is wrong.
     pub what: String,
 }
 
@@ -40,3 +46,5 @@ impl std::fmt::Display for Trouble {
         write!(f, "{}:{}: {}", self.place.line, self.place.column, self.what)
     }
 }
+
+impl std::error::Error for Trouble {}

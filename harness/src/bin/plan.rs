@@ -4,7 +4,7 @@ use harness::calls::{self, answered_by, reason};
 use harness::checker::{check, Verdict};
 use harness::image::{read, Tree, RECORD_BYTES};
 use harness::limits::RECORDS;
-use harness::text::{self, Written, GRAMMAR};
+use harness::text::{self, Names, Written, GRAMMAR};
 use std::io::{Read, Write};
 use std::process::ExitCode;
 
@@ -63,7 +63,7 @@ fn plan_of(file: &str) -> Result<Tree, String> {
     };
     opened.and_then(|mut input| input.read_to_end(&mut bytes)).map_err(|error| format!("{file}: {error}"))?;
     let text = String::from_utf8(bytes).map_err(|_| format!("{file}: is no text"))?;
-    let Written { plan, places } = text::read(&text).map_err(|trouble| format!("{file}:{trouble}"))?;
+    let Written { plan, places } = text::read(&text, &Names::NONE).map_err(|trouble| format!("{file}:{trouble}"))?;
     match check(&plan.image()) {
         Verdict::ACCEPTED => Ok(plan),
         refusal => {
@@ -84,7 +84,7 @@ fn show(with_records: bool) -> Result<String, String> {
         Verdict::ACCEPTED => {}
         refusal => return Err(refused(refusal)),
     }
-    let lines = text::lines(&Tree::of_records(&read(&image)));
+    let lines = text::lines(&Tree::of_records(&read(&image)), &Names::NONE);
     Ok(match with_records {
         true => lines.iter().map(|(record, line)| format!("{line}  # {record}\n")).collect(),
         false => lines.iter().map(|(_, line)| format!("{line}\n")).collect(),
@@ -121,7 +121,7 @@ const WIDTH: usize = 72;
 /// Two plans side by side.
 fn columns(before: &Tree, after: &Tree) -> String {
     let [left, right] = [("before", before), ("after", after)].map(|(title, plan)| {
-        let lines = text::lines(plan).into_iter().flat_map(|(_, line)| broken(&line));
+        let lines = text::lines(plan, &Names::NONE).into_iter().flat_map(|(_, line)| broken(&line));
         std::iter::once(title.to_string()).chain(lines).collect::<Vec<String>>()
     });
     let width = left.iter().map(String::len).max().unwrap_or(0);

@@ -1,9 +1,16 @@
 //! Expressions read from a line.
 
 use super::reader::{Node, Read, Reader};
-use super::words::OPERATORS;
+use super::words::{number, OPERATORS};
+use super::Named;
 use crate::image::Label;
 use crate::kinds::*;
+
+/// The operator of a comparison that a token is. `<>` is another way to write `!=`.
+fn compares(token: &str) -> Option<u32> {
+    let sign = if token == "<>" { "!=" } else { token };
+    number(&OPERATORS, sign).filter(|operator| (EQ..=GT_EQ).contains(operator))
+}
 
 impl Reader<'_> {
     pub fn expr(&mut self) -> Read {
@@ -40,8 +47,8 @@ impl Reader<'_> {
     /// The comparison or test that follows the operand, or the operand alone.
     fn tested_so(&mut self, operand: Node) -> Read {
         let place = self.token.place;
-        let comparison = (EQ..=GT_EQ).find(|&operator| self.takes(OPERATORS[operator as usize - 1]));
-        if let Some(operator) = comparison {
+        if let Some(operator) = self.comparison() {
+            self.typed_null(Some(operator))?;
             let right = self.operand()?;
             return self.node(place, Label::of(BINARY, operator), vec![operand, right]);
         }
@@ -67,6 +74,27 @@ impl Reader<'_> {
         }
     }
 
+    /// The operator of a comparison, if one is in hand.
+    fn comparison(&mut self) -> Option<u32> {
+        let operator = compares(self.token.text)?;
+        self.takes(self.token.text);
+        Some(operator)
+    }
+
+    /// A NULL in hand has a type. One without is often a test for NULL that was written as a comparison.
+    fn typed_null(&self, compared: Option<u32>) -> Read<()> {
+        if self.token.text != "NULL" || self.following() == ":" {
+            return Ok(());
+        }
+        let never = "a comparison with NULL is never TRUE: write";
+        let what = match compared {
+            Some(EQ) => format!("{never} IS NULL, or, for the literal, NULL:int or NULL:bool"),
+            Some(NOT_EQ) => format!("{never} IS NOT NULL, or, for the literal, NULL:int or NULL:bool"),
+            _ => "a NULL has a type: write NULL:int or NULL:bool".to_string(),
+        };
+        Err(self.token.place.trouble(what))
+    }
+
     /// What follows IS, as the p of a test.
     fn test(&mut self) -> Read<u32> {
         let negated = self.takes("NOT");
@@ -80,9 +108,10 @@ impl Reader<'_> {
     }
 
     pub fn operand(&mut self) -> Read {
-        match self.token.text.as_bytes() {
-            b"(" => self.bracketed(),
-            [b'f', ..] => self.function(),
+        let called = self.has_coded(Named::Function) || matches!(self.following(), ":" | "(");
+        match self.token.text {
+            "(" => self.bracketed(),
+            _ if called && self.has_word() => self.function(),
             _ => self.leaf(),
         }
     }
@@ -93,11 +122,12 @@ impl Reader<'_> {
         let label = match self.token.text.as_bytes() {
             b"TRUE" | b"FALSE" => Label::of(BOOLEAN, self.among(&["FALSE", "TRUE"], "a truth")? - 1),
             b"NULL" => {
+                self.typed_null(compares(self.following()))?;
                 self.must_take("NULL")?;
                 Label::of(NULL, self.of_type()?)
             }
             [b'-' | b'0'..=b'9', ..] => integer(self.digits("", "an integer of 64 bits")?).label,
-            [b't' | b'c', ..] => {
+            _ if self.has_word() => {
                 let (qualifier, name) = self.name()?;
                 column(qualifier, name).label
             }
@@ -116,7 +146,7 @@ impl Reader<'_> {
     /// `f3:int:volatile:leafward(t1.c1, 5)`
     fn function(&mut self) -> Read {
         let place = self.token.place;
-        let number = self.digits("f", "a function such as f1")?;
+        let number = self.named(Named::Function, "a function such as f1")?;
         let of = self.of_type()?;
         let mut marks = 0;
         while self.takes(":") {

@@ -1,8 +1,9 @@
 //! What all of reading is made of: tokens taken one by one, words, numbers, names and lists.
 
+use super::names::coded;
 use super::tokens::Token;
-use super::words::{number, TYPES};
-use super::{Place, Trouble};
+use super::words::{is_reserved, number, TYPES};
+use super::{Named, Names, Place, Trouble};
 use crate::image::Label;
 use crate::limits::{DEPTH, RECORDS};
 use std::str::FromStr;
@@ -21,6 +22,7 @@ pub type Name = (u32, u32);
 
 /// The token in hand and what follows it in its line, how deep the expression in hand is, and how many records there are.
 pub struct Reader<'a> {
+    names: &'a Names,
     pub token: Token<'a>,
     line: std::vec::IntoIter<Token<'a>>,
     nested: usize,
@@ -28,9 +30,9 @@ pub struct Reader<'a> {
 }
 
 impl<'a> Reader<'a> {
-    pub fn new() -> Reader<'a> {
+    pub fn new(names: &'a Names) -> Reader<'a> {
         let token = Token { text: "", place: Place::START };
-        Reader { token, line: Vec::new().into_iter(), nested: 0, records: 0 }
+        Reader { names, token, line: Vec::new().into_iter(), nested: 0, records: 0 }
     }
 
     pub fn begin(&mut self, line: Vec<Token<'a>>) {
@@ -44,11 +46,22 @@ impl<'a> Reader<'a> {
     }
 
     pub fn expected(&self, what: &str) -> Trouble {
-        let found = match self.token.text {
-            "" => "the end of the line".to_string(),
-            text => format!("'{text}'"),
-        };
-        self.token.place.trouble(format!("expected {what}, found {found}"))
+        self.token.expected(what)
+    }
+
+    /// What follows the token in hand.
+    pub fn following(&self) -> &'a str {
+        self.line.as_slice().first().map_or("", |token| token.text)
+    }
+
+    /// Whether a word is in hand that is none of plans.
+    pub fn has_word(&self) -> bool {
+        self.token.text.starts_with(|c: char| c.is_ascii_alphabetic()) && !is_reserved(self.token.text)
+    }
+
+    /// Whether a number behind the letter is in hand.
+    pub fn has_coded(&self, what: Named) -> bool {
+        self.token.text.starts_with(what.letter()) && coded(self.token.text)
     }
 
     /// Goes past the text if it is in hand.
@@ -106,6 +119,24 @@ impl<'a> Reader<'a> {
         self.digits("", "a number from 0 to 4294967295")
     }
 
+    /// A number behind its letter, or the number of a word.
+    pub fn named(&mut self, what: Named, expected: &str) -> Read<u32> {
+        if let Some(number) = self.names.number(what, self.token.text) {
+            self.advance();
+            return Ok(number);
+        }
+        let unknown = self.has_word() && !coded(self.token.text) && !self.names.is_empty();
+        if unknown {
+            let (word, title) = (self.token.text, what.title());
+            return Err(self.token.place.trouble(format!("'{word}' is no {title} of the names file")));
+        }
+        self.digits(what.letter(), expected)
+    }
+
+    pub fn table(&mut self) -> Read<u32> {
+        self.named(Named::Table, "a number from 0 to 4294967295")
+    }
+
     /// `:int` or `:bool`
     pub fn of_type(&mut self) -> Read<u32> {
         self.must_take(":")?;
@@ -115,7 +146,7 @@ impl<'a> Reader<'a> {
     /// `t1`
     pub fn qualifier(&mut self) -> Read<u32> {
         let place = self.token.place;
-        match self.digits("t", "a qualifier such as t1")? {
+        match self.named(Named::Qualifier, "a qualifier such as t1")? {
             0 => Err(place.trouble("the qualifier 0 is none; a name without qualifier is written c1")),
             qualifier => Ok(qualifier),
         }
@@ -124,11 +155,11 @@ impl<'a> Reader<'a> {
     /// `t1.c2` or `c2`
     pub fn name(&mut self) -> Read<Name> {
         let mut qualifier = 0;
-        if self.token.text.starts_with('t') {
+        if self.following() == "." || self.has_coded(Named::Qualifier) {
             qualifier = self.qualifier()?;
             self.must_take(".")?;
         }
-        Ok((qualifier, self.digits("c", "a name such as t1.c2 or c2")?))
+        Ok((qualifier, self.named(Named::Name, "a name such as t1.c2 or c2")?))
     }
 
     /// Items with commas between them, inside brackets.

@@ -3,14 +3,16 @@
 use super::reader::{Name, Node, Read, Reader};
 use super::tokens::{lines, Line};
 use super::words::{COUNTS, JOINS, PLANS};
-use super::{Place, Trouble};
+use super::{Names, Place, Trouble};
 use crate::image::{Label, Tree};
 use crate::kinds::*;
 
 /// A plan, and where in the text each of its records stands.
 #[derive(Clone, Debug, PartialEq, Eq)]
 pub struct Written {
+    /// The plan as a tree of labels.
     pub plan: Tree,
+    /// By record number, the place of the word or sign that the record stands for.
     pub places: Vec<Place>,
 }
 
@@ -22,8 +24,9 @@ struct Open {
     inputs: Vec<Node>,
 }
 
-pub fn read(text: &str) -> Result<Written, Trouble> {
-    let mut reader = Reader::new();
+/// The plan of a text. What the check would refuse of it, names and types, is not looked at.
+pub fn read(text: &str, names: &Names) -> Result<Written, Trouble> {
+    let mut reader = Reader::new(names);
     let mut open: Vec<Open> = Vec::new();
     for Line { spaces, tokens } in lines(text)? {
         let level = level(spaces, open.len(), tokens[0].place)?;
@@ -115,7 +118,7 @@ impl Reader<'_> {
         let plain = Label::of(kind, 0);
         Ok(match kind {
             SCAN => {
-                let table = self.number()?;
+                let table = self.table()?;
                 let fields = self.row(Reader::field)?;
                 (Label::of(kind, table), beside(fields, self.titled("filters", Reader::expr)?))
             }

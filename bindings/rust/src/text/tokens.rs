@@ -9,6 +9,17 @@ pub struct Token<'a> {
     pub place: Place,
 }
 
+impl Token<'_> {
+    /// What was expected in the token's place.
+    pub fn expected(&self, what: &str) -> Trouble {
+        let found = match self.text {
+            "" => "the end of the line".to_string(),
+            text => format!("'{text}'"),
+        };
+        self.place.trouble(format!("expected {what}, found {found}"))
+    }
+}
+
 /// A line that is not blank: by how many spaces it is indented, and its tokens.
 pub struct Line<'a> {
     pub spaces: usize,
@@ -53,14 +64,14 @@ fn unknown(rest: &str, place: Place) -> Trouble {
     Trouble { place, what }
 }
 
-const SIGNS: [&str; 14] = [":=", "!=", "<=", ">=", "[", "]", "(", ")", ",", ":", ".", "=", "<", ">"];
+const SIGNS: [&str; 15] = [":=", "!=", "<>", "<=", ">=", "[", "]", "(", ")", ",", ":", ".", "=", "<", ">"];
 
 /// How many bytes the first token has: 0 at the end, none if no token begins so.
 fn length(rest: &str) -> Option<usize> {
     let run = |from: usize, holds: fn(&u8) -> bool| from + rest.bytes().skip(from).take_while(holds).count();
     match rest.as_bytes() {
         [] => Some(0),
-        [b'a'..=b'z' | b'A'..=b'Z', ..] => Some(run(1, u8::is_ascii_alphanumeric)),
+        [b'a'..=b'z' | b'A'..=b'Z', ..] => Some(run(1, |&byte| byte.is_ascii_alphanumeric() || byte == b'_')),
         [b'-', b'0'..=b'9', ..] | [b'0'..=b'9', ..] => Some(run(1, u8::is_ascii_digit)),
         _ => SIGNS.iter().find(|sign| rest.starts_with(**sign)).map(|sign| sign.len()),
     }
