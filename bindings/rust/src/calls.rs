@@ -74,8 +74,11 @@ pub fn pass(image: &[u8], budget: u64, out: &mut [u8]) -> Result<Passed, Refusal
 /// What a predicate says of a row.
 #[derive(Clone, Copy, Debug, PartialEq, Eq, Hash)]
 pub enum Truth {
+    /// The row does not pass.
     False,
+    /// The row passes.
     True,
+    /// The row does not pass: a NULL leaves it open.
     Unknown,
 }
 

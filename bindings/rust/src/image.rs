@@ -1,20 +1,29 @@
 //! Images: records of eight little-endian words, and trees of labels written as records, parent first.
 
+/// How long a record is.
 pub const RECORD_BYTES: usize = 32;
+/// How long a word is.
 pub const WORD_BYTES: usize = 4;
 
-/// The places of the links among a record's words.
+/// The place among a record's words of the link to its first child.
 pub const FIRST: usize = 6;
+/// The place among a record's words of the link to its next sibling.
 pub const NEXT: usize = 7;
 
 /// What a record says of itself, without its links.
 #[derive(Clone, Copy, Debug, Default, PartialEq, Eq)]
 pub struct Label {
+    /// Which expression, plan or part it is; [`kinds`](crate::kinds) has them, with what the other words say.
     pub kind: u32,
+    /// The second word.
     pub p: u32,
+    /// The third word.
     pub q: u32,
+    /// The fourth word.
     pub r: u32,
+    /// The fifth word, of a number of 64 bits the lower half.
     pub lo: u32,
+    /// The sixth word, of a number of 64 bits the upper half.
     pub hi: u32,
 }
 
@@ -25,35 +34,46 @@ impl Label {
     }
 }
 
+/// A record: a label and its links.
 #[derive(Clone, Copy, Debug, Default, PartialEq, Eq)]
 pub struct Record {
+    /// The first six words.
     pub label: Label,
+    /// The number of the first child's record; 0 for none.
     pub first: u32,
+    /// The number of the next sibling's record; 0 for none.
     pub next: u32,
 }
 
+/// A label and the trees below it: any records, whether a plan or not.
 #[derive(Clone, Debug, PartialEq, Eq)]
 pub struct Tree {
+    /// What the node's record says.
     pub label: Label,
+    /// In the order of their records.
     pub children: Vec<Tree>,
 }
 
 impl Record {
+    /// The eight words, links last.
     pub fn words(&self) -> [u32; 8] {
         let Label { kind, p, q, r, lo, hi } = self.label;
         [kind, p, q, r, lo, hi, self.first, self.next]
     }
 
+    /// The record of eight words.
     pub fn of_words([kind, p, q, r, lo, hi, first, next]: [u32; 8]) -> Record {
         Record { label: Label { kind, p, q, r, lo, hi }, first, next }
     }
 }
 
 impl Tree {
+    /// How many records it has.
     pub fn size(&self) -> usize {
         self.parent_first().len()
     }
 
+    /// How deep its deepest record stands; the root's depth is 1.
     pub fn depth(&self) -> usize {
         self.parent_first().iter().map(|(level, _)| *level).max().unwrap_or(0)
     }
@@ -69,7 +89,10 @@ impl Tree {
         nodes
     }
 
-    /// The tree that the records are of. They must be linked as `records` links them.
+    /// The tree that the records are of.
+    ///
+    /// # Panics
+    /// If they are not linked as [`records`](Tree::records) links them; [`Plan::from_image`](crate::Plan::from_image) takes any.
     pub fn of_records(records: &[Record]) -> Tree {
         Tree::read(records, &mut records.iter())
     }
@@ -101,6 +124,9 @@ impl Tree {
     }
 
     /// The whole with another tree in the place of that node.
+    ///
+    /// # Panics
+    /// If there is no such node.
     pub fn with(&self, at: usize, other: Tree) -> Tree {
         let mut whole = self.clone();
         *whole.node_mut(at).expect("the node stands in the tree") = other;
@@ -140,11 +166,13 @@ impl Tree {
         records
     }
 
+    /// The bytes of its records.
     pub fn image(&self) -> Vec<u8> {
         write(&self.records())
     }
 }
 
+/// The bytes of the records.
 pub fn write(records: &[Record]) -> Vec<u8> {
     records.iter().flat_map(|record| record.words()).flat_map(u32::to_le_bytes).collect()
 }
@@ -162,6 +190,7 @@ pub fn read(image: &[u8]) -> Vec<Record> {
     image.chunks_exact(RECORD_BYTES).map(record).collect()
 }
 
+/// The bytes as digits, two for each.
 pub fn to_hex(image: &[u8]) -> String {
     image.iter().map(|byte| format!("{byte:02x}")).collect()
 }

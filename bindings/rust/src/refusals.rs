@@ -1,5 +1,8 @@
 //! Why a call is refused.
 
+use crate::explain::explain;
+use crate::text::Names;
+
 /// Which test a call met. Of several the one with the lowest number is given.
 #[derive(Clone, Copy, Debug, PartialEq, Eq, PartialOrd, Ord, Hash)]
 #[non_exhaustive]
@@ -104,6 +107,30 @@ impl std::fmt::Display for Refusal {
 }
 
 impl std::error::Error for Refusal {}
+
+/// A refused plan or image, with what is wrong in words.
+#[derive(Clone, Debug, PartialEq, Eq, Hash)]
+pub struct Error {
+    /// The number and the record.
+    pub refusal: Refusal,
+    /// What is wrong at the record, as [`explain`] says it with numbers for names.
+    pub words: String,
+}
+
+impl Error {
+    /// The refusal of a call on the image, explained.
+    pub fn new(image: &[u8], refusal: Refusal) -> Error {
+        Error { refusal, words: explain(image, refusal, &Names::NONE) }
+    }
+}
+
+impl std::fmt::Display for Error {
+    fn fmt(&self, f: &mut std::fmt::Formatter<'_>) -> std::fmt::Result {
+        write!(f, "refused {}: {}", self.refusal.number(), self.words)
+    }
+}
+
+impl std::error::Error for Error {}
 
 #[cfg(test)]
 mod tests {

@@ -25,7 +25,7 @@ pub struct Place {
 }
 
 impl Place {
-    const START: Place = Place { line: 1, column: 1 };
+    pub(crate) const START: Place = Place { line: 1, column: 1 };
 
     fn trouble(self, what: impl Into<String>) -> Trouble {
         Trouble { place: self, what: what.into() }
