@@ -100,7 +100,9 @@ fn only_input(arguments: &Arguments) -> Result<Input, Failure> {
 /// The record that --node asks for.
 fn node(arguments: &Arguments) -> Result<u32, Failure> {
     let node = arguments.number("--node").map_err(unusable)?;
-    node.ok_or_else(|| unusable("--node N is missing: the record of a plan, as 'plan show --records' prints it".to_string()))
+    node.ok_or_else(|| {
+        unusable("--node N is missing: the record of a plan, as 'plan show --records' prints it".to_string())
+    })
 }
 
 /// A plan alone, as --to asks for it.

@@ -140,7 +140,10 @@ mod tests {
         );
         let (predicate, join) = over(&text);
         assert_eq!(shown(&inferred(&join, &predicate)), "t2.c1 = 1 AND t1.c1 = 2 OR t1.c2 = 3");
-        assert_eq!(clause(&predicate, &[(1, 1), (1, 2)]).as_ref().map(shown), Some("t1.c1 = 1 OR t1.c2 = 3".to_string()));
+        assert_eq!(
+            clause(&predicate, &[(1, 1), (1, 2)]).as_ref().map(shown),
+            Some("t1.c1 = 1 OR t1.c2 = 3".to_string())
+        );
         assert_eq!(clause(&predicate, &[(2, 1)]), None);
         assert_eq!(clause(&predicate.children[0], &[(1, 1)]), None, "it is no OR");
     }

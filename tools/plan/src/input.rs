@@ -59,7 +59,8 @@ impl Input {
     pub fn described(&self, refusal: Refusal) -> String {
         let file = &self.file;
         let explained = format!("  {}\n", explain(&self.image, refusal, &self.names));
-        let place = self.source.as_ref().and_then(|source| Some((source, *source.places.get(refusal.record as usize)?)));
+        let place =
+            self.source.as_ref().and_then(|source| Some((source, *source.places.get(refusal.record as usize)?)));
         match place {
             Some((source, place)) => {
                 let trouble = Trouble { place, what: refusal.to_string() };

@@ -165,7 +165,8 @@ impl Matching<'_> {
 /// The links from the first of several plans to the last, from those between each and the next.
 pub fn composed(first: &Outline, last: &Outline, steps: &[Links]) -> Links {
     let start = (0..first.conjuncts.len()).map(|at| Link { how: How::Stays, from: vec![at] }).collect();
-    let links: Links = steps.iter().fold(start, |so_far: Links, step| step.iter().map(|link| onto(&so_far, link)).collect());
+    let links: Links =
+        steps.iter().fold(start, |so_far: Links, step| step.iter().map(|link| onto(&so_far, link)).collect());
     let settled = |(to, link): (usize, Link)| match link.how {
         How::Stays | How::Moved | How::Changed => {
             let (old, new) = (&first.conjuncts[link.from[0]], &last.conjuncts[to]);

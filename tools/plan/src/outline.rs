@@ -36,7 +36,8 @@ pub struct Node<'a> {
     pub record: usize,
     /// How many plans stand above it.
     pub depth: usize,
-    pub anchor: usize,
+    /// Which input of a Join it is.
+    pub edge: Option<&'static str>,
     /// Which conjuncts of the outline are its own.
     pub conjuncts: Range<usize>,
 }
@@ -61,14 +62,15 @@ pub fn inputs(plan: &Tree) -> impl Iterator<Item = &Tree> {
     plan.children.iter().filter(|child| is_plan(child.label.kind))
 }
 
-/// The plan below all Filters that stand at the top, and how many these are.
-pub fn below_filters(plan: &Tree) -> (&Tree, usize) {
-    let (mut below, mut filters) = (plan, 0);
+/// How many Filters stand right below a Filter.
+fn filters_below(filter: &Tree) -> usize {
+    let mut filters = 0;
+    let mut below = &filter.children[1];
     while below.label.kind == FILTER {
         below = &below.children[1];
         filters += 1;
     }
-    (below, filters)
+    filters
 }
 
 /// The operands of the ANDs at the top, left before right.
@@ -98,24 +100,26 @@ impl<'a> Outline<'a> {
     /// The outline of an accepted plan.
     pub fn of(plan: &'a Tree) -> Outline<'a> {
         let mut outline = Outline::default();
-        outline.add(plan, 0, 0, None);
+        let root = Position { record: 0, depth: 0, above: None, edge: None };
+        outline.add(plan, root);
         outline
     }
 
     /// The anchors right below an anchor, each with which input it is.
     pub fn inputs_of(&self, anchor: usize) -> Vec<(usize, usize)> {
-        let below = |(at, other): (usize, &Anchor)| other.above.filter(|above| above.0 == anchor).map(|above| (at, above.1));
+        let below =
+            |(at, other): (usize, &Anchor)| other.above.filter(|above| above.0 == anchor).map(|above| (at, above.1));
         self.anchors.iter().enumerate().filter_map(below).collect()
     }
 
     /// Adds a plan and those below it; answers the record number behind them.
-    fn add(&mut self, tree: &'a Tree, record: usize, depth: usize, above: Option<(usize, usize)>) -> usize {
+    fn add(&mut self, tree: &'a Tree, Position { record, depth, above, edge }: Position) -> usize {
         let is_filter = tree.label.kind == FILTER;
         let (anchor, node, first) = (self.anchors.len(), self.nodes.len(), self.conjuncts.len());
-        let slot = if is_filter { Slot::Above(below_filters(tree).1 - 1) } else { Slot::Own };
+        let slot = if is_filter { Slot::Above(filters_below(tree)) } else { Slot::Own };
         let place = Place { anchor, slot };
         self.conjuncts.extend(held(tree).into_iter().map(|expr| Conjunct { place, expr, node }));
-        self.nodes.push(Node { tree, record, depth, anchor, conjuncts: first..self.conjuncts.len() });
+        self.nodes.push(Node { tree, record, depth, edge, conjuncts: first..self.conjuncts.len() });
         if !is_filter {
             self.anchors.push(Anchor { tree, above });
         }
@@ -126,11 +130,20 @@ impl<'a> Outline<'a> {
                 continue;
             }
             let above = if is_filter { above } else { Some((anchor, input)) };
-            next = self.add(child, next, depth + 1, above);
+            let edge = ["left", "right"].get(input).copied().filter(|_| tree.label.kind == JOIN);
+            next = self.add(child, Position { record: next, depth: depth + 1, above, edge });
             input += 1;
         }
         next
     }
+}
+
+/// Where a plan stands that is to be added.
+struct Position {
+    record: usize,
+    depth: usize,
+    above: Option<(usize, usize)>,
+    edge: Option<&'static str>,
 }
 
 #[cfg(test)]

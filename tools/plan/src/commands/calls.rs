@@ -9,6 +9,7 @@ use crate::{page, Failure, Outcome};
 use push_down_filter::image::{read, Tree};
 use push_down_filter::text::line;
 use push_down_filter::{Reason, Refusal, MAX_BYTES};
+use std::path::Path;
 
 const BUDGET: u64 = 10_000;
 
@@ -17,13 +18,12 @@ pub fn rewrite(arguments: &Arguments) -> Outcome {
     let input = only_input(arguments)?;
     let before = input.plan()?;
     let mut out = vec![0; MAX_BYTES];
-    let rewritten = push_down_filter::rewrite(&input.image, node, &mut out).map_err(|refusal| input.refused(refusal))?;
+    let rewritten =
+        push_down_filter::rewrite(&input.image, node, &mut out).map_err(|refusal| input.refused(refusal))?;
     let after = Tree::of_records(&read(&out[..rewritten.bytes()]));
     Ok(match wanted {
         Some(wanted) => to(wanted, &after, &input.names),
-        None => {
-            format!("{}flag {}\n", columns(&before, &after, &input.names), u32::from(rewritten.changed)).into()
-        }
+        None => format!("{}flag {}\n", columns(&before, &after, &input.names), u32::from(rewritten.changed)).into(),
     })
 }
 
@@ -63,18 +63,26 @@ fn refused(input: &Input, budget: u64, refusal: Refusal) -> Failure {
     };
     let file = &input.file;
     let at = plan.node(refusal.record as usize).map_or(String::new(), |node| line(node, &input.names));
-    Failure::Refused(format!("{file}: {refusal}\n  visit {} is refused, at this plan as it then stood:\n  {at}\n", visits + 1))
+    Failure::Refused(format!(
+        "{file}: {refusal}\n  visit {} is refused, at this plan as it then stood:\n  {at}\n",
+        visits + 1
+    ))
 }
 
 /// Writes the page of a pass. Its counts are printed, unless the page itself is.
 fn write_page(file: &str, input: &Input, budget: u64) -> Outcome {
     let states = steps::states(&input.image, budget).map_err(|refusal| refused(input, budget, refusal))?;
-    let title = if input.file == "-" { "standard input" } else { &input.file };
-    let text = page::page(title, &states, &input.names);
+    let text = page::page(&title(&input.file), &states, &input.names);
     if file == "-" {
         return Ok(text.into());
     }
     std::fs::write(file, text).map_err(|error| unusable(format!("{file}: {error}")))?;
     let last = states.last().map_or(String::new(), counts);
     Ok(format!("{last}\n").into())
+}
+
+/// A file by its name alone, without the folders that it stands in.
+fn title(file: &str) -> String {
+    let name = Path::new(file).file_name().map(|name| name.to_string_lossy().into_owned());
+    name.filter(|_| file != "-").unwrap_or_else(|| "standard input".to_string())
 }

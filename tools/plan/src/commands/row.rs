@@ -30,6 +30,9 @@ fn cell(word: &str) -> Result<(i64, u8), String> {
         "TRUE" => Ok((1, 0)),
         "FALSE" => Ok((0, 0)),
         "NULL" => Ok((0, 1)),
-        _ => word.parse().map(|value| (value, 0)).map_err(|_| format!("{word} is no value: an integer, TRUE, FALSE or NULL")),
+        _ => word
+            .parse()
+            .map(|value| (value, 0))
+            .map_err(|_| format!("{word} is no value: an integer, TRUE, FALSE or NULL")),
     }
 }
