@@ -1,35 +1,10 @@
 //! What a conjunct becomes on its way below a plan: the text that a match looks for. Nothing here decides what moves; the library does,
 //! and a match is made only of what stands in its answer.
 
+use crate::fields::{fields, name, Name};
 use crate::outline::inputs;
 use push_down_filter::image::Tree;
 use push_down_filter::kinds::*;
-
-/// Qualifier and name.
-pub type Name = (u32, u32);
-
-fn name(tree: &Tree) -> Name {
-    (tree.label.p, tree.label.q)
-}
-
-fn named(plan: &Tree, kinds: &[u32]) -> Vec<Name> {
-    plan.children.iter().filter(|part| kinds.contains(&part.label.kind)).map(name).collect()
-}
-
-/// The names of a plan's fields.
-pub fn fields(plan: &Tree) -> Vec<Name> {
-    let input = |at: usize| inputs(plan).nth(at).map(fields).unwrap_or_default();
-    let both = || [input(0), input(1)].concat();
-    match (plan.label.kind, plan.label.p) {
-        (SCAN, _) => named(plan, &[FIELD]),
-        (PROJECTION | AGGREGATE, _) => named(plan, &[ENTRY, AGGREGATE_ENTRY]),
-        (JOIN, INNER | LEFT | RIGHT | FULL) => both(),
-        (JOIN, RIGHT_SEMI | RIGHT_ANTI) => input(1),
-        (ALIAS, qualifier) => input(0).into_iter().map(|(_, name)| (qualifier, name)).collect(),
-        (WINDOW, _) => [input(0), named(plan, &[WINDOW_ENTRY])].concat(),
-        _ => input(0),
-    }
-}
 
 /// The expression with each column replaced by what the function has for it.
 fn replaced(expr: &Tree, by: &impl Fn(Name) -> Option<Tree>) -> Tree {
@@ -45,8 +20,8 @@ pub fn through(plan: &Tree, input: usize, expr: &Tree) -> Tree {
         ALIAS | UNION => {
             let (outer, inner) = (fields(plan), inputs(plan).nth(input).map(fields).unwrap_or_default());
             replaced(expr, &|wanted| {
-                let place = outer.iter().position(|field| *field == wanted)?;
-                inner.get(place).map(|field| column(field.0, field.1))
+                let place = outer.iter().position(|field| field.name == wanted)?;
+                inner.get(place).map(|field| column(field.name.0, field.name.1))
             })
         }
         PROJECTION | AGGREGATE => replaced(expr, &|wanted| {
@@ -70,10 +45,10 @@ pub fn inferred(join: &Tree, expr: &Tree) -> Tree {
     })
 }
 
-/// Of an OR, the clause that only reads the fields; none if an operand yields none.
-pub fn clause(expr: &Tree, fields: &[Name]) -> Option<Tree> {
+/// Of an OR, the clause that only reads the names; none if an operand yields none.
+pub fn clause(expr: &Tree, names: &[Name]) -> Option<Tree> {
     match is(expr, OR) {
-        true => part(expr, fields),
+        true => part(expr, names),
         false => None,
     }
 }
@@ -82,10 +57,10 @@ fn is(expr: &Tree, operator: u32) -> bool {
     expr.label.kind == BINARY && expr.label.p == operator
 }
 
-/// What of an operand only reads the fields. An AND keeps each operand that yields.
-fn part(expr: &Tree, fields: &[Name]) -> Option<Tree> {
+/// What of an operand only reads the names. An AND keeps each operand that yields.
+fn part(expr: &Tree, names: &[Name]) -> Option<Tree> {
     if is(expr, OR) || is(expr, AND) {
-        let [left, right] = [0, 1].map(|at| part(&expr.children[at], fields));
+        let [left, right] = [0, 1].map(|at| part(&expr.children[at], names));
         return match (left, right) {
             (Some(left), Some(right)) => Some(binary(expr.label.p, left, right)),
             (one, other) if is(expr, AND) => one.or(other),
@@ -93,7 +68,7 @@ fn part(expr: &Tree, fields: &[Name]) -> Option<Tree> {
         };
     }
     let reads = expr.parent_first().into_iter().filter(|(_, tree)| tree.label.kind == COLUMN);
-    reads.map(|(_, column)| name(column)).all(|column| fields.contains(&column)).then(|| expr.clone())
+    reads.map(|(_, column)| name(column)).all(|column| names.contains(&column)).then(|| expr.clone())
 }
 
 #[cfg(test)]
@@ -146,23 +121,5 @@ mod tests {
         );
         assert_eq!(clause(&predicate, &[(2, 1)]), None);
         assert_eq!(clause(&predicate.children[0], &[(1, 1)]), None, "it is no OR");
-    }
-
-    #[test]
-    fn fields_of_every_kind() {
-        let scans = "  TableScan 1 [t1.c1:int]\n  TableScan 2 [t2.c1:int]\n";
-        let one = "  TableScan 1 [t1.c1:int]\n";
-        let cases: [(String, &[Name]); 7] = [
-            (format!("Join Full\n{scans}"), &[(1, 1), (2, 1)]),
-            (format!("Join LeftAnti\n{scans}"), &[(1, 1)]),
-            (format!("Join RightSemi\n{scans}"), &[(2, 1)]),
-            (format!("Union\n{scans}"), &[(1, 1)]),
-            (format!("Window [c5 := Count(t1.c1)]\n{one}"), &[(1, 1), (0, 5)]),
-            (format!("Aggregate group [c5 := t1.c1] entries [c6 := Count(TRUE)]\n{one}"), &[(0, 5), (0, 6)]),
-            (format!("SubqueryAlias t7\n{one}"), &[(7, 1)]),
-        ];
-        for (text, expected) in cases {
-            assert_eq!(fields(&plan(&text)), expected, "{text}");
-        }
     }
 }

@@ -4,7 +4,7 @@ use crate::arguments::Arguments;
 use crate::Failure;
 use push_down_filter::image::{read, Tree};
 use push_down_filter::text::{self, Names, Place, Trouble, Written};
-use push_down_filter::{check, explain, Refusal};
+use push_down_filter::{check, explain, Reason, Refusal};
 use std::io::Read;
 
 /// A plan's image as it was read, not yet checked.
@@ -56,17 +56,27 @@ impl Input {
     }
 
     /// A refusal in words, with its place in the text.
-    pub fn described(&self, refusal: Refusal) -> String {
+    fn described(&self, refusal: Refusal) -> String {
         let file = &self.file;
-        let explained = format!("  {}\n", explain(&self.image, refusal, &self.names));
-        let place =
-            self.source.as_ref().and_then(|source| Some((source, *source.places.get(refusal.record as usize)?)));
-        match place {
-            Some((source, place)) => {
+        let line = explain(&self.image, refusal, &self.names);
+        // where it has nothing to add it repeats the words of the number
+        let explained = if line.ends_with(refusal.reason.words()) { String::new() } else { format!("  {line}\n") };
+        match self.place(refusal) {
+            Some((text, place)) => {
                 let trouble = Trouble { place, what: refusal.to_string() };
-                format!("{file}:{trouble}\n{explained}{}", pointer(&source.text, place))
+                format!("{file}:{trouble}\n{explained}{}", pointer(text, place))
             }
             None => format!("{file}: {refusal}\n{explained}"),
+        }
+    }
+
+    /// The text, and where in it the record stands that a refusal names.
+    fn place(&self, refusal: Refusal) -> Option<(&str, Place)> {
+        let Source { text, places } = self.source.as_ref()?;
+        match refusal.reason {
+            // these name no record
+            Reason::Buffer | Reason::Row | Reason::Output => None,
+            _ => places.get(refusal.record as usize).map(|place| (text.as_str(), *place)),
         }
     }
 }
@@ -92,12 +102,33 @@ fn pointed(file: &str, text: &str, trouble: &Trouble) -> String {
     format!("{file}:{trouble}\n{}", pointer(text, trouble.place))
 }
 
-/// A line of a text, and below it a sign under the place.
+/// So many characters of a line are shown on either side of a place.
+const AROUND: usize = 60;
+
+/// A line of a text, and below it a sign under the place. Of a long line only what stands around the place is shown.
 fn pointer(text: &str, place: Place) -> String {
-    let Some(line) = text.lines().nth(place.line - 1) else {
-        return String::new();
-    };
+    let line: Vec<char> = text.lines().nth(place.line - 1).unwrap_or("").chars().collect();
+    let column = (place.column - 1).min(line.len());
+    let (from, to) = (column.saturating_sub(AROUND), (column + AROUND).min(line.len()));
+    let shown: String = line[from..to].iter().collect();
+    let (before, after) = (if from > 0 { ".. " } else { "" }, if to < line.len() { " .." } else { "" });
     let number = place.line.to_string();
-    let [blank, column] = [number.len(), place.column - 1].map(|width| " ".repeat(width));
-    format!("  {number} | {line}\n  {blank} | {column}^\n")
+    let [blank, under] = [number.len(), before.len() + column - from].map(|width| " ".repeat(width));
+    format!("  {number} | {before}{shown}{after}\n  {blank} | {under}^\n")
+}
+
+#[cfg(test)]
+mod tests {
+    use super::*;
+
+    #[test]
+    fn the_sign_stands_under_the_place() {
+        assert_eq!(pointer("ab\ncd", Place { line: 2, column: 2 }), "  2 | cd\n    |  ^\n");
+        assert_eq!(pointer("", Place { line: 1, column: 1 }), "  1 | \n    | ^\n");
+        let long = "x".repeat(100) + "y" + &"x".repeat(100);
+        let shown = pointer(&long, Place { line: 1, column: 101 });
+        let [line, sign] = [0, 1].map(|at| shown.lines().nth(at).expect("there are two lines"));
+        assert_eq!(line.find('y'), sign.find('^'));
+        assert!(line.len() < 2 * AROUND + 20 && line.ends_with("x ..") && line.contains("| .. x"), "{shown}");
+    }
 }

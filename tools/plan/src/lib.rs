@@ -4,6 +4,7 @@ pub mod arguments;
 pub mod columns;
 pub mod commands;
 pub mod derivations;
+pub mod fields;
 pub mod help;
 pub mod input;
 pub mod moves;

@@ -1,6 +1,7 @@
 //! Which conjunct of a plan came from which of the plan before it.
 
-use crate::derivations::{clause, fields, inferred, through};
+use crate::derivations::{clause, inferred, through};
+use crate::fields::{fields, Name};
 use crate::outline::{inputs, split, Conjunct, Outline, Place};
 use push_down_filter::image::Tree;
 use push_down_filter::kinds::{boolean, JOIN};
@@ -118,7 +119,8 @@ impl Matching<'_> {
                 offers.push(offer(part.clone(), if part == expr { How::Moved } else { How::Changed }));
             }
             if plan.label.kind == JOIN {
-                let side = inputs(plan).nth(input).map(fields).unwrap_or_default();
+                let side: Vec<Name> =
+                    inputs(plan).nth(input).map(fields).unwrap_or_default().iter().map(|field| field.name).collect();
                 let other = inferred(plan, expr);
                 offers.extend((other != *expr).then(|| offer(other, How::Inferred)));
                 offers.extend(clause(expr, &side).map(|clause| offer(clause, How::Clause)));

@@ -62,11 +62,19 @@ fn refused(input: &Input, budget: u64, refusal: Refusal) -> Failure {
         return input.refused(refusal);
     };
     let file = &input.file;
-    let at = plan.node(refusal.record as usize).map_or(String::new(), |node| line(node, &input.names));
+    let at = plan.node(refusal.record as usize).map_or(String::new(), |node| beginning(&line(node, &input.names)));
     Failure::Refused(format!(
         "{file}: {refusal}\n  visit {} is refused, at this plan as it then stood:\n  {at}\n",
         visits + 1
     ))
+}
+
+/// A line, or the first hundred characters of a long one.
+fn beginning(line: &str) -> String {
+    match line.char_indices().nth(100) {
+        Some((end, _)) => format!("{} ..", &line[..end]),
+        None => line.to_string(),
+    }
 }
 
 /// Writes the page of a pass. Its counts are printed, unless the page itself is.
