@@ -1,9 +1,8 @@
-//! Rewrite and pass by the library where it is linked, else by the patched source; and what the numbers of refusals say.
+//! Rewrite and pass by the library where it is linked, else by the patched source.
 
 use crate::ffi;
 use crate::rewriting::{self, Passed, Rewritten};
 use crate::source::{Build, ALL};
-use push_down_filter::Reason;
 
 const PATCHED: Build = Build::Patched(ALL);
 
@@ -21,9 +20,4 @@ pub fn answered_by() -> &'static str {
         true => "the library",
         false => "the patched source (the library's is not linked)",
     }
-}
-
-/// What a refusal with the number says.
-pub fn reason(number: u32) -> &'static str {
-    Reason::of_number(number).words()
 }

@@ -12,7 +12,7 @@ usage: plan check FILE                          whether the plan is accepted, el
        plan row --node N FILE VALUE..           what the Filter at record N says of a row
        plan COMMAND --help                      more of a command
        plan --help                              this, and how a plan is written
-       plan --version                           which tool and which library this is
+       plan --version                           the versions of the tool and of the crate that calls the library
 
 FILE holds a plan as text or as an image; which of them is seen from its bytes, unless --from says it. - is standard input.
 Every command takes --from and --names, rewrite and pass take --to as well:
@@ -76,7 +76,8 @@ pub fn whole() -> String {
     format!("{USAGE}\n{GRAMMAR}")
 }
 
-/// The tool's version. The bindings and the library have the same; a test compares the first two.
+/// The versions of the tool and of the crate through which it calls the library. They are the same, which tests/readme.rs compares.
 pub fn version() -> String {
-    format!("plan {}\n", env!("CARGO_PKG_VERSION"))
+    let version = env!("CARGO_PKG_VERSION");
+    format!("plan {version}\npush-down-filter {version}\n")
 }
