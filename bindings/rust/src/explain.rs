@@ -26,17 +26,23 @@ pub fn explain(image: &[u8], refusal: Refusal, names: &Names) -> String {
     let record = refusal.record as usize;
     let records = image::read(image);
     let title = match records.get(record) {
-        Some(found) if refusal.reason != Reason::Buffer => format!("record {record} ({})", kind_name(found.label.kind)),
+        Some(found) if is_of_image(refusal.reason) => format!("record {record} ({})", kind_name(found.label.kind)),
         _ => format!("record {record}"),
     };
     let found = match refusal.reason {
-        Reason::Buffer => Some(buffer(image)),
+        Reason::Buffer => buffer(image),
         Reason::Record => records.get(record).and_then(words),
         Reason::Link => link(&records, record),
         Reason::Call => Some(asked_for(&records, record)),
         _ => formed(records, record, refusal.reason, names),
     };
     format!("{title}: {}", found.unwrap_or_else(|| refusal.reason.words().to_string()))
+}
+
+/// Whether the reason names a record of the image that was given. The record of 11 is one of the plan as a pass had left it.
+fn is_of_image(reason: Reason) -> bool {
+    use Reason::{Call, Depth, Form, Function, Link, Name, Record, Type};
+    matches!(reason, Record | Link | Depth | Form | Name | Type | Call | Function)
 }
 
 /// The name of a kind, as plans are spoken of.
@@ -48,13 +54,15 @@ fn kind_name(kind: u32) -> &'static str {
     name(&EXPRS, COLUMN).or(name(&PLANS, SCAN)).or(name(&PARTS, FIELD)).unwrap_or("unknown kind")
 }
 
-fn buffer(image: &[u8]) -> String {
-    let bytes = image.len();
-    match (bytes, bytes % RECORD_BYTES) {
+/// Test 1.
+fn buffer(image: &[u8]) -> Option<String> {
+    let (records, over) = (image.len() / RECORD_BYTES, image.len() % RECORD_BYTES);
+    Some(match (image.len(), over) {
         (0, _) => "there are no bytes".to_string(),
-        (_, 0) => format!("{} records; at most {}", bytes / RECORD_BYTES, limits::RECORDS),
-        (_, over) => format!("{bytes} bytes are no whole records of {RECORD_BYTES}: {over} are left over"),
-    }
+        (_, 0) if records <= limits::RECORDS => return None,
+        (_, 0) => format!("{records} records; at most {}", limits::RECORDS),
+        (bytes, over) => format!("{bytes} bytes are no whole records of {RECORD_BYTES}: {over} are left over"),
+    })
 }
 
 /// Test 2: which word, what it says, what it is and what it may be.
