@@ -1,5 +1,5 @@
-//! The Filter t.c > 5 over a scan of table 1 whose field c is marked: checks it, passes over it, and prints the plan that is
-//! left, depth, kind, p, q, r, lo and hi of each record, then the counts.
+//! The Filter t.c > 5 over a scan of table 1 whose field c is marked: checks it, passes over it, and prints the plan
+//! that is left, depth, kind, p, q, r, lo and hi of each record, then the counts.
 
 use push_down_filter::image::{Label, Tree};
 use push_down_filter::{col, field, scan, Error, Plan, Type};

@@ -40,17 +40,27 @@ fn references_and_schemas() {
     let wide = format!("TableScan 1 [{}]", wide.join(", "));
     let joined = format!("Join LeftSemi\n  {}\n  TableScan 2 [t2.c9:int]", wide.replace(", c65:int", ""));
     all_say(&[
-        (&filter("t1.c9 > 5"), 6, 2, "record 2 (Column): t1.c9 is none of the fields here: t1.c1:int, t1.c2:bool, t2.c2:int"),
+        (
+            &filter("t1.c9 > 5"),
+            6,
+            2,
+            "record 2 (Column): t1.c9 is none of the fields here: t1.c1:int, t1.c2:bool, t2.c2:int",
+        ),
         (&filter("c2"), 6, 1, "record 1 (Column): c2 is none of the fields here: t1.c2:bool, t2.c2:int, t1.c1:int"),
         ("Filter c1\n  TableScan 1 []", 6, 1, "record 1 (Column): c1 is no field here; there are none"),
         (join, 6, 6, "record 6 (Column): t2.c1 is none of the fields here: t1.c1:int"),
-        ("TableScan 1 [t1.c1:int, t1.c1:bool]", 6, 0, "record 0 (TableScan): two fields are t1.c1, of the records 1 and 2"),
+        (
+            "TableScan 1 [t1.c1:int, t1.c1:bool]",
+            6,
+            0,
+            "record 0 (TableScan): two fields are t1.c1, of the records 1 and 2",
+        ),
         (
             &over("Projection [c1 := 5, t3.c1 := t1.c2]"),
             6,
             0,
-            "record 0 (Projection): the fields c1 and t3.c1, of the records 1 and 3, share a name, and c1 has no qualifier to \
-             tell them apart",
+            "record 0 (Projection): the fields c1 and t3.c1, of the records 1 and 3, share a name, and c1 has no \
+             qualifier to tell them apart",
         ),
         (&over("SubqueryAlias t4"), 6, 0, "record 0 (SubqueryAlias): two fields are t4.c2, of the records 3 and 4"),
         (&wide, 6, 0, "record 0 (TableScan): it has 65 fields; at most 64"),
@@ -119,17 +129,32 @@ fn types() {
 #[test]
 fn children_and_lists() {
     all_say(&[
-        ("Projection []\n  TableScan 1 []", 5, 0, "record 0 (Projection): its children must be 1 or more entries, one plan; they are TableScan"),
-        (&filter("t1.c1 IN ()"), 5, 1, "record 1 (InList): its children must be 2 or more expressions; they are Column"),
+        (
+            "Projection []\n  TableScan 1 []",
+            5,
+            0,
+            "record 0 (Projection): its children must be 1 or more entries, one plan; they are TableScan",
+        ),
+        (
+            &filter("t1.c1 IN ()"),
+            5,
+            1,
+            "record 1 (InList): its children must be 2 or more expressions; they are Column",
+        ),
         (
             "Aggregate\n  TableScan 1 []",
             5,
             0,
-            "record 0 (Aggregate): its children must be any entries, any aggregate entries, one plan, and at least one entry of \
-             either sort; they are TableScan",
+            "record 0 (Aggregate): its children must be any entries, any aggregate entries, one plan, and at least one \
+             entry of either sort; they are TableScan",
         ),
         (&filter(&["t1.c2"; 129].join(" AND ")), 5, 0, "record 0 (Filter): 129 conjuncts; at most 128"),
-        (&format!("TableScan 1 [] filters [{}]", ["TRUE"; 129].join(", ")), 5, 0, "record 0 (TableScan): 129 filters; at most 128"),
+        (
+            &format!("TableScan 1 [] filters [{}]", ["TRUE"; 129].join(", ")),
+            5,
+            0,
+            "record 0 (TableScan): 129 filters; at most 128",
+        ),
     ]);
     let mut records = read(&image(&filter("t1.c2 AND t1.c2"), &Names::NONE));
     // a plan in an expression's place, then an expression alone
