@@ -23,7 +23,8 @@ fn main() {
 /// Where the library stands: the folder that the environment names, else the one in which `rt staticlib` makes it.
 fn folder() -> PathBuf {
     let here = PathBuf::from(env::var_os("CARGO_MANIFEST_DIR").unwrap_or_default());
-    env::var_os(FOLDER).map_or_else(|| here.join("../../target/staticlib"), PathBuf::from)
+    let named = env::var_os(FOLDER).filter(|folder| !folder.is_empty());
+    named.map_or_else(|| here.join("../../target/staticlib"), PathBuf::from)
 }
 
 /// Says what is missing, and ends the build.

@@ -229,9 +229,9 @@ fn every_trouble_has_its_place() {
     assert_eq!(read(&deep("(", 1_000_000)).expect_err("too deep").place, Place { line: 1, column: 8 + DEPTH });
 }
 
-const PIECES: [&str; 24] = [
+const PIECES: [&str; 28] = [
     " ", "  ", "\n", "\n  ", "#", "(", ")", "[", "]", ",", ":", ":=", "AND", "NOT ", "IS ", "IN (", "t1.", "c", "f",
-    "-", "9", "Join", "\t", "é",
+    "-", "9", "Join", "\t", "é", "<>", "NULL", "word_1", ".word_2",
 ];
 
 /// Removes, doubles, replaces or puts in a piece, or takes away the end.
@@ -257,11 +257,13 @@ fn damaged(random: &mut Random, text: &str) -> String {
 #[test]
 fn damaged_texts_are_refused_or_read() {
     let mut counts = [0; 3];
+    let all_names = [Names::NONE, words()];
     for number in 0..20_000 {
         let random = &mut Random::of_case(22, number);
         let plan = accepted(random, 30).plan;
-        let text = damaged(random, &write(&plan));
-        let outcome = match read(&text) {
+        let names = random.pick(&all_names);
+        let text = damaged(random, &text::write(&plan, names));
+        let outcome = match text::read(&text, names) {
             Err(trouble) => {
                 let line = text.lines().nth(trouble.place.line - 1).unwrap_or("");
                 assert!(trouble.place.column <= line.chars().count() + 1, "{trouble} in\n{text}");
@@ -272,6 +274,29 @@ fn damaged_texts_are_refused_or_read() {
                 1
             }
             Ok(_) => 2,
+        };
+        counts[outcome] += 1;
+    }
+    assert!(counts.iter().all(|count| *count > 100), "{counts:?}");
+}
+
+/// A damaged names file is refused at a place of it, or it is another, which comes back.
+#[test]
+fn damaged_names_are_refused_or_read() {
+    let whole = words().write() + "# numbers without a word stay as they are\n";
+    let mut counts = [0; 2];
+    for number in 0..5000 {
+        let text = damaged(&mut Random::of_case(24, number), &whole);
+        let outcome = match Names::read(&text) {
+            Ok(names) => {
+                assert_eq!(Names::read(&names.write()), Ok(names), "{text}");
+                0
+            }
+            Err(Trouble { place, .. }) => {
+                let line = text.lines().nth(place.line - 1).unwrap_or("");
+                assert!(place.column <= line.chars().count() + 1, "{place:?} in\n{text}");
+                1
+            }
         };
         counts[outcome] += 1;
     }

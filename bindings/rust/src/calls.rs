@@ -59,7 +59,8 @@ impl Passed {
     }
 }
 
-/// Rewrites the root, then likewise, in order, the plans below what stands there now, until `budget` nodes were visited.
+/// Rewrites the root, then likewise, in order, the plans below what stands there now, until `budget` nodes were
+/// visited.
 pub fn pass(image: &[u8], budget: u64, out: &mut [u8]) -> Result<Passed, Refusal> {
     let result = exported::pass(image, budget, out);
     let passed = Passed {
@@ -82,8 +83,8 @@ pub enum Truth {
     Unknown,
 }
 
-/// Tries the predicate of the Filter at record `node` on one row over its input's fields. A value whose mark is 1 is NULL
-/// and is not read; a boolean is 0 or 1.
+/// Tries the predicate of the Filter at record `node` on one row over its input's fields. A value whose mark is 1 is
+/// NULL and is not read; a boolean is 0 or 1.
 pub fn row_test(image: &[u8], node: u32, values: &[i64], marks: &[u8]) -> Result<Truth, Refusal> {
     let result = exported::row_test(image, node, values, marks);
     let truth = match result.truth {

@@ -1,18 +1,20 @@
 //! What is wrong with an image at the record that a refusal names, in words.
 
+mod names_and_types;
+
 use crate::form::{self, BadLink, Class, Linked, Range, Run};
 use crate::image::{self, Record, FIRST, RECORD_BYTES};
 use crate::kinds::*;
 use crate::limits;
-use crate::schema::{clash, Field};
-use crate::text::words::{word, COUNTS, OPERATORS, PLANS, TYPES};
-use crate::text::{self, Names};
+use crate::text::words::PLANS;
+use crate::text::Names;
 use crate::{Reason, Refusal};
+use names_and_types::View;
 
 /// What is wrong at the record that the refusal of a call on the image names: one line that names the record.
 ///
-/// The verdict is the call's; this only says what stands there. Any bytes and any refusal may be given: where the image gives no
-/// ground for the refusal, the line says what its number means.
+/// The verdict is the call's; this only says what stands there. Any bytes and any refusal may be given: where the image
+/// gives no ground for the refusal, the line says what its number means.
 ///
 /// ```
 /// use push_down_filter::text::{self, Names};
@@ -26,17 +28,23 @@ pub fn explain(image: &[u8], refusal: Refusal, names: &Names) -> String {
     let record = refusal.record as usize;
     let records = image::read(image);
     let title = match records.get(record) {
-        Some(found) if refusal.reason != Reason::Buffer => format!("record {record} ({})", kind_name(found.label.kind)),
+        Some(found) if is_of_image(refusal.reason) => format!("record {record} ({})", kind_name(found.label.kind)),
         _ => format!("record {record}"),
     };
     let found = match refusal.reason {
-        Reason::Buffer => Some(buffer(image)),
+        Reason::Buffer => buffer(image),
         Reason::Record => records.get(record).and_then(words),
         Reason::Link => link(&records, record),
         Reason::Call => Some(asked_for(&records, record)),
         _ => formed(records, record, refusal.reason, names),
     };
     format!("{title}: {}", found.unwrap_or_else(|| refusal.reason.words().to_string()))
+}
+
+/// Whether the reason names a record of the image that was given. That of 11 is one of the plan as a pass had left it.
+fn is_of_image(reason: Reason) -> bool {
+    use Reason::{Call, Depth, Form, Function, Link, Name, Record, Type};
+    matches!(reason, Record | Link | Depth | Form | Name | Type | Call | Function)
 }
 
 /// The name of a kind, as plans are spoken of.
@@ -48,13 +56,15 @@ fn kind_name(kind: u32) -> &'static str {
     name(&EXPRS, COLUMN).or(name(&PLANS, SCAN)).or(name(&PARTS, FIELD)).unwrap_or("unknown kind")
 }
 
-fn buffer(image: &[u8]) -> String {
-    let bytes = image.len();
-    match (bytes, bytes % RECORD_BYTES) {
+/// Test 1.
+fn buffer(image: &[u8]) -> Option<String> {
+    let (records, over) = (image.len() / RECORD_BYTES, image.len() % RECORD_BYTES);
+    Some(match (image.len(), over) {
         (0, _) => "there are no bytes".to_string(),
-        (_, 0) => format!("{} records; at most {}", bytes / RECORD_BYTES, limits::RECORDS),
-        (_, over) => format!("{bytes} bytes are no whole records of {RECORD_BYTES}: {over} are left over"),
-    }
+        (_, 0) if records <= limits::RECORDS => return None,
+        (_, 0) => format!("{records} records; at most {}", limits::RECORDS),
+        (bytes, over) => format!("{bytes} bytes are no whole records of {RECORD_BYTES}: {over} are left over"),
+    })
 }
 
 /// Test 2: which word, what it says, what it is and what it may be.
@@ -135,7 +145,7 @@ fn form_of(linked: &Linked, record: usize) -> Option<String> {
     }
     if !linked.children_hold(record) {
         let there: Vec<&str> = linked.children[record].iter().map(|&child| kind_name(linked.kind(child))).collect();
-        let there = if there.is_empty() { "none".to_string() } else { some_of(&there) };
+        let there = if there.is_empty() { "none".to_string() } else { some_of(&there, SHOWN) };
         return Some(format!("its children must be {}; they are {there}", asked(kind)));
     }
     let length = linked.list(record);
@@ -174,198 +184,13 @@ fn children((class, least, most): Run) -> String {
     }
 }
 
-/// How many of a long row are shown.
-const SHOWN: usize = 12;
-
-fn some_of<T: AsRef<str>>(items: &[T]) -> String {
-    let shown: Vec<&str> = items.iter().take(SHOWN).map(AsRef::as_ref).collect();
-    let rest = items.len().saturating_sub(SHOWN);
+/// A row of which at most so many are shown.
+fn some_of<T: AsRef<str>>(items: &[T], most: usize) -> String {
+    let shown: Vec<&str> = items.iter().take(most).map(AsRef::as_ref).collect();
+    let rest = items.len().saturating_sub(most);
     let more = if rest == 0 { String::new() } else { format!(" and {rest} more") };
     shown.join(", ") + &more
 }
 
-fn type_name(of: Option<u32>) -> &'static str {
-    of.map_or("no type", |of| word(&TYPES, of))
-}
-
-/// An image that has its form, and the words for its numbers.
-struct View<'a> {
-    linked: Linked,
-    names: &'a Names,
-}
-
-impl View<'_> {
-    fn field(&self, field: &Field) -> String {
-        self.names.column(field.qualifier, field.name)
-    }
-
-    fn fields(&self, fields: &[&Field]) -> String {
-        let shown = |field: &&Field| format!("{}:{}", self.field(field), type_name(field.of));
-        some_of(&fields.iter().map(shown).collect::<Vec<String>>())
-    }
-
-    /// An expression, cut short where it is long.
-    fn expr(&self, at: usize) -> String {
-        const LONG: usize = 60;
-        let whole = text::expr(&self.linked.tree(at), self.names);
-        match whole.len() > LONG {
-            true => whole.chars().take(LONG).chain("..".chars()).collect(),
-            false => whole,
-        }
-    }
-
-    /// Test 6.
-    fn name(&self, at: usize) -> Option<String> {
-        let kind = self.linked.kind(at);
-        if kind == COLUMN {
-            return self.reference(at);
-        }
-        if !is_plan(kind) {
-            return None;
-        }
-        let (schema, whose) = match kind {
-            JOIN => (self.linked.joined(at), "both inputs together"),
-            _ => (self.linked.fields(at), "it"),
-        };
-        if schema.len() > limits::FIELDS {
-            let verb = if kind == JOIN { "have" } else { "has" };
-            return Some(format!("{whose} {verb} {} fields; at most {}", schema.len(), limits::FIELDS));
-        }
-        let (one, other) = clash(&schema)?;
-        let (named, again) = (self.field(&one), self.field(&other));
-        let (first, second) = (one.record, other.record);
-        Some(match named == again {
-            true => format!("two fields are {named}, of the records {first} and {second}"),
-            false => {
-                let bare = if one.qualifier == 0 { &named } else { &again };
-                let both = format!("the fields {named} and {again}, of the records {first} and {second}, share a name");
-                format!("{both}, and {bare} has no qualifier to tell them apart")
-            }
-        })
-    }
-
-    /// A reference that names no field, or more than one.
-    fn reference(&self, at: usize) -> Option<String> {
-        let label = self.linked.label(at);
-        let written = self.names.column(label.p, label.q);
-        let scope = self.linked.scope(at);
-        let named = scope.iter().filter(|field| (field.qualifier, field.name) == (label.p, label.q)).count();
-        if scope.is_empty() {
-            return Some(format!("{written} is no field here; there are none"));
-        }
-        // those of its name are shown first
-        let mut fields: Vec<&Field> = scope.iter().collect();
-        fields.sort_by_key(|field| field.name != label.q);
-        let fields = self.fields(&fields);
-        match named {
-            0 => Some(format!("{written} is none of the fields here: {fields}")),
-            1 => None,
-            _ => Some(format!("{written} is the name of {named} fields here: {fields}")),
-        }
-    }
-
-    /// Test 7.
-    fn types(&self, at: usize) -> Option<String> {
-        let label = self.linked.label(at);
-        match label.kind {
-            BINARY if label.p <= OR => self.booleans(at, word(&OPERATORS, label.p)),
-            BINARY => self.one_type(at, word(&OPERATORS, label.p)),
-            BETWEEN => self.one_type(at, "BETWEEN"),
-            IN_LIST => self.one_type(at, "IN"),
-            KEY_PAIR => self.one_type(at, "a key pair"),
-            NOT => self.booleans(at, "NOT"),
-            TEST => self.booleans(at, "this test"),
-            FILTER => self.booleans(at, "a Filter"),
-            JOIN => self.booleans(at, "a join's filter"),
-            SCAN => self.booleans(at, "a scan's filter").or_else(|| self.scans(at)),
-            AGGREGATE_ENTRY | WINDOW_ENTRY => self.integer(at, word(&COUNTS, label.r)),
-            UNION => self.inputs(at),
-            _ => None,
-        }
-    }
-
-    /// The expressions right below a record, each with its type.
-    fn typed(&self, at: usize) -> Vec<(usize, Option<u32>)> {
-        let exprs = self.linked.children[at].iter().filter(|&&child| is_expr(self.linked.kind(child)));
-        let mut scope = Vec::new();
-        let typed = exprs.enumerate().map(|(place, &child)| {
-            if place == 0 || self.linked.kind(at) == KEY_PAIR {
-                scope = self.linked.scope(child);
-            }
-            (child, self.linked.type_of(child, &scope))
-        });
-        typed.collect()
-    }
-
-    fn typed_expr(&self, (at, of): (usize, Option<u32>)) -> String {
-        format!("{} is {}", self.expr(at), type_name(of))
-    }
-
-    fn booleans(&self, at: usize, what: &str) -> Option<String> {
-        let wrong = self.typed(at).into_iter().find(|(_, of)| *of != Some(OF_BOOLEAN))?;
-        Some(format!("{what} takes bool; {}", self.typed_expr(wrong)))
-    }
-
-    fn one_type(&self, at: usize, what: &str) -> Option<String> {
-        let typed = self.typed(at);
-        let (first, rest) = typed.split_first()?;
-        let other = rest.iter().find(|(_, of)| *of != first.1)?;
-        Some(format!("{what} takes one type; {}, {}", self.typed_expr(*first), self.typed_expr(*other)))
-    }
-
-    fn integer(&self, at: usize, what: &str) -> Option<String> {
-        let wrong = self.typed(at).into_iter().next().filter(|(_, of)| *of != Some(OF_INTEGER))?;
-        Some(format!("{what} takes int; {}", self.typed_expr(wrong)))
-    }
-
-    fn types_of(&self, plan: usize) -> Vec<Option<u32>> {
-        self.linked.fields(plan).iter().map(|field| field.of).collect()
-    }
-
-    fn type_list(types: &[Option<u32>]) -> String {
-        format!("[{}]", some_of(&types.iter().map(|of| type_name(*of)).collect::<Vec<&str>>()))
-    }
-
-    /// Where two rows of types part: their lengths, or the first place.
-    fn parted(one: &[Option<u32>], other: &[Option<u32>]) -> String {
-        let place = one.iter().zip(other).position(|(one, other)| one != other);
-        match place {
-            Some(place) => format!("field {} is {} and {}", place + 1, type_name(one[place]), type_name(other[place])),
-            None => format!(
-                "{} fields and {}: {} and {}",
-                one.len(),
-                other.len(),
-                Self::type_list(one),
-                Self::type_list(other)
-            ),
-        }
-    }
-
-    /// A scan and the first one of its table.
-    fn scans(&self, at: usize) -> Option<String> {
-        let table = self.linked.label(at).p;
-        let same = |&other: &usize| self.linked.kind(other) == SCAN && self.linked.label(other).p == table;
-        let first = (0..at).find(same)?;
-        let (here, there) = (self.types_of(at), self.types_of(first));
-        let parted = || Self::parted(&here, &there);
-        (here != there).then(|| format!("scans of a table share types; here and at record {first}: {}", parted()))
-    }
-
-    /// The first input of a Union that differs from the first of all.
-    fn inputs(&self, at: usize) -> Option<String> {
-        let inputs = &self.linked.children[at];
-        let first = self.types_of(inputs[0]);
-        let (place, types) =
-            inputs.iter().map(|&input| self.types_of(input)).enumerate().find(|(_, types)| *types != first)?;
-        let parted = Self::parted(&first, &types);
-        Some(format!("inputs of a Union share types; the first and input {}: {parted}", place + 1))
-    }
-
-    /// Test 10: the first function of a Filter's predicate.
-    fn function(&self, at: usize) -> Option<String> {
-        let end = *self.linked.children[at].last()?;
-        let function = (at + 1..end).find(|&below| self.linked.kind(below) == FUNCTION)?;
-        let written = self.expr(function);
-        Some(format!("the predicate holds the function {written} at record {function}, whose meaning is not known"))
-    }
-}
+/// How many children or types are shown; of fields, all that a sound schema has.
+const SHOWN: usize = 12;

@@ -1,4 +1,5 @@
-//! The functions as include/push_down_filter.h declares them, each behind one on slices that answers number and record as they come.
+//! The functions as include/push_down_filter.h declares them, each behind one on slices that answers number and record
+//! as they come.
 
 /// What a check answers.
 #[derive(Clone, Copy, Debug, PartialEq, Eq)]
@@ -69,8 +70,8 @@ unsafe extern "C" {
     fn push_down_filter_pass(image: *const u8, length: usize, budget: u64, out: *mut u8, room: usize) -> Passed;
 }
 
-// SAFETY, of all four: every pointer and length are those of a slice that lives through the call. The call reads what is
-// lent shared and writes to the output alone, and its contract demands nothing more of the caller.
+// SAFETY, of all four: every pointer and length are those of a slice that lives through the call. The call reads what
+// is lent shared and writes to the output alone, and its contract demands nothing more of the caller.
 
 /// The tests 1 to 7.
 pub fn check(image: &[u8]) -> Verdict {

@@ -17,7 +17,8 @@ pub fn name(qualifier: u32, name: u32) -> Name {
     Name { qualifier, name }
 }
 
-/// An expression over the fields of a plan. Build them by [`col`], [`lit`], [`null`], [`function`] and the methods here.
+/// An expression over the fields of a plan. Build them by [`col`], [`lit`], [`null`], [`function`] and the methods
+/// here.
 ///
 /// ```
 /// use push_down_filter::{bare, col, lit, not};

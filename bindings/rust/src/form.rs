@@ -1,5 +1,5 @@
-//! The form of images: what the words of a record may be, how records are linked, and which children each has. An image that
-//! has it, the tests 1 to 5, is that of a plan whose names and types are still to be judged.
+//! The form of images: what the words of a record may be, how records are linked, and which children each has. An image
+//! that has it, the tests 1 to 5, is that of a plan whose names and types are still to be judged.
 
 use crate::image::{self, Label, Record, Tree, FIRST, NEXT, RECORD_BYTES};
 use crate::kinds::*;
@@ -127,8 +127,8 @@ pub fn pattern(kind: u32) -> &'static [Run] {
     }
 }
 
-/// A link that leads to the wrong place, met when `unread` was the next record to be read; or the records that are left, if
-/// there is no such link.
+/// A link that leads to the wrong place, met when `unread` was the next record to be read; or the records that are
+/// left, if there is no such link.
 #[derive(Clone, Copy)]
 pub enum BadLink {
     Leads { owner: usize, place: usize, unread: usize },

@@ -92,7 +92,8 @@ impl Tree {
     /// The tree that the records are of.
     ///
     /// # Panics
-    /// If they are not linked as [`records`](Tree::records) links them; [`Plan::from_image`](crate::Plan::from_image) takes any.
+    /// If they are not linked as [`records`](Tree::records) links them. [`Plan::from_image`](crate::Plan::from_image)
+    /// takes any.
     pub fn of_records(records: &[Record]) -> Tree {
         Tree::read(records, &mut records.iter())
     }

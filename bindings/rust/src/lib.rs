@@ -24,16 +24,16 @@
 //! # Ok::<(), push_down_filter::Error>(())
 //! ```
 //!
-//! Plans travel as images: 1 to 2,048 records of 32 bytes, eight little-endian words each: kind, p, q, r, lo, hi, first, next
-//! ([`image`], [`kinds`]). The calls on bytes, `check`, `rewrite`, `pass` and `row_test`, take any bytes: what is
-//! no image of a plan is refused with a [`Refusal`], and [`explain`] says what is wrong there. They keep nothing between calls:
-//! any number of threads may call them at once.
+//! Plans travel as images: 1 to 2,048 records of 32 bytes, eight little-endian words each: kind, p, q, r, lo, hi,
+//! first, next ([`image`], [`kinds`]). The calls on bytes, `check`, `rewrite`, `pass` and `row_test`, take any bytes:
+//! what is no image of a plan is refused with a [`Refusal`], and [`explain`] says what is wrong there. They keep
+//! nothing between calls: any number of threads may call them at once.
 //!
 //! Tables, qualifiers, names and functions are numbers; [`Names`] has words for them in texts ([`text`]).
 //!
-//! The feature `library`, on by default, has the calls and links `libpush_down_filter.a`: from the folder that the environment
-//! variable `PUSH_DOWN_FILTER_LIB_DIR` names at build time, else from the repository's own target/staticlib. Without it there are
-//! plans, images and texts alone.
+//! The feature `library`, on by default, has the calls and links `libpush_down_filter.a`: from the folder that the
+//! environment variable `PUSH_DOWN_FILTER_LIB_DIR` names at build time, else from the repository's own
+//! target/staticlib. Without it there are plans, images and texts alone.
 
 #![warn(missing_docs)]
 

@@ -80,8 +80,8 @@ impl Plan {
         Ok(RewrittenPlan { plan: Plan::from_image(&out[..rewritten.bytes()])?, changed: rewritten.changed })
     }
 
-    /// The plan after a pass: the root is rewritten, then likewise, in order, the plans below what stands there now, until
-    /// `budget` nodes were visited.
+    /// The plan after a pass: the root is rewritten, then likewise, in order, the plans below what stands there now,
+    /// until `budget` nodes were visited.
     pub fn pass(&self, budget: u64) -> Result<PassedPlan, Error> {
         let image = self.to_image();
         let mut out = vec![0; MAX_BYTES];
@@ -90,7 +90,8 @@ impl Plan {
         Ok(PassedPlan { plan, visits: passed.visits, changed: passed.changed, finished: passed.finished })
     }
 
-    /// What the predicate of the Filter at record `node` says of a row, which has a value for each field of the Filter's input.
+    /// What the predicate of the Filter at record `node` says of a row, which has a value for each field of the
+    /// Filter's input.
     pub fn row_test(&self, node: u32, row: &[Value]) -> Result<Truth, Error> {
         let image = self.to_image();
         let (values, marks): (Vec<i64>, Vec<u8>) = row.iter().map(|value| value.lent()).unzip();

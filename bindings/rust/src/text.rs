@@ -1,4 +1,8 @@
-//! Plans as text: a line for each plan, the plans that it reads below it. text/grammar.txt says how each is written.
+//! Plans as text: a line for each plan, the plans that it reads below it.
+//!
+//! ```text
+#![doc = include_str!("text/grammar.txt")]
+//! ```
 
 mod exprs;
 mod names;

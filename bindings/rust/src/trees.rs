@@ -16,8 +16,8 @@ impl Plan {
         self.to_tree().image()
     }
 
-    /// The plan of an image: exactly of those that pass the tests 1 to 5, whatever their names and types. The error has the number
-    /// and the record that a check would give.
+    /// The plan of an image: exactly of those that pass the tests 1 to 5, whatever their names and types. The error has
+    /// the number and the record that a check would give.
     ///
     /// ```
     /// use push_down_filter::{scan, Plan, Reason};

@@ -40,8 +40,8 @@ impl Named {
     }
 }
 
-/// Words for numbers, so that `orders.price` may be written for `t3.c7` and is shown so. Numbers without a word are written
-/// as they are.
+/// Words for numbers, so that `orders.price` may be written for `t3.c7` and is shown so. Numbers without a word are
+/// written as they are.
 ///
 /// ```
 /// use push_down_filter::text::{read, write, Names};
@@ -69,6 +69,11 @@ impl Names {
             names.read_line(&line.tokens)?;
         }
         Ok(names)
+    }
+
+    /// The names file that reads as these names.
+    pub fn write(&self) -> String {
+        self.words.iter().map(|((what, number), word)| format!("{} {number} {word}\n", what.title())).collect()
     }
 
     /// A line such as `name 7 price`; the last token of a line is empty.
@@ -136,7 +141,8 @@ impl Names {
     }
 }
 
-/// Whether a word can stand for a number: it must be told from the words of plans and from numbers behind their letters.
+/// Whether a word can stand for a number: it must be told from the words of plans and from numbers behind their
+/// letters.
 fn fit(word: &str) -> Result<(), String> {
     let letters = |c: char| c.is_ascii_alphanumeric() || c == '_';
     if !word.starts_with(|c: char| c.is_ascii_alphabetic()) || !word.chars().all(letters) {
@@ -170,6 +176,8 @@ mod tests {
         assert_eq!(names.column(3, 7), "orders.unit_price");
         assert_eq!(names.column(0, 8), "c8");
         assert_eq!(names.column(4, 7), "t4.unit_price");
+        assert_eq!(names.write(), "table 0 orders\nqualifier 3 orders\nname 7 unit_price\n");
+        assert_eq!(Names::read(&names.write()), Ok(names));
     }
 
     #[test]

@@ -20,7 +20,8 @@ pub type Read<T = Node> = Result<T, Trouble>;
 /// Qualifier and name; the qualifier 0 is none.
 pub type Name = (u32, u32);
 
-/// The token in hand and what follows it in its line, how deep the expression in hand is, and how many records there are.
+/// The token in hand and what follows it in its line, how deep the expression in hand is, and how many records there
+/// are.
 pub struct Reader<'a> {
     names: &'a Names,
     pub token: Token<'a>,
