@@ -58,9 +58,18 @@ fn every_example_prints_what_is_expected() {
             std::fs::write(&file, &found).expect("the expected file is written");
             continue;
         }
-        assert_eq!(found, text, "{name}.txt");
+        assert!(found == text, "expected/{name}.txt: {}", first_difference(&found, &text));
     }
     println!("{commands} commands");
+}
+
+fn first_difference(found: &str, expected: &str) -> String {
+    let lines = (1..).zip(found.lines().map(Some).chain([None]).zip(expected.lines().map(Some).chain([None])));
+    let differ = lines.into_iter().find(|(_, (found, expected))| found != expected);
+    let said = |line: Option<&str>| line.map_or("no line".to_string(), |line| format!("'{line}'"));
+    differ.map_or("they end differently".to_string(), |(number, (found, expected))| {
+        format!("line {number} is {}, {} is printed", said(expected), said(found))
+    })
 }
 
 #[test]
