@@ -8,7 +8,7 @@ use std::path::{Path, PathBuf};
 
 const PAGES: &str =
     "README.md docs/TRUST.md docs/PORT.md docs/DECISIONS.md docs/DIFFERENCES.md docs/SPEED.md harness/README.md \
-     bindings/rust/README.md";
+     bindings/rust/README.md tools/plan/README.md examples/plans/README.md";
 const SOURCES: [&str; 10] = [".rt", ".antt", ".edit", ".rs", ".toml", ".c", ".h", "crates.txt", "run", "test"];
 const ENDINGS: [&str; 6] = [".rt", ".antt", ".edit", ".rs", ".md", ".txt"];
 const COMMANDS: [&str; 3] = ["rt ", "cargo ", "valgrind "];
