@@ -1,49 +1,20 @@
-//! The functions that the static library exports, each behind a safe one. A `&[u8]` crosses as pointer and length.
+//! The functions that the static library exports, as the Rust crate calls them, answering in the harness's own words.
 //! Without the feature `library` nothing is linked, and each answers none.
 
 use crate::checker::Verdict;
 use crate::rewriting::{Passed, Rewritten};
 use crate::row_tests::Tested;
 
+#[cfg(feature = "library")]
+use push_down_filter::exported;
+
 /// Whether the library is linked.
 pub const LINKED: bool = cfg!(feature = "library");
 
 #[cfg(feature = "library")]
-mod exported {
-    use super::{Tested, Verdict};
-
-    unsafe extern "C" {
-        pub fn push_down_filter_check(image: *const u8, len: usize) -> Verdict;
-        pub fn push_down_filter_row_test(
-            image: *const u8,
-            len: usize,
-            node: u32,
-            values: *const i64,
-            values_len: usize,
-            marks: *const u8,
-            marks_len: usize,
-        ) -> Tested;
-        pub fn push_down_filter_rewrite(
-            image: *const u8,
-            len: usize,
-            node: u32,
-            out: *mut u8,
-            room: usize,
-        ) -> super::Rewritten;
-        pub fn push_down_filter_pass(
-            image: *const u8,
-            len: usize,
-            budget: u64,
-            out: *mut u8,
-            room: usize,
-        ) -> super::Passed;
-    }
-}
-
-#[cfg(feature = "library")]
 pub fn check(image: &[u8]) -> Option<Verdict> {
-    // SAFETY: pointer and length are those of a slice that lives through the call, which only reads it.
-    Some(unsafe { exported::push_down_filter_check(image.as_ptr(), image.len()) })
+    let exported::Verdict { number, record } = exported::check(image);
+    Some(Verdict { number, record })
 }
 
 #[cfg(not(feature = "library"))]
@@ -53,18 +24,8 @@ pub fn check(_image: &[u8]) -> Option<Verdict> {
 
 #[cfg(feature = "library")]
 pub fn row_test(image: &[u8], node: u32, values: &[i64], marks: &[u8]) -> Option<Tested> {
-    // SAFETY: pointers and lengths are those of slices that live through the call, which only reads them.
-    Some(unsafe {
-        exported::push_down_filter_row_test(
-            image.as_ptr(),
-            image.len(),
-            node,
-            values.as_ptr(),
-            values.len(),
-            marks.as_ptr(),
-            marks.len(),
-        )
-    })
+    let exported::Tested { number, record, truth } = exported::row_test(image, node, values, marks);
+    Some(Tested { number, record, truth })
 }
 
 #[cfg(not(feature = "library"))]
@@ -84,10 +45,8 @@ pub fn rewrite(image: &[u8], node: u32, room: usize) -> Option<(Rewritten, Vec<u
 
 #[cfg(feature = "library")]
 pub fn rewrite_into(image: &[u8], node: u32, output: &mut [u8]) -> Option<Rewritten> {
-    // SAFETY: both pointers and lengths are those of slices that live through the call; it writes to the second alone.
-    Some(unsafe {
-        exported::push_down_filter_rewrite(image.as_ptr(), image.len(), node, output.as_mut_ptr(), output.len())
-    })
+    let exported::Rewritten { number, record, flag, records } = exported::rewrite(image, node, output);
+    Some(Rewritten { number, record, flag, records })
 }
 
 #[cfg(not(feature = "library"))]
@@ -104,10 +63,8 @@ pub fn pass(image: &[u8], budget: u64, room: usize) -> Option<(Passed, Vec<u8>)>
 
 #[cfg(feature = "library")]
 pub fn pass_into(image: &[u8], budget: u64, output: &mut [u8]) -> Option<Passed> {
-    // SAFETY: both pointers and lengths are those of slices that live through the call; it writes to the second alone.
-    Some(unsafe {
-        exported::push_down_filter_pass(image.as_ptr(), image.len(), budget, output.as_mut_ptr(), output.len())
-    })
+    let exported::Passed { number, record, visits, changed, finished, records } = exported::pass(image, budget, output);
+    Some(Passed { number, record, visits, changed, finished, records })
 }
 
 #[cfg(not(feature = "library"))]

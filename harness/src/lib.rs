@@ -6,8 +6,6 @@ pub mod damage;
 pub mod differences;
 pub mod edges;
 pub mod ffi;
-pub mod image;
-pub mod kinds;
 pub mod meaning;
 pub mod random;
 pub mod rewrites;
@@ -18,12 +16,6 @@ pub mod sets;
 pub mod source;
 pub mod stored;
 pub mod sweeps;
-pub mod text;
 
-/// The limits of an image. Every other file takes them from here.
-pub mod limits {
-    pub const RECORDS: usize = 2048;
-    pub const DEPTH: usize = 256;
-    pub const FIELDS: usize = 64;
-    pub const LIST: usize = 128;
-}
+/// Records, kinds, limits and texts are the Rust crate's.
+pub use push_down_filter::{image, kinds, limits, text};

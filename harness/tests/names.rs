@@ -8,8 +8,11 @@ use std::fs;
 use std::path::{Path, PathBuf};
 
 const PAGES: &str = "README.md docs/FORMAT.md docs/MEANING.md docs/REWRITE.md docs/GLOSSARY.md docs/TRUST.md \
-    docs/PORT.md docs/DECISIONS.md docs/DIFFERENCES.md docs/SPEED.md harness/README.md";
-const SOURCES: [&str; 10] = [".rt", ".antt", ".edit", ".rs", ".toml", ".c", ".h", "crates.txt", "run", "test"];
+    docs/PORT.md docs/DECISIONS.md docs/DIFFERENCES.md docs/SPEED.md docs/PROGRAMS.md harness/README.md \
+    bindings/rust/README.md tools/plan/README.md examples/plans/README.md packaging/README.md \
+    CONTRIBUTING.md SECURITY.md CHANGELOG.md";
+const SOURCES: [&str; 12] =
+    [".rt", ".antt", ".edit", ".rs", ".toml", ".c", ".h", ".sh", "Makefile", "crates.txt", "run", "test"];
 const ENDINGS: [&str; 6] = [".rt", ".antt", ".edit", ".rs", ".md", ".txt"];
 const COMMANDS: [&str; 3] = ["rt ", "cargo ", "valgrind "];
 

@@ -7,12 +7,20 @@ use harness::kinds::*;
 use harness::limits::{DEPTH, RECORDS};
 use harness::random::{accepted, size, Random};
 use harness::rewrites::case;
-use harness::text::{read, write, Place, Written};
+use harness::text::{self, Named, Names, Place, Trouble, Written};
 
 fn drawn(seed: u64, number: u64) -> Tree {
     let random = &mut Random::of_case(seed, number);
     let records = size(random);
     accepted(random, records).plan
+}
+
+fn read(text: &str) -> Result<Written, Trouble> {
+    text::read(text, &Names::NONE)
+}
+
+fn write(plan: &Tree) -> String {
+    text::write(plan, &Names::NONE)
 }
 
 /// The plan that a text reads as, and comes back from.
@@ -30,6 +38,57 @@ fn accepted_plans_come_back() {
                 assert_eq!(places.len(), plan.size(), "case {number}");
             }
         }
+    }
+}
+
+/// Words for the lower half of all numbers that drawn plans use, the same words for tables, qualifiers, names and functions.
+fn words() -> Names {
+    let mut names = Names::NONE;
+    for what in [Named::Table, Named::Qualifier, Named::Name, Named::Function] {
+        for number in 1..4 {
+            names.set(what, number, &format!("word_{number}")).expect("a word of its own");
+        }
+    }
+    names
+}
+
+#[test]
+fn plans_with_names_come_back() {
+    let names = words();
+    let mut named = 0;
+    for number in 0..1000 {
+        let plan = drawn(23, number);
+        let text = text::write(&plan, &names);
+        named += usize::from(text.contains("word_1.word_2"));
+        assert_eq!(text::read(&text, &names).expect(&text).plan, plan, "case {number}");
+        assert_eq!(text::read(&write(&plan), &names).expect("numbers are read as well").plan, plan, "case {number}");
+    }
+    assert!(named > 100, "{named} plans had such a column");
+}
+
+#[test]
+fn names_stand_in_every_place() {
+    let names = "table 1 orders\nqualifier 1 o\nname 1 price\nname 2 open\nfunction 7 rounded\n";
+    let names = Names::read(names).expect("a names file");
+    let text = "\
+Filter o.price > 5 AND open AND rounded:int(o.price) = c9
+  SubqueryAlias o
+    Projection [price := t3.price, open := TRUE, c9 := f8:int()]
+      TableScan orders [t3.price:int]
+";
+    let plan = text::read(text, &names).expect("a text with names").plan;
+    assert_eq!(text::write(&plan, &names), text);
+    assert_eq!(read(&write(&plan)).expect("a text without names").plan, plan);
+    let unknown = [
+        ("Filter o.cost > 5", "1:10: 'cost' is no name of the names file"),
+        ("Filter p.price > 5", "1:8: 'p' is no qualifier of the names file"),
+        ("Filter price(1)", "1:8: 'price' is no function of the names file"),
+        ("Filter rounded(1)", "1:15: expected ':', found '('"),
+        ("TableScan goods []", "1:11: 'goods' is no table of the names file"),
+        ("Filter o > 5", "1:8: 'o' is no name of the names file"),
+    ];
+    for (text, trouble) in unknown {
+        assert_eq!(text::read(text, &names).map_err(|found| found.to_string()), Err(trouble.to_string()), "{text}");
     }
 }
 
@@ -64,6 +123,8 @@ fn expressions_bind_as_they_should() {
     assert_eq!(predicate("t1.c1 IN (1, NULL:int)"), in_list(false, vec![a(), integer(1), null(OF_INTEGER)]));
     assert_eq!(predicate("c2 NOT IN (c2 OR c2)"), in_list(true, vec![b(), or(b(), b())]));
     assert_eq!(predicate("f7:bool:leafward:volatile(TRUE, t1.c1)"), function(7, 3, 2, vec![boolean(true), a()]));
+    assert_eq!(predicate("t1.c1 <> 1"), binary(NOT_EQ, a(), integer(1)));
+    assert_eq!(predicate("NULL:int = t1.c1"), binary(EQ, null(OF_INTEGER), a()));
     assert_eq!(predicate("t1.c1 >= -9223372036854775808"), binary(GT_EQ, a(), integer(i64::MIN)));
 }
 
@@ -128,6 +189,26 @@ fn every_trouble_has_its_place() {
         ("Filter c1 NOT c2", "1:15: expected 'BETWEEN' or 'IN', found 'c2'"),
         ("Filter c1 BETWEEN 1 OR 2", "1:21: expected 'AND', found 'OR'"),
         ("Filter c1 = 9223372036854775808", "1:13: expected an integer of 64 bits, found '9223372036854775808'"),
+        ("Filter c1 < > 2", "1:13: expected an expression, found '>'"),
+        (
+            "Filter c1 = NULL",
+            "1:13: a comparison with NULL is never TRUE: write IS NULL, or, for the literal, NULL:int or NULL:bool",
+        ),
+        (
+            "Filter NULL = c1",
+            "1:8: a comparison with NULL is never TRUE: write IS NULL, or, for the literal, NULL:int or NULL:bool",
+        ),
+        (
+            "Filter c1 <> NULL",
+            "1:14: a comparison with NULL is never TRUE: write IS NOT NULL, or, for the literal, NULL:int or NULL:bool",
+        ),
+        (
+            "Filter c1 != NULL AND c2",
+            "1:14: a comparison with NULL is never TRUE: write IS NOT NULL, or, for the literal, NULL:int or NULL:bool",
+        ),
+        ("Filter c1 > NULL", "1:13: a NULL has a type: write NULL:int or NULL:bool"),
+        ("Filter c1 IN (NULL)", "1:15: a NULL has a type: write NULL:int or NULL:bool"),
+        ("Filter price > 5", "1:8: expected a name such as t1.c2 or c2, found 'price'"),
         ("Filter f1(c1)", "1:10: expected ':', found '('"),
         ("Filter c1 > ä", "1:13: 'ä' stands in no plan"),
         ("Join Outer", "1:6: expected a join such as Inner or LeftSemi, found 'Outer'"),
@@ -148,9 +229,9 @@ fn every_trouble_has_its_place() {
     assert_eq!(read(&deep("(", 1_000_000)).expect_err("too deep").place, Place { line: 1, column: 8 + DEPTH });
 }
 
-const PIECES: [&str; 24] = [
+const PIECES: [&str; 28] = [
     " ", "  ", "\n", "\n  ", "#", "(", ")", "[", "]", ",", ":", ":=", "AND", "NOT ", "IS ", "IN (", "t1.", "c", "f",
-    "-", "9", "Join", "\t", "é",
+    "-", "9", "Join", "\t", "é", "<>", "NULL", "word_1", ".word_2",
 ];
 
 /// Removes, doubles, replaces or puts in a piece, or takes away the end.
@@ -176,11 +257,13 @@ fn damaged(random: &mut Random, text: &str) -> String {
 #[test]
 fn damaged_texts_are_refused_or_read() {
     let mut counts = [0; 3];
+    let all_names = [Names::NONE, words()];
     for number in 0..20_000 {
         let random = &mut Random::of_case(22, number);
         let plan = accepted(random, 30).plan;
-        let text = damaged(random, &write(&plan));
-        let outcome = match read(&text) {
+        let names = random.pick(&all_names);
+        let text = damaged(random, &text::write(&plan, names));
+        let outcome = match text::read(&text, names) {
             Err(trouble) => {
                 let line = text.lines().nth(trouble.place.line - 1).unwrap_or("");
                 assert!(trouble.place.column <= line.chars().count() + 1, "{trouble} in\n{text}");
@@ -191,6 +274,29 @@ fn damaged_texts_are_refused_or_read() {
                 1
             }
             Ok(_) => 2,
+        };
+        counts[outcome] += 1;
+    }
+    assert!(counts.iter().all(|count| *count > 100), "{counts:?}");
+}
+
+/// A damaged names file is refused at a place of it, or it is another, which comes back.
+#[test]
+fn damaged_names_are_refused_or_read() {
+    let whole = words().write() + "# numbers without a word stay as they are\n";
+    let mut counts = [0; 2];
+    for number in 0..5000 {
+        let text = damaged(&mut Random::of_case(24, number), &whole);
+        let outcome = match Names::read(&text) {
+            Ok(names) => {
+                assert_eq!(Names::read(&names.write()), Ok(names), "{text}");
+                0
+            }
+            Err(Trouble { place, .. }) => {
+                let line = text.lines().nth(place.line - 1).unwrap_or("");
+                assert!(place.column <= line.chars().count() + 1, "{place:?} in\n{text}");
+                1
+            }
         };
         counts[outcome] += 1;
     }

@@ -1,170 +1,75 @@
-//! Filter push-down over plans that travel as images, by the proved static library. Every call takes any bytes: what is no
-//! image of a plan is refused with a [`Refusal`].
+//! Filter push-down over query plans, by a static library that is proved to keep their rows.
 //!
-//! An image is 1 to 2,048 records of 32 bytes, eight little-endian words each: kind, p, q, r, lo, hi, first, next.
+//! A plan is built, checked, and passed over once: its filters move towards the tables.
 //!
 //! ```
-//! use push_down_filter::{check, Reason, Refusal};
+//! # #[cfg(feature = "library")] {
+//! use push_down_filter::{col, field, scan, JoinKind, Names, Type::Integer};
 //!
-//! // a scan of table 1 without fields
-//! let mut image = [0; 32];
-//! (image[0], image[4]) = (32, 1);
-//! assert_eq!(check(&image), Ok(()));
-//! assert_eq!(check(&image[1..]), Err(Refusal { reason: Reason::Buffer, record: 0 }));
+//! let left = scan(1, [field(1, 1, Integer).marked(), field(1, 2, Integer)]);
+//! let right = scan(2, [field(0, 1, Integer).marked(), field(0, 3, Integer)]).alias(2);
+//! let joined = left.join(JoinKind::Inner, right).on(col(1, 1), col(2, 1)).plan();
+//! let plan = joined.filter(col(1, 1).gt(5).and(col(1, 2).lt(col(2, 3))));
+//!
+//! plan.check()?;
+//! let passed = plan.pass(10_000)?;
+//! assert!(passed.finished);
+//! assert_eq!(passed.plan.to_text(&Names::NONE), "\
+//! Join Inner on [t1.c1 = t2.c1] filter t1.c2 < t2.c3
+//!   TableScan 1 [t1.c1:int:marked, t1.c2:int] filters [t1.c1 > 5]
+//!   SubqueryAlias t2
+//!     TableScan 2 [c1:int:marked, c3:int] filters [c1 > 5]
+//! ");
+//! # }
+//! # Ok::<(), push_down_filter::Error>(())
 //! ```
 //!
-//! The functions keep nothing between calls: any number of threads may call them at once.
+//! Plans travel as images: 1 to 2,048 records of 32 bytes, eight little-endian words each: kind, p, q, r, lo, hi,
+//! first, next ([`image`], [`kinds`]). The calls on bytes, `check`, `rewrite`, `pass` and `row_test`, take any bytes:
+//! what is no image of a plan is refused with a [`Refusal`], and [`explain`] says what is wrong there. They keep
+//! nothing between calls: any number of threads may call them at once.
+//!
+//! Tables, qualifiers, names and functions are numbers; [`Names`] has words for them in texts ([`text`]).
+//!
+//! The feature `library`, on by default, has the calls and links `libpush_down_filter.a`: from the folder that the
+//! environment variable `PUSH_DOWN_FILTER_LIB_DIR` names at build time, else from the repository's own
+//! target/staticlib. Without it there are plans, images and texts alone.
 
-mod exported;
+#![warn(missing_docs)]
 
-pub const RECORD_BYTES: usize = 32;
-pub const MAX_RECORDS: usize = 2048;
+#[cfg(feature = "library")]
+mod calls;
+mod explain;
+#[cfg(feature = "library")]
+pub mod exported;
+mod exprs;
+mod form;
+pub mod image;
+pub mod kinds;
+pub mod limits;
+mod numbered;
+#[cfg(feature = "library")]
+mod plan_calls;
+mod plans;
+mod refusals;
+mod schema;
+pub mod text;
+mod trees;
+
+#[cfg(feature = "library")]
+pub use calls::{check, pass, rewrite, row_test, Passed, Rewritten, Truth};
+pub use explain::explain;
+pub use exprs::{all, bare, col, count, function, lit, max, min, name, not, null, Expr, Name};
+pub use image::RECORD_BYTES;
+pub use numbered::{AggregateKind, JoinKind, Operator, Test, Type};
+#[cfg(feature = "library")]
+pub use plan_calls::{PassedPlan, RewrittenPlan, Value};
+pub use plans::{field, scan, union, Aggregate, AggregateEntry, Entry, Field, Join, Over, Plan, SortKey, WindowEntry};
+pub use refusals::{Error, Reason, Refusal};
+pub use text::Names;
+
+/// How many records an image has at most.
+pub const MAX_RECORDS: usize = limits::RECORDS;
 
 /// No answer is longer: an output of so many bytes is never too short.
 pub const MAX_BYTES: usize = MAX_RECORDS * RECORD_BYTES;
-
-/// Which test a call met. Of several the first is given.
-#[derive(Clone, Copy, Debug, PartialEq, Eq, PartialOrd, Ord, Hash)]
-pub enum Reason {
-    Buffer = 1,
-    Record,
-    Link,
-    Depth,
-    Form,
-    Name,
-    Type,
-    Call,
-    Row,
-    Function,
-    Result,
-    Output,
-}
-
-const REASONS: [(Reason, &str); 12] = [
-    (Reason::Buffer, "length 0, not whole records, or over 2,048 records"),
-    (Reason::Record, "an unknown kind or a word out of range"),
-    (Reason::Link, "a bad link, or records that no link leads to"),
-    (Reason::Depth, "deeper than 256"),
-    (Reason::Form, "wrong children, a root that is no plan, or a list over 128"),
-    (Reason::Name, "a reference or schema rule broken, or over 64 fields"),
-    (Reason::Type, "a type rule broken"),
-    (Reason::Call, "no plan at the record asked for, or, in a row test, no Filter"),
-    (Reason::Row, "values or marks not as the input's fields ask"),
-    (Reason::Function, "the predicate holds a function"),
-    (Reason::Result, "the answer, or the plan after a merge of Filters, is over a limit"),
-    (Reason::Output, "the output is shorter than the answer"),
-];
-
-/// A refused call: why, and the record that is named. An output holds zeros then.
-#[derive(Clone, Copy, Debug, PartialEq, Eq, Hash)]
-pub struct Refusal {
-    pub reason: Reason,
-    pub record: u32,
-}
-
-impl Refusal {
-    /// 1 to 12.
-    pub fn number(&self) -> u32 {
-        self.reason as u32
-    }
-}
-
-impl std::fmt::Display for Refusal {
-    fn fmt(&self, f: &mut std::fmt::Formatter<'_>) -> std::fmt::Result {
-        let (_, text) = REASONS[self.reason as usize - 1];
-        write!(f, "refused {} at {}: {text}", self.number(), self.record)
-    }
-}
-
-impl std::error::Error for Refusal {}
-
-/// The result of a call whose number is 0, else the refusal.
-fn granted<T>(number: u32, record: u32, result: T) -> Result<T, Refusal> {
-    match number {
-        0 => Ok(result),
-        1..=12 => Err(Refusal { reason: REASONS[number as usize - 1].0, record }),
-        _ => unreachable!("the library's contract has no number {number}"),
-    }
-}
-
-/// The tests 1 to 7.
-pub fn check(image: &[u8]) -> Result<(), Refusal> {
-    let verdict = exported::check(image);
-    granted(verdict.number, verdict.record, ())
-}
-
-/// What a rewrite answered. The output begins with the answer, zeros follow it.
-#[derive(Clone, Copy, Debug, PartialEq, Eq)]
-pub struct Rewritten {
-    /// Whether the rewrite says that it changed the plan. It may have altered it without saying so.
-    pub changed: bool,
-    /// How many records the answer has.
-    pub records: usize,
-}
-
-impl Rewritten {
-    /// How many bytes of the output are the answer.
-    pub fn bytes(&self) -> usize {
-        self.records * RECORD_BYTES
-    }
-}
-
-/// Rewrites the plan at record `node` in its place; the answer is the whole image.
-pub fn rewrite(image: &[u8], node: u32, out: &mut [u8]) -> Result<Rewritten, Refusal> {
-    let result = exported::rewrite(image, node, out);
-    let rewritten = Rewritten { changed: result.flag == 1, records: result.records as usize };
-    granted(result.number, result.record, rewritten)
-}
-
-/// What a pass answered. The output begins with the answer, zeros follow it.
-#[derive(Clone, Copy, Debug, PartialEq, Eq)]
-pub struct Passed {
-    /// How many nodes were visited.
-    pub visits: u64,
-    /// How many of these rewrites said that they changed the plan.
-    pub changed: u64,
-    /// Whether every node was visited.
-    pub finished: bool,
-    /// How many records the answer has.
-    pub records: usize,
-}
-
-impl Passed {
-    /// How many bytes of the output are the answer.
-    pub fn bytes(&self) -> usize {
-        self.records * RECORD_BYTES
-    }
-}
-
-/// Rewrites the root, then likewise, in order, the plans below what stands there now, until `budget` nodes were visited.
-pub fn pass(image: &[u8], budget: u64, out: &mut [u8]) -> Result<Passed, Refusal> {
-    let result = exported::pass(image, budget, out);
-    let passed = Passed {
-        visits: result.visits,
-        changed: result.changed,
-        finished: result.finished == 1,
-        records: result.records as usize,
-    };
-    granted(result.number, result.record, passed)
-}
-
-/// What a predicate says of a row.
-#[derive(Clone, Copy, Debug, PartialEq, Eq, Hash)]
-pub enum Truth {
-    False,
-    True,
-    Unknown,
-}
-
-/// Tries the predicate of the Filter at record `node` on one row over its input's fields. A value whose mark is 1 is NULL
-/// and is not read; a boolean is 0 or 1.
-pub fn row_test(image: &[u8], node: u32, values: &[i64], marks: &[u8]) -> Result<Truth, Refusal> {
-    let result = exported::row_test(image, node, values, marks);
-    let truth = match result.truth {
-        0 => Truth::False,
-        1 => Truth::True,
-        2 => Truth::Unknown,
-        truth => unreachable!("the library's contract has no truth {truth}"),
-    };
-    granted(result.number, result.record, truth)
-}

@@ -1,6 +1,7 @@
-//! Every call, granted and refused, on the document's example: the Filter t.c > 5 over a scan of table 1, c marked.
+//! Every call, granted and refused, on bytes and on plans: the Filter t.c > 5 over a scan of table 1, c marked.
 
-use push_down_filter::{check, row_test, Reason, Refusal, Truth};
+use push_down_filter::{check, col, field, function, scan, Plan, Type::Integer, Value};
+use push_down_filter::{row_test, Reason, Refusal, Truth};
 
 const PLAN: [[u32; 8]; 6] = [
     [33, 0, 0, 0, 0, 0, 1, 0],
@@ -74,4 +75,41 @@ fn a_plan_is_passed_over() {
     assert_eq!(pass(&image(), 0, &mut out), Ok(unvisited));
     assert_eq!(out[..], image());
     assert_eq!(pass(&image()[1..], 1, &mut out), refused(Reason::Buffer, 0));
+}
+
+fn plan() -> Plan {
+    scan(1, [field(1, 1, Integer).marked()]).filter(col(1, 1).gt(5))
+}
+
+#[test]
+fn plans_are_called_on() {
+    let answer = scan(1, [field(1, 1, Integer).marked()]).scan_filters([col(1, 1).gt(5)]);
+    assert_eq!(plan().check(), Ok(()));
+    let rewritten = plan().rewrite(0).expect("a plan stands at record 0");
+    assert_eq!((rewritten.plan, rewritten.changed), (answer.clone(), true));
+    let passed = plan().pass(10_000).expect("the plan is sound");
+    assert_eq!((passed.plan, passed.visits, passed.changed, passed.finished), (answer, 1, 1, true));
+    let unvisited = plan().pass(0).expect("the plan is sound");
+    assert_eq!((unvisited.plan, unvisited.finished), (plan(), false));
+    for (value, truth) in [(6.into(), Truth::True), (Value::Integer(5), Truth::False), (Value::Null, Truth::Unknown)] {
+        assert_eq!(plan().row_test(0, &[value]), Ok(truth));
+    }
+}
+
+#[test]
+fn refused_plans_are_explained() {
+    let said = |error: push_down_filter::Error| error.to_string();
+    let unknown = plan().filter(col(1, 9).is_null());
+    assert_eq!(
+        unknown.check().map_err(said),
+        Err("refused 6: record 2 (Column): t1.c9 is none of the fields here: t1.c1:int".into())
+    );
+    assert_eq!(unknown.pass(1).expect_err("unsound").refusal, Refusal { reason: Reason::Name, record: 2 });
+    assert_eq!(plan().rewrite(1).map_err(said), Err("refused 8: record 1 (BinaryExpr): it is no plan".into()));
+    assert_eq!(plan().row_test(0, &[]).map_err(|error| error.refusal), refused(Reason::Row, 0));
+    let asked = plan().filter(function(3, Integer, []).eq(1)).row_test(0, &[6.into()]).map_err(said);
+    let held = "the predicate holds the function f3:int() at record 2, whose meaning is not known";
+    assert_eq!(asked, Err(format!("refused 10: record 0 (Filter): {held}")));
+    let wide = scan(1, (1..=2048).map(|name| field(1, name, Integer)));
+    assert_eq!(wide.check().map_err(said), Err("refused 1: record 0: 2049 records; at most 2048".into()));
 }

@@ -8,7 +8,7 @@
 use harness::checker::{check, Verdict};
 use harness::ffi;
 use harness::stored::{answer, calls, exported, read, sort, written, Line};
-use harness::text;
+use harness::text::{self, Names};
 use std::collections::BTreeMap;
 use std::path::{Path, PathBuf};
 use std::process::ExitCode;
@@ -103,7 +103,7 @@ fn write(more: Vec<Line>) -> Result<String, String> {
 /// The image of a plan and its calls.
 fn plan_lines(file: &str) -> Result<Vec<Line>, String> {
     let text = std::fs::read_to_string(file).map_err(|error| format!("{file}: {error}"))?;
-    let image = text::read(&text).map_err(|trouble| format!("{file}:{trouble}"))?.plan.image();
+    let image = text::read(&text, &Names::NONE).map_err(|trouble| format!("{file}:{trouble}"))?.plan.image();
     match check(&image) {
         Verdict::ACCEPTED => {}
         refusal => return Err(format!("{file}: the plan is refused, {refusal}")),
