@@ -17,7 +17,7 @@
 use harness::checker::{check, Verdict};
 use harness::image::Tree;
 use harness::source::{Build, ALL};
-use harness::text;
+use harness::text::{self, Names};
 use std::fs;
 
 #[path = "pages/format.rs"]
@@ -75,7 +75,7 @@ impl Block {
 
 /// A plan written as text; it must be accepted.
 fn plan_of(place: &str, written: &str) -> Tree {
-    let plan = text::read(written).unwrap_or_else(|trouble| panic!("{place}: {trouble}")).plan;
+    let plan = text::read(written, &Names::NONE).unwrap_or_else(|trouble| panic!("{place}: {trouble}")).plan;
     assert_eq!(check(&plan.image()), Verdict::ACCEPTED, "{place}");
     plan
 }

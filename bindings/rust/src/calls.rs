@@ -10,6 +10,12 @@ fn granted<T>(number: u32, record: u32, result: T) -> Result<T, Refusal> {
     }
 }
 
+/// The version of the library that is linked: major, minor, patch.
+pub fn version() -> [u32; 3] {
+    let number = exported::version();
+    [number / 1_000_000, number / 1_000 % 1_000, number % 1_000]
+}
+
 /// The tests 1 to 7.
 pub fn check(image: &[u8]) -> Result<(), Refusal> {
     let verdict = exported::check(image);

@@ -56,6 +56,7 @@ pub struct Tested {
 }
 
 unsafe extern "C" {
+    fn push_down_filter_version() -> u32;
     fn push_down_filter_check(image: *const u8, length: usize) -> Verdict;
     fn push_down_filter_row_test(
         image: *const u8,
@@ -70,8 +71,13 @@ unsafe extern "C" {
     fn push_down_filter_pass(image: *const u8, length: usize, budget: u64, out: *mut u8, room: usize) -> Passed;
 }
 
-// SAFETY, of all four: every pointer and length are those of a slice that lives through the call. The call reads what
+// SAFETY, of all: every pointer and length are those of a slice that lives through the call. The call reads what
 // is lent shared and writes to the output alone, and its contract demands nothing more of the caller.
+
+/// The version of the library: 1,000,000 for each major, 1,000 for each minor version, and the patch.
+pub fn version() -> u32 {
+    unsafe { push_down_filter_version() }
+}
 
 /// The tests 1 to 7.
 pub fn check(image: &[u8]) -> Verdict {

@@ -57,7 +57,7 @@ pub mod text;
 mod trees;
 
 #[cfg(feature = "library")]
-pub use calls::{check, pass, rewrite, row_test, Passed, Rewritten, Truth};
+pub use calls::{check, pass, rewrite, row_test, version, Passed, Rewritten, Truth};
 pub use explain::explain;
 pub use exprs::{all, bare, col, count, function, lit, max, min, name, not, null, Expr, Name};
 pub use image::RECORD_BYTES;

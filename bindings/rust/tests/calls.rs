@@ -113,3 +113,9 @@ fn refused_plans_are_explained() {
     let wide = scan(1, (1..=2048).map(|name| field(1, name, Integer)));
     assert_eq!(wide.check().map_err(said), Err("refused 1: record 0: 2049 records; at most 2048".into()));
 }
+
+#[test]
+fn the_library_is_of_this_version() {
+    let [major, minor, patch] = push_down_filter::version();
+    assert_eq!(format!("{major}.{minor}.{patch}"), env!("CARGO_PKG_VERSION"));
+}

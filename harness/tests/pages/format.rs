@@ -8,7 +8,7 @@ use harness::image::{self, Tree, RECORD_BYTES};
 use harness::kinds::*;
 use harness::rewriting::{self, Passed, Rewritten};
 use harness::row_tests::{row_test, Tested};
-use harness::text;
+use harness::text::{self, Names};
 use std::collections::BTreeSet;
 
 /// The bytes of the records of an image block, and its calls with their answers.
@@ -235,7 +235,7 @@ fn the_numbers_in_words_are_those_of_the_text_form() {
         let Some(title) = titles.iter().find(|title| cells[0].starts_with(**title)) else { continue };
         for (n, name) in (1..).zip(&cells[1..]).filter(|(_, name)| !name.is_empty()) {
             let (plan, stated) = written(title, n, &as_text(name));
-            assert_eq!(text::write(&plan).lines().next(), Some(stated.as_str()), "{title} {n}");
+            assert_eq!(text::write(&plan, &Names::NONE).lines().next(), Some(stated.as_str()), "{title} {n}");
             count += 1;
         }
     }

@@ -5,7 +5,7 @@ use harness::image::Tree;
 use harness::kinds::*;
 use harness::meaning::{value_on, Row, Value, World};
 use harness::row_tests::types;
-use harness::text;
+use harness::text::{self, Names};
 use std::collections::{BTreeMap, BTreeSet};
 
 fn value(place: &str, word: &str) -> Value {
@@ -60,8 +60,8 @@ fn assert_fit(place: &str, plan: &Tree, tables: &BTreeMap<u32, Vec<Row>>) {
 fn assert_value(place: &str, item: &str) {
     let (expr, stated) = item.split_once("->").unwrap_or_else(|| panic!("{place}: {item} has no value"));
     let scan = scan(1, vec![]);
-    let read =
-        text::read(&format!("Filter {expr}\n  TableScan 1 []")).unwrap_or_else(|e| panic!("{place}: {expr}: {e}"));
+    let read = text::read(&format!("Filter {expr}\n  TableScan 1 []"), &Names::NONE)
+        .unwrap_or_else(|e| panic!("{place}: {expr}: {e}"));
     assert_eq!(value_on(&read.plan.children[0], &scan, &[]), value(place, stated.trim()), "{place}: {expr}");
 }
 

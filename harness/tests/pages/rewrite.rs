@@ -8,7 +8,7 @@ use harness::kinds::*;
 use harness::meaning::World;
 use harness::random::Random;
 use harness::rewriting;
-use harness::text;
+use harness::text::{self, Names};
 use std::collections::BTreeSet;
 
 fn lines_of(written: &str) -> Vec<String> {
@@ -52,7 +52,7 @@ fn assert_rewritten(place: &str, before: &str, after: &str, flag: u32) -> Tree {
     {
         assert_eq!((result.number, result.flag), (0, flag), "{place}: number and flag");
         let made = answer(&output, result.records);
-        assert_eq!(lines_of(&text::write(&made)), lines_of(after), "{place}");
+        assert_eq!(lines_of(&text::write(&made, &Names::NONE)), lines_of(after), "{place}");
         assert_same_rows(place, &plan, &made);
     }
     plan
@@ -101,7 +101,7 @@ fn assert_pass(block: &Block) {
         let answered = format!("visits {} changed {} finished {}", result.visits, result.changed, result.finished);
         assert_eq!((result.number, &answered), (0, counts), "{place}");
         let made = answer(&output, result.records);
-        assert_eq!(lines_of(&text::write(&made)), lines_of(&after), "{place}");
+        assert_eq!(lines_of(&text::write(&made, &Names::NONE)), lines_of(&after), "{place}");
         assert_same_rows(place, &plan, &made);
     }
 }
