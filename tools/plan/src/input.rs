@@ -29,7 +29,7 @@ impl Input {
     /// Reads a file as the options say.
     pub fn read(file: &str, arguments: &Arguments) -> Result<Input, Failure> {
         let names = arguments.value("--names").map_or(Ok(Names::NONE), names)?;
-        let from = arguments.among("--from", &["image", "text"]).map_err(unusable)?;
+        let from = arguments.among("--from", &["image", "text"]).map_err(Failure::Misused)?;
         let bytes = bytes(file)?;
         // the first word of every image is a kind, which is below 256, so that an image holds zeros
         let is_image = from.map_or(bytes.contains(&0), |from| from == "image");

@@ -126,7 +126,8 @@ impl Marking<'_> {
         let node = &outline.nodes[conjunct.node];
         let anchor = short(outline.anchors[conjunct.place.anchor].tree, self.names);
         let which = match (conjunct.place.slot, node.tree.label.kind) {
-            (Slot::Above(_), _) => format!("the Filter over {anchor}"),
+            (Slot::Above(0), _) => format!("the Filter over {anchor}"),
+            (Slot::Above(_), _) => format!("the upper Filter over {anchor}"),
             (Slot::Own, JOIN) => format!("the filter of {anchor}"),
             (Slot::Own, _) => format!("the filters of {anchor}"),
         };

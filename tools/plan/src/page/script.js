@@ -19,8 +19,8 @@
   function show(at) {
     now = Math.max(0, Math.min(steps.length - 1, at));
     steps.forEach((step, place) => step.classList.toggle('current', place === now));
-    for (const row of document.querySelectorAll('.all tr a')) {
-      row.toggleAttribute('aria-current', row.hash === `#${steps[now].id}`);
+    for (const link of document.querySelectorAll('.all a')) {
+      link.ariaCurrent = link.hash === `#${steps[now].id}` ? 'step' : null;
     }
     const title = `${now + 1} of ${steps.length}`;
     slider.value = now + 1;
