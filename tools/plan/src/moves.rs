@@ -1,10 +1,10 @@
 //! Which conjunct of a plan came from which of the plan before it.
 
-use crate::derivations::{clause, inferred, through};
+use crate::derivations::{clause, inferred, is, through};
 use crate::fields::{fields, Name};
 use crate::outline::{inputs, split, Conjunct, Outline, Place};
 use push_down_filter::image::Tree;
-use push_down_filter::kinds::{boolean, JOIN};
+use push_down_filter::kinds::{boolean, EQ, JOIN};
 use std::collections::{BTreeMap, BTreeSet};
 
 /// How a conjunct came to its place.
@@ -144,20 +144,20 @@ impl Matching<'_> {
         }
     }
 
-    /// FALSE comes from what stood at its anchor, or at the one above, and is gone; for anything else nothing accounts.
+    /// FALSE comes from the equalities that stood at its anchor, or at the one above, and are gone; for anything else nothing accounts.
     fn link_rest(&mut self) {
         let stand: BTreeSet<usize> = self.links.iter().flatten().flat_map(|link| link.from.iter().copied()).collect();
         for to in self.unlinked() {
             let Conjunct { place: Place { anchor, .. }, expr, .. } = self.after.conjuncts[to];
             let above = self.before.anchors.get(anchor).and_then(|anchor| anchor.above).map(|(above, _)| above);
-            let is_near = |from: &usize| {
-                let stood = self.before.conjuncts[*from].place.anchor;
-                stood == anchor || Some(stood) == above
+            let is_gone = |(from, old): &(usize, &Conjunct)| {
+                let is_near = old.place.anchor == anchor || Some(old.place.anchor) == above;
+                is_near && !stand.contains(from) && is(old.expr, EQ)
             };
-            let from: Vec<usize> =
-                (0..self.before.conjuncts.len()).filter(|from| is_near(from) && !stand.contains(from)).collect();
-            self.links[to] = Some(match *expr == boolean(false) && !from.is_empty() {
-                true => Link { how: How::Contradiction, from },
+            let gone: Vec<usize> =
+                self.before.conjuncts.iter().enumerate().filter(is_gone).map(|(from, _)| from).collect();
+            self.links[to] = Some(match *expr == boolean(false) && !gone.is_empty() {
+                true => Link { how: How::Contradiction, from: gone },
                 false => Link { how: How::New, from: Vec::new() },
             });
         }
@@ -292,11 +292,16 @@ mod tests {
     #[test]
     fn a_contradiction_has_all_its_origins() {
         let found = linked(
-            "Filter c1 = 1 AND c1 = 2 AND c2 > 0\n  Limit skip 0 fetch 1\n    TableScan 1 [c1:int, c2:int]\n",
+            "Filter c1 = 1 AND c1 = 2 AND c2 >= 0 AND c2 > 0\n  Limit skip 0 fetch 1\n    TableScan 1 [c1:int, c2:int]\n",
             "Filter FALSE AND c2 > 0\n  Limit skip 0 fetch 1\n    TableScan 1 [c1:int, c2:int]\n",
         );
-        let expected =
-            ["FALSE Contradiction c1 = 1 | c1 = 2", "c2 > 0 Stays c2 > 0", "c1 = 1 is gone", "c1 = 2 is gone"];
+        let expected = [
+            "FALSE Contradiction c1 = 1 | c1 = 2",
+            "c2 > 0 Stays c2 > 0",
+            "c1 = 1 is gone",
+            "c1 = 2 is gone",
+            "c2 >= 0 is gone",
+        ];
         assert_eq!(found, expected);
     }
 
