@@ -37,6 +37,7 @@ fn head(title: &str) -> String {
         tag("meta", &[("name", "viewport"), ("content", "width=device-width, initial-scale=1")]),
         tag("meta", &[("name", "color-scheme"), ("content", "light dark")]),
         tag("meta", &[("http-equiv", "Content-Security-Policy"), ("content", POLICY)]),
+        tag("meta", &[("name", "generator"), ("content", concat!("plan ", env!("CARGO_PKG_VERSION")))]),
         tag("link", &[("rel", "icon"), ("href", "data:,")]),
         element("title", &[], title),
         block("style", &[], STYLE),

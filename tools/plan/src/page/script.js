@@ -59,7 +59,7 @@
   document.addEventListener('keydown', (event) => {
     const act = { ArrowLeft: gos.back, ArrowRight: gos.next }[event.key];
     const modified = event.altKey || event.ctrlKey || event.metaKey || event.shiftKey;
-    if (!act || modified || event.target.closest('input, .scroll, pre')) return;
+    if (!act || modified || event.target.closest?.('input, .scroll, pre')) return;
     act();
     event.preventDefault();
   });
