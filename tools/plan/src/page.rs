@@ -166,8 +166,8 @@ mod tests {
         (one.max(other) + 0.05) / (one.min(other) + 0.05)
     }
 
-    /// The colours by name, of the light dress and of the dark one.
-    fn dresses() -> Vec<BTreeMap<&'static str, &'static str>> {
+    /// The colours by name, of the light scheme and of the dark one.
+    fn schemes() -> Vec<BTreeMap<&'static str, &'static str>> {
         let blocks = STYLE.split(":root {").skip(1).take(2).map(|rest| rest.split('}').next().expect("a block ends"));
         let colour = |line: &'static str| line.trim().strip_prefix("--")?.split_once(": ");
         blocks.map(|block| block.split(';').filter_map(colour).collect()).collect()
@@ -175,9 +175,9 @@ mod tests {
 
     #[test]
     fn text_stands_out_from_its_ground() {
-        let dresses = dresses();
-        assert_eq!(dresses.len(), 2);
-        for dress in dresses {
+        let schemes = schemes();
+        assert_eq!(schemes.len(), 2);
+        for scheme in schemes {
             let marks = ["moved", "changed", "new", "gone", "visited"];
             let own = marks.map(|mark| (mark.to_string(), format!("{mark}-back")));
             let text = marks.map(|mark| ("text".to_string(), format!("{mark}-back")));
@@ -185,7 +185,7 @@ mod tests {
                 ["text", "soft", "moved", "changed", "new", "gone"].map(|ink| (ink.to_string(), ground.to_string()))
             });
             for (ink, ground) in own.into_iter().chain(text).chain(plain) {
-                let found = contrast(dress[&*ink], dress[&*ground]);
+                let found = contrast(scheme[&*ink], scheme[&*ground]);
                 assert!(found >= 4.5, "{ink} on {ground}: {found:.1}");
             }
         }
