@@ -128,6 +128,8 @@ fn what_cannot_be_read_exits_with_2() {
         let found = failed(2, &["pass", "-"], input.as_bytes());
         assert!(found.starts_with(why), "{found}");
     }
+    let named = failed(2, &["pass", "-"], WORKED.replace("t1.c1 >", "meal.price >").as_bytes());
+    assert!(named.ends_with("  words for numbers come from a names file: --names NAMES\n"), "{named}");
     assert_eq!(failed(2, &["write", "-"], b"\xff"), "-: neither text nor an image\n");
     assert_eq!(failed(2, &["write", "--from", "text", "-"], &[0xff; 32]), "-: neither text nor an image\n");
     assert!(failed(2, &["write", "no such file"], b"").starts_with("no such file: "));
