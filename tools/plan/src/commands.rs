@@ -63,46 +63,47 @@ pub fn run(words: &[&str]) -> Outcome {
         ["--version"] => Ok(help::version().into()),
         [name, words @ ..] => match COMMANDS.iter().find(|command| command.name == *name) {
             Some(command) => command.run(words),
-            None => Err(unusable(format!("plan: there is no command {name}\n\n{}", help::USAGE))),
+            None => Err(misused(format!("plan: there is no command {name}\n\n{}", help::USAGE))),
         },
-        [] => Err(unusable(help::USAGE.to_string())),
+        [] => Err(misused(help::USAGE.to_string())),
     }
 }
 
 impl Command {
+    /// Runs it. What is said of misused words is put behind its name and before its usage.
     fn run(&self, words: &[&str]) -> Outcome {
-        let arguments = Arguments::read(words, self.takes).map_err(|why| self.misused(why))?;
-        if arguments.has("--help") {
-            return Ok(self.help.to_string().into());
-        }
-        (self.run)(&arguments)
-    }
-
-    fn misused(&self, why: String) -> Failure {
-        let Command { name, help, .. } = self;
-        unusable(format!("plan {name}: {why}\n\n{help}"))
+        let Command { name, help, takes, run } = self;
+        let arguments = Arguments::read(words, *takes).map_err(misused);
+        let outcome = arguments.and_then(|arguments| match arguments.has("--help") {
+            true => Ok(help.to_string().into()),
+            false => run(&arguments),
+        });
+        outcome.map_err(|failure| match failure {
+            Failure::Misused(why) => Failure::Misused(format!("plan {name}: {why}\n\n{help}")),
+            other => other,
+        })
     }
 }
 
-fn unusable(why: String) -> Failure {
-    Failure::Unusable(why)
+fn misused(why: impl Into<String>) -> Failure {
+    Failure::Misused(why.into())
 }
+
+const NO_FILE: &str = "there is no FILE; - is standard input";
 
 /// The input of a command that reads one file and nothing more.
 fn only_input(arguments: &Arguments) -> Result<Input, Failure> {
     match arguments.words.as_slice() {
         [file] => Input::read(file, arguments),
-        [] => Err(unusable("there is no FILE; - is standard input".to_string())),
-        [_, word, ..] => Err(unusable(format!("a word too many: {word}"))),
+        [] => Err(misused(NO_FILE)),
+        [_, word, ..] => Err(misused(format!("a word too many: {word}"))),
     }
 }
 
 /// The record that --node asks for.
 fn node(arguments: &Arguments) -> Result<u32, Failure> {
-    let node = arguments.number("--node").map_err(unusable)?;
-    node.ok_or_else(|| {
-        unusable("--node N is missing: the record of a plan, as 'plan show --records' prints it".to_string())
-    })
+    let node = arguments.number("--node").map_err(misused)?;
+    node.ok_or_else(|| misused("--node N is missing: the record of a plan, as 'plan show --records' prints it"))
 }
 
 /// A plan alone, as --to asks for it.

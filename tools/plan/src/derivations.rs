@@ -53,7 +53,8 @@ pub fn clause(expr: &Tree, names: &[Name]) -> Option<Tree> {
     }
 }
 
-fn is(expr: &Tree, operator: u32) -> bool {
+/// Whether the expression is one of the operator.
+pub fn is(expr: &Tree, operator: u32) -> bool {
     expr.label.kind == BINARY && expr.label.p == operator
 }
 

@@ -29,7 +29,7 @@ impl Input {
     /// Reads a file as the options say.
     pub fn read(file: &str, arguments: &Arguments) -> Result<Input, Failure> {
         let names = arguments.value("--names").map_or(Ok(Names::NONE), names)?;
-        let from = arguments.among("--from", &["image", "text"]).map_err(unusable)?;
+        let from = arguments.among("--from", &["image", "text"]).map_err(Failure::Misused)?;
         let bytes = bytes(file)?;
         // the first word of every image is a kind, which is below 256, so that an image holds zeros
         let is_image = from.map_or(bytes.contains(&0), |from| from == "image");
@@ -37,8 +37,8 @@ impl Input {
             return Ok(Input { file: file.to_string(), image: bytes, names, source: None });
         }
         let text = String::from_utf8(bytes).map_err(|_| unusable(format!("{file}: neither text nor an image")))?;
-        let Written { plan, places } =
-            text::read(&text, &names).map_err(|trouble| unusable(pointed(file, &text, &trouble)))?;
+        let Written { plan, places } = text::read(&text, &names)
+            .map_err(|trouble| unusable(pointed(file, &text, &trouble) + hint(&trouble, &names)))?;
         Ok(Input { file: file.to_string(), image: plan.image(), names, source: Some(Source { text, places }) })
     }
 
@@ -97,19 +97,32 @@ fn names(file: &str) -> Result<Names, Failure> {
     Names::read(&text).map_err(|trouble| unusable(pointed(file, &text, &trouble)))
 }
 
+/// What helps where a word stands in the place of a number and no words are known.
+fn hint(trouble: &Trouble, names: &Names) -> &'static str {
+    let places = ["a qualifier such as", "a name such as", "a function such as"];
+    let is_word = trouble.what.split_once("found '").is_some_and(|(_, found)| found.starts_with(char::is_alphabetic));
+    match names.is_empty() && is_word && places.iter().any(|place| trouble.what.contains(place)) {
+        true => "  words for numbers come from a names file: --names NAMES\n",
+        false => "",
+    }
+}
+
 /// A trouble with the line that it stands in.
 fn pointed(file: &str, text: &str, trouble: &Trouble) -> String {
     format!("{file}:{trouble}\n{}", pointer(text, trouble.place))
 }
 
-/// So many characters of a line are shown on either side of a place.
+/// A line of twice so many characters is shown whole, of a longer one so many on either side of a place.
 const AROUND: usize = 60;
 
 /// A line of a text, and below it a sign under the place. Of a long line only what stands around the place is shown.
 fn pointer(text: &str, place: Place) -> String {
     let line: Vec<char> = text.lines().nth(place.line - 1).unwrap_or("").chars().collect();
     let column = (place.column - 1).min(line.len());
-    let (from, to) = (column.saturating_sub(AROUND), (column + AROUND).min(line.len()));
+    let (from, to) = match line.len() <= 2 * AROUND {
+        true => (0, line.len()),
+        false => (column.saturating_sub(AROUND), (column + AROUND).min(line.len())),
+    };
     let shown: String = line[from..to].iter().collect();
     let (before, after) = (if from > 0 { ".. " } else { "" }, if to < line.len() { " .." } else { "" });
     let number = place.line.to_string();

@@ -17,8 +17,10 @@ pub mod steps;
 pub enum Failure {
     /// The library refused the plan or the call: status 1.
     Refused(String),
-    /// The words of the command, or what it was to read, cannot be used: status 2.
+    /// What it was to read or write cannot be used: status 2.
     Unusable(String),
+    /// Its words cannot be used: status 2.
+    Misused(String),
 }
 
 /// What a command prints, and whether the library granted it.

@@ -9,12 +9,12 @@ const REFUSED: u8 = 1;
 const UNUSABLE: u8 = 2;
 
 fn main() -> ExitCode {
-    let words: Vec<String> = std::env::args().skip(1).collect();
+    let words: Vec<String> = std::env::args_os().skip(1).map(|word| word.to_string_lossy().into_owned()).collect();
     let words: Vec<&str> = words.iter().map(String::as_str).collect();
     ExitCode::from(match commands::run(&words) {
         Ok(answer) => print(&answer),
         Err(Failure::Refused(why)) => fail(&why, REFUSED),
-        Err(Failure::Unusable(why)) => fail(&why, UNUSABLE),
+        Err(Failure::Unusable(why) | Failure::Misused(why)) => fail(&why, UNUSABLE),
     })
 }
 

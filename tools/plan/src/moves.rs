@@ -1,10 +1,10 @@
 //! Which conjunct of a plan came from which of the plan before it.
 
-use crate::derivations::{clause, inferred, through};
+use crate::derivations::{clause, inferred, is, through};
 use crate::fields::{fields, Name};
 use crate::outline::{inputs, split, Conjunct, Outline, Place};
 use push_down_filter::image::Tree;
-use push_down_filter::kinds::{boolean, JOIN};
+use push_down_filter::kinds::{boolean, EQ, JOIN};
 use std::collections::{BTreeMap, BTreeSet};
 
 /// How a conjunct came to its place.
@@ -144,20 +144,20 @@ impl Matching<'_> {
         }
     }
 
-    /// FALSE comes from what stood at its anchor, or at the one above, and is gone; for anything else nothing accounts.
+    /// FALSE comes from the equalities that stood at its anchor, or at the one above, and are gone; for anything else nothing accounts.
     fn link_rest(&mut self) {
         let stand: BTreeSet<usize> = self.links.iter().flatten().flat_map(|link| link.from.iter().copied()).collect();
         for to in self.unlinked() {
             let Conjunct { place: Place { anchor, .. }, expr, .. } = self.after.conjuncts[to];
             let above = self.before.anchors.get(anchor).and_then(|anchor| anchor.above).map(|(above, _)| above);
-            let is_near = |from: &usize| {
-                let stood = self.before.conjuncts[*from].place.anchor;
-                stood == anchor || Some(stood) == above
+            let is_gone = |(from, old): &(usize, &Conjunct)| {
+                let is_near = old.place.anchor == anchor || Some(old.place.anchor) == above;
+                is_near && !stand.contains(from) && is(old.expr, EQ)
             };
-            let from: Vec<usize> =
-                (0..self.before.conjuncts.len()).filter(|from| is_near(from) && !stand.contains(from)).collect();
-            self.links[to] = Some(match *expr == boolean(false) && !from.is_empty() {
-                true => Link { how: How::Contradiction, from },
+            let gone: Vec<usize> =
+                self.before.conjuncts.iter().enumerate().filter(is_gone).map(|(from, _)| from).collect();
+            self.links[to] = Some(match *expr == boolean(false) && !gone.is_empty() {
+                true => Link { how: How::Contradiction, from: gone },
                 false => Link { how: How::New, from: Vec::new() },
             });
         }
@@ -199,4 +199,130 @@ pub fn gone(before: &Outline, links: &Links) -> Vec<usize> {
     let stands = |how: How| matches!(how, How::Stays | How::Moved | How::Changed);
     let leads = |from: &usize| links.iter().any(|link| stands(link.how) && link.from.contains(from));
     (0..before.conjuncts.len()).filter(|from| !leads(from)).collect()
+}
+
+#[cfg(test)]
+mod tests {
+    use super::*;
+    use push_down_filter::text::{expr, read, Names};
+
+    fn plan(text: &str) -> Tree {
+        read(text, &Names::NONE).unwrap_or_else(|trouble| panic!("{trouble}")).plan
+    }
+
+    fn shown(outline: &Outline, at: usize) -> String {
+        expr(outline.conjuncts[at].expr, &Names::NONE)
+    }
+
+    /// A line for each conjunct after, and one for each that is gone.
+    fn told(before: &Outline, after: &Outline, links: &Links) -> Vec<String> {
+        let stand = links.iter().enumerate().map(|(to, link)| {
+            let from: Vec<String> = link.from.iter().map(|&from| shown(before, from)).collect();
+            format!("{} {:?} {}", shown(after, to), link.how, from.join(" | "))
+        });
+        let gone = gone(before, links).into_iter().map(|from| format!("{} is gone", shown(before, from)));
+        stand.chain(gone).collect()
+    }
+
+    fn linked(before: &str, after: &str) -> Vec<String> {
+        let [before, after] = [before, after].map(plan);
+        let [before, after] = [&before, &after].map(Outline::of);
+        told(&before, &after, &links(&before, &after))
+    }
+
+    #[test]
+    fn a_scan_takes_some() {
+        let found = linked(
+            "Filter c1 > 5 AND c2 = 3\n  TableScan 1 [c1:int:marked, c2:int] filters [c1 < 9]\n",
+            "Filter c2 = 3\n  TableScan 1 [c1:int:marked, c2:int] filters [c1 < 9, c1 > 5]\n",
+        );
+        assert_eq!(found, ["c2 = 3 Stays c2 = 3", "c1 < 9 Stays c1 < 9", "c1 > 5 Moved c1 > 5"]);
+    }
+
+    #[test]
+    fn filters_are_merged() {
+        let found = linked(
+            "Filter c1 >= 7 AND c2 = 1\n  Filter c1 > 3 AND c2 = 1\n    TableScan 1 [c1:int, c2:int]\n",
+            "Filter c2 = 1 AND c1 >= 7\n  TableScan 1 [c1:int, c2:int]\n",
+        );
+        assert_eq!(found, ["c2 = 1 Stays c2 = 1", "c1 >= 7 Moved c1 >= 7", "c2 = 1 is gone", "c1 > 3 is gone"]);
+    }
+
+    #[test]
+    fn a_union_hands_copies_down() {
+        let inputs = ["TableScan 1 [c1:int]", "TableScan 2 [c2:int]"];
+        let [one, other] = inputs;
+        let found = linked(
+            &format!("Filter c1 > 5\n  Union\n    {one}\n    {other}\n"),
+            &format!("Union\n  Filter c1 > 5\n    {one}\n  Filter c2 > 5\n    {other}\n"),
+        );
+        assert_eq!(found, ["c1 > 5 Moved c1 > 5", "c2 > 5 Changed c1 > 5"]);
+    }
+
+    #[test]
+    fn an_entry_falls_into_conjuncts() {
+        let found = linked(
+            "Filter c3\n  Projection [c3 := c1 > 5 AND c2 = 1]\n    TableScan 1 [c1:int, c2:int]\n",
+            "Projection [c3 := c1 > 5 AND c2 = 1]\n  Filter c1 > 5 AND c2 = 1\n    TableScan 1 [c1:int, c2:int]\n",
+        );
+        assert_eq!(found, ["c1 > 5 Changed c3", "c2 = 1 Changed c3"]);
+    }
+
+    #[test]
+    fn a_join_infers_and_asks() {
+        let scans = ["TableScan 1 [t1.c1:int, t1.c2:int]", "TableScan 2 [t2.c1:int]"];
+        let [one, other] = scans;
+        let both = "t1.c2 = 1 AND t2.c1 = 2 OR t1.c2 = 3";
+        let found = linked(
+            &format!("Filter t1.c1 > 5 AND ({both})\n  Join Inner on [t1.c1 = t2.c1]\n    {one}\n    {other}\n"),
+            &format!(
+                "Join Inner on [t1.c1 = t2.c1] filter {both}\n  Filter t1.c1 > 5 AND (t1.c2 = 1 OR t1.c2 = 3)\n    {one}\n  \
+                 Filter t2.c1 > 5\n    {other}\n"
+            ),
+        );
+        let expected = [
+            format!("{both} Moved {both}"),
+            "t1.c1 > 5 Moved t1.c1 > 5".to_string(),
+            format!("t1.c2 = 1 OR t1.c2 = 3 Clause {both}"),
+            "t2.c1 > 5 Inferred t1.c1 > 5".to_string(),
+        ];
+        assert_eq!(found, expected);
+    }
+
+    #[test]
+    fn a_contradiction_has_all_its_origins() {
+        let found = linked(
+            "Filter c1 = 1 AND c1 = 2 AND c2 >= 0 AND c2 > 0\n  Limit skip 0 fetch 1\n    TableScan 1 [c1:int, c2:int]\n",
+            "Filter FALSE AND c2 > 0\n  Limit skip 0 fetch 1\n    TableScan 1 [c1:int, c2:int]\n",
+        );
+        let expected = [
+            "FALSE Contradiction c1 = 1 | c1 = 2",
+            "c2 > 0 Stays c2 > 0",
+            "c1 = 1 is gone",
+            "c1 = 2 is gone",
+            "c2 >= 0 is gone",
+        ];
+        assert_eq!(found, expected);
+    }
+
+    #[test]
+    fn what_nothing_accounts_for_is_new() {
+        let found = linked("Filter c1 > 5\n  TableScan 1 [c1:int]\n", "Filter c1 > 6\n  TableScan 1 [c1:int]\n");
+        assert_eq!(found, ["c1 > 6 New ", "c1 > 5 is gone"]);
+    }
+
+    #[test]
+    fn steps_are_composed() {
+        let texts = [
+            "Filter t9.c1 > 5\n  SubqueryAlias t9\n    Distinct\n      TableScan 1 [c1:int]\n",
+            "SubqueryAlias t9\n  Filter c1 > 5\n    Distinct\n      TableScan 1 [c1:int]\n",
+            "SubqueryAlias t9\n  Distinct\n    Filter c1 > 5\n      TableScan 1 [c1:int]\n",
+        ];
+        let plans = texts.map(plan);
+        let outlines: Vec<Outline> = plans.iter().map(Outline::of).collect();
+        let steps: Vec<Links> = outlines.windows(2).map(|pair| links(&pair[0], &pair[1])).collect();
+        assert_eq!([steps[0][0].how, steps[1][0].how], [How::Changed, How::Moved]);
+        let whole = composed(&outlines[0], &outlines[2], &steps);
+        assert_eq!(told(&outlines[0], &outlines[2], &whole), ["c1 > 5 Changed t9.c1 > 5"]);
+    }
 }

@@ -37,6 +37,7 @@ fn head(title: &str) -> String {
         tag("meta", &[("name", "viewport"), ("content", "width=device-width, initial-scale=1")]),
         tag("meta", &[("name", "color-scheme"), ("content", "light dark")]),
         tag("meta", &[("http-equiv", "Content-Security-Policy"), ("content", POLICY)]),
+        tag("meta", &[("name", "generator"), ("content", concat!("plan ", env!("CARGO_PKG_VERSION")))]),
         tag("link", &[("rel", "icon"), ("href", "data:,")]),
         element("title", &[], title),
         block("style", &[], STYLE),
@@ -140,4 +141,53 @@ fn legend() -> String {
     ];
     let entry = |(sample, what): (String, &str)| element("li", &[], &format!("{sample} {what}")) + "\n";
     block("ul", &[("class", "legend"), ("aria-label", "What the marks mean")], &entries.map(entry).concat())
+}
+
+#[cfg(test)]
+mod tests {
+    use super::STYLE;
+    use std::collections::BTreeMap;
+
+    /// The share of light that a colour such as #1b1b1b gives, by the definition of WCAG.
+    fn light(colour: &str) -> f64 {
+        let share = |at: usize| {
+            let part = f64::from(u8::from_str_radix(&colour[at..at + 2], 16).expect("two digits")) / 255.0;
+            if part <= 0.03928 {
+                part / 12.92
+            } else {
+                ((part + 0.055) / 1.055).powf(2.4)
+            }
+        };
+        0.2126 * share(1) + 0.7152 * share(3) + 0.0722 * share(5)
+    }
+
+    fn contrast(one: &str, other: &str) -> f64 {
+        let (one, other) = (light(one), light(other));
+        (one.max(other) + 0.05) / (one.min(other) + 0.05)
+    }
+
+    /// The colours by name, of the light scheme and of the dark one.
+    fn schemes() -> Vec<BTreeMap<&'static str, &'static str>> {
+        let blocks = STYLE.split(":root {").skip(1).take(2).map(|rest| rest.split('}').next().expect("a block ends"));
+        let colour = |line: &'static str| line.trim().strip_prefix("--")?.split_once(": ");
+        blocks.map(|block| block.split(';').filter_map(colour).collect()).collect()
+    }
+
+    #[test]
+    fn text_stands_out_from_its_ground() {
+        let schemes = schemes();
+        assert_eq!(schemes.len(), 2);
+        for scheme in schemes {
+            let marks = ["moved", "changed", "new", "gone", "visited"];
+            let own = marks.map(|mark| (mark.to_string(), format!("{mark}-back")));
+            let text = marks.map(|mark| ("text".to_string(), format!("{mark}-back")));
+            let plain = ["page", "panel"].iter().flat_map(|ground| {
+                ["text", "soft", "moved", "changed", "new", "gone"].map(|ink| (ink.to_string(), ground.to_string()))
+            });
+            for (ink, ground) in own.into_iter().chain(text).chain(plain) {
+                let found = contrast(scheme[&*ink], scheme[&*ground]);
+                assert!(found >= 4.5, "{ink} on {ground}: {found:.1}");
+            }
+        }
+    }
 }

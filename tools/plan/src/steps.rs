@@ -1,7 +1,6 @@
 //! The states of a pass: the plan before it, and after each visit.
 
 use push_down_filter::image::{read, Tree};
-use push_down_filter::kinds::is_plan;
 use push_down_filter::{pass, Refusal, MAX_BYTES};
 
 /// The plan that a pass leaves.
@@ -38,12 +37,4 @@ pub fn last_granted(image: &[u8], budget: u64) -> Option<State> {
         }
     }
     Some(last)
-}
-
-/// The record of the plan that a visit, counted from 1, finds. Since a visit writes only below its plan, the visits take the plans in the
-/// order of their records, each in the plan that the visits before it left.
-pub fn visited(before: &Tree, visit: usize) -> Option<usize> {
-    let nodes = before.parent_first();
-    let mut plans = nodes.iter().enumerate().filter(|(_, (_, tree))| is_plan(tree.label.kind));
-    plans.nth(visit - 1).map(|(record, _)| record)
 }

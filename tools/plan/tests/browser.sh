@@ -14,10 +14,10 @@ folder=$(mktemp -d) || exit 1
 trap 'rm -rf "$folder"' EXIT
 fail() { echo "plan pages: $1"; exit 1; }
 
-# The page as it stands after its script ran.
+# The page as it stands after its script ran. What its script, or the browser, has to say of it goes to $folder/console.
 loaded() {
     timeout 60 "$browser" --headless --no-sandbox --disable-gpu --user-data-dir="$folder/profile" --virtual-time-budget=2000 \
-        --dump-dom "file://$folder/$1" 2>/dev/null
+        --enable-logging=stderr --dump-dom "file://$folder/$1" 2>>"$folder/console"
 }
 # The visit that a loaded page shows: the one article that is current.
 shown() { grep -o '<article class="step[a-z ]*current" id="step-[0-9]*"' | grep -o 'step-[0-9]*' | paste -sd ' ' -; }
@@ -70,5 +70,9 @@ for file in "$examples"/*.plan; do
         ;;
     esac
 done
+grep CONSOLE "$folder/console" && fail "the console names a trouble"
+sed "s|^</body>|<script>document.querySelector('.none').click()</script></body>|" "$folder/join.html" >"$folder/wrong.html"
+loaded wrong.html >/dev/null
+grep -q CONSOLE "$folder/console" || fail "the console does not show what is wrong"
 [ "$pages" -ge 25 ] || fail "only $pages examples have a page"
 echo "plan pages: $checks looks at pages in $("$browser" --version 2>/dev/null | head -n 1 | xargs), $pages pages made, all as expected"

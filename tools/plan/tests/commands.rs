@@ -128,6 +128,8 @@ fn what_cannot_be_read_exits_with_2() {
         let found = failed(2, &["pass", "-"], input.as_bytes());
         assert!(found.starts_with(why), "{found}");
     }
+    let named = failed(2, &["pass", "-"], WORKED.replace("t1.c1 >", "meal.price >").as_bytes());
+    assert!(named.ends_with("  words for numbers come from a names file: --names NAMES\n"), "{named}");
     assert_eq!(failed(2, &["write", "-"], b"\xff"), "-: neither text nor an image\n");
     assert_eq!(failed(2, &["write", "--from", "text", "-"], &[0xff; 32]), "-: neither text nor an image\n");
     assert!(failed(2, &["write", "no such file"], b"").starts_with("no such file: "));
@@ -143,16 +145,19 @@ fn wrong_words_exit_with_2() {
         (&[], "usage: plan check FILE"),
         (&["look"], "plan: there is no command look\n\nusage: plan check FILE"),
         (&["show", "--all", "-"], "plan show: there is no option --all\n\nusage: plan show"),
-        (&["show"], "there is no FILE"),
-        (&["show", "-", "-"], "a word too many: -"),
-        (&["rewrite", "-"], "--node N is missing"),
-        (&["rewrite", "--node", "4294967296", "-"], "--node 4294967296: no number"),
-        (&["pass", "--budget", "-1", "-"], "--budget -1: no number"),
-        (&["pass", "--to", "html", "-"], "--to html: it is one of image, text"),
-        (&["pass", "--to", "text", "--html", "-", "-"], "--to and --html do not go together"),
-        (&["row", "--node", "0"], "there is no FILE"),
-        (&["row", "--node", "0", "-", "five"], "five is no value: an integer of 64 bits, TRUE, FALSE or NULL"),
-        (&["row", "--node", "0", "-", "TRUE"], "TRUE is no value of t1.c1:int"),
+        (&["show"], "plan show: there is no FILE"),
+        (&["show", "-", "-"], "plan show: a word too many: -"),
+        (&["rewrite", "-"], "plan rewrite: --node N is missing"),
+        (&["rewrite", "--node", "4294967296", "-"], "plan rewrite: --node 4294967296: no number"),
+        (&["pass", "--budget", "-1", "-"], "plan pass: --budget -1: no number"),
+        (&["pass", "--to", "html", "-"], "plan pass: --to html: it is one of image, text"),
+        (&["pass", "--to", "text", "--html", "-", "-"], "plan pass: --to and --html do not go together"),
+        (&["row", "--node", "0"], "plan row: there is no FILE"),
+        (
+            &["row", "--node", "0", "-", "five"],
+            "plan row: five is no value: an integer of 64 bits, TRUE, FALSE or NULL",
+        ),
+        (&["row", "--node", "0", "-", "TRUE"], "plan row: TRUE is no value of t1.c1:int"),
     ];
     for (words, why) in cases {
         let found = failed(2, words, WORKED.as_bytes());

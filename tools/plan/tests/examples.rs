@@ -3,13 +3,11 @@
 //!
 //! With WRITE_EXPECTED=1 in the environment the files are written anew, from the commands that stand in them.
 
-use std::collections::BTreeSet;
-use std::path::{Path, PathBuf};
-use std::process::Command;
+mod shell;
 
-fn folder() -> PathBuf {
-    Path::new(env!("CARGO_MANIFEST_DIR")).join("../../examples/plans")
-}
+use shell::{first_difference, folder, run_again};
+use std::collections::BTreeSet;
+use std::path::Path;
 
 fn text(path: &Path) -> String {
     std::fs::read_to_string(path).unwrap_or_else(|error| panic!("{}: {error}", path.display()))
@@ -23,22 +21,6 @@ fn names(folder: &Path, ending: &str) -> BTreeSet<String> {
     files.filter_map(|name| name.strip_suffix(ending).map(str::to_string)).collect()
 }
 
-/// What a shell prints of a command, standard error included, and its exit status if it is not 0. `plan` is the tool under test.
-fn printed(command: &str) -> String {
-    let tools = Path::new(env!("CARGO_BIN_EXE_plan")).parent().expect("the folder of the tool").to_path_buf();
-    let others = std::env::var_os("PATH").unwrap_or_default();
-    let path =
-        std::env::join_paths([tools].into_iter().chain(std::env::split_paths(&others))).expect("a path of folders");
-    let mut shell = Command::new("sh");
-    shell.args(["-c", &format!("{command} 2>&1")]).current_dir(folder()).env("PATH", path);
-    let output = shell.output().expect("there is a shell");
-    let text = String::from_utf8(output.stdout).expect("plan prints text");
-    match output.status.code() {
-        Some(0) => text,
-        status => format!("{text}exit status {}\n", status.expect("the command ends by itself")),
-    }
-}
-
 #[test]
 fn every_example_prints_what_is_expected() {
     let expected = folder().join("expected");
@@ -50,9 +32,9 @@ fn every_example_prints_what_is_expected() {
     for name in plans {
         let file = expected.join(format!("{name}.txt"));
         let text = text(&file);
-        let asked: Vec<&str> = text.lines().filter_map(|line| line.strip_prefix("$ ")).collect();
-        assert!(asked.iter().any(|command| command.contains(&format!("{name}.plan"))), "{name}.txt runs {name}.plan");
-        let found: String = asked.iter().map(|command| format!("$ {command}\n{}", printed(command))).collect();
+        let asked: Vec<&str> = text.lines().filter(|line| line.starts_with("$ ")).collect();
+        assert!(asked.iter().any(|line| line.contains(&format!("{name}.plan"))), "{name}.txt runs {name}.plan");
+        let found = run_again(&text);
         commands += asked.len();
         if write {
             std::fs::write(&file, &found).expect("the expected file is written");
@@ -61,15 +43,6 @@ fn every_example_prints_what_is_expected() {
         assert!(found == text, "expected/{name}.txt: {}", first_difference(&found, &text));
     }
     println!("{commands} commands");
-}
-
-fn first_difference(found: &str, expected: &str) -> String {
-    let lines = (1..).zip(found.lines().map(Some).chain([None]).zip(expected.lines().map(Some).chain([None])));
-    let differ = lines.into_iter().find(|(_, (found, expected))| found != expected);
-    let said = |line: Option<&str>| line.map_or("no line".to_string(), |line| format!("'{line}'"));
-    differ.map_or("they end differently".to_string(), |(number, (found, expected))| {
-        format!("line {number} is {}, {} is printed", said(expected), said(found))
-    })
 }
 
 #[test]

@@ -5,7 +5,7 @@ mod random;
 use plan::moves::{composed, gone, links, How, Links};
 use plan::outline::Outline;
 use plan::page::page;
-use plan::steps::{states, visited, State};
+use plan::steps::{states, State};
 use push_down_filter::image::{read, Tree};
 use push_down_filter::text::{Named, Names};
 use push_down_filter::{check, rewrite, MAX_BYTES};
@@ -31,7 +31,8 @@ fn a_visit_is_the_rewrite_of_the_plan_that_it_names() {
     let mut visits = 0;
     for (seed, states) in passes() {
         for (number, pair) in (1..).zip(states.windows(2)) {
-            let node = visited(&pair[0].plan, number).expect("a visit finds a plan");
+            // the plan that the page marks as visited
+            let node = Outline::of(&pair[0].plan).nodes[number - 1].record;
             let mut out = vec![0; MAX_BYTES];
             let answer = rewrite(&pair[0].plan.image(), node as u32, &mut out).expect("the pass was granted");
             assert_eq!(Tree::of_records(&read(&out[..answer.bytes()])), pair[1].plan, "seed {seed}, visit {number}");
@@ -39,7 +40,10 @@ fn a_visit_is_the_rewrite_of_the_plan_that_it_names() {
             visits += 1;
         }
         let last = states.last().expect("there is a state");
-        assert!(last.finished && visited(&last.plan, states.len()).is_none(), "seed {seed}: no plan is left");
+        assert!(
+            last.finished && Outline::of(&last.plan).nodes.len() + 1 == states.len(),
+            "seed {seed}: a visit for each plan"
+        );
     }
     println!("{visits} visits");
     assert!(visits > 5 * PLANS);

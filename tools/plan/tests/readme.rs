@@ -1,6 +1,9 @@
 //! README.md holds what the tool prints of itself.
 
+mod shell;
+
 use plan::help;
+use shell::{first_difference, run_again};
 use std::process::Command;
 
 const README: &str = include_str!("../README.md");
@@ -30,6 +33,20 @@ fn the_help_of_every_command_is_the_readme_s() {
         assert!(is_block(&help), "README.md holds what plan {name} --help prints");
         assert!(help::USAGE.contains(&format!("plan {name} ")), "plan --help names {name}");
     }
+}
+
+#[test]
+fn the_commands_of_the_readme_print_what_it_says() {
+    let blocks = README.split("```\n").filter(|block| block.starts_with("$ "));
+    let mut commands = 0;
+    for block in blocks {
+        let found = run_again(block);
+        // a page that shows a refusal need not say its exit status
+        let found = found.strip_suffix("exit status 1\n").unwrap_or(&found);
+        assert!(found == block, "{block}: {}", first_difference(found, block));
+        commands += 1;
+    }
+    assert!(commands >= 5, "{commands} commands");
 }
 
 #[test]

@@ -1,6 +1,6 @@
 //! Commands that change a plan: rewrite and pass.
 
-use super::{node, only_input, to, unusable};
+use super::{misused, node, only_input, to};
 use crate::arguments::Arguments;
 use crate::columns::columns;
 use crate::input::Input;
@@ -30,9 +30,9 @@ pub fn rewrite(arguments: &Arguments) -> Outcome {
 pub fn pass(arguments: &Arguments) -> Outcome {
     let (wanted, page) = (wanted(arguments)?, arguments.value("--html"));
     if wanted.is_some() && page.is_some() {
-        return Err(unusable("--to and --html do not go together".to_string()));
+        return Err(misused("--to and --html do not go together"));
     }
-    let budget = arguments.number("--budget").map_err(unusable)?.unwrap_or(BUDGET);
+    let budget = arguments.number("--budget").map_err(misused)?.unwrap_or(BUDGET);
     let input = only_input(arguments)?;
     let before = input.plan()?;
     let last = steps::after(&input.image, budget).map_err(|refusal| refused(&input, budget, refusal))?;
@@ -45,7 +45,7 @@ pub fn pass(arguments: &Arguments) -> Outcome {
 
 /// The form in which the answer alone is wanted.
 fn wanted(arguments: &Arguments) -> Result<Option<&'static str>, Failure> {
-    arguments.among("--to", &["image", "text"]).map_err(unusable)
+    arguments.among("--to", &["image", "text"]).map_err(misused)
 }
 
 fn counts(State { visits, changed, finished, .. }: &State) -> String {
@@ -84,7 +84,7 @@ fn write_page(file: &str, input: &Input, budget: u64) -> Outcome {
     if file == "-" {
         return Ok(text.into());
     }
-    std::fs::write(file, text).map_err(|error| unusable(format!("{file}: {error}")))?;
+    std::fs::write(file, text).map_err(|error| Failure::Unusable(format!("{file}: {error}")))?;
     let last = states.last().map_or(String::new(), counts);
     Ok(format!("{last}\n").into())
 }

@@ -1,6 +1,6 @@
 //! The row test.
 
-use super::{node, unusable};
+use super::{misused, node, NO_FILE};
 use crate::arguments::Arguments;
 use crate::fields::{fields, Field};
 use crate::input::Input;
@@ -12,7 +12,7 @@ use push_down_filter::{row_test, Reason, Truth};
 pub fn row(arguments: &Arguments) -> Outcome {
     let node = node(arguments)?;
     let [file, words @ ..] = arguments.words.as_slice() else {
-        return Err(unusable("there is no FILE; - is standard input".to_string()));
+        return Err(misused(NO_FILE));
     };
     let (values, marks): (Vec<i64>, Vec<u8>) =
         words.iter().map(|word| cell(word)).collect::<Result<Vec<_>, _>>()?.into_iter().unzip();
@@ -21,7 +21,7 @@ pub fn row(arguments: &Arguments) -> Outcome {
     if let Some((word, field)) =
         words.iter().zip(&fields).find(|(word, field)| is_truth(word) && field.of == OF_INTEGER)
     {
-        return Err(unusable(format!("{word} is no value of {}", field.written(&input.names))));
+        return Err(misused(format!("{word} is no value of {}", field.written(&input.names))));
     }
     match row_test(&input.image, node, &values, &marks) {
         Ok(truth) => Ok(format!("{}\n", word_of(truth)).into()),
@@ -54,7 +54,7 @@ fn cell(word: &str) -> Result<(i64, u8), Failure> {
         "NULL" => Ok((0, 1)),
         _ => match word.parse() {
             Ok(value) => Ok((value, 0)),
-            Err(_) => Err(unusable(format!("{word} is no value: an integer of 64 bits, TRUE, FALSE or NULL"))),
+            Err(_) => Err(misused(format!("{word} is no value: an integer of 64 bits, TRUE, FALSE or NULL"))),
         },
     }
 }

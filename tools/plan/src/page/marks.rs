@@ -61,9 +61,9 @@ impl Marks {
                 false => marking.mark_moved(from),
             }
         }
-        for to in 0..after.conjuncts.len() {
-            if marking.marks.after[to].is_none() && links[to].how != How::Stays {
-                marking.mark_new(to);
+        for (to, link) in links.iter().enumerate() {
+            if !matches!(link.how, How::Stays | How::Moved | How::Changed) {
+                marking.mark_new(to, link);
             }
         }
         marking.marks
@@ -126,7 +126,8 @@ impl Marking<'_> {
         let node = &outline.nodes[conjunct.node];
         let anchor = short(outline.anchors[conjunct.place.anchor].tree, self.names);
         let which = match (conjunct.place.slot, node.tree.label.kind) {
-            (Slot::Above(_), _) => format!("the Filter over {anchor}"),
+            (Slot::Above(0), _) => format!("the Filter over {anchor}"),
+            (Slot::Above(_), _) => format!("the upper Filter over {anchor}"),
             (Slot::Own, JOIN) => format!("the filter of {anchor}"),
             (Slot::Own, _) => format!("the filters of {anchor}"),
         };
@@ -135,24 +136,24 @@ impl Marking<'_> {
 
     /// Marks a conjunct that stands elsewhere, or in other words, and what it became.
     fn mark_moved(&mut self, from: usize) {
-        let became = |(to, link): (usize, &Link)| {
-            (matches!(link.how, How::Moved | How::Changed) && link.from == [from]).then_some((to, link.how))
+        let became = |(to, link): (usize, &Link)| match link.how {
+            How::Moved if link.from == [from] => Some((to, Kind::Moved)),
+            How::Changed if link.from == [from] => Some((to, Kind::Changed)),
+            _ => None,
         };
-        let became: Vec<(usize, How)> = self.links.iter().enumerate().filter_map(became).collect();
-        let Some(how) = became.iter().map(|(_, how)| *how).max() else { return };
-        let kind = if how == How::Changed { Kind::Changed } else { Kind::Moved };
+        let became: Vec<(usize, Kind)> = self.links.iter().enumerate().filter_map(became).collect();
+        let Some(kind) = became.iter().map(|(_, kind)| *kind).max() else { return };
         let old = &self.before.conjuncts[from];
-        let ends = became.iter().map(|&(to, how)| {
+        let ends = became.iter().map(|&(to, kind)| {
             let new = &self.after.conjuncts[to];
-            let words = if how == How::Changed { format!(", as {}", self.text(new)) } else { String::new() };
+            let words = if kind == Kind::Changed { format!(", as {}", self.text(new)) } else { String::new() };
             format!("to {}{words}", self.place(self.after, new))
         });
         let ends: Vec<String> = ends.collect();
         let said = format!("{} from {} {}", self.text(old), self.place(self.before, old), ends.join(" and "));
         let mark = self.say(kind, said);
         self.marks.before[from] = Some(mark);
-        for (to, how) in became {
-            let kind = if how == How::Changed { Kind::Changed } else { Kind::Moved };
+        for (to, kind) in became {
             self.marks.after[to] = Some(Mark { kind, ..mark });
         }
     }
@@ -160,18 +161,19 @@ impl Marking<'_> {
     fn mark_gone(&mut self, from: usize) {
         let old = &self.before.conjuncts[from];
         let makes = |how: How| self.links.iter().any(|link| link.how == how && link.from.contains(&from));
-        let repeats = self.before.conjuncts.iter().enumerate().any(|(at, other)| at != from && other.expr == old.expr);
+        let mut others = self.before.conjuncts.iter().enumerate().filter(|(at, _)| *at != from);
+        let repeats = others.any(|(_, other)| other.place.anchor == old.place.anchor && other.expr == old.expr);
         let why = match (makes(How::Contradiction), repeats) {
             (true, _) => "it cannot hold together with others, which makes FALSE",
             (_, true) => "it is a repeat",
-            _ => "what stays says as much",
+            _ => "others say as much",
         };
         let said = format!("{} of {}: {why}", self.text(old), self.place(self.before, old));
         self.marks.before[from] = Some(self.say(Kind::Gone, said));
     }
 
-    fn mark_new(&mut self, to: usize) {
-        let (new, link) = (&self.after.conjuncts[to], &self.links[to]);
+    fn mark_new(&mut self, to: usize, link: &Link) {
+        let new = &self.after.conjuncts[to];
         let from = self.texts(&link.from);
         let why = match link.how {
             How::Inferred => format!(", inferred from {from} by the keys of a join"),

@@ -19,8 +19,8 @@
   function show(at) {
     now = Math.max(0, Math.min(steps.length - 1, at));
     steps.forEach((step, place) => step.classList.toggle('current', place === now));
-    for (const row of document.querySelectorAll('.all tr a')) {
-      row.toggleAttribute('aria-current', row.hash === `#${steps[now].id}`);
+    for (const link of document.querySelectorAll('.all a')) {
+      link.ariaCurrent = link.hash === `#${steps[now].id}` ? 'step' : null;
     }
     const title = `${now + 1} of ${steps.length}`;
     slider.value = now + 1;
@@ -59,7 +59,7 @@
   document.addEventListener('keydown', (event) => {
     const act = { ArrowLeft: gos.back, ArrowRight: gos.next }[event.key];
     const modified = event.altKey || event.ctrlKey || event.metaKey || event.shiftKey;
-    if (!act || modified || event.target.closest('input, .scroll, pre')) return;
+    if (!act || modified || event.target.closest?.('input, .scroll, pre')) return;
     act();
     event.preventDefault();
   });

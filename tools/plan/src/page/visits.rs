@@ -39,6 +39,8 @@ impl Page<'_> {
         section("visits", "Visit by visit", &[said, controls(visits.len()), articles, table(&visits)].concat())
     }
 
+    /// A visit writes only below its plan. So the visits take the plans in the order of their records, each in the plan that the visits
+    /// before it left.
     fn visit(&self, number: usize) -> Visit {
         let (before, after) = (&self.outlines[number - 1], &self.outlines[number]);
         let node = &before.nodes[number - 1];
