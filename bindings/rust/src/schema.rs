@@ -2,6 +2,17 @@
 
 use crate::form::Linked;
 use crate::kinds::*;
+use crate::{name, Name, Plan, Type};
+
+impl Plan {
+    /// The names and types of its fields, in order. A type is none where an entry refers to no field, which the check
+    /// refuses.
+    pub fn schema(&self) -> Vec<(Name, Option<Type>)> {
+        let fields = Linked::of(self.to_tree().records()).map(|linked| linked.fields(0)).unwrap_or_default();
+        let of = |field: &Field| field.of.and_then(Type::of_number);
+        fields.iter().map(|field| (name(field.qualifier, field.name), of(field))).collect()
+    }
+}
 
 /// A field of a plan's schema.
 #[derive(Clone, Copy)]

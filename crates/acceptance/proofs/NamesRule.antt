@@ -2,18 +2,15 @@
 use Prim.Native.Nat.{ℕ}
 use mathlib.Core.Path.{_≡_, refl}
 use mathlib.Core.Bool.{Bool, true, false, not, _||_}
-use mathlib.Core.List.{List, [], _∷_, _++_, map}
-use mathlib.Core.Option.{Option, none, some}
-use lib.ListN.{length}
+use mathlib.Core.List.{List, [], _∷_, _++_}
 use lib.Dec.{eqb}
 use borrow.Author.Tests.{eqb-true, eq-eqb}
-use Rattle.plan.specs.Lists.{_&_, all, any}
+use Rattle.plan.specs.Lists.{_&_, any}
 use Rattle.plan.proofs.Lists.{and-l, and-r, and-intro}
-use Rattle.plan.specs.Syntax.{Name, nm, Expr, Field, Entry, Pair, Key, AggEntry, WinEntry, Kind, inner, left, right, full, leftSemi}
+use Rattle.plan.specs.Syntax.{Name, nm, Kind, inner, left, right, full, leftSemi}
 use Rattle.plan.specs.Syntax.{rightSemi, leftAnti, rightAnti, Plan, scan, filter, project, join, alias, union, distinct, sort, repartition}
 use Rattle.plan.specs.Syntax.{limit, aggregate, window, Plans, pnil, pcons}
-use Rattle.plan.specs.Schema.{same, schema, schema-first, requalify, sides, has, nodup}
-use Rattle.plan.specs.Columns.{on-cols}
+use Rattle.plan.specs.Schema.{same, schema, schema-first, sides, has, nodup}
 use Rattle.acceptance.specs.Names.{clash, distinct-names, sound}
 use Rattle.acceptance.specs.NamesRule.{rule, rule-all, names-rule, ok, ok-all}
 

@@ -2,9 +2,9 @@
 use mathlib.Core.Path.{_≡_}
 use mathlib.Core.Bool.{true}
 use mathlib.Core.List.{List}
-use Prim.Native.Nat.{ℕ, _-_, _*_}
+use Prim.Native.Nat.{ℕ, _*_}
 use lib.ListN.{length}
-use Rattle.image.specs.Limits.{maxBelow, maxDepth, recordBytes}
+use Rattle.image.specs.Limits.{maxBelow, recordBytes}
 use Rattle.image.specs.Tree.{At, Deep}
 use Rattle.plan.specs.Integers.{FitsP}
 use Rattle.plan.specs.Measure.{sizeP}

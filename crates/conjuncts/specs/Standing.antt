@@ -3,7 +3,7 @@ use mathlib.Core.Path.{_≡_}
 use mathlib.Core.List.{List}
 use Prim.Native.Nat.{ℕ, _+_, _-_, _*_, _≤_, _<_}
 use lib.ListN.{length, drop}
-use Rattle.image.specs.Limits.{maxBelow, maxDepth, maxRecords, workBytes}
+use Rattle.image.specs.Limits.{maxBelow, maxRecords, workBytes}
 use Rattle.image.specs.Tree.{At, Deep}
 use Rattle.plan.specs.Syntax.{Expr, Plan}
 use Rattle.plan.specs.Integers.{FitsE, FitsP}

@@ -3,12 +3,12 @@
 --     lowest-is                       it is the first, by number, of which the rule does not hold
 --     lowest-link, lowest-none        by the link to a forest; of no records
 -- Assumes nothing.
-use mathlib.Core.Path.{_≡_, refl, ap, _∙_}
+use mathlib.Core.Path.{_≡_, refl}
 use mathlib.Core.Bool.{Bool, true, false}
 use mathlib.Core.List.{List, [], _∷_, _++_}
-use Prim.Native.Nat.{ℕ, suc, _+_, _*_, _-_}
+use Prim.Native.Nat.{ℕ, suc, _+_}
 use native.Mathlib.Omega.{arith}
-use lib.ListN.{length, drop, length-append}
+use lib.ListN.{length, length-append}
 use Rattle.image.specs.Tree.{Label, Forest, none, node, size, link}
 use Rattle.image.specs.Lowest.{firstFalse, Found, nothing, found, orElse, unless, lowest}
 

@@ -13,7 +13,7 @@ use native.Mathlib.Omega.{arith}
 use lib.ListN.{length, take, drop, length-drop}
 use lib.Seq.{take-all, drop-drop}
 use Rattle.image.specs.Word.{word}
-use Rattle.image.specs.Tree.{Label, Forest, none, node, Tree, size, link, Stands, At, Deep, Readable, Linked, Joined}
+use Rattle.image.specs.Tree.{Label, Forest, none, node, Tree, size, link, Stands, At, Deep, Readable, Linked}
 use Rattle.image.specs.Places.{left}
 
 -- a part to the end is what is dropped to
@@ -59,11 +59,6 @@ pub linked-first : (t : Tree) (s : List ℕ) (b : ℕ) → At t s b → Linked (
 linked-first t s b h =
     let e : 32 * (b + 1 - b) ≡ 32 = omega arith in
     rw (h .head .first) (linked (t .below) s b (b + 1) (omega arith) (rw e (h .below)))
-
--- a function of a forest and its first number may be given the link
-pub at-link : (g : ℕ → Forest → List ℕ) (m : ℕ) (f : Forest) → g 0 none ≡ g m none → g (link m f) f ≡ g m f
-at-link g m none e = e
-at-link g m (node l cs ns) e = refl
 
 -- a link is no more than the first number
 pub link-le : (m : ℕ) (f : Forest) → link m f ≤ m
@@ -140,10 +135,6 @@ left-first {t} {s} {b} h = rw (h .head .first) (go (t .below) (h .head .room))
     go : (f : Forest) → 32 * suc (size f) ≤ length s → left s b (link (b + 1) f) + 32 ≤ length s
     go none room = omega arith
     go (node l cs ns) room = rw (left-pos s b (b + 1) (omega arith)) (omega arith)
-
--- the children of a tree that can be read are linked, one level less deep
-pub joined-first : {d : ℕ} {s : List ℕ} {b : ℕ} → Readable d s b → Joined (d - 1) s b (word s 24)
-joined-first {d} {s} {b} h = record { forest = h .tree .below; linked = linked-first (h .tree) s b (h .at); deep = h .deep }
 
 -- ---- a loop over the children of a record, `let mut at = first; while at != 0 { .. at = next; }`
 

@@ -2,15 +2,13 @@
 use Prim.Native.Nat.{ℕ, suc, _+_, _≤_}
 use native.Mathlib.Omega.{arith}
 use mathlib.Core.Path.{_≡_, refl}
-use mathlib.Core.Bool.{Bool}
 use mathlib.Core.List.{List, [], _∷_}
 use mathlib.Core.Option.{Option}
-use lib.IntN.{ℤ}
 use Rattle.image.specs.Tree.{Label, Forest, node, none, size}
-use Rattle.plan.specs.Syntax.{Name, Op, Test, Expr, col, num, bool, nul, bin, neg, test, between, inlist, fn, Exprs, econs, Field}
-use Rattle.plan.specs.Syntax.{Entry, Pair, Key, AggEntry, WinEntry, Kind, Plans, pnil, pcons, Plan, scan, filter, project, join}
+use Rattle.plan.specs.Syntax.{Expr}
+use Rattle.plan.specs.Syntax.{Entry, Pair, Key, AggEntry, WinEntry, Kind, Plans, pnil, pcons, Plan, filter, project, join}
 use Rattle.plan.specs.Syntax.{alias, union, distinct, sort, repartition, limit, aggregate, window}
-use Rattle.plan.specs.Trees.{labelE, kidsE, forestE, each, nothingBelow, fieldLabel, entryLabel, entryKids, pairLabel, pairKids}
+use Rattle.plan.specs.Trees.{each, entryLabel, entryKids, pairLabel, pairKids}
 use Rattle.plan.specs.Trees.{keyLabel, keyKids, aggLabel, aggKids, winLabel, winKids, filterKids, labelP, kidsP, forestP}
 use Rattle.plan.specs.Measure.{depth, sizeE, sizeP, sizes, depthP}
 
@@ -29,58 +27,10 @@ module _ {A : Type 0} (l : A → Label) (k : A → Forest) where
 
 -- ---- expressions
 
-pub size-col : (x : Name) → sizeE (col x) ≡ 1
-unfolding sizeE kidsE
-size-col x = refl
-
-pub size-num : (z : ℤ) → sizeE (num z) ≡ 1
-unfolding sizeE kidsE
-size-num z = refl
-
-pub size-bool : (b : Bool) → sizeE (bool b) ≡ 1
-unfolding sizeE kidsE
-size-bool b = refl
-
-pub size-nul : (t : ℕ) → sizeE (nul t) ≡ 1
-unfolding sizeE kidsE
-size-nul t = refl
-
-pub size-bin : (o : Op) (a b : Expr) → sizeE (bin o a b) ≡ suc (sizeE a + sizeE b)
-unfolding sizeE kidsE
-size-bin o a b = omega arith
-
-pub size-neg : (a : Expr) → sizeE (neg a) ≡ suc (sizeE a)
-unfolding sizeE kidsE
-size-neg a = omega arith
-
-pub size-test : (t : Test) (a : Expr) → sizeE (test t a) ≡ suc (sizeE a)
-unfolding sizeE kidsE
-size-test t a = omega arith
-
-pub size-between : (n : Bool) (a l u : Expr) → sizeE (between n a l u) ≡ suc (sizeE a + (sizeE l + sizeE u))
-unfolding sizeE kidsE
-size-between n a l u = omega arith
-
-pub size-inlist : (n : Bool) (a : Expr) (xs : Exprs) → sizeE (inlist n a xs) ≡ suc (sizeE a + size (forestE xs))
-unfolding sizeE kidsE
-size-inlist n a xs = omega arith
-
-pub size-fn : (p q r : ℕ) (xs : Exprs) → sizeE (fn p q r xs) ≡ suc (size (forestE xs))
-unfolding sizeE kidsE
-size-fn p q r xs = refl
-
-pub size-econs : (x : Expr) (xs : Exprs) → size (forestE (econs x xs)) ≡ sizeE x + size (forestE xs)
-unfolding sizeE kidsE
-size-econs x xs = omega arith
-
 -- ---- plans: the inputs of a Union by `sizePs`
 
 abbrev pub sizePs : Plans → ℕ
 sizePs ps = size (forestP ps)
-
-pub size-scan : (t : ℕ) (fs : List Field) (es : List Expr) → sizeP (scan t fs es) ≡ suc (sizes nothingBelow fs + sizes kidsE es)
-unfolding sizeP kidsP
-size-scan t fs es = omega (arith, size-each fieldLabel nothingBelow fs (each labelE kidsE es none), size-each labelE kidsE es none)
 
 pub size-filter : (e : Expr) (p : Plan) → sizeP (filter e p) ≡ suc (sizeE e + sizeP p)
 unfolding sizeP sizeE kidsP

@@ -257,11 +257,6 @@ unfolding exprsOf
 own-back O.none h = refl
 own-back (some e) h = rw (expr-back e h)
 
-own-plans : (f : Option Expr) → plansOf (filterKids f) ≡ pnil
-unfolding plansOf
-own-plans O.none = refl
-own-plans (some e) = rw (expr-what e .1)
-
 fetch-back : (f : Option ℕ) → cond (eqb (fetchBit f) 1) (some (fetchOf f)) O.none ≡ f
 fetch-back O.none = refl
 fetch-back (some n) = refl

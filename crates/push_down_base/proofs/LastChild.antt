@@ -5,7 +5,7 @@ use mathlib.Core.Path.{_≡_, refl, ap, _∙_}
 use mathlib.Core.List.{List, [], _∷_}
 use mathlib.Core.Option.{Option}
 use Rattle.image.specs.Tree.{Label, Forest, none, node, size, link}
-use Rattle.plan.specs.Syntax.{Entry, Key, AggEntry, WinEntry, Plan, project, alias, distinct, sort, repartition, aggregate, window}
+use Rattle.plan.specs.Syntax.{Entry, Key, AggEntry, WinEntry, Plan, project, distinct, sort, repartition, aggregate, window}
 use Rattle.plan.specs.Measure.{sizes}
 use Rattle.plan.specs.Trees.{labelP, kidsP, each, entryLabel, entryKids, keyLabel, keyKids, aggLabel, aggKids, winLabel, winKids}
 use Rattle.push_down_base.specs.Inputs.{lastOf}
@@ -39,10 +39,6 @@ sort-last f ks q x = last-run keyLabel keyKids ks 0 (x + 1) (labelP q) (kidsP q)
 pub window-last : (ws : List WinEntry) (q : Plan) (x : ℕ) → lastOf 0 (x + 1) (kidsP (window ws q)) ≡ x + suc (sizes winKids ws)
 unfolding kidsP
 window-last ws q x = last-run winLabel winKids ws 0 (x + 1) (labelP q) (kidsP q) ∙ omega arith
-
-pub alias-last : (i : ℕ) (q : Plan) (x : ℕ) → lastOf 0 (x + 1) (kidsP (alias i q)) ≡ x + 1
-unfolding kidsP
-alias-last i q x = refl
 
 pub distinct-last : (q : Plan) (x : ℕ) → lastOf 0 (x + 1) (kidsP (distinct q)) ≡ x + 1
 unfolding kidsP

@@ -27,7 +27,7 @@ const ALL: usize = 14;
 const MAX_NAMED: u64 = 20;
 
 // Counts one more.
-fn add(tally: &mut [u64], at: usize) {
+fn count_one(tally: &mut [u64], at: usize) {
     if at < tally.len() {
         tally[at] = tally[at] % 1000000000 + 1;
     }
@@ -42,12 +42,12 @@ fn counted(tally: &[u64], at: usize) -> u64 {
 
 // Counts a line, and names it if it differs and not many did before it.
 fn count(tally: &mut [u64], sort: usize, agrees: bool, line: usize) {
-    add(tally, sort);
+    count_one(tally, sort);
     if agrees {
         return;
     }
-    add(tally, DIFFER + sort % DIFFER);
-    add(tally, ALL);
+    count_one(tally, DIFFER + sort % DIFFER);
+    count_one(tally, ALL);
     if counted(tally, ALL) <= MAX_NAMED {
         io::write_all(1, b"line ");
         io::print_decimal(1, line as u64);

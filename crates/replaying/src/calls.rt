@@ -35,11 +35,11 @@ pub fn check_agrees(numbers: &[u64], image: &[u8]) -> bool {
 }
 
 // The exported functions, of whose contracts nothing is asked here: what they answer is compared.
-fn rewrite(image: &[u8], node: u32, output: &mut [u8]) -> Rewritten {
+fn rewrite_image(image: &[u8], node: u32, output: &mut [u8]) -> Rewritten {
     push_down_filter_rewrite(image, node, output)
 }
 
-fn pass(image: &[u8], budget: u64, output: &mut [u8]) -> Passed {
+fn pass_image(image: &[u8], budget: u64, output: &mut [u8]) -> Passed {
     push_down_filter_pass(image, budget, output)
 }
 
@@ -67,7 +67,7 @@ pub fn rewrite_agrees(
     }
     let node = node_of(numbers[0]);
     spoil(output);
-    let r = rewrite(image, node, output);
+    let r = rewrite_image(image, node, output);
     is_rewritten(numbers, r) & is_stored(output, r.number as u64, is_spelt, image, spelt)
 }
 
@@ -97,12 +97,12 @@ pub fn pass_agrees(
     }
     let budget = numbers[0];
     spoil(output);
-    let r = pass(image, budget, output);
+    let r = pass_image(image, budget, output);
     is_passed(numbers, r) & is_stored(output, r.number as u64, is_spelt, image, spelt)
 }
 
 // 64 bits as a number with a sign.
-fn value_of(bits: u64) -> i64 {
+fn value_of_bits(bits: u64) -> i64 {
     signed(bits % 4294967296, bits / 4294967296)
 }
 
@@ -112,7 +112,7 @@ fn put_values(numbers: &[u64], values: &mut [i64]) {
         if values.len() <= i {
             return;
         }
-        values[i] = value_of(numbers[i]);
+        values[i] = value_of_bits(numbers[i]);
         i += 1;
     }
 }

@@ -5,7 +5,7 @@ use crate::calls::pass_agrees;
 use crate::calls::rewrite_agrees;
 use crate::calls::test_agrees;
 use stored::numbers::Line;
-use stored::outputs::put_words;
+use stored::outputs::write_words;
 ghost use Prim.Native.Nat.{_≤_};
 
 // What a line is.
@@ -74,7 +74,7 @@ fn keep_image(numbers: &[u64], image: &mut [u8]) -> Ran {
     let mut len = 0usize;
     if 0 < numbers.len() {
         len = length_of(numbers[0]);
-        let put = put_words(&numbers[1..], image);
+        let put = write_words(&numbers[1..], image);
         agrees = (len <= put) & (put < len + 4);
     }
     Ran {
@@ -109,7 +109,7 @@ fn spell(sort: usize, numbers: &[u64], mark: u8, spelt: &mut [u8], before: usize
     if numbers.len() < head {
         return 0;
     }
-    put_words(&numbers[head..], spelt)
+    write_words(&numbers[head..], spelt)
 }
 
 // A rewrite or a pass, with an output of the room that the line says.

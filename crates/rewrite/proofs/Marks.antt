@@ -197,10 +197,6 @@ pub marks-union : (ps : Plans) → plan-marks (union ps) ≡ true ∷ marks (for
 unfolding plan-marks labelP kidsP whatOf among
 marks-union ps = refl
 
-pub marks-pcons : (p : Plan) (ps : Plans) → marks (forestP (pcons p ps)) ≡ plan-marks p ++ marks (forestP ps)
-unfolding plan-marks kidsP marks
-marks-pcons p ps = refl
-
 pub marks-distinct : (p : Plan) → plan-marks (distinct p) ≡ true ∷ plan-marks p
 unfolding plan-marks labelP kidsP whatOf among
 marks-distinct p = ap (true ∷_) (one-plan p)

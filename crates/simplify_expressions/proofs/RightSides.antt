@@ -2,7 +2,7 @@
 use mathlib.Core.Path.{_≡_, refl, sym, ap, subst, _∙_}
 use mathlib.Core.Bool.{Bool, true, false}
 use mathlib.Core.Option.{Option, none, some}
-use Rattle.plan.specs.Syntax.{Name, Cmp, eq, ne, lt, le, gt, ge, Expr, col, num, bool, nul, bin, and, or, cmp, neg, test, between, inlist, fn}
+use Rattle.plan.specs.Syntax.{Name, Expr, col, num, bool, nul, bin, and, or, cmp, neg, test, between, inlist, fn}
 use Rattle.plan.specs.Values.{ValueRecord, Right, agrees, literalIn, literal?}
 use Rattle.rewrite.specs.SimplifyPredicates.{Rel, Item, rel-of, as-literal, as-column, make, or-item, view}
 use Rattle.simplify_expressions.specs.Seen.{seen}

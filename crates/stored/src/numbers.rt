@@ -61,7 +61,7 @@ fn grown(value: u64, digit: u64) -> u64 {
 }
 
 // The number as 64 bits; below 0 it is what is missing to 2^64.
-fn signed(value: u64, negative: bool) -> u64 {
+fn with_sign(value: u64, negative: bool) -> u64 {
     if negative {
         if 0 < value {
             return 18446744073709551615 - (value - 1);
@@ -75,7 +75,7 @@ fn close(numbers: &mut [u64], scan: Scan) -> usize {
     let at = scan.count;
     if scan.digits {
         if at < numbers.len() {
-            numbers[at] = signed(scan.value, scan.negative);
+            numbers[at] = with_sign(scan.value, scan.negative);
             return at + 1;
         }
     }

@@ -5,7 +5,7 @@ use image::words::put_word;
 const UNWRITTEN: u8 = 165;
 
 // Writes words, four bytes each, while there is room; how many bytes were written.
-pub fn put_words(words: &[u64], bytes: &mut [u8]) -> usize {
+pub fn write_words(words: &[u64], bytes: &mut [u8]) -> usize {
     let mut at = 0usize;
     let mut i = 0usize;
     while i < words.len() {
@@ -55,7 +55,7 @@ fn is_zero(s: &[u8]) -> bool {
 }
 
 // Whether the output is the answer, then zeros.
-fn holds(output: &[u8], answer: &[u8]) -> bool {
+fn is_answer(output: &[u8], answer: &[u8]) -> bool {
     let len = answer.len();
     if output.len() < len {
         return false;
@@ -69,7 +69,7 @@ pub fn is_stored(output: &[u8], number: u64, is_spelt: bool, image: &[u8], spelt
         return is_zero(output);
     }
     if is_spelt {
-        return holds(output, spelt);
+        return is_answer(output, spelt);
     }
-    holds(output, image)
+    is_answer(output, image)
 }

@@ -1,10 +1,9 @@
 //! The fields of a plan's schema.
 
-use crate::outline::inputs;
 use push_down_filter::image::Tree;
-use push_down_filter::kinds::*;
 use push_down_filter::text::words::{word, TYPES};
 use push_down_filter::text::Names;
+use push_down_filter::{Plan, Type};
 
 /// Qualifier and name.
 pub type Name = (u32, u32);
@@ -30,36 +29,12 @@ pub fn name(tree: &Tree) -> Name {
 
 /// The fields of an accepted plan.
 pub fn fields(plan: &Tree) -> Vec<Field> {
-    let input = |at: usize| inputs(plan).nth(at).map(fields).unwrap_or_default();
-    let parts = |kind: u32| plan.children.iter().filter(move |part| part.label.kind == kind);
-    let counts = |kind: u32| parts(kind).map(|part| Field { name: name(part), of: OF_INTEGER }).collect();
-    let entries = || {
-        let below = input(0);
-        parts(ENTRY).map(|part| Field { name: name(part), of: type_of(&part.children[0], &below) }).collect()
+    let schema = Plan::of_tree(plan).map(|plan| plan.schema()).unwrap_or_default();
+    let field = |(name, of): (push_down_filter::Name, Option<Type>)| Field {
+        name: (name.qualifier, name.name),
+        of: of.map_or(0, Type::number),
     };
-    match (plan.label.kind, plan.label.p) {
-        (SCAN, _) => parts(FIELD).map(|part| Field { name: name(part), of: part.label.r }).collect(),
-        (PROJECTION, _) => entries(),
-        (AGGREGATE, _) => [entries(), counts(AGGREGATE_ENTRY)].concat(),
-        (WINDOW, _) => [input(0), counts(WINDOW_ENTRY)].concat(),
-        (JOIN, INNER | LEFT | RIGHT | FULL) => [input(0), input(1)].concat(),
-        (JOIN, RIGHT_SEMI | RIGHT_ANTI) => input(1),
-        (ALIAS, qualifier) => {
-            input(0).into_iter().map(|Field { name, of }| Field { name: (qualifier, name.1), of }).collect()
-        }
-        _ => input(0),
-    }
-}
-
-/// The type of an expression over the fields.
-fn type_of(expr: &Tree, over: &[Field]) -> u32 {
-    match expr.label.kind {
-        COLUMN => over.iter().find(|field| field.name == name(expr)).map_or(OF_INTEGER, |field| field.of),
-        INTEGER => OF_INTEGER,
-        NULL => expr.label.p,
-        FUNCTION => expr.label.r,
-        _ => OF_BOOLEAN,
-    }
+    schema.into_iter().map(field).collect()
 }
 
 #[cfg(test)]

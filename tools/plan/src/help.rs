@@ -12,7 +12,7 @@ usage: plan check FILE                          whether the plan is accepted, el
        plan row --node N FILE VALUE..           what the Filter at record N says of a row
        plan COMMAND --help                      more of a command
        plan --help                              this, and how a plan is written
-       plan --version                           the versions of the tool and of the crate that calls the library
+       plan --version                           the versions of the tool and of the library that it calls
 
 FILE holds a plan as text or as an image; which of them is seen from its bytes, unless --from says it. - is standard input.
 Every command takes --from and --names, rewrite and pass take --to as well:
@@ -76,8 +76,8 @@ pub fn whole() -> String {
     format!("{USAGE}\n{GRAMMAR}")
 }
 
-/// The versions of the tool and of the crate through which it calls the library. They are the same, which tests/readme.rs compares.
+/// The versions of the tool and of the library that it calls.
 pub fn version() -> String {
-    let version = env!("CARGO_PKG_VERSION");
-    format!("plan {version}\npush-down-filter {version}\n")
+    let [major, minor, patch] = push_down_filter::version();
+    format!("plan {}\nlibrary {major}.{minor}.{patch}\n", env!("CARGO_PKG_VERSION"))
 }

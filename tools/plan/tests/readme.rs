@@ -54,5 +54,5 @@ fn the_version_is_that_of_the_bindings() {
     let version = env!("CARGO_PKG_VERSION");
     let bindings = include_str!("../../../bindings/rust/Cargo.toml");
     assert!(bindings.contains(&format!("\nversion = \"{version}\"\n")), "the bindings have another version");
-    assert_eq!(printed(&["--version"]), format!("plan {version}\npush-down-filter {version}\n"));
+    assert_eq!(printed(&["--version"]), format!("plan {version}\nlibrary {version}\n"));
 }

@@ -1,5 +1,5 @@
 -- `cells::cell_at` meets its contract.
-use mathlib.Core.Path.{refl, sym, _∙_}
+use mathlib.Core.Path.{sym, _∙_}
 use lib.IntN.{pos}
 use lib.ListN.{length}
 use Rattle.plan.proofs.Rights.{right-null, valued-null}

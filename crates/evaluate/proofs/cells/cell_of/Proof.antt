@@ -1,7 +1,7 @@
 -- `cells::cell_of` meets its contract.
 use mathlib.Core.Path.{refl}
 use borrow.Author.Needs.{needs}
-use borrow.Author.Tests.{ne-eqb, eq-eqb}
+use borrow.Author.Tests.{ne-eqb}
 use Rattle.rewrite.specs.RowTest.{cell}
 use Rattle.evaluate.proofs.Rows.{above-zero}
 use Rattle.evaluate.proofs.cells.cell_of.Statement.{statement}

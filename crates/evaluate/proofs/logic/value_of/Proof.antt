@@ -1,8 +1,7 @@
 -- `logic::value_of` meets its contract.
-use mathlib.Core.Path.{refl, sym, ap, _∙_}
+use mathlib.Core.Path.{refl}
 use borrow.Author.Needs.{needs}
 use Rattle.plan.proofs.Rights.{right-null, valued-null}
-use Rattle.evaluate.specs.Truths.{valueOf}
 use Rattle.evaluate.proofs.logic.value_of.Statement.{statement}
 use Rattle.evaluate.proofs.logic.value_of.Tie as tie
 

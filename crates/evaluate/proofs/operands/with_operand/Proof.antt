@@ -1,6 +1,5 @@
 -- `operands::with_operand` meets its contract.
 use Rattle.evaluate.proofs.Seeing.{seen-first, seen-second, seen-third, seen-more}
-use borrow.Author.Needs.{needs}
 use Rattle.evaluate.proofs.operands.with_operand.Statement.{statement}
 use Rattle.evaluate.proofs.operands.with_operand.Tie as tie
 

@@ -2,7 +2,6 @@
 use native.Mathlib.Omega.{arith}
 use mathlib.Core.Path.{_∙_}
 use Prim.Native.Nat.{_+_}
-use borrow.Author.Needs.{needs}
 use Rattle.push_down_base.proofs.Steps.{filter-input, filter-predicate}
 use Rattle.writing.proofs.Stretches.{stretch-at, stretch-within}
 use Rattle.push_down_merge.proofs.Merges.{filter-next, filter-room}

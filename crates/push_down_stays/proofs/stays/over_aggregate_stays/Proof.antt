@@ -1,6 +1,5 @@
 -- `stays::over_aggregate_stays` meets its contract.
 use mathlib.Core.Path.{sym, _∙_}
-use borrow.Author.Needs.{needs}
 use Rattle.conjuncts.proofs.Listed.{lists-length}
 use Rattle.push_down_stays.proofs.Stayings.{aggregate-kept, aggregate-moves}
 use Rattle.push_down_stays.proofs.stays.over_aggregate_stays.Statement.{statement}

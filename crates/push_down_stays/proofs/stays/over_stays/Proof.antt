@@ -1,7 +1,6 @@
 -- `stays::over_stays` meets its contract: the number of a plan tells its arm.
 use mathlib.Core.Path.{sym, ap, _∙_}
 use native.Mathlib.Omega.{arith}
-use borrow.Author.Needs.{needs}
 use Rattle.push_down_arms.specs.Through.{takesNone}
 use Rattle.push_down_stays.proofs.Dispatches.{read-kind, over-scan, over-project, over-join, over-aggregate, over-window}
 use Rattle.push_down_stays.proofs.KindOf.{when-scan, when-project, when-join, when-aggregate, when-window}

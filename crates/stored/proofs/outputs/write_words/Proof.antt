@@ -1,10 +1,10 @@
--- `put_words` meets its contract: it ends, and every word stands inside the bytes.
+-- `write_words` meets its contract: it ends, and every word stands inside the bytes.
 use Prim.Native.Nat.{_≤_, _-_}
 use borrow.Author.Needs.{needs}
 use lib.ListN.{length}
 use mathlib.Core.Path.{_≡_}
-use Rattle.stored.proofs.outputs.put_words.Statement.{statement}
-use Rattle.stored.proofs.outputs.put_words.Tie as tie
+use Rattle.stored.proofs.outputs.write_words.Statement.{statement}
+use Rattle.stored.proofs.outputs.write_words.Tie as tie
 
 abbrev Inv-loop : tie.InvT-loop
 Inv-loop words bytes₀ at₀ i₀ bytes at i = (at ≤ length bytes) × (length bytes ≡ length bytes₀)
@@ -12,8 +12,8 @@ Inv-loop words bytes₀ at₀ i₀ bytes at i = (at ≤ length bytes) × (length
 abbrev μ-loop : tie.MeasureT-loop
 μ-loop words bytes₀ at₀ i₀ bytes at i = length words - i
 
-pub put-words-spec : {M : Type 1} → statement M
-put-words-spec =
+pub write-words-spec : {M : Type 1} → statement M
+write-words-spec =
     tie.close
     (tie.spec
     Inv-loop
