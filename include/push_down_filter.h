@@ -178,7 +178,7 @@ enum {
     PUSH_DOWN_FILTER_CALL = 8,      /* no plan (rewrite) or no Filter (row test) at the record asked for, which is the record given */
     PUSH_DOWN_FILTER_ROW = 9,       /* values or marks not as long as the input's fields, a mark above 1, a boolean that is not
                                        NULL and neither 0 nor 1; the record is 0 */
-    PUSH_DOWN_FILTER_FUNCTION = 10, /* the predicate holds a function; the record is the one asked for */
+    PUSH_DOWN_FILTER_FUNCTION = 10, /* the predicate of a row test holds a function; the record is the one asked for */
     PUSH_DOWN_FILTER_RESULT = 11,   /* the answer, or the plan after a merge of Filters, is over 2,048 records, depth 256 or 128 in a
                                        list; the record is the rewritten one, of a pass in the plan as it then stood */
     PUSH_DOWN_FILTER_OUTPUT = 12    /* the output is shorter than the answer; the record is 0 */

@@ -1,5 +1,5 @@
 //! include/push_down_filter.h says the numbers of the sources: every constant that a source has for callers stands in the header, every
-//! constant of the header stands in a source, and they are equal; so are those of the harness, which were written apart from both. The
+//! constant of the header stands in a source, and they are equal; so are those of the Rust crate, which the harness uses. The
 //! version is one throughout.
 
 use std::collections::{BTreeMap, BTreeSet};

@@ -1,4 +1,4 @@
-//! Filter push-down over query plans, by a static library that is proved to keep their rows.
+//! Filter push-down over query plans, by a static library that is proved to keep the rows of plans without volatile functions.
 //!
 //! A plan is built, checked, and passed over once: its filters move towards the tables.
 //!
