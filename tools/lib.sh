@@ -36,9 +36,12 @@ progress() { # CRATES EDITS
         { fflush() }'
 }
 
-# Builds the static library, unless it is of what was proved last: rt staticlib proves the topmost crate once more.
+# Whether the static library is of what was proved last.
+is_built() {
+    cmp -s target/stamp/push_down_filter target/staticlib/made-of && [ -f target/staticlib/libpush_down_filter.a ]
+}
+
+# Builds it if not: rt staticlib proves the topmost crate once more.
 build_library() {
-    local folder=target/staticlib
-    cmp -s target/stamp/push_down_filter $folder/made-of && [ -f $folder/libpush_down_filter.a ] && return
-    rt staticlib push_down_filter && cp target/stamp/push_down_filter $folder/made-of
+    is_built || { rt staticlib push_down_filter && cp target/stamp/push_down_filter target/staticlib/made-of; }
 }
