@@ -26,14 +26,21 @@ batches() {
 
 # Reads what rt prints and tells it line by line: the crate or the edit, how many of how many, how long it took, and what an error says.
 progress() { # CRATES EDITS
-    awk -v crates="$1" -v edits="$2" '
-        function took() { return match($0, /[0-9]+ s\)$/) ? " (" substr($0, RSTART) : "" }
-        /^rt: [a-z_]+ proved \(unchanged/ { ++proved; next }
-        /^rt: [a-z_]+ proved/ { printf "proved  %3d of %d  %s%s\n", ++proved, crates, $2, took() }
-        /^rt: must-fail .*: refused/ { sub(/:$/, "", $3); printf "refused %3d of %d  %s%s\n", ++refused, edits, $3, took() }
-        /: error/ && errors < 10 { errors++; print substr($0, 1, 400) }
-        /^rt: .*(NOT|FAILED|BAD|ran)/ { print substr($0, 5) }
-        { fflush() }'
+    local line name took proved=0 refused=0 errors=0
+    while IFS= read -r line; do
+        name=${line#rt: }
+        took=$(grep -o '[0-9]* s)$' <<<"$line")
+        case $line in
+        'rt: '*' proved (unchanged'*) proved=$((proved + 1)) ;;
+        'rt: '*' proved ('*) printf 'proved  %3d of %d  %s (%s\n' $((++proved)) "$1" "${name%% *}" "$took" ;;
+        'rt: must-fail '*': refused'*)
+            name=${name#must-fail }
+            printf 'refused %3d of %d  %s (%s\n' $((++refused)) "$2" "${name%%:*}" "$took"
+            ;;
+        'rt: '*NOT* | 'rt: '*FAILED* | 'rt: '*BAD* | 'rt: '*' ran '*) echo "$name" ;;
+        *': error'*) [ $((errors++)) -ge 10 ] || echo "${line:0:400}" ;;
+        esac
+    done
 }
 
 # Whether the static library is of what was proved last.

@@ -49,7 +49,11 @@ conjuncts-128 : checkTree (record { label = label (plan K.Filter) 0 0 0 0 0; bel
 unfolding checked
 conjuncts-128 = refl
 
-join-conjuncts-128 : checkTree (record { label = label (plan K.Join) (joinNumber inner) 0 0 0 0; below = node bare none (node bare none (ands (maxList - 1) none)) }) ≡
+join-conjuncts-128 : checkTree (record {
+  label = label (plan K.Join) (joinNumber inner) 0 0 0 0;
+  below =
+      node bare none (node bare none (ands (maxList - 1) none));
+}) ≡
     verdict 0 0
 unfolding checked
 join-conjuncts-128 = refl
@@ -58,7 +62,11 @@ conjuncts-129 : checkTree (record { label = label (plan K.Filter) 0 0 0 0 0; bel
 unfolding checked
 conjuncts-129 = refl
 
-join-conjuncts-129 : checkTree (record { label = label (plan K.Join) (joinNumber inner) 0 0 0 0; below = node bare none (node bare none (ands maxList none)) }) ≡
+join-conjuncts-129 : checkTree (record {
+  label = label (plan K.Join) (joinNumber inner) 0 0 0 0;
+  below =
+      node bare none (node bare none (ands maxList none));
+}) ≡
     verdict 5 0
 unfolding checked
 join-conjuncts-129 = refl

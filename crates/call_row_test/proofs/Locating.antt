@@ -215,7 +215,8 @@ module _ (p : Plan) where
   sound-aggregate gs ags h =
       let rest = node (labelP p) (kidsP p) T.none in
       record {
-        deep = deep-plan p T.none (deep-past aggLabel aggKids ags rest maxBelow (deep-past entryLabel entryKids gs (each aggLabel aggKids ags rest) maxBelow (h .deep)));
+        deep = deep-plan p T.none (deep-past aggLabel aggKids ags rest maxBelow
+            (deep-past entryLabel entryKids gs (each aggLabel aggKids ags rest) maxBelow (h .deep)));
         fits = h .fits .2;
         names = and-r _ _ (and-r _ _ (and-r _ _ (h .names)));
       }

@@ -37,8 +37,7 @@ use Rattle.acceptance.proofs.WellFormed.{well-formed-rules}
 use Rattle.acceptance.specs.Names.{sound}
 use Rattle.acceptance.proofs.NamesRule.{rule-sound}
 use Rattle.acceptance.specs.NamesRule.{rule}
-use Rattle.check_fields.specs.Fields.{Schema, inputs, namesIn}
-use Rattle.check_fields.specs.Count.{input}
+use Rattle.check_fields.specs.Fields.{Schema, input, inputs, namesIn}
 use Rattle.check_fields.specs.Rules.{typesIn}
 use Rattle.check_names.proofs.TreeFields.{stand, fields, inputs-expr, inputs-plan, fields-names, fields-types}
 use Rattle.utils.specs.Fields.{Fields, most}

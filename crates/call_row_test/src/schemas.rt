@@ -8,8 +8,7 @@ ghost use lib.ListN.{length, take};
 ghost use Rattle.image.specs.Limits.{maxFields};
 ghost use Rattle.image.specs.Places.{Chained};
 ghost use Rattle.image.specs.Tree.{Forest, Linked};
-ghost use Rattle.check_fields.specs.Count.{input};
-ghost use Rattle.check_fields.specs.Fields.{inputs};
+ghost use Rattle.check_fields.specs.Fields.{input, inputs};
 ghost use Rattle.check_fields.specs.Rules.{typesIn};
 
 // The types of the n fields of the first plan among the trees from record `at` on, by place.

@@ -2,7 +2,7 @@
 -- Assumes nothing.
 use mathlib.Core.Path.{_≡_, refl, sym, ap, _∙_}
 use mathlib.Core.Bool.{Bool, true, false, cond, _&&_}
-use mathlib.Core.List.{List, [], _∷_, _++_}
+use mathlib.Core.List.{List, [], _∷_, _++_, append-nil}
 use Prim.Native.Nat.{ℕ, suc, _+_, _*_, _≤_}
 use native.Mathlib.Omega.{arith}
 use lib.Dec.{eqb}
@@ -17,17 +17,18 @@ use Rattle.plan.specs.Syntax.{Name, nm}
 use Rattle.check_fields.specs.declared.scopes.View.{View}
 use Rattle.check_fields.specs.declared.scopes.View.the-variants.{Nothing, FirstInput, SecondInput, BothInputs, Parts, FirstInputAndParts}
 use Rattle.check_fields.specs.declared.questions.Question.the-variants.{Exact}
-use Rattle.check_fields.specs.Fields.{Schema, made, inputs, typeIn, namesIn}
+use Rattle.check_fields.specs.Fields.{Schema, input, made, inputs, typeIn, namesIn}
 use Rattle.acceptance.specs.Names.{holders}
 use Rattle.check_fields.specs.Rules.{Scope, over, seen, hand, handBy, handP}
 use Rattle.plan.proofs.Rebuilt.{kind-p, kind-w, kind-e}
 use Rattle.image.proofs.Stepping.{Step}
-use Rattle.check_fields.specs.Count.{hits, counted, input}
+use Rattle.check_fields.specs.Count.{hits, counted}
 use Rattle.check_fields.specs.Seek.{seek, told, typeFound, passedOf, allPlaces}
 use Rattle.check_fields.specs.declared.fields.Sought.{Sought}
 use Rattle.check_fields.specs.declared.fields.Sought.the-variants.{Known, Named, Left}
 use Rattle.check_fields.proofs.Seeking.{onward, seek-++, seek-name, seek-passed, told-same, type-told, passed-told}
-use Rattle.check_fields.proofs.Counting.{input-0, input-1, of-kind, counted-le, enough, linked-size, total, total-input, total-two}
+use Rattle.check_fields.proofs.Counting.{counted-le, enough, linked-size, total, total-input, total-two}
+use Rattle.plan.proofs.FieldSources.{of-kind}
 use Rattle.check_fields.specs.Scopes.{scopeOf, viewP, viewW, leftOf, rightOf, firstView, restView}
 
 -- ---- counting
@@ -47,11 +48,6 @@ counted-name q n (f ∷ s) = step (f .name) (counted-name q n s)
         → cond (hits Exact q n x) (counted (hits Exact q n) s + 1) (counted (hits Exact q n) s)
         ≡ cond (same x (nm q n)) (suc (holders (namesIn s) (nm q n))) (holders (namesIn s) (nm q n))
     step (nm r m) e = rw e (and (eqb r q) (eqb m n) (holders (namesIn s) (nm q n)))
-
--- a schema with nothing beside it
-pub all-of : (s : Schema) → s ++ [] ≡ s
-all-of [] = refl
-all-of (f ∷ s) = ap (λ (t : Schema). f ∷ t) (all-of s)
 
 -- ---- the tables of the code
 
@@ -82,17 +78,17 @@ module _ (n : ℕ) (a : n ≡ K.numberP K.TableScan → ⊥) (b : n ≡ K.number
 -- a plan's scope by what its children see
 pub hand-p : (k : K.PlanKind) (cs : Forest) → handP k cs (inputs cs) ≡ scopeOf (viewP k) cs
 hand-p K.TableScan cs = refl
-hand-p K.Filter cs = rw (input-0 (inputs cs)) refl
-hand-p K.Projection cs = rw (input-0 (inputs cs)) refl
-hand-p K.Join cs = rw (input-0 (inputs cs), input-1 (inputs cs)) refl
-hand-p K.SubqueryAlias cs = rw (input-0 (inputs cs)) refl
+hand-p K.Filter cs = refl
+hand-p K.Projection cs = refl
+hand-p K.Join cs = refl
+hand-p K.SubqueryAlias cs = refl
 hand-p K.Union cs = refl
-hand-p K.Distinct cs = rw (input-0 (inputs cs)) refl
-hand-p K.Sort cs = rw (input-0 (inputs cs)) refl
-hand-p K.Repartition cs = rw (input-0 (inputs cs)) refl
-hand-p K.Limit cs = rw (input-0 (inputs cs)) refl
-hand-p K.Aggregate cs = rw (input-0 (inputs cs)) refl
-hand-p K.Window cs = rw (input-0 (inputs cs)) refl
+hand-p K.Distinct cs = refl
+hand-p K.Sort cs = refl
+hand-p K.Repartition cs = refl
+hand-p K.Limit cs = refl
+hand-p K.Aggregate cs = refl
+hand-p K.Window cs = refl
 
 -- a key pair's first child: the left input
 pair-first : (v : View) (g : Forest) → over (scopeOf v g .left) [] ≡ scopeOf (leftOf v) g
@@ -137,7 +133,8 @@ hand-q n g l cs (expr K.Between) e z = rw (kind-e l K.Between e) refl
 hand-q n g l cs (expr K.InList) e z = rw (kind-e l K.InList e) refl
 hand-q n g l cs (expr K.Function) e z = rw (kind-e l K.Function e) refl
 hand-q n g l cs (plan k) e z = let y : _≡_ {A = ℕ} 0 1 = cc in absurd (omega arith)
-hand-q n g l cs unknown e z = rw (ne-eqb (l .kind) (K.numberQ K.PairPart) (λ q. let k : whatOf (K.numberQ K.PairPart) ≡ unknown = ap whatOf (sym q) ∙ e in no-pair k)) refl
+hand-q n g l cs unknown e z = rw (ne-eqb (l .kind) (K.numberQ K.PairPart)
+    (λ q. let k : whatOf (K.numberQ K.PairPart) ≡ unknown = ap whatOf (sym q) ∙ e in no-pair k)) refl
 
 module _ {f : Forest} {s : List ℕ} {b at : ℕ} {part : List ℕ} {v : Node} (w : Step f s b at part v) where
   -- a plan hands its own scope to all its children
@@ -182,7 +179,7 @@ hand-root l cs e = rw e (go (what l))
 
 -- of one schema
 pub seek-one : (h : Name → Bool) (k : ℕ) (s : Schema) → seek h k s ≡ seek h k (s ++ [])
-seek-one h k s = ap (seek h k) (sym (all-of s))
+seek-one h k s = ap (seek h k) (sym (append-nil s))
 
 -- of two: the first has it
 pub seek-left : (h : Name → Bool) (k : ℕ) (s t : Schema) (x : Sought) → x ≡ seek h k s → ((g : ℕ → Sought) → onward x g ≡ x)
@@ -224,16 +221,13 @@ few-seen : (h : Name → Bool) (v : View) (f : Forest) (s : List ℕ) (b at : �
 few-seen h v f s b at k = omega (arith, counted-le h (seen (scopeOf v f)), enough f [], linked-size f s b at k, go v)
   where
     alone : (t : Schema) → length (t ++ []) ≡ length t
-    alone t = ap length (all-of t)
-
-    both : length (input 0 (inputs f)) + length (input 1 (inputs f)) ≤ total (inputs f)
-    both = rw (← input-0 (inputs f), ← input-1 (inputs f)) (total-two (inputs f))
+    alone t = ap length (append-nil t)
 
     go : (v : View) → length (seen (scopeOf v f)) ≤ total (inputs f) + length (made [] f)
     go Nothing = omega arith
     go FirstInput = omega (arith, alone (input 0 (inputs f)), total-input 0 (inputs f))
     go SecondInput = omega (arith, alone (input 1 (inputs f)), total-input 1 (inputs f))
-    go BothInputs = omega (arith, length-append (input 0 (inputs f)) (input 1 (inputs f)), both)
+    go BothInputs = omega (arith, length-append (input 0 (inputs f)) (input 1 (inputs f)), total-two (inputs f))
     go Parts = omega (arith, alone (made [] f))
     go FirstInputAndParts = omega (arith, length-append (input 0 (inputs f)) (made [] f), total-input 0 (inputs f))
 

@@ -1,37 +1,41 @@
 -- Laws of the search for a field.
 --     seek-++, seek-name, seek-passed                 of two schemas; what the first place and the last one tell
 --     made-done, made-pass, made-skip, made-found     a record more among the parts
---     plan-none, plan-fields, missing                 the plan with a place
---     by-parts, by-stop, on-right, on-parts           the fields of a plan by its role
+--     plan-fields, missing                            the plan with a place
+--     of-parts, of-input, of-second, of-more, of-one  the fields of a plan by its role
 -- Assumes nothing.
 use mathlib.Core.Path.{_≡_, refl, sym, ap, subst, _∙_}
 use mathlib.Core.Bool.{Bool, true, false, cond, _&&_, _||_}
 use mathlib.Core.List.{List, [], _∷_, _++_, map}
 use Prim.Native.Nat.{ℕ, zero, suc, _+_, _-_, _≤_, _<_}
 use native.Mathlib.Omega.{arith}
-use lib.Dec.{eqb, leb}
+use lib.Dec.{eqb}
 use lib.ListN.{length, drop}
-use borrow.Author.Tests.{eq-eqb, ne-eqb, le-leb, eqb-true, eqb-false, leb-true, leb-false}
-use Rattle.check_fields.specs.Roles.{noPlan, creates, joins, extends}
+use borrow.Author.Tests.{eq-eqb, ne-eqb}
 use Rattle.image.specs.Tree.{Label, Forest, none, Linked, Node}
 use Rattle.image.proofs.Walking.{ended}
 use Rattle.image.specs.Places.{left}
 use Rattle.image.proofs.Stepping.{Step}
 use Rattle.plan.specs.Kinds as K
 use Rattle.plan.specs.Kinds.{What, expr, plan, part, unknown, what, whatOf}
+use Rattle.plan.specs.FieldSources.{makes, role, creates, extends, givesBoth, own}
+use Rattle.plan.specs.declared.field_sources.Role.{Role}
+use Rattle.plan.specs.declared.field_sources.Role.the-variants.{NoPlan, Creates, Joins, Renames, Extends, Passes}
+use Rattle.plan.specs.Inputs.{Begins, Planned}
 use Rattle.plan.specs.Lists.{_&_}
 use Rattle.plan.specs.Schema.{same}
 use Rattle.plan.specs.Syntax.{Name, nm}
-use Rattle.check_fields.specs.Fields.{Schema, nameOf, made, madeBy, inputs, fieldsP, requalify, typeIn}
-use Rattle.check_fields.specs.Count.{hits, hit, counted, input, makes, role, roleP, own, below, underAlias}
+use Rattle.plan.proofs.Bools.{no-yes, neither-left, neither-right}
+use Rattle.plan.proofs.Inputting.{at-plan}
+use Rattle.check_fields.specs.Fields.{Schema, nameOf, input, made, madeBy, inputs, partsOver, fieldsBy, requalify, typeIn}
+use Rattle.check_fields.specs.Count.{hits, hit, counted, below, underAlias}
 use Rattle.check_fields.specs.declared.questions.Question.{Question}
 use Rattle.check_fields.specs.declared.questions.Question.the-variants.{Exact}
 use Rattle.check_fields.specs.Typed.{partType}
-use Rattle.check_fields.specs.Seek.{seek, told, typeFound, allPlaces, passedOf, partsOver, Begins, Planned, Makes}
+use Rattle.check_fields.specs.Seek.{seek, told, typeFound, allPlaces, passedOf, Makes}
 use Rattle.check_fields.specs.declared.fields.Sought.{Sought}
 use Rattle.check_fields.specs.declared.fields.Sought.the-variants.{Known, Named, Left}
-use Rattle.check_fields.proofs.Counting.{renamed-one, input-0, base, of-plan, here, few-made, few-held}
-use Rattle.check_fields.proofs.Counting.{from-parts, from-both, from-side, from-input-and-parts}
+use Rattle.check_fields.proofs.Counting.{renamed-one, inputs-from, fields-here, behind, by-parts, by-input, few-made, few-held}
 
 -- where the first search has it not, the second goes on
 abbrev pub onward : Sought → (ℕ → Sought) → Sought
@@ -201,19 +205,6 @@ it-makes w {x} y X m = sym (ap (λ (k : ℕ). makes (whatOf k)) (w .kind)) ∙ s
 
 -- ---- the plan with a place
 
--- of the trees f those of g are still to come, and the j-th plan of these is sought
-abbrev pub Plans : ℕ → ℕ → Forest → Forest → Type 0
-Plans k j f g = drop k (inputs f) ≡ drop j (inputs g)
-
--- no tree is left
-pub plan-none : {f : Forest} {s : List ℕ} {b at : ℕ} (k j : ℕ) → Plans k j f none → Planned f s b at k 0
-unfolding inputs
-plan-none k j e = record { forest = none; linked = refl; begins = tt; plans = e ∙ drop-nil j; less = omega arith }
-  where
-    drop-nil : (i : ℕ) → drop {A = Schema} i [] ≡ []
-    drop-nil zero = refl
-    drop-nil (suc i) = refl
-
 -- the schema with a place is the first past those before it
 input-drop : (k : ℕ) (ss : List Schema) → input k ss ≡ input 0 (drop k ss)
 unfolding input
@@ -223,16 +214,7 @@ input-drop (suc k) (s ∷ ss) = input-drop k ss
 
 -- the schema of the plan that was found
 pub plan-fields : {f : Forest} {s : List ℕ} {b at i r : ℕ} (y : Planned f s b at i r) → input 0 (inputs (y .forest)) ≡ input i (inputs f)
-plan-fields {f} {i = i} y = sym (input-drop i (inputs f) ∙ ap (input 0) (y .plans))
-
-module _ {f : Forest} {s : List ℕ} {b at : ℕ} {part : List ℕ} {v : Node} (w : Step f s b at part v) {r : ℕ}
-    (R : r ≡ role (whatOf (v .kind))) where
-  -- the walk stands at a plan
-  pub begins : (r ≡ noPlan → ⊥) → Begins f
-  begins z = subst Begins (sym (w .is)) (λ q. z (R ∙ ap (λ (k : ℕ). role (whatOf k)) (w .kind) ∙ q))
-
-  pub is-plan : Begins f → r ≡ noPlan → ⊥
-  is-plan h e = subst Begins (w .is) h (sym (ap (λ (k : ℕ). role (whatOf k)) (w .kind)) ∙ sym R ∙ e)
+plan-fields {f} {i = i} y = sym (input-drop i (inputs f) ∙ ap (input 0) (inputs-from y))
 
 -- there is no such plan
 pub missing : {f : Forest} {s : List ℕ} {b at : ℕ} (i : ℕ) {r : ℕ} → Planned f s b at i r → r ≡ 0 → input i (inputs f) ≡ []
@@ -256,160 +238,84 @@ module _ (h : Name → Bool) (f : Forest) (s : List ℕ) (b at : ℕ) (k : Linke
 
 -- ---- a name that was found stands for a type
 
-module _ (kind : ℕ) (f : Forest) {a b : ℕ} {x y : Sought} (e : x ≡ Named a b) (g : told (partsOver kind f) x ≡ y) where
+module _ (kind : ℕ) (f : Forest) {a b : ℕ} {x y : Sought} (e : x ≡ Named a b) (g : told (partsOver kind (inputs f)) x ≡ y) where
   -- over no schema
   pub named-none : kind ≡ K.numberP K.TableScan → Known 0 ≡ y
   unfolding typeIn
-  named-none z = (let n : partsOver kind f ≡ [] = rw z in rw (e, n) at g)
+  named-none z = (let n : partsOver kind (inputs f) ≡ [] = rw z in rw (e, n) at g)
 
   -- over the input's
   pub named-some : (kind ≡ K.numberP K.TableScan → ⊥) → {t : ℕ} {u : Sought} → t ≡ typeFound u → u ≡ seek (hits Exact a b) 0 (input 0 (inputs f)) → Known t ≡ y
   named-some z {t} p q =
-      let n : partsOver kind f ≡ input 0 (inputs f) = rw (ne-eqb kind (K.numberP K.TableScan) z) in
+      let n : partsOver kind (inputs f) ≡ input 0 (inputs f) = rw (ne-eqb kind (K.numberP K.TableScan) z) in
       let i : t ≡ typeIn (input 0 (inputs f)) (nm a b) =
       p ∙ ap typeFound q ∙ seek-name a b (input 0 (inputs f)) in
       rw i (rw (e, n) at g)
 
 -- ---- the fields of a plan
 
--- the schema that the parts of a plan stand over
-base-of : (l : Label) (cs : Forest) (kind : K.PlanKind) → base l cs (inputs cs) kind ≡ partsOver (K.numberP kind) cs
-base-of l cs K.TableScan = refl
-base-of l cs K.Filter = input-0 (inputs cs)
-base-of l cs K.Projection = input-0 (inputs cs)
-base-of l cs K.Join = input-0 (inputs cs)
-base-of l cs K.SubqueryAlias = input-0 (inputs cs)
-base-of l cs K.Union = input-0 (inputs cs)
-base-of l cs K.Distinct = input-0 (inputs cs)
-base-of l cs K.Sort = input-0 (inputs cs)
-base-of l cs K.Repartition = input-0 (inputs cs)
-base-of l cs K.Limit = input-0 (inputs cs)
-base-of l cs K.Aggregate = input-0 (inputs cs)
-base-of l cs K.Window = input-0 (inputs cs)
+-- where nothing stands behind, the search ends
+onward-none : (h : Name → Bool) (x : Sought) → onward x (λ j. seek h j []) ≡ x
+unfolding seek
+onward-none h (Known t) = refl
+onward-none h (Named q n) = refl
+onward-none h (Left j) = refl
 
--- an alias, and a plan that passes its input's fields on: the input's, by the question for it
-from-input : (l : Label) (cs : Forest) (ins : List Schema) (kind : K.PlanKind) (asks : Question) (q n k : ℕ)
-    → (roleP kind ≡ creates → ⊥) → (roleP kind ≡ joins → ⊥) → (roleP kind ≡ extends → ⊥)
-    → seek (hits asks q n) k (fieldsP kind l cs ins) ≡ seek (hits (below (roleP kind) (l .p) asks q) q n) k (input 0 ins)
-from-input l cs ins K.TableScan asks q n k a b d = absurd (a refl)
-from-input l cs ins K.Filter asks q n k a b d = rw (input-0 ins)
-from-input l cs ins K.Projection asks q n k a b d = absurd (a refl)
-from-input l cs ins K.Join asks q n k a b d = absurd (b refl)
-from-input l cs ins K.SubqueryAlias asks q n k a b d = rw (input-0 ins) (seek-renamed asks (l .p) q n k (input 0 ins))
-from-input l cs ins K.Union asks q n k a b d = rw (input-0 ins)
-from-input l cs ins K.Distinct asks q n k a b d = rw (input-0 ins)
-from-input l cs ins K.Sort asks q n k a b d = rw (input-0 ins)
-from-input l cs ins K.Repartition asks q n k a b d = rw (input-0 ins)
-from-input l cs ins K.Limit asks q n k a b d = rw (input-0 ins)
-from-input l cs ins K.Aggregate asks q n k a b d = absurd (a refl)
-from-input l cs ins K.Window asks q n k a b d = absurd (d refl)
+module _ (asks : Question) (q n k : ℕ) where
+  -- by the role of a plan whose parts do not make all: the input's, by the question for it, and then what stands behind
+  seek-by-role : (p : ℕ) (parts : Schema) (ins : List Schema) (r : Role) → creates r ≡ false
+      → seek (hits asks q n) k (fieldsBy r p parts ins)
+      ≡ onward (seek (hits (below r p asks q) q n) k (input (own r p) ins)) (λ j. seek (hits asks q n) j (behind p parts ins r))
+  seek-by-role p parts ins NoPlan e = ap (seek (hits asks q n) k) (by-input p parts ins NoPlan refl refl) ∙ seek-++ (hits asks q n) k _ _
+  seek-by-role p parts ins Creates e = no-yes (sym e)
+  seek-by-role p parts ins Joins e = ap (seek (hits asks q n) k) (by-input p parts ins Joins refl refl) ∙ seek-++ (hits asks q n) k _ _
+  seek-by-role p parts ins Renames e = seek-renamed asks p q n k (input 0 ins) ∙ sym (onward-none (hits asks q n) _)
+  seek-by-role p parts ins Extends e = seek-++ (hits asks q n) k _ _
+  seek-by-role p parts ins Passes e = ap (seek (hits asks q n) k) (by-input p parts ins Passes refl refl) ∙ seek-++ (hits asks q n) k _ _
 
-module _ {f : Forest} {s : List ℕ} {b at : ℕ} {part : List ℕ} {v : Node} (w : Step f s b at part v) (r : ℕ)
-    (R : r ≡ role (whatOf (v .kind))) (asks : Question) (q n k : ℕ) where
-  -- the schemas of the plan's inputs
-  abbrev ins : List Schema
-  ins = inputs (w .below)
+  module _ {f : Forest} {s : List ℕ} {b at : ℕ} {part : List ℕ} {v : Node} (w : Step f s b at part v) (z : Begins f) {r : Role}
+      (R : r ≡ role (whatOf (v .kind))) where
+    -- the schemas of the plan's inputs, and the fields of its parts
+    abbrev ins : List Schema
+    ins = inputs (w .below)
 
-  -- what the input is asked
-  abbrev pub asked : Sought
-  asked = seek (hits (below r (v .p) asks q) q n) k (input (own r (v .p)) ins)
+    abbrev partsOf : Schema
+    partsOf = made (partsOver (v .kind) ins) (w .below)
 
-  -- the fields of its parts
-  abbrev pub partsOf : Schema
-  partsOf = made (partsOver (v .kind) (w .below)) (w .below)
+    -- what the input is asked
+    abbrev pub asked : Sought
+    asked = seek (hits (below r (v .p) asks q) q n) k (input (own r (v .p)) ins)
 
-  -- the schema that they stand over
-  based : (z : r ≡ noPlan → ⊥) → base (w .label) (w .below) ins (of-plan w r R z .0) ≡ partsOver (v .kind) (w .below)
-  based z = base-of (w .label) (w .below) (of-plan w r R z .0) ∙ ap (λ (y : ℕ). partsOver y (w .below)) (sym (of-plan w r R z .3))
+    -- its parts make its fields
+    pub of-parts : creates r ≡ true → seek (hits asks q n) k partsOf ≡ seek (hits asks q n) k (input 0 (inputs f))
+    of-parts c = sym (ap (seek (hits asks q n) k) (fields-here w (at-plan w z) R ∙ by-parts (v .p) partsOf ins r c))
 
-  -- its parts make its fields
-  pub by-parts : r ≡ creates → seek (hits asks q n) k partsOf ≡ seek (hits asks q n) k (input 0 (inputs f))
-  by-parts e =
-      let z : r ≡ noPlan → ⊥ = λ q. omega arith in
-      let o = of-plan w r R z in
-      ap (seek (hits asks q n) k)
-      (sym (here w r R 0 refl z ∙ from-parts (w .label) (w .below) ins (o .0) (sym (o .1) ∙ e)
-      ∙ ap (λ (d : Schema). made d (w .below)) (based z)))
+    -- and then
+    abbrev after : ℕ → Sought
+    after = λ j. seek (hits asks q n) j (behind (v .p) partsOf ins r)
 
-  -- both inputs
-  pub by-both : (eqb r joins && leb (v .p) 4) ≡ true
-      → onward asked (λ j. seek (hits asks q n) j (input 1 ins)) ≡ seek (hits asks q n) k (input 0 (inputs f))
-  by-both g =
-      let e : r ≡ joins = eqb-true r joins (both (eqb r joins) (leb (v .p) 4) g .0) in
-      let p : v .p ≤ 4 = leb-true (v .p) 4 (both (eqb r joins) (leb (v .p) 4) g .1) in
-      let z : r ≡ noPlan → ⊥ = λ q. omega arith in
-      let o = of-plan w r R z in
-      let l : own r (v .p) ≡ 0 = rw (e, le-leb (v .p) 4 p) in
-      let m : below r (v .p) asks q ≡ asks = rw e in
-      rw (
-        here w r R 0 refl z,
-        from-both (w .label) (w .below) ins (o .0) (sym (o .1) ∙ e) (subst (λ (x : ℕ). x ≤ 4) (w .p) p),
-        l,
-        m,
-      )
-      (sym (seek-++ (hits asks q n) k (input 0 ins) (input 1 ins)))
-    where
-      both : (a b : Bool) → (a && b) ≡ true → (a ≡ true) × (b ≡ true)
-      both true b e = (refl, e)
-      both false b e = (e, let z : _≡_ {A = ℕ} 0 1 = cc in absurd (omega arith))
+    module _ (c : creates r ≡ false) where
+      of-role : onward asked after ≡ seek (hits asks q n) k (input 0 (inputs f))
+      of-role = sym (ap (seek (hits asks q n) k) (fields-here w (at-plan w z) R) ∙ seek-by-role (v .p) partsOf ins r c)
 
-  -- its input and its parts
-  pub by-more : r ≡ extends → onward asked (λ j. seek (hits asks q n) j partsOf) ≡ seek (hits asks q n) k (input 0 (inputs f))
-  by-more e =
-      let z : r ≡ noPlan → ⊥ = λ q. omega arith in
-      let o = of-plan w r R z in
-      let l : own r (v .p) ≡ 0 = rw e in
-      let m : below r (v .p) asks q ≡ asks = rw e in
-      rw (l, m)
-      (sym (ap (seek (hits asks q n) k)
-      (here w r R 0 refl z ∙ from-input-and-parts (w .label) (w .below) ins (o .0) (sym (o .1) ∙ e)
-      ∙ ap (λ (d : Schema). input 0 ins ++ made d (w .below)) (based z))
-      ∙ seek-++ (hits asks q n) k (input 0 ins) partsOf))
+      -- the input has it
+      pub of-input : (x : Sought) → x ≡ asked → ((g : ℕ → Sought) → onward x g ≡ x) → x ≡ seek (hits asks q n) k (input 0 (inputs f))
+      of-input x e stop = sym (stop after) ∙ ap (λ (t : Sought). onward t after) e ∙ of-role
 
-  -- one input
-  pub by-asked : (r ≡ noPlan → ⊥) → (r ≡ creates → ⊥) → (eqb r joins && leb (v .p) 4) ≡ false → (r ≡ extends → ⊥)
-      → asked ≡ seek (hits asks q n) k (input 0 (inputs f))
-  by-asked z a g d = go (eqb r joins) refl g
-    where
-      go : (x : Bool) → eqb r joins ≡ x → (x && leb (v .p) 4) ≡ false → asked ≡ seek (hits asks q n) k (input 0 (inputs f))
-      go true e h =
-          let e2 : r ≡ joins = eqb-true r joins e in
-          let o = of-plan w r R z in
-          let m : below r (v .p) asks q ≡ asks = rw e2 in
-          let i : own r (v .p) ≡ own joins (w .label .p) = ap (λ (x : ℕ). own x (v .p)) e2 ∙ ap (own 2) (w .p) in
-          rw (m, i)
-          (ap (seek (hits asks q n) k)
-          (sym (here w r R 0 refl z
-          ∙ from-side (w .label) (w .below) ins (o .0) (sym (o .1) ∙ e2) (subst (λ (x : ℕ). 4 < x) (w .p) (leb-false (v .p) 4 h)))))
-      go false e h =
-          let o = of-plan w r R z in
-          let n2 : r ≡ joins → ⊥ = eqb-false r joins e in
-          let i : own r (v .p) ≡ 0 = rw e in
-          let m : below r (v .p) asks q ≡ below (roleP (o .0)) (w .label .p) asks q =
-          ap (λ (x : ℕ). below x (v .p) asks q) (o .1) ∙ ap (λ (x : ℕ). below (roleP (o .0)) x asks q) (w .p) in
-          rw (i, m)
-          (sym (ap (seek (hits asks q n) k) (here w r R 0 refl z)
-          ∙ from-input (w .label) (w .below) ins (o .0) asks q n k (λ x. a (o .1 ∙ x)) (λ x. n2 (o .1 ∙ x)) (λ x. d (o .1 ∙ x))))
+      -- it has it not: the other input, the parts, or none
+      module _ {j : ℕ} (e : Left j ≡ asked) where
+        pub of-second : givesBoth r (v .p) ≡ true → seek (hits asks q n) j (input 1 ins) ≡ seek (hits asks q n) k (input 0 (inputs f))
+        of-second g = rw g at (ap (λ (t : Sought). onward t after) e ∙ of-role)
 
-  -- the input has it
-  pub by-stop : (r ≡ noPlan → ⊥) → (r ≡ creates → ⊥) → (x : Sought) → x ≡ asked → ((g : ℕ → Sought) → onward x g ≡ x)
-      → x ≡ seek (hits asks q n) k (input 0 (inputs f))
-  by-stop z a x e stop = go (eqb r joins && leb (v .p) 4) refl (eqb r extends) refl
-    where
-      go : (m : Bool) → (eqb r joins && leb (v .p) 4) ≡ m → (o : Bool) → eqb r extends ≡ o → x ≡ seek (hits asks q n) k (input 0 (inputs f))
-      go true g o h =
-          let G : ℕ → Sought = λ j. seek (hits asks q n) j (input 1 ins) in sym (stop G) ∙ ap (λ (t : Sought). onward t G) e ∙ by-both g
-      go false g true h =
-          let G : ℕ → Sought = λ j. seek (hits asks q n) j partsOf in sym (stop G) ∙ ap (λ (t : Sought). onward t G) e ∙ by-more (eqb-true r extends h)
-      go false g false h = e ∙ by-asked z a g (eqb-false r extends h)
+        pub of-more : givesBoth r (v .p) ≡ false → extends r ≡ true
+            → seek (hits asks q n) j partsOf ≡ seek (hits asks q n) k (input 0 (inputs f))
+        of-more g d = rw (g, d) at (ap (λ (t : Sought). onward t after) e ∙ of-role)
 
-  -- it has it not: the other input, or the parts
-  module _ {j : ℕ} (e : Left j ≡ asked) where
-    pub on-right : (eqb r joins && leb (v .p) 4) ≡ true → seek (hits asks q n) j (input 1 ins) ≡ seek (hits asks q n) k (input 0 (inputs f))
-    on-right g = ap (λ (t : Sought). onward t (λ i. seek (hits asks q n) i (input 1 ins))) e ∙ by-both g
-
-    pub on-parts : r ≡ extends → seek (hits asks q n) j partsOf ≡ seek (hits asks q n) k (input 0 (inputs f))
-    on-parts g = ap (λ (t : Sought). onward t (λ i. seek (hits asks q n) i partsOf)) e ∙ by-more g
+      -- nothing stands behind the input's
+      pub of-one : givesBoth r (v .p) ≡ false → extends r ≡ false → asked ≡ seek (hits asks q n) k (input 0 (inputs f))
+      of-one g d =
+          let b : [] ≡ behind (v .p) partsOf ins r = rw (g, d) in
+          sym (onward-none (hits asks q n) asked) ∙ ap (λ (t : Schema). onward asked (λ j. seek (hits asks q n) j t)) b ∙ of-role
 
 -- ---- the plan that is asked
 
@@ -431,32 +337,24 @@ unfolding input inputs
 makes-none {q = q} {r} {m} n k y z =
     sym (seek-none (hits m q n) k _ (ap (λ (g : Forest). input 0 (inputs g)) (ended (y .forest) _ _ r (y .linked) z))) ∙ y .same n k
 
-pub makes-end : {f : Forest} {s : List ℕ} {b at i : ℕ} {asks : Question} {q r : ℕ} {m : Question} → Makes f s b at i asks q r m → r ≡ 0 → Makes f s b at i asks q 0 m
+pub makes-end : {f : Forest} {s : List ℕ} {b at i : ℕ} {asks : Question} {q r : ℕ} {m : Question} → Makes f s b at i asks q r m → r ≡ 0
+    → Makes f s b at i asks q 0 m
 makes-end {f} {s} {b} {at} {i} {asks} {q} {r} {m} y z = subst (λ (n : ℕ). Makes f s b at i asks q n m) z y
 
 -- past a plan that has one input's fields and no others
-pub makes-step : {f : Forest} {s : List ℕ} {b at i : ℕ} {asks : Question} {q r : ℕ} {m : Question} {part : List ℕ} {v : Node} (y : Makes f s b at i asks q r m)
-    (w : Step (y .forest) s b r part v) (x : ℕ) → x ≡ role (whatOf (v .kind))
-    → (x ≡ creates → ⊥) → (x ≡ extends → ⊥) → (eqb x joins && leb (v .p) 4) ≡ false → {o : Question} {u j : ℕ} → o ≡ below x (v .p) m q → u ≡ own x (v .p)
+pub makes-step : {f : Forest} {s : List ℕ} {b at i : ℕ} {asks : Question} {q r : ℕ} {m : Question} {part : List ℕ} {v : Node}
+    (y : Makes f s b at i asks q r m) (w : Step (y .forest) s b r part v) {x : Role} → x ≡ role (whatOf (v .kind))
+    → {c d g : Bool} → c ≡ creates x → d ≡ extends x → g ≡ givesBoth x (v .p) → ((c || d) || g) ≡ false
+    → {o : Question} {u j : ℕ} → o ≡ below x (v .p) m q → u ≡ own x (v .p)
     → Planned (w .below) s b (v .first) u j → left s b (v .first) < left s b r → Makes f s b at i asks q j o
-makes-step {q = q} {m = m} y w x X a d g O U z l =
+makes-step {q = q} {m = m} {v = v} y w {x} X {c} {d} {g} C D G h O U z l =
     record {
       forest = z .forest;
       linked = z .linked;
       begins = z .begins;
       same = λ n k.
-          rw O (ap (seek (hits (below x _ m q) q n) k) (plan-fields z ∙ ap (λ (e : ℕ). input e (inputs (w .below))) U)
-          ∙ by-asked w x X m q n k (is-plan w X (y .begins)) a g d ∙ y .same n k);
+          rw O (ap (seek (hits (below x (v .p) m q) q n) k) (plan-fields z ∙ ap (λ (e : ℕ). input e (inputs (w .below))) U)
+          ∙ of-one m q n k w (y .begins) X (sym C ∙ neither-left c d (neither-left (c || d) g h)) (sym G ∙ neither-right (c || d) g h)
+          (sym D ∙ neither-right c d (neither-left (c || d) g h)) ∙ y .same n k);
       less = omega (arith, z .less, l, y .less);
     }
-
--- the code's test of such a plan
-pub passes-on : (r p : ℕ) → ((eqb r creates || eqb r extends) || (eqb r joins && leb p 4)) ≡ false
-    → (r ≡ creates → ⊥) × (r ≡ extends → ⊥) × ((eqb r joins && leb p 4) ≡ false)
-passes-on r p h = go (eqb r creates) refl (eqb r extends) refl h
-  where
-    go : (a : Bool) → eqb r creates ≡ a → (b : Bool) → eqb r extends ≡ b → ((a || b) || (eqb r joins && leb p 4)) ≡ false
-        → (r ≡ creates → ⊥) × (r ≡ extends → ⊥) × ((eqb r joins && leb p 4) ≡ false)
-    go false e false g k = (eqb-false r creates e, eqb-false r extends g, k)
-    go false e true g k = let z : _≡_ {A = ℕ} 0 1 = cc in absurd (omega arith)
-    go true e b g k = let z : _≡_ {A = ℕ} 0 1 = cc in absurd (omega arith)

@@ -14,9 +14,9 @@ use Rattle.plan.specs.Kinds.{What, expr, plan, part, unknown, what, whatOf, exp
 use Rattle.plan.specs.Syntax.{nm}
 use Rattle.plan.proofs.Rebuilt.{kind-w, kind-e}
 use Rattle.check_fields.specs.Fields.{Schema, typeIn, typeOf, typeBy, typeFirst}
-use Rattle.check_fields.specs.Count.{makes}
+use Rattle.plan.specs.FieldSources.{makes}
 use Rattle.check_fields.specs.Typed.{plainType, partType}
-use Rattle.check_fields.proofs.Counting.{of-kind}
+use Rattle.plan.proofs.FieldSources.{of-kind}
 
 -- ---- the tables of the code
 

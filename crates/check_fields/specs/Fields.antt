@@ -1,25 +1,23 @@
 -- The schema of a plan, read off its records: made of its label, its children and the schemas of its inputs. On the tree of a plan it is
 -- the plan's schema (proofs), and the code, which has records and no plan, is proved against it.
-use mathlib.Core.Bool.{_||_, cond}
+use mathlib.Core.Bool.{cond}
 use mathlib.Core.List.{List, [], _∷_, _++_, map}
-use Prim.Native.Nat.{ℕ}
-use lib.Dec.{eqb, leb}
+use Prim.Native.Nat.{ℕ, zero, suc}
+use lib.Dec.{eqb}
 use Rattle.image.specs.Tree.{Label, Forest, none, node}
 use Rattle.plan.specs.Kinds.{What, expr, plan, part, unknown, what, ExprKind, Column, Integer, Boolean, Null, Binary, Not, Test, Between}
-use Rattle.plan.specs.Kinds.{InList, Function, PlanKind, TableScan, Filter, Projection, Join, SubqueryAlias, Union, Distinct, Sort}
-use Rattle.plan.specs.Kinds.{Repartition, Limit, Aggregate, Window, PartKind, FieldPart, EntryPart, PairPart, KeyPart, AggPart, WinPart}
+use Rattle.plan.specs.Kinds.{InList, Function, PlanKind, numberP, TableScan, PartKind, FieldPart, EntryPart, PairPart, KeyPart, AggPart}
+use Rattle.plan.specs.Kinds.{WinPart}
+use Rattle.plan.specs.FieldSources.{roleP, givesBoth, own}
+use Rattle.plan.specs.declared.field_sources.Role.{Role}
+use Rattle.plan.specs.declared.field_sources.Role.the-variants.{NoPlan, Creates, Joins, Renames, Extends, Passes}
 use Rattle.plan.specs.Schema.{same}
-use Rattle.plan.specs.Syntax.{Name, nm, noType, integerType, booleanType, full, leftSemi, leftAnti}
-use Rattle.plan.specs.Trees.{joinNumber}
+use Rattle.plan.specs.Syntax.{Name, nm, noType, integerType, booleanType}
 
--- the first and the second of a list, or what stands for them
+-- the first of a list, or what stands for it
 unfoldable pub first : {A : Type 0} → A → List A → A
 first d [] = d
 first d (x ∷ xs) = x
-
-unfoldable pub second : {A : Type 0} → A → List A → A
-second d [] = d
-second d (x ∷ xs) = first d xs
 
 -- a field of a schema, with the number of its type
 pub record Fld : Type 0 where
@@ -31,6 +29,12 @@ fld n t = record { name = n; ty = t }
 
 abbrev pub Schema : Type 0
 Schema = List Fld
+
+-- the schema with this place in the list
+unfoldable pub input : ℕ → List Schema → Schema
+input k [] = []
+input zero (s ∷ ss) = s
+input (suc k) (s ∷ ss) = input k ss
 
 -- the name that a label has in p and q
 abbrev pub nameOf : Label → Name
@@ -98,22 +102,24 @@ requalify q f = fld (again (f .name)) (f .ty)
 
 -- Inner, Left, Right and Full give both sides; semi and anti joins their own
 unfoldable pub joinFields : ℕ → Schema → Schema → Schema
-joinFields p l r = cond (leb p (joinNumber full)) (l ++ r) (cond (eqb p (joinNumber leftSemi) || eqb p (joinNumber leftAnti)) l r)
+joinFields p l r = cond (givesBoth Joins p) (l ++ r) (input (own Joins p) (l ∷ r ∷ []))
+
+-- by a plan's role and its p, of the fields that its parts make and the schemas of its inputs; of no plan it is not asked
+abbrev pub fieldsBy : Role → ℕ → Schema → List Schema → Schema
+fieldsBy NoPlan p parts ins = input 0 ins
+fieldsBy Creates p parts ins = parts
+fieldsBy Joins p parts ins = joinFields p (input 0 ins) (input 1 ins)
+fieldsBy Renames p parts ins = map (requalify p) (input 0 ins)
+fieldsBy Extends p parts ins = input 0 ins ++ parts
+fieldsBy Passes p parts ins = input 0 ins
+
+-- the schema that the parts of a plan of this kind stand over: a scan's over none
+abbrev pub partsOver : ℕ → List Schema → Schema
+partsOver kind ins = cond (eqb kind (numberP TableScan)) [] (input 0 ins)
 
 -- of a plan's label, its children and the schemas of its inputs
 abbrev pub fieldsP : PlanKind → Label → Forest → List Schema → Schema
-fieldsP TableScan l cs ins = made [] cs
-fieldsP Filter l cs ins = first [] ins
-fieldsP Projection l cs ins = made (first [] ins) cs
-fieldsP Join l cs ins = joinFields (l .p) (first [] ins) (second [] ins)
-fieldsP SubqueryAlias l cs ins = map (requalify (l .p)) (first [] ins)
-fieldsP Union l cs ins = first [] ins
-fieldsP Distinct l cs ins = first [] ins
-fieldsP Sort l cs ins = first [] ins
-fieldsP Repartition l cs ins = first [] ins
-fieldsP Limit l cs ins = first [] ins
-fieldsP Aggregate l cs ins = made (first [] ins) cs
-fieldsP Window l cs ins = first [] ins ++ made (first [] ins) cs
+fieldsP k l cs ins = fieldsBy (roleP k) (l .p) (made (partsOver (numberP k) ins) cs) ins
 
 abbrev pub inputsBy : What → Label → Forest → List Schema → List Schema → List Schema
 inputsBy (expr k) l cs ins rest = rest

@@ -1,6 +1,5 @@
 pub mod Count
 pub mod Fields
-pub mod Roles
 pub mod Rules
 pub mod Scopes
 pub mod Seek

@@ -8,11 +8,13 @@ use Rattle.plan.specs.Lists.{_&_, put, all}
 use Rattle.plan.specs.Kinds.{What, expr, plan, part, unknown, what, isExpr, isKind, ExprKind, Column, Integer, Boolean, Null, Binary, Not}
 use Rattle.plan.specs.Kinds.{Test, Between, InList, Function, PlanKind, TableScan, Filter, Projection, Join, SubqueryAlias, Union, Distinct}
 use Rattle.plan.specs.Kinds.{Sort, Repartition, Limit, Aggregate, Window, PartKind, FieldPart, EntryPart, PairPart, KeyPart, AggPart}
-use Rattle.plan.specs.Kinds.{WinPart}
+use Rattle.plan.specs.Kinds.{WinPart, numberP}
 use Rattle.image.specs.Lowest.{Found, lowest, alone}
 use Rattle.plan.specs.Syntax.{noType, integerType, booleanType, or, isNotNull, count}
 use Rattle.plan.specs.Trees.{opNumber, testNumber, aggNumber}
-use Rattle.check_fields.specs.Fields.{Fld, Schema, nameOf, typeOf, made, fieldsP, inputs, namesIn, first, second}
+use Rattle.plan.specs.FieldSources.{joins, roleP}
+use Rattle.plan.specs.declared.field_sources.Role.{Role}
+use Rattle.check_fields.specs.Fields.{Fld, Schema, nameOf, typeOf, input, made, partsOver, fieldsBy, inputs, namesIn, first}
 use Rattle.acceptance.specs.Names.{sound, holders}
 use Rattle.acceptance.specs.Types.{same-types}
 
@@ -29,17 +31,17 @@ seen c = c .left ++ c .right
 
 abbrev pub handP : PlanKind → Forest → List Schema → Scope
 handP TableScan cs ins = over (made [] cs) []
-handP Filter cs ins = over (first [] ins) []
-handP Projection cs ins = over (first [] ins) []
-handP Join cs ins = over (first [] ins) (second [] ins)
-handP SubqueryAlias cs ins = over (first [] ins) []
+handP Filter cs ins = over (input 0 ins) []
+handP Projection cs ins = over (input 0 ins) []
+handP Join cs ins = over (input 0 ins) (input 1 ins)
+handP SubqueryAlias cs ins = over (input 0 ins) []
 handP Union cs ins = over [] []
-handP Distinct cs ins = over (first [] ins) []
-handP Sort cs ins = over (first [] ins) []
-handP Repartition cs ins = over (first [] ins) []
-handP Limit cs ins = over (first [] ins) []
-handP Aggregate cs ins = over (first [] ins) []
-handP Window cs ins = over (first [] ins) []
+handP Distinct cs ins = over (input 0 ins) []
+handP Sort cs ins = over (input 0 ins) []
+handP Repartition cs ins = over (input 0 ins) []
+handP Limit cs ins = over (input 0 ins) []
+handP Aggregate cs ins = over (input 0 ins) []
+handP Window cs ins = over (input 0 ins) []
 
 -- what a record hands to its first child and to the others: a key pair its left input to the one, its right to the other
 abbrev pub handQ : PartKind → Scope → Scope × Scope
@@ -72,24 +74,14 @@ nameE Between c l = true
 nameE InList c l = true
 nameE Function c l = true
 
--- a plan's schema is sound, and so are the inputs of a join together
-abbrev pub nameP : PlanKind → Label → Forest → List Schema → Bool
-nameP TableScan l cs ins = sound (namesIn (fieldsP TableScan l cs ins))
-nameP Filter l cs ins = sound (namesIn (fieldsP Filter l cs ins))
-nameP Projection l cs ins = sound (namesIn (fieldsP Projection l cs ins))
-nameP Join l cs ins = sound (namesIn (fieldsP Join l cs ins)) & sound (namesIn (first [] ins ++ second [] ins))
-nameP SubqueryAlias l cs ins = sound (namesIn (fieldsP SubqueryAlias l cs ins))
-nameP Union l cs ins = sound (namesIn (fieldsP Union l cs ins))
-nameP Distinct l cs ins = sound (namesIn (fieldsP Distinct l cs ins))
-nameP Sort l cs ins = sound (namesIn (fieldsP Sort l cs ins))
-nameP Repartition l cs ins = sound (namesIn (fieldsP Repartition l cs ins))
-nameP Limit l cs ins = sound (namesIn (fieldsP Limit l cs ins))
-nameP Aggregate l cs ins = sound (namesIn (fieldsP Aggregate l cs ins))
-nameP Window l cs ins = sound (namesIn (fieldsP Window l cs ins))
+-- a plan's schema is sound, and so are the inputs of a join together: by the plan's role and its p, the fields of its parts, and its inputs'
+abbrev pub soundBy : Role → ℕ → Schema → List Schema → Bool
+soundBy r p parts ins =
+    sound (namesIn (fieldsBy r p parts ins)) & cond (joins r) (sound (namesIn (input 0 ins ++ input 1 ins))) true
 
 abbrev pub nameBy : What → Scope → Label → Forest → Bool
 nameBy (expr k) c l cs = nameE k c l
-nameBy (plan k) c l cs = nameP k l cs (inputs cs)
+nameBy (plan k) c l cs = soundBy (roleP k) (l .p) (made (partsOver (numberP k) (inputs cs)) cs) (inputs cs)
 nameBy (part k) c l cs = true
 nameBy unknown c l cs = true
 

@@ -6,9 +6,8 @@ use lib.Dec.{eqb}
 use Rattle.image.specs.Tree.{Forest}
 use Rattle.plan.specs.Kinds.{What, expr, plan, part, unknown, PlanKind, TableScan, Filter, Projection, Join, SubqueryAlias, Union, Distinct}
 use Rattle.plan.specs.Kinds.{Sort, Repartition, Limit, Aggregate, Window, numberQ, PairPart}
-use Rattle.check_fields.specs.Fields.{made, inputs}
+use Rattle.check_fields.specs.Fields.{made, input, inputs}
 use Rattle.check_fields.specs.Rules.{Scope, over}
-use Rattle.check_fields.specs.Count.{input}
 use Rattle.check_fields.specs.declared.scopes.View.{View}
 use Rattle.check_fields.specs.declared.scopes.View.the-variants.{Nothing, FirstInput, SecondInput, BothInputs, Parts}
 use Rattle.check_fields.specs.declared.scopes.View.the-variants.{FirstInputAndParts}

@@ -4,14 +4,12 @@ use mathlib.Core.Bool.{Bool, cond}
 use mathlib.Core.List.{List, [], _∷_}
 use Prim.Native.Nat.{ℕ, _-_, _≤_}
 use lib.Dec.{eqb}
-use lib.ListN.{drop}
-use Rattle.image.specs.Tree.{Forest, none, node, Linked}
+use Rattle.image.specs.Tree.{Forest, Linked}
 use Rattle.image.specs.Places.{left}
-use Rattle.plan.specs.Kinds.{what, numberP, TableScan}
+use Rattle.plan.specs.Inputs.{Begins}
 use Rattle.plan.specs.Syntax.{Name, nm, noType}
-use Rattle.check_fields.specs.Fields.{Schema, inputs, typeIn}
-use Rattle.check_fields.specs.Roles.{noPlan}
-use Rattle.check_fields.specs.Count.{hits, input, role}
+use Rattle.check_fields.specs.Fields.{Schema, input, inputs, typeIn}
+use Rattle.check_fields.specs.Count.{hits}
 use Rattle.check_fields.specs.declared.questions.Question.{Question}
 use Rattle.check_fields.specs.declared.fields.Sought.{Sought}
 use Rattle.check_fields.specs.declared.fields.Sought.the-variants.{Known, Named, Left}
@@ -42,23 +40,6 @@ abbrev pub passedOf : Sought → ℕ
 passedOf (Known t) = 0
 passedOf (Named q n) = 0
 passedOf (Left j) = allPlaces - j
-
--- the schema that the parts of a plan of this kind stand over: a scan's over none
-abbrev pub partsOver : ℕ → Forest → Schema
-partsOver kind cs = cond (eqb kind (numberP TableScan)) [] (input 0 (inputs cs))
-
--- the forest begins with a plan, or is none
-abbrev pub Begins : Forest → Type 0
-Begins none = Unit {0}
-Begins (node l cs ns) = role (what l) ≡ noPlan → ⊥
-
--- the trees of f from its plan with the place `skip` on are linked at r, which is 0 where there is none
-pub record Planned (f : Forest) (s : List ℕ) (b at skip r : ℕ) : Type 0 where
-  pub forest : Forest
-  pub linked : Linked forest s b r
-  pub begins : Begins forest
-  pub plans : drop skip (inputs f) ≡ inputs forest
-  pub less : left s b r ≤ left s b at
 
 -- the trees at r begin with the plan that is asked, by the question m, for the fields of f's plan with the place `skip`
 pub record Makes (f : Forest) (s : List ℕ) (b at skip : ℕ) (asks : Question) (q r : ℕ) (m : Question) : Type 0 where

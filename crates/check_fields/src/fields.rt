@@ -1,35 +1,27 @@
 // The fields of a plan's schema, asked for by recursion on the plan's records: no schema is stored.
 use crate::questions::Question;
-use crate::roles::CREATES;
-use crate::roles::EXTENDS;
-use crate::roles::JOINS;
-use crate::roles::NO_PLAN;
-use crate::roles::PASSES;
-use crate::roles::RENAMES;
 use image::records::Node;
 use image::records::from_record;
 use image::records::look;
-use plan::kinds::AGGREGATE;
-use plan::kinds::AGGREGATE_ENTRY;
+use plan::field_sources::Role;
+use plan::field_sources::creates;
+use plan::field_sources::extends;
+use plan::field_sources::gives_both;
+use plan::field_sources::makes_field;
+use plan::field_sources::own_input;
+use plan::field_sources::renames;
+use plan::field_sources::role_of;
+use plan::inputs::plan_at;
 use plan::kinds::COLUMN;
 use plan::kinds::ENTRY;
 use plan::kinds::FIELD;
 use plan::kinds::FUNCTION;
 use plan::kinds::INTEGER_LITERAL;
-use plan::kinds::JOIN;
 use plan::kinds::NULL_LITERAL;
-use plan::kinds::PROJECTION;
-use plan::kinds::SUBQUERY_ALIAS;
 use plan::kinds::TABLE_SCAN;
-use plan::kinds::WINDOW;
-use plan::kinds::WINDOW_ENTRY;
 use plan::kinds::is_expression;
-use plan::kinds::is_plan;
 use plan::words::BOOLEAN;
-use plan::words::FULL;
 use plan::words::INTEGER;
-use plan::words::LEFT_ANTI;
-use plan::words::LEFT_SEMI;
 use plan::words::NO_TYPE;
 ghost use mathlib.Core.Path.{_≡_};
 ghost use mathlib.Core.Bool.{true};
@@ -38,9 +30,10 @@ ghost use lib.ListN.{length};
 ghost use Rattle.image.specs.Places.{Chained};
 ghost use Rattle.image.specs.Tree.{Forest, Label, Linked, labelAt};
 ghost use Rattle.plan.specs.Kinds.{what, whatOf};
-ghost use Rattle.check_fields.specs.Count.{below, counted, hit, hits, input, makes, own, role, underAlias};
-ghost use Rattle.check_fields.specs.Fields.{Schema, inputs, made, typeOf};
-ghost use Rattle.check_fields.specs.Seek.{Makes, Planned, partsOver, passedOf, seek, told, typeFound};
+ghost use Rattle.plan.specs.FieldSources.{makes};
+ghost use Rattle.check_fields.specs.Count.{below, counted, hit, hits, underAlias};
+ghost use Rattle.check_fields.specs.Fields.{Schema, input, inputs, made, partsOver, typeOf};
+ghost use Rattle.check_fields.specs.Seek.{Makes, passedOf, seek, told, typeFound};
 ghost use Rattle.check_fields.specs.Typed.{partType, plainType};
 ghost use Rattle.check_fields.specs.Count as Count;
 
@@ -62,69 +55,6 @@ fn is_hit(asks: Question, q: usize, n: usize, r: usize, m: usize) -> bool
         Question::Clashing => near(q, r) & (m == n),
         Question::Nothing => false,
     }
-}
-
-// Whether a part makes a field.
-pub fn makes_one(kind: usize) -> bool
-    ensures { λ b. ⌜ b ≡ makes (whatOf kind) ⌝ }
-{
-    if kind == FIELD {
-        return true;
-    }
-    if kind == ENTRY {
-        return true;
-    }
-    if kind == AGGREGATE_ENTRY {
-        return true;
-    }
-    kind == WINDOW_ENTRY
-}
-
-// Where a record of the kind has its fields from.
-pub fn role_of(kind: usize) -> usize
-    ensures { λ r. ⌜ r ≡ role (whatOf kind) ⌝ }
-{
-    if kind == TABLE_SCAN {
-        return CREATES;
-    }
-    if kind == PROJECTION {
-        return CREATES;
-    }
-    if kind == AGGREGATE {
-        return CREATES;
-    }
-    if kind == JOIN {
-        return JOINS;
-    }
-    if kind == SUBQUERY_ALIAS {
-        return RENAMES;
-    }
-    if kind == WINDOW {
-        return EXTENDS;
-    }
-    if is_plan(kind) {
-        return PASSES;
-    }
-    NO_PLAN
-}
-
-// The input that is asked: for semi and anti joins their own, else the first.
-pub fn own_input(role: usize, p: usize) -> usize
-    ensures { λ r. ⌜ r ≡ own role p ⌝ }
-{
-    if role == JOINS {
-        if p <= FULL {
-            return 0;
-        }
-        if p == LEFT_SEMI {
-            return 0;
-        }
-        if p == LEFT_ANTI {
-            return 0;
-        }
-        return 1;
-    }
-    0
 }
 
 // The question that is put to the input of an alias with the qualifier p: all its fields have that.
@@ -151,10 +81,10 @@ fn under_alias(p: usize, asks: Question, q: usize) -> Question
 }
 
 // The question that is put to the input.
-fn question(role: usize, p: usize, asks: Question, q: usize) -> Question
+fn question(role: Role, p: usize, asks: Question, q: usize) -> Question
     ensures { λ r. ⌜ r ≡ below role p asks q ⌝ }
 {
-    if role == RENAMES {
+    if renames(role) {
         return under_alias(p, asks, q);
     }
     asks
@@ -243,7 +173,7 @@ pub fn seek_made(
     while here != 0 {
         let part = from_record(s, base, here);
         let v = look(part);
-        if makes_one(v.kind) & is_hit(asks, q, n, v.p, v.q) {
+        if makes_field(v.kind) & is_hit(asks, q, n, v.p, v.q) {
             if left == 0 {
                 return made_by(part, here, v);
             }
@@ -252,26 +182,6 @@ pub fn seek_made(
         here = v.next;
     }
     Sought::Left(left)
-}
-
-// The record of the plan with the place `skip` among the trees from record `at` on; 0 for none.
-pub fn plan_at(s: &[u8], base: usize, at: usize, skip: usize) -> usize
-    requires { ⌜ Chained (now s) base at ⌝ }
-    ensures { λ r. ⌜ ((f : Forest) → Linked f (now (s .entry)) base at → Planned f (now (s .entry)) base at skip r) ⌝ }
-{
-    let mut left = skip;
-    let mut here = at;
-    while here != 0 {
-        let v = look(from_record(s, base, here));
-        if role_of(v.kind) != NO_PLAN {
-            if left == 0 {
-                return here;
-            }
-            left -= 1;
-        }
-        here = v.next;
-    }
-    0
 }
 
 // The plan that is asked for fields, or 0, and the question that is put to it.
@@ -291,7 +201,7 @@ fn find_maker(s: &[u8], base: usize, at: usize, skip: usize, asks: Question, q: 
     while here != 0 {
         let v = look(from_record(s, base, here));
         let role = role_of(v.kind);
-        if (role == CREATES) | (role == EXTENDS) | ((role == JOINS) & (v.p <= FULL)) {
+        if creates(role) | extends(role) | gives_both(role, v.p) {
             return Maker {
                 at: here,
                 asks: asked,
@@ -338,7 +248,7 @@ pub fn seek_field(
     let part = from_record(s, base, here);
     let v = look(part);
     let role = role_of(v.kind);
-    if role == CREATES {
+    if creates(role) {
         return seek_parts(part, here, v.first, v.kind, asked, q, n, k);
     }
     let under = seek_field(
@@ -355,10 +265,10 @@ pub fn seek_field(
         Sought::Known(t) => Sought::Known(t),
         Sought::Named(a, b) => Sought::Named(a, b),
         Sought::Left(j) => {
-            if (role == JOINS) & (v.p <= FULL) {
+            if gives_both(role, v.p) {
                 return seek_field(part, here, v.first, 1, asked, q, n, j);
             }
-            if role == EXTENDS {
+            if extends(role) {
                 return seek_parts(part, here, v.first, v.kind, asked, q, n, j);
             }
             Sought::Left(j)
@@ -378,7 +288,7 @@ fn seek_parts(
     k: usize,
 ) -> Sought
     requires { ⌜ Chained (now s) base at ⌝ }
-    ensures { λ x. ⌜ ((f : Forest) → Linked f (now (s .entry)) base at → x ≡ seek (hits asks q n) k (made (partsOver kind f) f)) ⌝ }
+    ensures { λ x. ⌜ ((f : Forest) → Linked f (now (s .entry)) base at → x ≡ seek (hits asks q n) k (made (partsOver kind (inputs f)) f)) ⌝ }
 {
     let made = seek_made(s, base, at, asks, q, n, k);
     match made {

@@ -38,7 +38,8 @@ row-expr k p h =
     (expr-run k h .0) (omega (arith, expr-run k h .1))
 
 -- a Sort here has no fetch
-pub row-plan : (k p : ℕ) → (eqb k (numberP Sort) && eqb p 1) ≡ false → planW (whatOf k) ≡ true → decoded (getD plans (k - numberP TableScan) 0) ≡ rowBy (whatOf k) p
+pub row-plan : (k p : ℕ) → (eqb k (numberP Sort) && eqb p 1) ≡ false → planW (whatOf k) ≡ true
+    → decoded (getD plans (k - numberP TableScan) 0) ≡ rowBy (whatOf k) p
 unfolding decoded rangeOf whatOf among
 row-plan k p f h =
     at (λ n. (eqb n (numberP Sort) && eqb p 1) ≡ false → decoded (getD plans (n - numberP TableScan) 0) ≡ rowBy (whatOf n) p) 12 (numberP TableScan) k (

@@ -5,29 +5,31 @@
 use mathlib.Core.Path.{_≡_, refl, sym, ap, _∙_}
 use mathlib.Core.Bool.{Bool, true, false, cond, not, _&&_, _||_}
 use mathlib.Core.Logic.{_⊎_, inl, inr}
-use mathlib.Core.List.{List, [], _∷_, _++_, map}
+use mathlib.Core.List.{List, [], _∷_, _++_, map, append-nil}
 use Prim.Native.Nat.{ℕ, zero, suc, _+_, _-_, _≤_, _<_}
 use native.Mathlib.Omega.{arith}
 use lib.Dec.{eqb, leb}
 use lib.ListN.{length, length-append}
 use borrow.Author.Tests.{eq-eqb, ne-eqb, le-leb, leb-true, eqb-true, eqb-false}
-use Rattle.check_fields.specs.Roles.{joins}
 use Rattle.check_fields.specs.declared.questions.Question.{Question}
 use Rattle.check_fields.specs.declared.questions.Question.the-variants.{ByName, Clashing, Nothing}
 use Rattle.image.specs.Limits.{maxFields}
-use Rattle.image.specs.Tree.{Label, Forest, none, node}
+use Rattle.image.specs.Tree.{Forest, none, node}
 use Rattle.plan.specs.Lists.{_&_, any}
-use Rattle.plan.proofs.Lists.{and-l, and-r, and-intro, true-and, and-false}
+use Rattle.plan.proofs.Lists.{and-l, and-r, and-intro, and-true, true-and, and-false}
 use Rattle.plan.specs.Kinds as K
 use Rattle.plan.specs.Kinds.{What, expr, plan, part, unknown, what}
-use Rattle.plan.specs.Syntax.{Name, nm}
+use Rattle.plan.specs.FieldSources.{own}
+use Rattle.plan.specs.declared.field_sources.Role.{Role}
+use Rattle.plan.specs.declared.field_sources.Role.the-variants.{NoPlan, Creates, Joins, Renames, Extends, Passes}
+use Rattle.plan.specs.Syntax.{Name, nm, full, rightSemi, rightAnti}
+use Rattle.plan.specs.Trees.{joinNumber}
 use Rattle.acceptance.specs.Names.{clash, distinct-names, sound}
-use Rattle.check_fields.specs.Count.{counted, hits, near, input, roleP, own}
-use Rattle.check_fields.specs.Fields.{Fld, Schema, nameOf, made, madeBy, inputs, requalify, joinFields, namesIn, first, second}
-use Rattle.check_fields.specs.Rules.{nameP}
-use Rattle.check_names.specs.Singles.{allOf, called, single, ownOf, ownView, ownQuestion, apart}
-use Rattle.check_fields.proofs.Counting.{renamed, input-0, input-1, counted-++}
-use Rattle.check_fields.proofs.Scoping.{all-of}
+use Rattle.check_fields.specs.Count.{counted, hits, near}
+use Rattle.check_fields.specs.Fields.{Fld, Schema, nameOf, made, madeBy, inputs, requalify, joinFields, input, namesIn}
+use Rattle.check_fields.specs.Rules.{soundBy}
+use Rattle.check_names.specs.Singles.{allOf, called, single, ownOf, ownView, ownQuestion, knownInputs, apart}
+use Rattle.check_fields.proofs.Counting.{renamed, counted-++}
 
 -- ---- tests of all names
 
@@ -265,16 +267,16 @@ module _ (a b : List Name) (h : sound (a ++ b) ≡ true) where
 
 -- so a join's own schema is sound if both inputs together are
 join-sound : (p : ℕ) (s t : Schema) → sound (namesIn (joinFields p s t)) & sound (namesIn (s ++ t)) ≡ sound (namesIn (s ++ t))
-unfolding joinFields
+unfolding joinFields input
 join-sound p s t = go (sound (namesIn (s ++ t))) refl
   where
-    side : (a b : Bool) → sound (namesIn (s ++ t)) ≡ true → sound (namesIn (cond a (s ++ t) (cond b s t))) ≡ true
+    side : (a b : Bool) → sound (namesIn (s ++ t)) ≡ true → sound (namesIn (cond a (s ++ t) (input (cond b 1 0) (s ∷ t ∷ [])))) ≡ true
     side true b e = e
-    side false true e = sound-left (namesIn s) (namesIn t) (rw names-++ at e)
-    side false false e = sound-right (namesIn s) (namesIn t) (rw names-++ at e)
+    side false true e = sound-right (namesIn s) (namesIn t) (rw names-++ at e)
+    side false false e = sound-left (namesIn s) (namesIn t) (rw names-++ at e)
 
     go : (z : Bool) → sound (namesIn (s ++ t)) ≡ z → sound (namesIn (joinFields p s t)) & z ≡ z
-    go true e = rw (side (leb p 4) (eqb p 5 || eqb p 7) e) (true-and true)
+    go true e = rw (side (leb p (joinNumber full)) (eqb p (joinNumber rightSemi) || eqb p (joinNumber rightAnti)) e) (true-and true)
     go false e = and-false _
 
 -- ---- a schema beside one that is sound
@@ -379,14 +381,12 @@ beside-own (suc zero) ins l e = beside-right (input 0 ins) (input 1 ins) e
 beside-own (suc (suc i)) ins l e = absurd (omega arith)
 
 -- a semi or anti join has the fields of input 0 or 1
-pub own-few : (p : ℕ) → own joins p ≤ 1
-own-few p = go (leb p 4) (eqb p 5) (eqb p 7)
+pub own-few : (p : ℕ) → own Joins p ≤ 1
+own-few p = go (eqb p (joinNumber rightSemi) || eqb p (joinNumber rightAnti))
   where
-    go : (a b c : Bool) → cond a 0 (cond b 0 (cond c 0 1)) ≤ 1
-    go true b c = omega arith
-    go false true c = omega arith
-    go false false true = omega arith
-    go false false false = omega arith
+    go : (a : Bool) → cond a 1 0 ≤ 1
+    go true = omega arith
+    go false = omega arith
 
 -- ---- below an alias
 
@@ -432,77 +432,46 @@ sound-renamed : (p : ℕ) (a : List Name) → sound (map (called true p) a) ≡ 
 unfolding sound
 sound-renamed p a h = and-intro (distinct-renamed p a (and-l _ _ h)) (rw length-map at (and-r _ _ h))
 
--- where a plan keeps the rule its first input is sound, unless its parts make all its fields
-pub input-sound : (k : K.PlanKind) (l : Label) (cs : Forest) (ins : List Schema) → 1 < roleP k → nameP k l cs ins ≡ true
-    → sound (namesIn (first [] ins)) ≡ true
-input-sound K.TableScan l cs ins e h = absurd (omega arith)
-input-sound K.Filter l cs ins e h = h
-input-sound K.Projection l cs ins e h = absurd (omega arith)
-input-sound K.Join l cs ins e h = sound-left (namesIn (first [] ins)) (namesIn (second [] ins)) (rw names-++ at (and-r _ _ h))
-input-sound K.SubqueryAlias l cs ins e h = sound-renamed (l .p) (namesIn (first [] ins)) (rw names-renamed at h)
-input-sound K.Union l cs ins e h = h
-input-sound K.Distinct l cs ins e h = h
-input-sound K.Sort l cs ins e h = h
-input-sound K.Repartition l cs ins e h = h
-input-sound K.Limit l cs ins e h = h
-input-sound K.Aggregate l cs ins e h = absurd (omega arith)
-input-sound K.Window l cs ins e h = sound-left (namesIn (first [] ins)) (namesIn (made (first [] ins) cs)) (rw names-++ at h)
-
--- both inputs of a join are
-pub second-sound : (k : K.PlanKind) (l : Label) (cs : Forest) (ins : List Schema) → roleP k ≡ joins → nameP k l cs ins ≡ true
-    → sound (namesIn (second [] ins)) ≡ true
-second-sound K.TableScan l cs ins e h = absurd (omega arith)
-second-sound K.Filter l cs ins e h = absurd (omega arith)
-second-sound K.Projection l cs ins e h = absurd (omega arith)
-second-sound K.Join l cs ins e h = sound-right (namesIn (first [] ins)) (namesIn (second [] ins)) (rw names-++ at (and-r _ _ h))
-second-sound K.SubqueryAlias l cs ins e h = absurd (omega arith)
-second-sound K.Union l cs ins e h = absurd (omega arith)
-second-sound K.Distinct l cs ins e h = absurd (omega arith)
-second-sound K.Sort l cs ins e h = absurd (omega arith)
-second-sound K.Repartition l cs ins e h = absurd (omega arith)
-second-sound K.Limit l cs ins e h = absurd (omega arith)
-second-sound K.Aggregate l cs ins e h = absurd (omega arith)
-second-sound K.Window l cs ins e h = absurd (omega arith)
+-- where a plan keeps the rule, the inputs that are known are sound
+pub known-sound : (r : Role) (p : ℕ) (parts : Schema) (ins : List Schema) → soundBy r p parts ins ≡ true → (i : ℕ) → i < knownInputs r
+    → sound (namesIn (input i ins)) ≡ true
+known-sound NoPlan p parts ins h i l = absurd (omega arith)
+known-sound Creates p parts ins h i l = absurd (omega arith)
+known-sound Joins p parts ins h zero l = sound-left (namesIn (input 0 ins)) (namesIn (input 1 ins)) (rw names-++ at (and-r _ _ h))
+known-sound Joins p parts ins h (suc zero) l = sound-right (namesIn (input 0 ins)) (namesIn (input 1 ins)) (rw names-++ at (and-r _ _ h))
+known-sound Joins p parts ins h (suc (suc i)) l = absurd (omega arith)
+known-sound Renames p parts ins h zero l = sound-renamed p (namesIn (input 0 ins)) (rw names-renamed at (and-l _ _ h))
+known-sound Renames p parts ins h (suc i) l = absurd (omega arith)
+known-sound Extends p parts ins h zero l = sound-left (namesIn (input 0 ins)) (namesIn parts) (rw names-++ at (and-l _ _ h))
+known-sound Extends p parts ins h (suc i) l = absurd (omega arith)
+known-sound Passes p parts ins h zero l = and-l _ _ h
+known-sound Passes p parts ins h (suc i) l = absurd (omega arith)
 
 -- ---- the rule of a plan
 
 -- what stands alone in a scope
 apart-alone : (asks : Question) (s : Schema) → apart asks s ≡ apart asks (s ++ [])
-apart-alone asks s = ap (apart asks) (sym (all-of s))
+apart-alone asks s = ap (apart asks) (sym (append-nil s))
 
 -- a schema that stands alone
-sound-alone : (s t : Schema) → s ≡ t → sound (namesIn s) ≡ apart Clashing (t ++ [])
-sound-alone s t e = ap (λ (u : Schema). sound (namesIn u)) e ∙ sound-apart t ∙ apart-alone Clashing t
-
--- one that the parts make
-sound-made : (c : Schema) (f : Forest) → sound (namesIn (made c f)) ≡ apart Clashing (made [] f ++ [])
-sound-made c f = ap sound (names-made c [] f) ∙ sound-alone (made [] f) (made [] f) refl
-
--- by the kind of the plan
-by-kind : (k : K.PlanKind) (l : Label) (cs : Forest)
-    → nameP k l cs (inputs cs) ≡ apart (ownQuestion (roleP k)) (ownOf (ownView (roleP k)) cs)
-by-kind K.TableScan l cs = sound-made [] cs
-by-kind K.Filter l cs = sound-alone _ _ (input-0 (inputs cs))
-by-kind K.Projection l cs = sound-made (first [] (inputs cs)) cs
-by-kind K.Join l cs =
-    join-sound (l .p) (first [] (inputs cs)) (second [] (inputs cs))
-    ∙ rw (input-0 (inputs cs), input-1 (inputs cs)) (sound-apart (input 0 (inputs cs) ++ input 1 (inputs cs)))
-by-kind K.SubqueryAlias l cs = renamed-apart (l .p) (first [] (inputs cs)) ∙ rw (input-0 (inputs cs)) (apart-alone ByName (input 0 (inputs cs)))
-by-kind K.Union l cs = sound-alone _ _ (input-0 (inputs cs))
-by-kind K.Distinct l cs = sound-alone _ _ (input-0 (inputs cs))
-by-kind K.Sort l cs = sound-alone _ _ (input-0 (inputs cs))
-by-kind K.Repartition l cs = sound-alone _ _ (input-0 (inputs cs))
-by-kind K.Limit l cs = sound-alone _ _ (input-0 (inputs cs))
-by-kind K.Aggregate l cs = sound-made (first [] (inputs cs)) cs
-by-kind K.Window l cs =
-    ap sound (names-++ s (made s cs) ∙ ap (λ (xs : List Name). namesIn s ++ xs) (names-made s [] cs) ∙ sym (names-++ s (made [] cs)))
-    ∙ sound-apart (s ++ made [] cs)
-    ∙ ap (λ (u : Schema). apart Clashing (u ++ made [] cs)) (input-0 (inputs cs))
-  where
-    s : Schema
-    s = first [] (inputs cs)
+sound-alone : (s : Schema) → sound (namesIn s) & true ≡ apart Clashing (s ++ [])
+sound-alone s = and-true _ ∙ sound-apart s ∙ apart-alone Clashing s
 
 -- the rule of a plan is that the schema which the code reads off its children is told apart
-pub rule-by-role : {r : ℕ} (k : K.PlanKind) (l : Label) (cs : Forest) → r ≡ roleP k
-    → apart (ownQuestion r) (ownOf (ownView r) cs) ≡ nameP k l cs (inputs cs)
-rule-by-role k l cs e = ap (λ (n : ℕ). apart (ownQuestion n) (ownOf (ownView n) cs)) e ∙ sym (by-kind k l cs)
+pub rule-by-role : (r : Role) (p : ℕ) (c : Schema) (cs : Forest)
+    → apart (ownQuestion r) (ownOf (ownView r) cs) ≡ soundBy r p (made c cs) (inputs cs)
+rule-by-role r p c cs = sym (go r)
+  where
+    s : Schema
+    s = input 0 (inputs cs)
+
+    go : (r : Role) → soundBy r p (made c cs) (inputs cs) ≡ apart (ownQuestion r) (ownOf (ownView r) cs)
+    go NoPlan = sound-alone s
+    go Creates = ap (λ (xs : List Name). sound xs & true) (names-made c [] cs) ∙ sound-alone (made [] cs)
+    go Joins = join-sound p s (input 1 (inputs cs)) ∙ sound-apart (s ++ input 1 (inputs cs))
+    go Renames = and-true _ ∙ renamed-apart p s ∙ apart-alone ByName s
+    go Extends =
+        and-true _
+        ∙ ap sound (names-++ s (made c cs) ∙ ap (λ (xs : List Name). namesIn s ++ xs) (names-made c [] cs) ∙ sym (names-++ s (made [] cs)))
+        ∙ sound-apart (s ++ made [] cs)
+    go Passes = sound-alone s

@@ -18,8 +18,7 @@ use Rattle.plan.specs.Trees.{joinNumber, labelE, kidsE, inFront, each, nothingB
 use Rattle.plan.specs.Trees.{keyLabel, keyKids, aggLabel, aggKids, winLabel, winKids, filterKids, labelP, kidsP, forestP, planTree}
 use Rattle.plan.specs.Types.{type-of, types, types-first, side-types, field-types, both-types}
 use Rattle.plan.proofs.Written.{name-back, expr-what}
-use Rattle.check_fields.specs.Fields.{Fld, fld, Schema, typeIn, typeOf, typeFirst, made, madeQ, requalify, joinFields, inputs, namesIn}
-use Rattle.check_fields.specs.Fields.{first, second}
+use Rattle.check_fields.specs.Fields.{Fld, fld, Schema, typeIn, typeOf, typeFirst, made, madeQ, requalify, joinFields, input, inputs, namesIn}
 use Rattle.plan.specs.Schema as S
 use Rattle.check_fields.specs.Rules.{typesIn}
 
@@ -63,7 +62,7 @@ unfoldable mutual
   fields (project es p) = map (entry-field (fields p)) es
   fields (join k l r on f) = joinFields (joinNumber k) (fields l) (fields r)
   fields (alias q p) = map (requalify q) (fields p)
-  fields (union ps) = first [] (fields-all ps)
+  fields (union ps) = input 0 (fields-all ps)
   fields (distinct p) = fields p
   fields (sort f ks p) = fields p
   fields (repartition p) = fields p
@@ -156,7 +155,7 @@ made-wins s = made-each winLabel winKids K.WinPart (λ x. refl) s win-field (λ 
 
 -- the schemas of a plan in front of other trees, and of the inputs of a Union
 mutual
-  unfolding inputs labelP kidsP forestP whatOf among fields first second
+  unfolding inputs labelP kidsP forestP whatOf among fields input
 
   pub inputs-plan : (p : Plan) (ns : Forest) → inputs (stand p ns) ≡ fields p ∷ inputs ns
   inputs-plan (scan t fs es) ns = rw (made-fields fs es)
@@ -213,7 +212,7 @@ types-requalify q [] = refl
 types-requalify q (f ∷ s) = rw (types-requalify q s)
 
 join-names : (k : Kind) (s t : Schema) → namesIn (joinFields (joinNumber k) s t) ≡ sides k (namesIn s) (namesIn t)
-unfolding joinFields
+unfolding joinFields input
 join-names inner s t = names-append s t
 join-names left s t = names-append s t
 join-names right s t = names-append s t
@@ -224,7 +223,7 @@ join-names leftAnti s t = refl
 join-names rightAnti s t = refl
 
 join-types : (k : Kind) (s t : Schema) → typesIn (joinFields (joinNumber k) s t) ≡ side-types k (typesIn s) (typesIn t)
-unfolding joinFields
+unfolding joinFields input
 join-types inner s t = types-append s t
 join-types left s t = types-append s t
 join-types right s t = types-append s t
@@ -249,7 +248,7 @@ pub scan-types : (fs : List Field) (es : List Expr)
 scan-types fs es = ap typesIn (made-fields fs es) ∙ types-made scan-field fs
 
 mutual
-  unfolding fields schema first namesIn
+  unfolding fields schema input namesIn
 
   pub fields-names : (p : Plan) → namesIn (fields p) ≡ schema p
   fields-names (scan t fs es) = names-made scan-field fs
@@ -268,7 +267,7 @@ mutual
   fields-names (window ws p) =
       names-append (fields p) (map win-field ws) ∙ ap₂ _++_ (fields-names p) (names-made win-field ws)
 
-  first-names : (ps : Plans) → namesIn (first [] (fields-all ps)) ≡ schema-first ps
+  first-names : (ps : Plans) → namesIn (input 0 (fields-all ps)) ≡ schema-first ps
   first-names pnil = refl
   first-names (pcons p ps) = fields-names p
 
@@ -288,7 +287,7 @@ entry-types p h es =
     ∙ ap (λ τ. map (λ (e : Entry). type-of τ (e .expr)) es) (typed-by (fields p) (fields-names p) h)
 
 mutual
-  unfolding fields types first typesIn
+  unfolding fields types input typesIn
 
   pub fields-types : (p : Plan) → typesIn (fields p) ≡ types p
   fields-types (scan t fs es) = types-made scan-field fs
@@ -307,7 +306,7 @@ mutual
   fields-types (window ws p) =
       types-append (fields p) (map win-field ws) ∙ ap₂ _++_ (fields-types p) (types-made win-field ws)
 
-  first-types : (ps : Plans) → typesIn (first [] (fields-all ps)) ≡ types-first ps
+  first-types : (ps : Plans) → typesIn (input 0 (fields-all ps)) ≡ types-first ps
   first-types pnil = refl
   first-types (pcons p ps) = fields-types p
 

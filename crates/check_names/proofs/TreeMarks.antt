@@ -19,7 +19,7 @@ use Rattle.plan.specs.Trees.{planTree}
 use Rattle.plan.proofs.Written.{expr-what}
 use Rattle.acceptance.specs.Marks.{marks-in, marks-in-all, marks-in?, Rules, entry-marks, pair-marks, key-marks, agg-marks, win-marks}
 use Rattle.acceptance.specs.Marks.{marks-of, marks-of-all}
-use Rattle.check_fields.specs.Fields.{first, second}
+use Rattle.check_fields.specs.Fields.{input}
 use Rattle.check_fields.specs.Rules.{Scope, over, hand}
 use Rattle.check_names.proofs.TreeFields.{stand, fields, inputs-expr, inputs-entries, inputs-keys, inputs-aggs, inputs-wins, inputs-plan}
 use Rattle.check_names.proofs.TreeFields.{made-fields}
@@ -49,7 +49,7 @@ below (aggregate gs ags p) = over-one p
 below (window ws p) = over-one p
 
 pub hand-plan : (c : Scope) (p : Plan) → hand c (labelP p) (kidsP p) ≡ (below p, below p)
-unfolding hand labelP kidsP whatOf among fields first second
+unfolding hand labelP kidsP whatOf among fields input
 hand-plan c (scan t fs es) = rw (made-fields fs es)
 hand-plan c (filter e p) = rw (inputs-expr e (stand p none), inputs-plan p none)
 hand-plan c (project es p) = rw (inputs-entries es (stand p none), inputs-plan p none)

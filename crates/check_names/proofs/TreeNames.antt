@@ -1,19 +1,19 @@
 -- Names (6), asked of the records of a plan's tree, is Name (6) of the plan.
 -- Assumes nothing.
 use mathlib.Core.Path.{_≡_, refl, ap, ap₂, _∙_}
+use mathlib.Core.Bool.{true}
 use mathlib.Core.List.{List, [], _++_, append-nil}
 use mathlib.Core.Option.{Option}
 use Rattle.image.specs.Tree.{none}
 use Rattle.plan.specs.Kinds.{whatOf, among}
 use Rattle.plan.specs.Lists.{_&_}
-use Rattle.plan.proofs.Lists.{and-true}
 use Rattle.plan.specs.Schema.{schema}
 use Rattle.plan.specs.Syntax.{Expr, col, num, bool, nul, bin, neg, test, between, inlist, fn, Pair, Kind, Plan, scan, filter, project, join}
 use Rattle.plan.specs.Syntax.{alias, union, distinct, sort, repartition, limit, aggregate, window}
 use Rattle.plan.specs.Trees.{labelE, kidsE, each, pairLabel, pairKids, filterKids, labelP, kidsP, planTree}
 use Rattle.plan.proofs.Written.{name-back}
 use Rattle.acceptance.specs.Names.{one-field, sound, sound-plan, name-rules, badName}
-use Rattle.check_fields.specs.Fields.{inputs, namesIn, first, second}
+use Rattle.check_fields.specs.Fields.{inputs, namesIn, input}
 use Rattle.check_fields.specs.Rules.{Scope, over, seen, nameOk, badNames}
 use Rattle.check_names.proofs.TreeFields.{stand, fields, inputs-plan, names-append, fields-names}
 use Rattle.check_names.proofs.TreeMarks.{Agrees, over-one, over-both, tree-lowest}
@@ -40,31 +40,31 @@ seen-both l r = names-append (fields l) (fields r) ∙ ap₂ _++_ (fields-names 
 
 -- the schemas of both inputs of a join, read off its children
 inputs-sound : (k : Kind) (l r : Plan) (on : List Pair) (f : Option Expr)
-    → let ins = inputs (kidsP (join k l r on f)) in sound (namesIn (first [] ins ++ second [] ins)) ≡ sound (schema l ++ schema r)
-unfolding kidsP first second
+    → let ins = inputs (kidsP (join k l r on f)) in sound (namesIn (input 0 ins ++ input 1 ins)) ≡ sound (schema l ++ schema r)
+unfolding kidsP input
 inputs-sound k l r on f =
     let rest = each pairLabel pairKids on (filterKids f) in
     rw (inputs-plan l (stand r rest), inputs-plan r rest, seen-both l r)
 
 -- a plan's own schema, read off its record
-own-sound : (p : Plan) → sound (namesIn (first [] (inputs (stand p none)))) ≡ sound (schema p)
-unfolding first
+own-sound : (p : Plan) → sound (namesIn (input 0 (inputs (stand p none)))) ≡ sound (schema p)
+unfolding input
 own-sound p = rw (inputs-plan p none, fields-names p)
 
 name-plan : (c : Scope) (p : Plan) → nameOk c (labelP p) (kidsP p) ≡ sound-plan p
-unfolding nameOk labelP whatOf among sound-plan first inputs
-name-plan c (scan t fs es) = rw and-true (own-sound (scan t fs es))
-name-plan c (filter e p) = rw and-true (own-sound (filter e p))
-name-plan c (project es p) = rw and-true (own-sound (project es p))
+unfolding nameOk labelP whatOf among sound-plan input inputs
+name-plan c (scan t fs es) = ap (λ b. b & true) (own-sound (scan t fs es))
+name-plan c (filter e p) = ap (λ b. b & true) (own-sound (filter e p))
+name-plan c (project es p) = ap (λ b. b & true) (own-sound (project es p))
 name-plan c (join k l r on f) = ap₂ _&_ (own-sound (join k l r on f)) (inputs-sound k l r on f)
-name-plan c (alias q p) = rw and-true (own-sound (alias q p))
-name-plan c (union ps) = rw and-true (own-sound (union ps))
-name-plan c (distinct p) = rw and-true (own-sound (distinct p))
-name-plan c (sort f ks p) = rw and-true (own-sound (sort f ks p))
-name-plan c (repartition p) = rw and-true (own-sound (repartition p))
-name-plan c (limit n k p) = rw and-true (own-sound (limit n k p))
-name-plan c (aggregate gs ags p) = rw and-true (own-sound (aggregate gs ags p))
-name-plan c (window ws p) = rw and-true (own-sound (window ws p))
+name-plan c (alias q p) = ap (λ b. b & true) (own-sound (alias q p))
+name-plan c (union ps) = ap (λ b. b & true) (own-sound (union ps))
+name-plan c (distinct p) = ap (λ b. b & true) (own-sound (distinct p))
+name-plan c (sort f ks p) = ap (λ b. b & true) (own-sound (sort f ks p))
+name-plan c (repartition p) = ap (λ b. b & true) (own-sound (repartition p))
+name-plan c (limit n k p) = ap (λ b. b & true) (own-sound (limit n k p))
+name-plan c (aggregate gs ags p) = ap (λ b. b & true) (own-sound (aggregate gs ags p))
+name-plan c (window ws p) = ap (λ b. b & true) (own-sound (window ws p))
 
 names-agree : Agrees nameOk name-rules
 unfolding nameOk whatOf among

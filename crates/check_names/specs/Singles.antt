@@ -2,10 +2,13 @@
 use mathlib.Core.Bool.{Bool, true, cond}
 use mathlib.Core.List.{[], _∷_}
 use Prim.Native.Nat.{ℕ}
-use lib.Dec.{eqb, leb, ltb}
+use lib.Dec.{eqb, leb}
 use lib.ListN.{length}
 use Rattle.image.specs.Limits.{maxFields}
 use Rattle.image.specs.Tree.{Forest}
+use Rattle.plan.specs.FieldSources.{renames}
+use Rattle.plan.specs.declared.field_sources.Role.{Role}
+use Rattle.plan.specs.declared.field_sources.Role.the-variants.{NoPlan, Creates, Joins, Renames, Extends, Passes}
 use Rattle.plan.specs.Lists.{_&_}
 use Rattle.plan.specs.Syntax.{Name, nm}
 use Rattle.check_fields.specs.declared.scopes.View.{View}
@@ -14,7 +17,6 @@ use Rattle.check_fields.specs.declared.questions.Question.{Question}
 use Rattle.check_fields.specs.declared.questions.Question.the-variants.{ByName, Clashing}
 use Rattle.check_fields.specs.Count.{counted, hits}
 use Rattle.check_fields.specs.Fields.{Schema}
-use Rattle.check_fields.specs.Roles.{creates, joins, renames, extends}
 use Rattle.check_fields.specs.Rules.{seen}
 use Rattle.check_fields.specs.Scopes.{scopeOf}
 
@@ -40,16 +42,26 @@ abbrev pub ownOf : View → Forest → Schema
 ownOf v f = seen (scopeOf v f)
 
 -- which of them a plan has, by its role; a join has those of both inputs, whatever its kind
-abbrev pub ownView : ℕ → View
-ownView r = cond (eqb r creates) Parts (cond (eqb r joins) BothInputs (cond (eqb r extends) FirstInputAndParts FirstInput))
+abbrev pub ownView : Role → View
+ownView NoPlan = FirstInput
+ownView Creates = Parts
+ownView Joins = BothInputs
+ownView Renames = FirstInput
+ownView Extends = FirstInputAndParts
+ownView Passes = FirstInput
 
 -- the question: under an alias two fields clash if they share the name
-abbrev pub ownQuestion : ℕ → Question
-ownQuestion r = cond (eqb r renames) ByName Clashing
+abbrev pub ownQuestion : Role → Question
+ownQuestion r = cond (renames r) ByName Clashing
 
 -- how many of its inputs are sound where the plan is: both of a join, the first of others that have its fields
-abbrev pub knownInputs : ℕ → ℕ
-knownInputs r = cond (eqb r joins) 2 (cond (ltb creates r) 1 0)
+abbrev pub knownInputs : Role → ℕ
+knownInputs NoPlan = 0
+knownInputs Creates = 0
+knownInputs Joins = 2
+knownInputs Renames = 1
+knownInputs Extends = 1
+knownInputs Passes = 1
 
 -- the fields of a schema are told apart by the question, and there are not too many
 abbrev pub apart : Question → Schema → Bool

@@ -1,11 +1,7 @@
 // Name (6): the lowest record whose reference does not name one field of what it stands over, or whose schema is not sound.
 use crate::schemas::is_sound;
 use crate::schemas::is_sound_beside;
-use check_fields::fields::role_of;
 use check_fields::questions::Question;
-use check_fields::roles::CREATES;
-use check_fields::roles::JOINS;
-use check_fields::roles::NO_PLAN;
 use check_fields::scopes::View;
 use check_fields::scopes::first_view;
 use check_fields::scopes::held_in;
@@ -15,8 +11,12 @@ use image::places::Place;
 use image::records::Node;
 use image::records::from_record;
 use image::records::look;
+use plan::field_sources::Role;
+use plan::field_sources::gives_both;
+use plan::field_sources::joins;
+use plan::field_sources::role_of;
 use plan::kinds::COLUMN;
-use plan::words::FULL;
+use plan::kinds::is_plan;
 ghost use mathlib.Core.Path.{_≡_};
 ghost use mathlib.Core.Bool.{true};
 ghost use Prim.Native.Nat.{_-_, _<_, ℕ};
@@ -25,12 +25,11 @@ ghost use Rattle.image.specs.Places.{Chained, placeOf};
 ghost use Rattle.image.specs.Tree.{At, Forest, Label, Linked, Tree, node, none};
 ghost use Rattle.plan.specs.Kinds.{whatOf};
 ghost use Rattle.acceptance.specs.Names.{sound};
-ghost use Rattle.check_fields.specs.Count.{input};
-ghost use Rattle.check_fields.specs.Fields.{inputs, namesIn};
+ghost use Rattle.check_fields.specs.Fields.{input, inputs, namesIn};
 ghost use Rattle.check_fields.specs.Rules.{badNames, hand, nameOk};
 ghost use Rattle.check_fields.specs.Scopes.{scopeOf};
 ghost use Rattle.check_names.specs.Singles.{knownInputs};
-ghost use Rattle.check_fields.specs.Count as Count;
+ghost use Rattle.plan.specs.FieldSources as Sources;
 
 // Whether the record keeps the rule: `part` begins there, v is what was looked at, the slice g and the view `here` are what it
 // stands over. A plan that is known to be sound is not tested again, but of a semi or anti join the other input.
@@ -38,14 +37,14 @@ fn name_ok(
     part: &[u8],
     at: usize,
     v: Node,
-    role: usize,
+    role: Role,
     known: bool,
     g: &[u8],
     gb: usize,
     ga: usize,
     here: View,
 ) -> bool
-    requires { ⌜ Chained (now part) at (v .first) × Chained (now g) gb ga × (role ≡ Count.role (whatOf (v .kind))) ⌝ }
+    requires { ⌜ Chained (now part) at (v .first) × Chained (now g) gb ga × (role ≡ Sources.role (whatOf (v .kind))) ⌝ }
     ensures { λ b. ⌜ ((l : Label) (cs e : Forest) → v .kind ≡ l .kind → v .p ≡ l .p → v .q ≡ l .q
         → Linked cs (now (part .entry)) at (v .first) → Linked e (now (g .entry)) gb ga
         → (known ≡ true → sound (namesIn (input 0 (inputs (node l cs none)))) ≡ true)
@@ -54,29 +53,30 @@ fn name_ok(
     if v.kind == COLUMN {
         return held_in(g, gb, ga, here, Question::Exact, v.p, v.q) == 1;
     }
-    if role == NO_PLAN {
+    if !is_plan(v.kind) {
         return true;
     }
     if !known {
         return is_sound(part, at, v.first, role);
     }
-    if (role == JOINS) & (FULL < v.p) {
+    if joins(role) & !gives_both(role, v.p) {
         return is_sound_beside(part, at, v.first, v.p);
     }
     true
 }
 
 // How many inputs of a plan of this role are sound where it keeps the rule: both of a join, the first of others that have its fields.
-fn known_inputs(role: usize) -> usize
+fn known_inputs(role: Role) -> usize
     ensures { λ n. ⌜ n ≡ knownInputs role ⌝ }
 {
-    if role == JOINS {
-        return 2;
+    match role {
+        Role::NoPlan => 0,
+        Role::Creates => 0,
+        Role::Joins => 2,
+        Role::Renames => 1,
+        Role::Extends => 1,
+        Role::Passes => 1,
     }
-    if CREATES < role {
-        return 1;
-    }
-    0
 }
 
 // One less, of plans that are known.
@@ -117,7 +117,7 @@ pub fn bad_name(
     if !name_ok(part, at, v, role, 0 < known, g, gb, ga, here) {
         return Place::At(at);
     }
-    if role == NO_PLAN {
+    if !is_plan(v.kind) {
         let below = bad_name(
             part,
             at,

@@ -1,30 +1,29 @@
 // Whether a plan's schema is sound: each of its fields clashes with one field, itself, and there are not too many.
-use check_fields::fields::makes_one;
-use check_fields::fields::own_input;
-use check_fields::fields::plan_at;
-use check_fields::fields::role_of;
 use check_fields::questions::Question;
-use check_fields::roles::CREATES;
-use check_fields::roles::EXTENDS;
-use check_fields::roles::JOINS;
-use check_fields::roles::RENAMES;
 use check_fields::scopes::View;
 use check_fields::scopes::held_in;
 use image::limits::MAX_FIELDS;
 use image::records::from_record;
 use image::records::look;
-use plan::words::FULL;
+use plan::field_sources::Role;
+use plan::field_sources::creates;
+use plan::field_sources::extends;
+use plan::field_sources::gives_both;
+use plan::field_sources::makes_field;
+use plan::field_sources::own_input;
+use plan::field_sources::renames;
+use plan::field_sources::role_of;
+use plan::inputs::plan_at;
 ghost use mathlib.Core.Path.{_≡_};
 ghost use mathlib.Core.Bool.{cond, true};
+ghost use Prim.Native.Nat.{ℕ};
 ghost use Rattle.image.specs.Places.{Chained};
-ghost use Rattle.image.specs.Tree.{Forest, Label, Linked};
-ghost use Rattle.plan.specs.Kinds.{Join, PlanKind};
+ghost use Rattle.image.specs.Tree.{Forest, Linked};
+ghost use Rattle.plan.specs.FieldSources.{own};
 ghost use Rattle.plan.specs.Syntax.{nm};
 ghost use Rattle.acceptance.specs.Names.{sound};
-ghost use Rattle.check_fields.specs.Count.{input, own, roleP};
-ghost use Rattle.check_fields.specs.Fields.{Schema, inputs, made, namesIn};
-ghost use Rattle.check_fields.specs.Roles.{joins};
-ghost use Rattle.check_fields.specs.Rules.{nameP};
+ghost use Rattle.check_fields.specs.Fields.{Schema, input, inputs, made, namesIn};
+ghost use Rattle.check_fields.specs.Rules.{soundBy};
 ghost use Rattle.check_names.specs.Singles.{allOf, lone, ownOf, ownQuestion, ownView, single};
 
 // The schema whose fields are told apart: the children of its plan, which of their fields it has, and the question that tells them.
@@ -66,7 +65,7 @@ fn all_made(g: &[u8], w: Whole, s: &[u8], base: usize, at: usize, renamed: bool,
     }
     let part = from_record(s, base, at);
     let v = look(part);
-    if !makes_one(v.kind) {
+    if !makes_field(v.kind) {
         return all_made(g, w, s, base, v.next, renamed, to);
     }
     if !is_single(g, w, qualifier(renamed, to, v.p), v.q) {
@@ -97,10 +96,10 @@ fn all_held(
     let part = from_record(s, base, here);
     let v = look(part);
     let role = role_of(v.kind);
-    if role == CREATES {
+    if creates(role) {
         return all_made(g, w, part, here, v.first, renamed, to);
     }
-    if role == RENAMES {
+    if renames(role) {
         return all_held(
             g,
             w,
@@ -115,13 +114,10 @@ fn all_held(
     if !all_held(g, w, part, here, v.first, own_input(role, v.p), renamed, to) {
         return false;
     }
-    if role == JOINS {
-        if v.p <= FULL {
-            return all_held(g, w, part, here, v.first, 1, renamed, to);
-        }
-        return true;
+    if gives_both(role, v.p) {
+        return all_held(g, w, part, here, v.first, 1, renamed, to);
     }
-    if role == EXTENDS {
+    if extends(role) {
         return all_made(g, w, part, here, v.first, renamed, to);
     }
     true
@@ -157,26 +153,24 @@ fn all_single(g: &[u8], w: Whole) -> bool
 }
 
 // Which fields of its children a plan's schema has, by the plan's role; a join's are judged with both inputs together.
-fn own_view(role: usize) -> View
+fn own_view(role: Role) -> View
     ensures { λ r. ⌜ r ≡ ownView role ⌝ }
 {
-    if role == CREATES {
-        return View::Parts;
+    match role {
+        Role::NoPlan => View::FirstInput,
+        Role::Creates => View::Parts,
+        Role::Joins => View::BothInputs,
+        Role::Renames => View::FirstInput,
+        Role::Extends => View::FirstInputAndParts,
+        Role::Passes => View::FirstInput,
     }
-    if role == JOINS {
-        return View::BothInputs;
-    }
-    if role == EXTENDS {
-        return View::FirstInputAndParts;
-    }
-    View::FirstInput
 }
 
 // The question that tells its fields apart: under an alias the name alone.
-fn own_question(role: usize) -> Question
+fn own_question(role: Role) -> Question
     ensures { λ r. ⌜ r ≡ ownQuestion role ⌝ }
 {
-    if role == RENAMES {
+    if renames(role) {
         return Question::ByName;
     }
     Question::Clashing
@@ -186,8 +180,8 @@ fn own_question(role: usize) -> Question
 // other are told apart.
 pub fn is_sound_beside(g: &[u8], base: usize, at: usize, p: usize) -> bool
     requires { ⌜ Chained (now g) base at ⌝ }
-    ensures { λ b. ⌜ ((l : Label) (cs : Forest) → Linked cs (now (g .entry)) base at
-        → sound (namesIn (input (own joins p) (inputs cs))) ≡ true → b ≡ nameP Join l cs (inputs cs)) ⌝ }
+    ensures { λ b. ⌜ ((cs : Forest) (c : Schema) → Linked cs (now (g .entry)) base at
+        → sound (namesIn (input (own Role.Joins p) (inputs cs))) ≡ true → b ≡ soundBy Role.Joins p (made c cs) (inputs cs)) ⌝ }
 {
     if MAX_FIELDS < held_in(g, base, at, View::BothInputs, Question::Every, 0, 0) {
         return false;
@@ -198,14 +192,22 @@ pub fn is_sound_beside(g: &[u8], base: usize, at: usize, p: usize) -> bool
         view: View::BothInputs,
         asks: Question::Clashing,
     };
-    all_held(g, both, g, base, at, 1 - own_input(JOINS, p), false, 0)
+    all_held(
+        g,
+        both,
+        g,
+        base,
+        at,
+        1 - own_input(Role::Joins, p),
+        false,
+        0,
+    )
 }
 
 // Whether the schema of a plan of this role, whose children are from record `at` on, is sound, and for a join both inputs together.
-pub fn is_sound(g: &[u8], base: usize, at: usize, role: usize) -> bool
+pub fn is_sound(g: &[u8], base: usize, at: usize, role: Role) -> bool
     requires { ⌜ Chained (now g) base at ⌝ }
-    ensures { λ b. ⌜ ((k : PlanKind) (l : Label) (cs : Forest) → role ≡ roleP k → Linked cs (now (g .entry)) base at
-        → b ≡ nameP k l cs (inputs cs)) ⌝ }
+    ensures { λ b. ⌜ ((cs : Forest) (c : Schema) (p : ℕ) → Linked cs (now (g .entry)) base at → b ≡ soundBy role p (made c cs) (inputs cs)) ⌝ }
 {
     let view = own_view(role);
     if MAX_FIELDS < held_in(g, base, at, view, Question::Every, 0, 0) {

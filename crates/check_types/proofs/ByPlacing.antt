@@ -12,23 +12,22 @@ use native.Mathlib.Omega.{arith}
 use lib.Dec.{ltb}
 use lib.ListN.{length}
 use borrow.Author.Tests.{eq-eqb, ne-eqb, eqb-true, ltb-true, ltb-false}
-use Rattle.check_fields.specs.Roles.{noPlan}
 use Rattle.check_fields.specs.declared.questions.Question.the-variants.{Every}
 use Rattle.image.specs.Tree.{Forest, none, Node}
 use Rattle.image.proofs.Walking.{ended}
 use Rattle.image.proofs.Stepping.{Step}
 use Rattle.plan.specs.Lists.{_&_, all}
 use Rattle.plan.proofs.Lists.{and-intro, and-l, and-r}
-use Rattle.plan.specs.Kinds.{whatOf}
+use Rattle.plan.specs.Kinds.{whatOf, planW}
+use Rattle.plan.specs.Inputs.{Planned}
+use Rattle.plan.proofs.Inputting.{at-plan}
 use Rattle.plan.specs.Syntax.{Name, nm}
 use Rattle.acceptance.specs.Types.{same-types}
-use Rattle.check_fields.specs.Fields.{Schema, inputs}
+use Rattle.check_fields.specs.Fields.{Schema, input, inputs}
 use Rattle.check_fields.specs.Rules.{typesIn, united}
-use Rattle.check_fields.specs.Count.{hits, counted, input, role}
-use Rattle.check_fields.specs.Seek.{seek, typeFound, Planned}
-use Rattle.check_fields.proofs.Counting.{of-plan, skip-part}
-use Rattle.check_fields.proofs.Seeking.{is-plan}
-use Rattle.check_fields.proofs.Counting.{counted-all}
+use Rattle.check_fields.specs.Count.{hits, counted}
+use Rattle.check_fields.specs.Seek.{seek, typeFound}
+use Rattle.check_fields.proofs.Counting.{inputs-from, plan-first, skip-part, counted-all}
 use Rattle.check_types.specs.ByPlace.{tyAt}
 
 -- ---- places
@@ -104,13 +103,13 @@ module _ {f : Forest} {s : List ℕ} {b at r : ℕ} (y : Planned f s b at 0 r) w
   -- there are none
   pub united-none : r ≡ 0 → true ≡ united (inputs f)
   unfolding united inputs
-  united-none z = rw (y .plans ∙ ap inputs (ended (y .forest) s b r (y .linked) z))
+  united-none z = rw (inputs-from y ∙ ap inputs (ended (y .forest) s b r (y .linked) z))
 
   -- those after the first are compared with it
   pub united-rest : {part : List ℕ} {v : Node} (w : Step (y .forest) s b r part v)
       → all (λ t. same-types (typesIn t) (typesIn (input 0 (inputs f)))) (inputs (w .after)) ≡ united (inputs f)
   unfolding united input
-  united-rest w = rw (y .plans ∙ of-plan w _ refl (is-plan w refl (y .begins)) .2)
+  united-rest w = rw (inputs-from y ∙ plan-first w (at-plan w (y .begins)))
 
 -- no inputs, no test
 pub all-none : (t : Schema → Bool) (f : Forest) → f ≡ none → true ≡ all t (inputs f)
@@ -122,17 +121,17 @@ cons-all : (t : Schema → Bool) (ins : List Schema) (g : Schema) (rest : List S
 unfolding all input
 cons-all t ins g rest e = rw e
 
-module _ {f : Forest} {s : List ℕ} {b at : ℕ} {part : List ℕ} {v : Node} (w : Step f s b at part v) (r : ℕ) (R : r ≡ role (whatOf (v .kind)))
-    (t : Schema → Bool) where
+module _ {f : Forest} {s : List ℕ} {b at : ℕ} {part : List ℕ} {v : Node} (w : Step f s b at part v) {p : Bool}
+    (P : p ≡ planW (whatOf (v .kind))) (t : Schema → Bool) where
   -- the first record is a plan
-  pub all-not : (r ≡ noPlan → ⊥) → {x : Bool} → x ≡ t (input 0 (inputs f)) → x ≡ false → false ≡ all t (inputs f)
+  pub all-not : p ≡ true → {x : Bool} → x ≡ t (input 0 (inputs f)) → x ≡ false → false ≡ all t (inputs f)
   unfolding _&_
-  all-not z e n = sym (cons-all t (inputs f) _ _ (of-plan w r R z .2) ∙ ap (λ (y : Bool). y & all t (inputs (w .after))) (sym e ∙ n))
+  all-not z e n = sym (cons-all t (inputs f) _ _ (plan-first w (sym P ∙ z)) ∙ ap (λ (y : Bool). y & all t (inputs (w .after))) (sym e ∙ n))
 
-  pub all-more : (r ≡ noPlan → ⊥) → {x : Bool} → x ≡ t (input 0 (inputs f)) → x ≡ true → all t (inputs (w .after)) ≡ all t (inputs f)
+  pub all-more : p ≡ true → {x : Bool} → x ≡ t (input 0 (inputs f)) → x ≡ true → all t (inputs (w .after)) ≡ all t (inputs f)
   unfolding _&_
-  all-more z e n = sym (cons-all t (inputs f) _ _ (of-plan w r R z .2) ∙ ap (λ (y : Bool). y & all t (inputs (w .after))) (sym e ∙ n))
+  all-more z e n = sym (cons-all t (inputs f) _ _ (plan-first w (sym P ∙ z)) ∙ ap (λ (y : Bool). y & all t (inputs (w .after))) (sym e ∙ n))
 
   -- it is none
-  pub all-skip : r ≡ noPlan → all t (inputs (w .after)) ≡ all t (inputs f)
-  all-skip z = ap (all t) (sym (skip-part w r R z))
+  pub all-skip : p ≡ false → all t (inputs (w .after)) ≡ all t (inputs f)
+  all-skip z = ap (all t) (sym (skip-part w (sym P ∙ z)))

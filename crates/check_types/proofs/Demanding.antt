@@ -21,7 +21,7 @@ use Rattle.plan.specs.Kinds.{What, expr, plan, part, unknown, whatOf, exprW}
 use Rattle.plan.proofs.Rebuilt.{kind-e, kind-p, kind-w}
 use Rattle.check_fields.specs.Fields.{Schema, first, typeOf}
 use Rattle.check_fields.specs.Rules.{Scope, seen, typesOf, alike}
-use Rattle.check_fields.proofs.Counting.{of-kind}
+use Rattle.plan.proofs.FieldSources.{of-kind}
 use Rattle.check_types.specs.declared.operands.Demand.the-variants.{Nothing}
 use Rattle.check_types.specs.Demands.{demandOf, booleanKind}
 
@@ -42,7 +42,8 @@ not-known n e =
     other m w g z q = z (sym g ∙ ap whatOf (sym q) ∙ e)
 
 -- of the kinds that the code has not named yet, Not and the plans with predicates take booleans
-pub demand-last : (n p r : ℕ) → (n ≡ K.numberE K.Binary → ⊥) → (n ≡ K.numberE K.Test → ⊥) → (n ≡ K.numberQ K.AggPart → ⊥) → (n ≡ K.numberQ K.WinPart → ⊥) → (n ≡ K.numberE K.Between → ⊥) → (n ≡ K.numberE K.InList → ⊥) → (n ≡ K.numberQ K.PairPart → ⊥)
+pub demand-last : (n p r : ℕ) → (n ≡ K.numberE K.Binary → ⊥) → (n ≡ K.numberE K.Test → ⊥) → (n ≡ K.numberQ K.AggPart → ⊥)
+    → (n ≡ K.numberQ K.WinPart → ⊥) → (n ≡ K.numberE K.Between → ⊥) → (n ≡ K.numberE K.InList → ⊥) → (n ≡ K.numberQ K.PairPart → ⊥)
     → booleanKind n ≡ demandOf (whatOf n) p r
 demand-last n p r a b c d g h i = go (whatOf n) refl
   where

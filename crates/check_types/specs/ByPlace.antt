@@ -5,8 +5,7 @@ use Rattle.image.specs.Tree.{Forest}
 use Rattle.plan.specs.Syntax.{noType}
 use Rattle.check_types.specs.declared.places.Whose.{Whose}
 use Rattle.check_types.specs.declared.places.Whose.the-variants.{Parts, FirstPlan}
-use Rattle.check_fields.specs.Fields.{Schema, made, inputs}
-use Rattle.check_fields.specs.Count.{input}
+use Rattle.check_fields.specs.Fields.{Schema, input, made, inputs}
 
 -- the type of the field with this place, or none
 unfoldable pub tyAt : ℕ → Schema → ℕ

@@ -1,22 +1,21 @@
 // The types of a schema's fields by place, and whether two schemas have the same.
 use check_fields::fields::holders;
 use check_fields::fields::made_count;
-use check_fields::fields::plan_at;
-use check_fields::fields::role_of;
 use check_fields::fields::seek_field;
 use check_fields::fields::seek_made;
 use check_fields::fields::type_found;
 use check_fields::questions::Question;
-use check_fields::roles::NO_PLAN;
 use image::records::from_record;
 use image::records::look;
+use plan::inputs::plan_at;
+use plan::kinds::is_plan;
 ghost use mathlib.Core.Path.{_≡_};
 ghost use Rattle.image.specs.Places.{Chained};
 ghost use Rattle.image.specs.Tree.{Forest, Linked};
 ghost use Rattle.plan.specs.Lists.{all};
 ghost use Rattle.acceptance.specs.Types.{same-types};
-ghost use Rattle.check_fields.specs.Count.{counted, hits, input};
-ghost use Rattle.check_fields.specs.Fields.{inputs};
+ghost use Rattle.check_fields.specs.Count.{counted, hits};
+ghost use Rattle.check_fields.specs.Fields.{input, inputs};
 ghost use Rattle.check_fields.specs.Rules.{typesIn, united};
 ghost use Rattle.check_types.specs.ByPlace.{schemaOf, tyAt};
 
@@ -89,7 +88,7 @@ pub fn as_first(s: &[u8], base: usize, at: usize, g: &[u8], gb: usize, ga: usize
     }
     let part = from_record(s, base, at);
     let v = look(part);
-    if role_of(v.kind) != NO_PLAN {
+    if is_plan(v.kind) {
         if !same_fields(s, base, at, g, gb, ga, Whose::FirstPlan) {
             return false;
         }

@@ -93,7 +93,8 @@ module _ {s part : List ℕ} {base : ℕ} (o : Op) (a b : Expr) (e : part ≡ dr
 
   pub standing-left : Standing s (word part 24) a
   standing-left = let u = operands o here in
-      inside a e (h .within) room (omega (arith, u .past)) (u .fits) (u .left) (deeper (kidsE a) (maxDepth - 1) (deep-parts (maxDepth - 1) o a b (h .deep) .1)) (h .fits .0)
+      inside a e (h .within) room (omega (arith, u .past)) (u .fits) (u .left)
+      (deeper (kidsE a) (maxDepth - 1) (deep-parts (maxDepth - 1) o a b (h .deep) .1)) (h .fits .0)
 
   pub standing-right : Standing s (word (drop (32 * (word part 24 - base)) part) 28) b
   standing-right = let u = operands o here in

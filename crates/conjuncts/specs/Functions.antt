@@ -4,11 +4,11 @@ use Prim.Native.Nat.{ℕ}
 use lib.Dec.{eqb}
 use Rattle.image.specs.Tree.{Label, Forest, none, node, Tree}
 use Rattle.plan.specs.Kinds.{Function, numberE}
-use Rattle.rewrite.specs.Utils.{volatile-marks}
+use Rattle.plan.specs.Syntax.{isVolatile}
 
 -- which functions, by their marks: the volatile ones alone, or all
 abbrev pub marked : Bool → ℕ → Bool
-marked true = volatile-marks
+marked true = isVolatile
 marked false = λ q. true
 
 -- the record is a function whose marks pass the test

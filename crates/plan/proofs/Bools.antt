@@ -1,7 +1,7 @@
 -- Laws of Booleans. The code's `&` on them is `_&&_`, the definitions' is `_&_`: they are the same.
 -- Assumes nothing.
 use mathlib.Core.Path.{_≡_, refl, sym}
-use mathlib.Core.Bool.{Bool, true, false, not, _&&_}
+use mathlib.Core.Bool.{Bool, true, false, not, _&&_, _||_}
 use Prim.Native.Nat.{ℕ}
 use native.Mathlib.Omega.{arith}
 use Rattle.plan.specs.Lists.{_&_}
@@ -29,6 +29,15 @@ same-truth false false f g = refl
 -- from nothing true follows anything
 pub no-yes : {A : Type 0} → false ≡ true → A
 no-yes e = let z : _≡_ {A = ℕ} 0 1 = cc in absurd (omega arith)
+
+-- where neither of two is true, each is false
+pub neither-left : (a b : Bool) → a || b ≡ false → a ≡ false
+neither-left true b h = h
+neither-left false b h = refl
+
+pub neither-right : (a b : Bool) → a || b ≡ false → b ≡ false
+neither-right true b h = no-yes (sym h)
+neither-right false b h = h
 
 -- a test that is negated
 pub told : {b : Bool} → not b ≡ false → b ≡ true

@@ -10,3 +10,5 @@ pub mod Written
 pub mod Literals
 pub mod Rights
 pub mod PlanOf
+pub mod FieldSources
+pub mod Inputting

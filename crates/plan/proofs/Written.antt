@@ -264,7 +264,8 @@ fetch-back (some n) = refl
 module _ (p : Plan) where
   runs-entry : (es : List Entry) → Every (λ (e : Entry). FitsE (e .expr)) es
       → run isEntry entryOf (each entryLabel entryKids es (node (labelP p) (kidsP p) none)) ≡ es
-  runs-entry es h = run-each isEntry entryOf entryLabel entryKids (λ e. FitsE (e .expr)) (λ x. refl) entry-back es _ h (no-part p (K.numberQ K.EntryPart) (omega arith))
+  runs-entry es h = run-each isEntry entryOf entryLabel entryKids (λ e. FitsE (e .expr)) (λ x. refl) entry-back es _ h
+      (no-part p (K.numberQ K.EntryPart) (omega arith))
 
   aggs-stop : (ags : List AggEntry) → Stops isEntry (each aggLabel aggKids ags (node (labelP p) (kidsP p) none))
   unfolding each

@@ -12,3 +12,5 @@ pub mod Read
 pub mod Measure
 pub mod Integers
 pub mod Values
+pub mod FieldSources
+pub mod Inputs

@@ -4,7 +4,7 @@ use mathlib.Core.Bool.{Bool, cond}
 use mathlib.Core.List.{List, [], _∷_}
 use mathlib.Core.Option as O
 use mathlib.Core.Option.{Option, some}
-use lib.Dec.{eqb, ltb}
+use lib.Dec.{ltb}
 use lib.IntN.{ℤ, pos, negsuc}
 use Rattle.image.specs.Tree.{Label, Forest, none, node, Tree}
 use Rattle.plan.specs.Kinds as K
@@ -16,6 +16,7 @@ use Rattle.plan.specs.Syntax.{isNotTrue, isNotFalse, isNotUnknown, Expr,
 use Rattle.plan.specs.Syntax.{Exprs, enil, econs, Field, Entry, Pair, Key, Agg, count, min, max, AggEntry, WinEntry, Kind, inner}
 use Rattle.plan.specs.Syntax.{left, right, full, leftSemi, rightSemi, leftAnti, rightAnti, Plan, scan, filter, project, join, alias}
 use Rattle.plan.specs.Syntax.{union, distinct, sort, repartition, limit, aggregate, window, Plans, pnil, pcons}
+use Rattle.plan.specs.Trees.{isSet, hasFetch}
 
 -- ---- numbers
 
@@ -63,13 +64,13 @@ perhapsE (econs x xs) = some x
 abbrev pub exprOf : ExprKind → Label → Exprs → Expr
 exprOf K.Column l es = col (nm (l .p) (l .q))
 exprOf K.Integer l es = num (signed (l .lo) (l .hi))
-exprOf K.Boolean l es = bool (eqb (l .p) 1)
+exprOf K.Boolean l es = bool (isSet (l .p))
 exprOf K.Null l es = nul (l .p)
 exprOf K.Binary l es = bin (nth and ops (l .p - 1)) (headE es) (headE (tailE es))
 exprOf K.Not l es = neg (headE es)
 exprOf K.Test l es = test (nth isNull tests (l .p - 1)) (headE es)
-exprOf K.Between l es = between (eqb (l .p) 1) (headE es) (headE (tailE es)) (headE (tailE (tailE es)))
-exprOf K.InList l es = inlist (eqb (l .p) 1) (headE es) (tailE es)
+exprOf K.Between l es = between (isSet (l .p)) (headE es) (headE (tailE es)) (headE (tailE (tailE es)))
+exprOf K.InList l es = inlist (isSet (l .p)) (headE es) (tailE es)
 exprOf K.Function l es = fn (l .p) (l .q) (l .r) es
 
 abbrev pub exprBy : What → Label → Exprs → Expr
@@ -83,7 +84,7 @@ exprsOf none = enil
 exprsOf (node l cs ns) = econs (exprBy (what l) l (exprsOf cs)) (exprsOf ns)
 
 abbrev pub fieldOf : Label → Forest → Field
-fieldOf l cs = record { name = nm (l .p) (l .q); ty = l .r; exact = eqb (l .lo) 1 }
+fieldOf l cs = record { name = nm (l .p) (l .q); ty = l .r; exact = isSet (l .lo) }
 
 abbrev pub entryOf : Label → Forest → Entry
 entryOf l cs = record { name = nm (l .p) (l .q); expr = headE (exprsOf cs) }
@@ -92,7 +93,7 @@ abbrev pub pairOf : Label → Forest → Pair
 pairOf l cs = record { lhs = headE (exprsOf cs); rhs = headE (tailE (exprsOf cs)) }
 
 abbrev pub keyOf : Label → Forest → Key
-keyOf l cs = record { desc = eqb (l .p) 1; expr = headE (exprsOf cs) }
+keyOf l cs = record { desc = isSet (l .p); expr = headE (exprsOf cs) }
 
 abbrev pub aggOf : Label → Forest → AggEntry
 aggOf l cs = record { name = nm (l .p) (l .q); fun = nth count aggs (l .r - 1); expr = headE (exprsOf cs) }
@@ -155,7 +156,7 @@ planFrom K.Join l cs ps = join (nth inner joins (l .p - 1)) (headP ps) (headP (t
 planFrom K.SubqueryAlias l cs ps = alias (l .p) (headP ps)
 planFrom K.Union l cs ps = union ps
 planFrom K.Distinct l cs ps = distinct (headP ps)
-planFrom K.Sort l cs ps = sort (cond (eqb (l .p) 1) (some (l .lo)) O.none) (run isKey keyOf cs) (headP ps)
+planFrom K.Sort l cs ps = sort (cond (hasFetch (l .p)) (some (l .lo)) O.none) (run isKey keyOf cs) (headP ps)
 planFrom K.Repartition l cs ps = repartition (headP ps)
 planFrom K.Limit l cs ps = limit (l .lo) (l .hi) (headP ps)
 planFrom K.Aggregate l cs ps = aggregate (run isEntry entryOf cs) (run isAgg aggOf (past isEntry cs)) (headP ps)

@@ -4,6 +4,7 @@ use mathlib.Core.Bool.{Bool, true, false}
 use mathlib.Core.List.{List, [], _∷_}
 use mathlib.Core.Option as O
 use mathlib.Core.Option.{Option, some}
+use lib.Dec.{eqb}
 use lib.IntN.{ℤ, pos, negsuc}
 use Rattle.image.specs.Tree.{Label, Forest, none, node, Tree}
 use Rattle.plan.specs.Kinds as K
@@ -28,6 +29,10 @@ highHalf (negsuc n) = 4294967295 - n / 4294967296
 abbrev pub bitOf : Bool → ℕ
 bitOf false = 0
 bitOf true = 1
+
+-- the bit of true
+abbrev pub isSet : ℕ → Bool
+isSet w = eqb w (bitOf true)
 
 abbrev pub qualifier : Name → ℕ
 qualifier (nm q n) = q
@@ -160,8 +165,12 @@ winKids w = inFront (w .expr) (each columnLabel nothingBelow (w .parts) none)
 -- ---- trees of plans
 
 abbrev pub fetchBit : Option ℕ → ℕ
-fetchBit O.none = 0
-fetchBit (some n) = 1
+fetchBit O.none = bitOf false
+fetchBit (some n) = bitOf true
+
+-- the bit of a fetch
+abbrev pub hasFetch : ℕ → Bool
+hasFetch w = isSet w
 
 abbrev pub fetchOf : Option ℕ → ℕ
 fetchOf O.none = 0

@@ -9,7 +9,7 @@ use Rattle.image.specs.Tree.{Label}
 use Rattle.plan.specs.Kinds as K
 use Rattle.plan.specs.Syntax as S
 use Rattle.plan.specs.Read.{signed}
-use Rattle.plan.specs.Trees.{bitOf}
+use Rattle.plan.specs.Trees.{bitOf, isSet}
 use Rattle.plan.specs.declared.values.Case.{Case}
 use Rattle.plan.specs.declared.values.Case.the-variants.{Null, Integer, Truth}
 use Rattle.plan.specs.declared.values.Value.{Value}
@@ -82,7 +82,7 @@ literalIs v = literalBy (v .ty) (v .case)
 unfoldable pub literalOf : Label → Literal
 literalOf l =
     cond (eqb (l .kind) (K.numberE K.Integer)) (Of (integer (signed (l .lo) (l .hi))))
-    (cond (eqb (l .kind) (K.numberE K.Boolean)) (Of (boolean (eqb (l .p) 1)))
+    (cond (eqb (l .kind) (K.numberE K.Boolean)) (Of (boolean (isSet (l .p))))
     (cond (eqb (l .kind) (K.numberE K.Null)) (Of (nullOf (l .p))) Not))
 
 -- the literal that an expression is

@@ -1,7 +1,7 @@
 -- Record (2): the range of each word of a record, by its kind. An unused word is 0; a name is not.
 use mathlib.Core.Bool.{Bool, true, false, cond}
 use Prim.Native.Nat.{ℕ}
-use lib.Dec.{eqb, leb}
+use lib.Dec.{leb}
 use mathlib.Core.Path.{_≡_}
 use Rattle.image.specs.Tree.{Label, Forest, none, node}
 use Rattle.image.specs.Limits.{maxWord}
@@ -11,6 +11,7 @@ use Rattle.plan.specs.Kinds.{What, expr, plan, part, unknown, what, Expr
 use Rattle.plan.specs.Kinds.{Between, InList, Function, PlanKind, TableScan, Filter, Projection, Join, SubqueryAlias, Union, Distinct}
 use Rattle.plan.specs.Kinds.{Sort, Repartition, Limit, Aggregate, Window, PartKind, FieldPart, EntryPart, PairPart, KeyPart, AggPart}
 use Rattle.plan.specs.Kinds.{WinPart}
+use Rattle.plan.specs.Trees.{hasFetch}
 
 pub record Range : Type 0 where
   pub low : ℕ
@@ -68,7 +69,7 @@ rowP Join p = row (1 to 8) unused unused unused unused
 rowP SubqueryAlias p = row name unused unused unused unused
 rowP Union p = row unused unused unused unused unused
 rowP Distinct p = row unused unused unused unused unused
-rowP Sort p = row bit unused unused (cond (eqb p 1) anyWord unused) unused
+rowP Sort p = row bit unused unused (cond (hasFetch p) anyWord unused) unused
 rowP Repartition p = row unused unused unused unused unused
 rowP Limit p = row unused unused unused anyWord anyWord
 rowP Aggregate p = row unused unused unused unused unused

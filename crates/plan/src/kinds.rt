@@ -1,6 +1,6 @@
 // The kinds of records by name, all of them: those of specs/Kinds.antt. What their words hold is in words.rt.
-// A new kind is one number here, one row in each table of word_ranges.rt and child_patterns.rt, and a failed proof wherever it is not
-// treated.
+// A new kind is one number here, one row in each table of word_ranges.rt and child_patterns.rt, of a plan its role in field_sources.rt,
+// and a failed proof wherever it is not treated.
 ghost use mathlib.Core.Path.{_≡_};
 ghost use Rattle.plan.specs.Kinds.{exprW, partW, planW, whatOf};
 

@@ -1,17 +1,16 @@
 -- Plans with no volatile function.
 use mathlib.Core.Path.{_≡_}
-use mathlib.Core.Bool.{Bool, true, not, _||_}
-use lib.Dec.{eqb}
+use mathlib.Core.Bool.{Bool, true, not}
 use Rattle.image.specs.Tree.{Label, Forest, none, node}
 use Rattle.image.specs.Lowest.{alone}
 use Rattle.plan.specs.Lists.{_&_}
 use Rattle.plan.specs.Kinds.{expr, Function, isKind}
-use Rattle.plan.specs.Syntax.{Plan}
+use Rattle.plan.specs.Syntax.{Plan, isVolatile}
 use Rattle.plan.specs.Trees.{planTree}
 
--- a function is volatile if its q is 1 or 3
+-- the record is a volatile function: q has its marks
 unfoldable pub volatile : Label → Bool
-volatile l = isKind (expr Function) l & (eqb (l .q) 1 || eqb (l .q) 3)
+volatile l = isKind (expr Function) l & isVolatile (l .q)
 
 -- no record of the forest is a volatile function
 unfoldable pub none-volatile : Forest → Bool

@@ -17,7 +17,7 @@ use Rattle.plan.specs.Trees.{winKids}
 use Rattle.push_down_base.specs.Around.{WroteAll}
 use Rattle.push_down_base.specs.Frames.{Frame}
 use Rattle.push_down_base.proofs.Runs.{run-recs, run-count}
-use Rattle.push_down_base.proofs.Windows.{wrote-then, wrote-tree, tree-wrote}
+use Rattle.push_down_base.proofs.WrittenRuns.{wrote-then, wrote-tree, tree-wrote}
 
 -- a plan to read a frame's label from
 abbrev none-read : Plan

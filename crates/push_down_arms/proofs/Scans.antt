@@ -27,7 +27,7 @@ use Rattle.push_down_base.specs.Arms.{Placed}
 use Rattle.push_down_arms.specs.Scans.{Adds}
 use Rattle.push_down_base.proofs.Runs.{run-recs, run-count}
 use Rattle.push_down_arms.proofs.Shaping.{standing-item}
-use Rattle.push_down_base.proofs.Windows.{wrote-none, wrote-then, wrote-tree, tree-wrote}
+use Rattle.push_down_base.proofs.WrittenRuns.{wrote-none, wrote-then, wrote-tree, tree-wrote}
 
 -- ---- the scan's own filters
 

@@ -3,7 +3,7 @@ use mathlib.Core.Bool.{Bool, true, false, not, _&&_, _||_, cond}
 use lib.Dec.{eqb}
 use Rattle.image.specs.Tree.{Label, Forest, none, node, Tree}
 use Rattle.plan.specs.Kinds.{numberE, numberP, numberQ, Function, Aggregate, EntryPart, WinPart}
-use Rattle.plan.specs.Syntax.{Name}
+use Rattle.plan.specs.Syntax.{Name, isLeafward}
 use Rattle.plan.specs.Trees.{qualifier, ident}
 use Rattle.conjuncts.specs.Functions.{marked, fnIn}
 use Rattle.writing.specs.Replaced.{isEntry, lookup}
@@ -12,7 +12,7 @@ use Rattle.writing.specs.Replaced.{isEntry, lookup}
 
 -- the record is a leafward function
 abbrev pub leafHere : Label → Bool
-leafHere l = eqb (l .kind) (numberE Function) && (eqb (l .q) 2 || eqb (l .q) 3)
+leafHere l = eqb (l .kind) (numberE Function) && isLeafward (l .q)
 
 -- the first of a forest is
 abbrev pub leafFirst : Forest → Bool

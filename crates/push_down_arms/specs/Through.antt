@@ -7,6 +7,7 @@ use lib.Dec.{eqb}
 use Rattle.image.specs.Tree.{Label}
 use Rattle.plan.specs.Kinds.{numberP, Limit, Sort}
 use Rattle.plan.specs.Syntax.{Expr, Plan, scan, filter, project, join, alias, union, distinct, sort, repartition, limit, aggregate, window}
+use Rattle.plan.specs.Trees.{hasFetch}
 use Rattle.push_down_base.specs.Predicates.{Predicate}
 use Rattle.push_down_base.specs.Arms.{Rests}
 
@@ -27,7 +28,7 @@ through (window ws p) = false
 
 -- of these a Limit and a Sort with a fetch take no Filter
 abbrev pub takesNone : Label → Bool
-takesNone l = eqb (l .kind) (numberP Limit) || (eqb (l .kind) (numberP Sort) && eqb (l .p) 1)
+takesNone l = eqb (l .kind) (numberP Limit) || (eqb (l .kind) (numberP Sort) && hasFetch (l .p))
 
 -- some predicate rests on one
 pub record OverThrough (s : List ℕ) (x : ℕ) (p : Predicate) : Type 0 where

@@ -2,7 +2,7 @@ pub mod Plain
 pub mod Finding
 pub mod Steps
 pub mod Runs
-pub mod Windows
+pub mod WrittenRuns
 pub mod Perhapsing
 pub mod Selecting
 pub mod Masking

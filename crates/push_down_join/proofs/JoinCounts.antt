@@ -220,7 +220,8 @@ module _ {img : List ℕ} {σ : Name → Expr} {v : Moves} (k : Kind) (l r : Pla
       (filters-few _ l (left-plain k (schema l) (schema r) on p g) (few-of (v .left .len) _ (sides-count (h .left)) a) hl)
       (filters-few _ r (right-plain k (schema l) (schema r) on p g) (few-of (v .right .len) _ (sides-count (h .right)) b) hr)))
 
-  pub few-fits : listP (answer-over k l r on A G) ≤ maxList → ((leb (v .left .len) maxList && leb (v .right .len) maxList) && leb (v .conditions .len) maxList) ≡ true
+  pub few-fits : listP (answer-over k l r on A G) ≤ maxList
+      → ((leb (v .left .len) maxList && leb (v .right .len) maxList) && leb (v .conditions .len) maxList) ≡ true
   unfolding listP
   few-fits few =
       let inner : listP (join-over k l r on A G) ≤ maxList =

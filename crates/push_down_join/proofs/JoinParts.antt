@@ -44,7 +44,7 @@ use Rattle.push_down_base.specs.Inputs.{lastOf}
 use Rattle.push_down_join.specs.JoinPlans.{pairRecs, FilterOf, has-none, has-one}
 use Rattle.push_down_base.specs.Parting.{Reads}
 use Rattle.push_down_base.proofs.Steps.{On, rest-trees, children, expr-first, right-input}
-use Rattle.push_down_base.proofs.Windows.{wrote-none, wrote-then, wrote-tree}
+use Rattle.push_down_base.proofs.WrittenRuns.{wrote-none, wrote-then, wrote-tree}
 
 -- ---- the right input
 

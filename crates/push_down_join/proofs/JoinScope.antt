@@ -5,11 +5,10 @@ use mathlib.Core.Bool.{Bool, true, false, _||_, cond}
 use mathlib.Core.List.{List, [], _∷_, _++_}
 use mathlib.Core.Option as O
 use mathlib.Core.Option.{Option, some}
-use Prim.Native.Nat.{ℕ, _*_, _≤_}
-use native.Mathlib.Omega.{arith}
-use lib.ListN.{length, drop}
+use Prim.Native.Nat.{_≤_}
+use lib.ListN.{length}
 use borrow.Author.Tests.{leb-true}
-use Rattle.image.specs.Limits.{maxDepth, maxFields}
+use Rattle.image.specs.Limits.{maxFields}
 use Rattle.plan.specs.Columns.{on-cols}
 use Rattle.plan.specs.Lists.{_&_, all, any}
 use Rattle.plan.specs.Schema.{has, same, schema, nodup}
@@ -18,16 +17,10 @@ use Rattle.plan.proofs.Lists.{and-l, and-r}
 use Rattle.acceptance.specs.Names.{sound}
 use Rattle.acceptance.proofs.NamesRule.{names-nodup}
 use Rattle.acceptance.specs.NamesRule.{rule, ok}
-use Rattle.conjuncts.specs.Standing.{StandingP}
 use Rattle.rewrite.specs.SimplifyPredicates.{as-column}
 use Rattle.rewrite.specs.PushDownFilter.{pair-of, partner}
-use Rattle.utils.specs.Inputs.{PlanHere}
 use Rattle.push_down_join.specs.Partners.{orSelf}
 use Rattle.push_down_join.specs.Scopes.{swap}
-
--- a plan that stands at a record is there to be read
-pub plan-here : {s : List ℕ} {n : ℕ} {p : Plan} → StandingP s n p → PlanHere (drop (32 * n) s) n maxDepth
-plan-here {p = p} h = record { plan = p; at = h .here; some = omega arith; deep = h .deep }
 
 module _ (k : Kind) (l r : Plan) (on : List Pair) (f : Option Expr) (h : ok (join k l r on f) ≡ true) where
   pub join-short : length (schema l ++ schema r) ≤ maxFields

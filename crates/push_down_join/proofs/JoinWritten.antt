@@ -29,7 +29,7 @@ use Rattle.push_down_join.specs.Sides.{SomeSided, Side}
 use Rattle.push_down_join.proofs.JoinParts.{pairs-join}
 use Rattle.push_down_base.proofs.Runs.{run-recs}
 use Rattle.push_down_base.proofs.Steps.{left-input}
-use Rattle.push_down_base.proofs.Windows.{wrote-one, wrote-then, wrote-tree, tree-wrote}
+use Rattle.push_down_base.proofs.WrittenRuns.{wrote-one, wrote-then, wrote-tree, tree-wrote}
 
 module _ {s m : List ℕ} {x z : ℕ} {sc : Scope} {v : Moves} {k : Kind} {l r : Plan} {on : List Pair} {f : Option Expr} {P G : List Expr}
     {σ : Name → Expr} (h : Carries s m x z sc v k l r on f P G σ) where

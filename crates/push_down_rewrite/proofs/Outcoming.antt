@@ -80,7 +80,8 @@ stays-outcomes {w = w} {node = node} {c = c} h u t y f n =
     record {
       fit =
           y
-          ∙ sym (ap (λ ms. within-limits (answer c) & all (λ m. within-limits (c .back m)) ms) (u .unmerged t) ∙ and-true (within-limits (answer c)) ∙ ap within-limits back
+          ∙ sym (ap (λ ms. within-limits (answer c) & all (λ m. within-limits (c .back m)) ms) (u .unmerged t) ∙ and-true (within-limits (answer c))
+          ∙ ap within-limits back
           ∙ read-fits h);
       flag = λ z. f ∙ sym (ap (λ (t : Transformed). t .transformed) k);
       image = λ z e. no-yes (sym n ∙ e);

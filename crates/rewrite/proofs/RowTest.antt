@@ -2,17 +2,10 @@
 use mathlib.Core.Path.{_≡_, refl, ap, ap₂}
 use mathlib.Core.Bool.{Bool, true, false, _||_}
 use mathlib.Core.List.{_∷_}
+use Rattle.plan.proofs.Bools.{neither-left, neither-right}
 use Rattle.plan.specs.Syntax.{truth, Expr, col, num, bool, nul, bin, neg, test, between, inlist, fn, Exprs, enil, econs}
 use Rattle.meaning.specs.Meaning.{Env, World, eval, evals, binary, not3, tested, negate, in-list}
 use Rattle.rewrite.specs.Utils.{any-fn, any-fn-all}
-
-neither-left : (a b : Bool) → a || b ≡ false → a ≡ false
-neither-left true b h = h
-neither-left false b h = refl
-
-neither-right : (a b : Bool) → a || b ≡ false → b ≡ false
-neither-right true b h = cc
-neither-right false b h = h
 
 -- a function stands in the expression
 abbrev calls : Expr → Bool

@@ -8,7 +8,7 @@ use lib.IntN.{ℤ, pos}
 use lib.Signed.{leZ}
 use Rattle.plan.specs.Lists.{_&_, choose}
 use Rattle.plan.specs.Syntax.{Value, null, int, truth, Expr, Plan, scan, filter, project, join, alias, union, distinct, sort, repartition}
-use Rattle.plan.specs.Syntax.{limit, aggregate, window}
+use Rattle.plan.specs.Syntax.{limit, aggregate, window, booleanType}
 use Rattle.plan.specs.Schema.{schema}
 use Rattle.plan.specs.Types.{types}
 use Rattle.meaning.specs.Meaning.{World, Row, look, eval, isT, isF}
@@ -17,11 +17,15 @@ use Rattle.rewrite.specs.Utils.{any-fn}
 use Rattle.rewrite.specs.RewriteAt.{Focus, focus}
 use Rattle.rewrite.specs.OnBytes.{planIn, isAccepted}
 
--- ---- the row: values lent as 64-bit numbers beside their marks, 1 for NULL
+-- ---- the row: values lent as 64-bit numbers beside their marks
 
--- the lent values of one field: a mark above 1, and a boolean that is not NULL and neither 0 nor 1, are no value
+-- the mark of NULL; that of a value is 0
+abbrev pub nullMark : ℕ
+nullMark = 1
+
+-- the lent values of one field: a mark above these, and a boolean that is not NULL and neither 0 nor 1, are no value
 unfoldable pub cell-ok : ℕ → ℤ → ℕ → Bool
-cell-ok ty z mark = leb mark 1 & (eqb mark 1 || not (eqb ty 2) || (leZ (pos 0) z & leZ z (pos 1)))
+cell-ok ty z mark = leb mark nullMark & (eqb mark nullMark || not (eqb ty booleanType) || (leZ (pos 0) z & leZ z (pos 1)))
 
 -- as many values and marks as there are fields, each in order
 unfoldable pub row-ok : List ℕ → List ℤ → List ℕ → Bool
@@ -34,7 +38,7 @@ row-ok (t ∷ ts) (z ∷ zs) (m ∷ ms) = cell-ok t z m & row-ok ts zs ms
 
 -- a value under a NULL mark is not read; a boolean is TRUE unless it is 0
 unfoldable pub cell : ℕ → ℤ → ℕ → Value
-cell ty z mark = cond (eqb mark 1) null (cond (eqb ty 2) (truth (not (leZ z (pos 0)))) (int z))
+cell ty z mark = cond (eqb mark nullMark) null (cond (eqb ty booleanType) (truth (not (leZ z (pos 0)))) (int z))
 
 unfoldable pub lent : List ℕ → List ℤ → List ℕ → Row
 lent [] zs ms = []

@@ -6,10 +6,10 @@ use mathlib.Core.Bool.{Bool, true, false, not, _||_, Bool-discrete, decide}
 use mathlib.Core.List.{List, [], _∷_, _++_}
 use mathlib.Core.Option.{Option, none, some}
 use native.Mathlib.Decide.{ℕ-discrete}
-use lib.Dec.{eqb}
 use lib.IntN.{ℤ, pos, negsuc, pos-ne-negsuc}
 use Rattle.plan.specs.Columns.{on-cols}
 use Rattle.plan.specs.Lists.{keep}
+use Rattle.plan.specs.Syntax.{isVolatile, isLeafward}
 use Rattle.plan.specs.Syntax.{Name, Name-disc, Cmp-disc, Op-disc, Test-disc, and, or, cmp, Expr, Expr-disc, col, num, bool, nul, bin, neg}
 use Rattle.plan.specs.Syntax.{test, between, inlist, fn, Exprs, enil, econs, Plan, filter}
 use Rattle.plan.specs.Schema.{has}
@@ -43,17 +43,13 @@ unfoldable mutual
   any-fn-all c enil = false
   any-fn-all c (econs x xs) = any-fn c x || any-fn-all c xs
 
--- the marks of a volatile function: 1 or 3
-abbrev pub volatile-marks : ℕ → Bool
-volatile-marks = λ q. eqb q 1 || eqb q 3
-
 -- is_volatile: some function is
 abbrev pub is-volatile : Expr → Bool
-is-volatile e = any-fn volatile-marks e
+is-volatile e = any-fn isVolatile e
 
 -- placement() == MoveTowardsLeafNodes: the topmost expression is a function so marked
 unfoldable pub is-leafward : Expr → Bool
-is-leafward (fn p q r xs) = eqb q 2 || eqb q 3
+is-leafward (fn p q r xs) = isLeafward q
 is-leafward (col x) = false
 is-leafward (num z) = false
 is-leafward (bool b) = false

@@ -7,26 +7,28 @@ use mathlib.Core.Bool.{Bool, true, false}
 use mathlib.Core.List.{List, [], _∷_, _++_, append-assoc, append-nil, map-append}
 use Prim.Native.Nat.{ℕ}
 use Rattle.image.specs.Tree.{Label, Forest, none, node, Tree}
+use Rattle.plan.specs.FieldSources.{makes}
+use Rattle.plan.specs.Kinds.{what}
 use Rattle.plan.specs.Lists.{put}
 use Rattle.plan.specs.Schema.{requalify}
 use Rattle.plan.specs.Syntax.{Name, nm}
 use Rattle.utils.specs.Fields.{Fields, Names}
-use Rattle.utils.specs.Inputs.{makesField, called, calledLabel, made}
+use Rattle.utils.specs.Inputs.{called, calledLabel, made}
 
 pub called-nil : (set : Bool) (q : ℕ) → called set q [] ≡ []
 called-nil true q = refl
 called-nil false q = refl
 
 module _ (set : Bool) (q : ℕ) (l : Label) where
-  pub part-set : set ≡ true → makesField (l .kind) ≡ true → called set q (calledLabel l) ≡ nm q (l .q) ∷ []
+  pub part-set : set ≡ true → makes (what l) ≡ true → called set q (calledLabel l) ≡ nm q (l .q) ∷ []
   unfolding put calledLabel
   part-set e k = rw (e, k)
 
-  pub part-kept : set ≡ false → makesField (l .kind) ≡ true → called set q (calledLabel l) ≡ nm (l .p) (l .q) ∷ []
+  pub part-kept : set ≡ false → makes (what l) ≡ true → called set q (calledLabel l) ≡ nm (l .p) (l .q) ∷ []
   unfolding put calledLabel
   part-kept e k = rw (e, k)
 
-  pub part-none : makesField (l .kind) ≡ false → called set q (calledLabel l) ≡ []
+  pub part-none : makes (what l) ≡ false → called set q (calledLabel l) ≡ []
   unfolding put calledLabel
   part-none k = rw k (called-nil set q)
 
@@ -36,7 +38,7 @@ called-append false q a b = refl
 
 made-node : (t : Tree) (after : Forest) → made (node (t .label) (t .below) after) ≡ calledLabel (t .label) ++ made after
 unfolding made put calledLabel
-made-node t after = go (makesField (t .label .kind))
+made-node t after = go (makes (what (t .label)))
   where
     go : (b : Bool) → put b (nm (t .label .p) (t .label .q)) (made after) ≡ put b (nm (t .label .p) (t .label .q)) [] ++ made after
     go true = refl

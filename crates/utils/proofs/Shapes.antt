@@ -18,13 +18,17 @@ use Rattle.plan.specs.Syntax.{WinEntry, Kind, inner, left, right, full, leftSem
 use Rattle.plan.specs.Syntax.{project, join, alias, union, distinct, sort, repartition, limit, aggregate, window, pnil, pcons}
 use Rattle.plan.specs.Trees.{labelE, kidsE, inFront, each, nothingBelow, fieldLabel, entryLabel, entryKids, pairLabel, pairKids, keyLabel}
 use Rattle.plan.specs.Trees.{keyKids, aggLabel, aggKids, winLabel, winKids, filterKids, labelP, kidsP, forestP, planTree}
-use Rattle.plan.specs.Kinds.{whatOf, among, isPlan}
+use Rattle.plan.specs.Kinds.{what, whatOf, among, isPlan}
+use Rattle.plan.specs.FieldSources.{makes, role, creates, renames, extends, givesBoth, own}
+use Rattle.plan.specs.declared.field_sources.Role.{Role}
+use Rattle.plan.specs.Inputs.{plansIn}
 use Rattle.plan.proofs.Written.{name-back}
-use Rattle.utils.specs.Inputs.{makesField, makesAll, isAlias, isWindow, joinsBoth, own, called, made, plansIn, noTree}
+use Rattle.utils.specs.Inputs.{called, made}
+use Rattle.utils.proofs.Inputting.{noTree}
 
 -- ---- expressions and parts are no inputs, and only parts make fields
 
-expr-kind : (e : Expr) → (isPlan (labelE e) ≡ false) × (makesField (labelE e .kind) ≡ false)
+expr-kind : (e : Expr) → (isPlan (labelE e) ≡ false) × (makes (what (labelE e)) ≡ false)
 unfolding labelE whatOf among
 expr-kind (col x) = (refl, refl)
 expr-kind (num z) = (refl, refl)
@@ -37,7 +41,7 @@ expr-kind (between n a l h) = (refl, refl)
 expr-kind (inlist n a xs) = (refl, refl)
 expr-kind (fn p q r xs) = (refl, refl)
 
-plan-kind : (p : Plan) → (isPlan (labelP p) ≡ true) × (makesField (labelP p .kind) ≡ false)
+plan-kind : (p : Plan) → (isPlan (labelP p) ≡ true) × (makes (what (labelP p)) ≡ false)
 unfolding labelP whatOf among
 plan-kind (scan t fs es) = (refl, refl)
 plan-kind (filter e p) = (refl, refl)
@@ -80,7 +84,7 @@ module _ {A : Type 0} (l : A → Label) (k : A → Forest) where
   plans-each is [] ns = refl
   plans-each is (x ∷ xs) ns = rw (is x) (plans-each is xs ns)
 
-  made-each : (name : A → Name) → ((x : A) → makesField (l x .kind) ≡ true) → ((x : A) → nm (l x .p) (l x .q) ≡ name x)
+  made-each : (name : A → Name) → ((x : A) → makes (what (l x)) ≡ true) → ((x : A) → nm (l x .p) (l x .q) ≡ name x)
       → (xs : List A) (ns : Forest) → made (each l k xs ns) ≡ map name xs ++ made ns
   unfolding each made put
   made-each name is same [] ns = refl
@@ -88,20 +92,24 @@ module _ {A : Type 0} (l : A → Label) (k : A → Forest) where
 
 -- ---- the shape of a plan
 
+abbrev pub roleOf : Plan → Role
+roleOf p = role (what (labelP p))
+
 -- what comes behind the fields of the input i
 pub data Rest (p i : Plan) : Type 0 where
-  nothing-more : isWindow (labelP p) ≡ false → joinsBoth (labelP p) ≡ false
-      → schema p ≡ called (isAlias (labelP p)) (labelP p .p) (schema i) → Rest p i
-  parts : isWindow (labelP p) ≡ true → isAlias (labelP p) ≡ false → schema p ≡ schema i ++ made (kidsP p) → Rest p i
-  second : isWindow (labelP p) ≡ false → isAlias (labelP p) ≡ false → joinsBoth (labelP p) ≡ true
+  nothing-more : extends (roleOf p) ≡ false → givesBoth (roleOf p) (labelP p .p) ≡ false
+      → schema p ≡ called (renames (roleOf p)) (labelP p .p) (schema i) → Rest p i
+  parts : extends (roleOf p) ≡ true → givesBoth (roleOf p) (labelP p .p) ≡ false → renames (roleOf p) ≡ false
+      → schema p ≡ schema i ++ made (kidsP p) → Rest p i
+  second : extends (roleOf p) ≡ false → givesBoth (roleOf p) (labelP p .p) ≡ true → renames (roleOf p) ≡ false
       → (j : Plan) → 1 < length (plansIn (kidsP p)) → getD (plansIn (kidsP p)) 1 noTree ≡ planTree j → schema p ≡ schema i ++ schema j
       → Rest p i
 
 pub data Shape (p : Plan) : Type 0 where
-  own-parts : makesAll (labelP p .kind) ≡ true → schema p ≡ made (kidsP p) → Shape p
-  no-input : makesAll (labelP p .kind) ≡ false → length (plansIn (kidsP p)) ≤ own (labelP p .kind) (labelP p .p) → schema p ≡ [] → Shape p
-  over : makesAll (labelP p .kind) ≡ false → (i : Plan) → own (labelP p .kind) (labelP p .p) < length (plansIn (kidsP p))
-      → getD (plansIn (kidsP p)) (own (labelP p .kind) (labelP p .p)) noTree ≡ planTree i → Rest p i → Shape p
+  own-parts : creates (roleOf p) ≡ true → schema p ≡ made (kidsP p) → Shape p
+  no-input : creates (roleOf p) ≡ false → length (plansIn (kidsP p)) ≤ own (roleOf p) (labelP p .p) → schema p ≡ [] → Shape p
+  over : creates (roleOf p) ≡ false → (i : Plan) → own (roleOf p) (labelP p .p) < length (plansIn (kidsP p))
+      → getD (plansIn (kidsP p)) (own (roleOf p) (labelP p .p)) noTree ≡ planTree i → Rest p i → Shape p
 
 -- an input is found at its place
 there : {xs rest : List Tree} {t : Tree} → xs ≡ t ∷ rest → (0 < length xs) × (getD xs 0 noTree ≡ t)
@@ -133,6 +141,7 @@ plans-join k l r on f =
 made-aggregate : (gs : List Entry) (ags : List AggEntry) (p : Plan)
     → map (λ (e : Entry). e .name) gs ++ map (λ (a : AggEntry). a .name) ags ≡ made
     (each entryLabel entryKids gs (each aggLabel aggKids ags (stand p none)))
+unfolding whatOf among
 made-aggregate gs ags p =
     sym (made-each entryLabel entryKids (λ (e : Entry). e .name) (λ x. refl) (λ x. name-back (x .name)) gs _
     ∙ ap (map (λ (e : Entry). e .name) gs ++_)
@@ -140,7 +149,7 @@ made-aggregate gs ags p =
     ∙ (ap (map (λ (a : AggEntry). a .name) ags ++_) (made-plan p) ∙ append-nil _)))
 
 join-shape : (k : Kind) (l r : Plan) (on : List Pair) (f : Option Expr) → Shape (join k l r on f)
-unfolding labelP schema
+unfolding labelP schema whatOf among
 join-shape k l r on f = go k (there (plans-join k l r on f)) (there-second (plans-join k l r on f))
   where
     go : (k : Kind) → (0 < length (plansIn (kidsP (join k l r on f)))) × (getD (plansIn (kidsP (join k l r on f))) 0 noTree ≡ planTree l)
@@ -180,7 +189,7 @@ shape (aggregate gs ags p) = own-parts refl (made-aggregate gs ags p)
 shape (window ws p) =
     let h = there (plans-each winLabel winKids (λ x. refl) ws (stand p none) ∙ plans-one p) in
     over refl p (h .0) (h .1)
-    (parts refl refl (ap (schema p ++_) (sym (made-each winLabel winKids (λ (w : WinEntry). w .name) (λ x. refl)
+    (parts refl refl refl (ap (schema p ++_) (sym (made-each winLabel winKids (λ (w : WinEntry). w .name) (λ x. refl)
     (λ x. name-back (x .name)) ws _
     ∙ (ap (map (λ (w : WinEntry). w .name) ws ++_) (made-plan p) ∙ append-nil _)))))
 

@@ -2,30 +2,22 @@
 use image::limits::MAX_FIELDS;
 use image::limits::TOO_MANY_FIELDS;
 use image::records::FIRST_LINK;
-use image::records::KIND;
 use image::records::NEXT_LINK;
 use image::records::from_record;
 use image::records::label_at;
 use image::words::wide;
 use image::words::word_at;
-use plan::kinds::AGGREGATE;
-use plan::kinds::AGGREGATE_ENTRY;
-use plan::kinds::ENTRY;
-use plan::kinds::FIELD;
-use plan::kinds::JOIN;
-use plan::kinds::PROJECTION;
-use plan::kinds::SUBQUERY_ALIAS;
-use plan::kinds::TABLE_SCAN;
-use plan::kinds::WINDOW;
-use plan::kinds::WINDOW_ENTRY;
-use plan::kinds::is_plan;
-use plan::words::FULL;
-use plan::words::RIGHT_ANTI;
-use plan::words::RIGHT_SEMI;
+use plan::field_sources::creates;
+use plan::field_sources::extends;
+use plan::field_sources::gives_both;
+use plan::field_sources::makes_field;
+use plan::field_sources::own_input;
+use plan::field_sources::renames;
+use plan::field_sources::role_of;
+use plan::inputs::plan_at;
 ghost use mathlib.Core.Path.{_≡_};
-ghost use mathlib.Core.Bool.{cond};
 ghost use mathlib.Core.List.{_++_, _∷_, List, []};
-ghost use Prim.Native.Nat.{_-_, _<_, _≤_, ℕ};
+ghost use Prim.Native.Nat.{_<_, _≤_, ℕ};
 ghost use lib.ListN.{getD, length};
 ghost use Rattle.image.specs.Limits.{maxFields};
 ghost use Rattle.image.specs.Tree.{At, Readable, Tree, labelAt};
@@ -33,7 +25,7 @@ ghost use Rattle.plan.specs.Schema.{schema};
 ghost use Rattle.plan.specs.Syntax.{Name, Plan, nm};
 ghost use Rattle.plan.specs.Trees.{planTree};
 ghost use Rattle.utils.specs.Fields.{Names, placeIn};
-ghost use Rattle.utils.specs.Inputs.{Input, PlanHere, below, called, calledLabel, made, makesAll, makesField, own};
+ghost use Rattle.utils.specs.Inputs.{PlanHere, below, called, calledLabel, made};
 
 // A schema of at most MAX_FIELDS fields: the qualifiers and the names of its fields.
 pub struct Fields {
@@ -103,67 +95,14 @@ pub fn place_in(f: Fields, q: usize, n: usize) -> usize
     i
 }
 
-// Whether a part makes a field.
-fn makes_field(kind: usize) -> bool
-    ensures { λ b. ⌜ b ≡ makesField kind ⌝ }
-{
-    (kind == FIELD) | (kind == ENTRY) | (kind == AGGREGATE_ENTRY) | (kind == WINDOW_ENTRY)
-}
-
-// Whether the schema of a plan is what its parts make: of a TableScan, a Projection, an Aggregate.
-fn makes_all(kind: usize) -> bool
-    ensures { λ b. ⌜ b ≡ makesAll kind ⌝ }
-{
-    (kind == TABLE_SCAN) | (kind == PROJECTION) | (kind == AGGREGATE)
-}
-
-// The input whose fields come first: of a semi or anti join its own side.
-fn own_input(kind: usize, p: usize) -> usize
-    ensures { λ r. ⌜ r ≡ own kind p ⌝ }
-{
-    if (kind == JOIN) & ((p == RIGHT_SEMI) | (p == RIGHT_ANTI)) {
-        return 1;
-    }
-    0
-}
-
 // The qualifier that the fields of a plan's input get, if they get one: of two aliases the upper one's.
-fn below_alias(kind: usize, p: usize, set: bool, q: usize) -> usize
-    ensures { λ r. ⌜ r ≡ below kind p set q ⌝ }
+fn below_alias(renamed: bool, p: usize, set: bool, q: usize) -> usize
+    ensures { λ r. ⌜ r ≡ below renamed p set q ⌝ }
 {
-    if (kind == SUBQUERY_ALIAS) & !set {
+    if renamed & !set {
         return p;
     }
     q
-}
-
-// One less, if told.
-fn less_if(n: usize, yes: bool) -> usize
-    ensures { λ r. ⌜ r ≡ cond yes (n - 1) n ⌝ }
-{
-    if yes & (0 < n) {
-        return n - 1;
-    }
-    n
-}
-
-// The record of the input with this place, counted from 0; 0 if there is none.
-pub fn input_at(part: &[u8], base: usize, place: usize) -> usize
-    requires { ⌜ ((d : ℕ) × Readable d (now part) base) ⌝ }
-    ensures { λ r. ⌜ ((t : Tree) → At t (now (part .entry)) base → Input (now (part .entry)) base (t .below) place r) ⌝ }
-{
-    let mut left = place;
-    let mut at = word_at(part, FIRST_LINK);
-    while at != 0 {
-        let child = from_record(part, base, at);
-        let here = is_plan(word_at(child, KIND));
-        if here & (left == 0) {
-            return at;
-        }
-        left = less_if(left, here);
-        at = word_at(child, NEXT_LINK);
-    }
-    0
 }
 
 // Appends the field that the part at the start of s makes, with the qualifier q if `set`.
@@ -211,27 +150,30 @@ pub fn add_schema(
         → Names r (ns ++ called set q (schema p))) ⌝ }
 {
     let l = label_at(part);
-    if makes_all(l.kind) {
+    let role = role_of(l.kind);
+    if creates(role) {
         return add_parts(part, base, into, set, q);
     }
-    let n = input_at(part, base, own_input(l.kind, l.p));
+    let first = word_at(part, FIRST_LINK);
+    let n = plan_at(part, base, first, own_input(role, l.p));
     if n == 0 {
         return into;
     }
     let input = from_record(part, base, n);
+    let renamed = renames(role);
     let r = add_schema(
         input,
         n,
         depth - 1,
         into,
-        set | (l.kind == SUBQUERY_ALIAS),
-        below_alias(l.kind, l.p, set, q),
+        set | renamed,
+        below_alias(renamed, l.p, set, q),
     );
-    if l.kind == WINDOW {
+    if extends(role) {
         return add_parts(part, base, r, set, q);
     }
-    if (l.kind == JOIN) & (l.p <= FULL) {
-        let m = input_at(part, base, 1);
+    if gives_both(role, l.p) {
+        let m = plan_at(part, base, first, 1);
         let right = from_record(part, base, m);
         return add_schema(right, m, depth - 1, r, set, q);
     }

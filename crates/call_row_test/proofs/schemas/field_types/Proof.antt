@@ -4,8 +4,7 @@ use Prim.Native.Nat.{ℕ, _≤_, _<_, _-_}
 use lib.ListN.{length, getD}
 use Rattle.image.specs.Limits.{maxFields}
 use Rattle.image.specs.Tree.{Forest, Linked}
-use Rattle.check_fields.specs.Count.{input}
-use Rattle.check_fields.specs.Fields.{inputs}
+use Rattle.check_fields.specs.Fields.{input, inputs}
 use Rattle.check_types.specs.ByPlace.{tyAt}
 use Rattle.call_row_test.proofs.FieldTypes.{placed, by-place}
 use native.Mathlib.Omega.{arith}

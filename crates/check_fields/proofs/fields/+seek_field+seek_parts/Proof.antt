@@ -6,7 +6,7 @@ use Rattle.image.specs.Places.{left}
 use Rattle.image.proofs.Stepping.{step}
 use Rattle.image.proofs.Along.{within, whole}
 use Rattle.check_fields.specs.Seek.{told}
-use Rattle.check_fields.proofs.Seeking.{makes-none, is-plan, by-parts, by-asked, by-stop, on-right, on-parts, named-none, named-some}
+use Rattle.check_fields.proofs.Seeking.{makes-none, of-parts, of-input, of-second, of-more, of-one, named-none, named-some}
 use Prim.Native.Nat.{ℕ, _<_, _+_}
 use borrow.Fn.Kinds.{In}
 use borrow.Fn.PlainCycle.{Measures, is, falls, and}
@@ -18,10 +18,13 @@ use Rattle.check_fields.proofs.fields.seek_parts.Kinds as seek-parts-ki
 use Rattle.check_fields.proofs.fields.+seek_field+seek_parts.Lts-seek_parts as seek-parts-lts
 use Rattle.image.proofs.records.from_record.Reads as from-record-reads
 use Rattle.image.proofs.records.look.Reads as look-reads
-use Rattle.check_fields.proofs.fields.own_input.Reads as own-input-reads
+use Rattle.plan.proofs.field_sources.role_of.Reads as role-of-reads
+use Rattle.plan.proofs.field_sources.creates.Reads as creates-reads
+use Rattle.plan.proofs.field_sources.extends.Reads as extends-reads
+use Rattle.plan.proofs.field_sources.gives_both.Reads as gives-both-reads
+use Rattle.plan.proofs.field_sources.own_input.Reads as own-input-reads
 use Rattle.check_fields.proofs.fields.find_maker.Reads as find-maker-reads
 use Rattle.check_fields.proofs.fields.question.Reads as question-reads
-use Rattle.check_fields.proofs.fields.role_of.Reads as role-of-reads
 use Rattle.check_fields.proofs.fields.seek_made.Reads as seek-made-reads
 use Rattle.check_fields.proofs.fields.type_found.Reads as type-found-reads
 use Rattle.check_fields.proofs.fields.+seek_field+seek_parts.{statement}
@@ -59,6 +62,8 @@ pub +seek-field+seek-parts-spec : {M : Type 1} → statement M
   look-reads.Learnt,
   role-of-reads.Asked,
   role-of-reads.Learnt,
+  creates-reads.Asked,
+  creates-reads.Learnt,
   seek-parts-below t,
   seek-parts.Post,
   own-input-reads.Asked,
@@ -67,117 +72,127 @@ pub +seek-field+seek-parts-spec : {M : Type 1} → statement M
   question-reads.Learnt,
   seek-field-below t,
   seek-field.Post,
+  gives-both-reads.Asked,
+  gives-both-reads.Learnt,
+  extends-reads.Asked,
+  extends-reads.Learnt,
 )
     (seek-field-at t)
     seek-field.Post
     (λ c κs. c .before .pre .1)
     (λ c f h. makes-none _ _ (c .before .find-maker .ensures f h) (c .if1 .taken))
-    (λ c κs. let p = c .before .before .before .pre .1 in let y = c .before .find-maker .ensures (p .forest) (p .linked) in
+    (λ c κs. let y = c .before .find-maker .ensures (c .before .before .before .pre .1 .forest) (c .before .before .before .pre .1 .linked) in
     within (record { forest = y .forest; linked = y .linked }) (c .if1 .left))
-    (λ c κs. let p = c .before .before .before .before .pre .1 in let y = c .before .before .find-maker .ensures (p .forest) (p .linked) in
-    whole (record { forest = y .forest; linked = y .linked }) (c .before .if1 .left) (c .from-record .ensures))
-    (λ c κs. tt)
-    (λ c κs. let p = c .before .before .before .before .before .before .before .pre .1 in let y =
-    c .before .before .before .before .before .find-maker .ensures (p .forest) (p .linked) in
-    let w = step (y .forest) (y .linked) (c .before .before .before .before .if1 .left) (c .before .before .before .from-record .ensures)
-    (c .before .before .look .ensures) in (omega (arith, w .down, y .less), record { forest = w .below; linked = w .first }))
-    (λ c f h. let y = c .before .before .before .before .before .before .find-maker .ensures f h in
-    let w = step (y .forest) (y .linked) (c .before .before .before .before .before .if1 .left)
-    (c .before .before .before .before .from-record .ensures) (c .before .before .before .look .ensures) in
-    c .seek-parts .ensures (w .below) (w .first) ∙ by-parts w _ (c .before .before .role-of .ensures) _ _ _ _ (c .before .if2 .taken)
-    ∙ y .same _ _)
+    (λ c κs. let y = c .before .before .find-maker .ensures (c .before .before .before .before .pre .1 .forest) (c .before .before .before
+    .before .pre .1 .linked) in whole (record { forest = y .forest; linked = y .linked }) (c .before .if1 .left) (c .from-record .ensures))
     (λ c κs. tt)
     (λ c κs. tt)
-    (λ c κs. let p = c .before .before .before .before .before .before .before .before .before .pre .1 in let y =
-    c .before .before .before .before .before .before .before .find-maker .ensures (p .forest) (p .linked) in
-    let w = step (y .forest) (y .linked) (c .before .before .before .before .before .before .if1 .left)
-    (c .before .before .before .before .before .from-record .ensures) (c .before .before .before .before .look .ensures) in
-    (omega (arith, w .down, y .less), record { forest = w .below; linked = w .first }))
+    (λ c κs. let y = c .before .before .before .before .before .before .find-maker .ensures (c .before .before .before .before .before .before
+    .before .before .pre .1 .forest) (c .before .before .before .before .before .before .before .before .pre .1 .linked) in let w = step (y
+    .forest) (y .linked) (c .before .before .before .before .before .if1 .left) (c .before .before .before .before .from-record .ensures) (c
+    .before .before .before .look .ensures) in (omega (arith, w .down, y .less), record { forest = w .below; linked = w .first }))
+    (λ c f h. let y = c .before .before .before .before .before .before .before .find-maker .ensures f h in let w = step (y .forest) (y .linked)
+    (c .before .before .before .before .before .before .if1 .left) (c .before .before .before .before .before .from-record .ensures) (c .before
+    .before .before .before .look .ensures) in c .seek-parts .ensures (w .below) (w .first) ∙ of-parts _ _ _ _ w (y .begins) (c .before .before
+    .before .role-of .ensures) (sym (c .before .before .creates .ensures) ∙ c .before .if2 .taken) ∙ y .same _ _)
+    (λ c κs. tt)
+    (λ c κs. tt)
+    (λ c κs. let y = c .before .before .before .before .before .before .before .before .find-maker .ensures (c .before .before .before .before
+    .before .before .before .before .before .before .pre .1 .forest) (c .before .before .before .before .before .before .before .before .before
+    .before .pre .1 .linked) in let w = step (y .forest) (y .linked) (c .before .before .before .before .before .before .before .if1 .left) (c
+    .before .before .before .before .before .before .from-record .ensures) (c .before .before .before .before .before .look .ensures) in (
+      omega
+          (arith, w .down, y .less),
+      record { forest = w .below; linked = w .first },
+    ))
     (λ c. search needs)
     (λ c. search needs)
     (λ c. search needs)
-    (λ c κs. let p = c .before .before .before .before .before .before .before .before .before .before .before .before .before .before
-    .before .pre .1 in let y = c .before .before .before .before .before .before .before .before .before .before .before .before
-    .before .find-maker .ensures (p .forest) (p .linked) in
-    let w = step (y .forest) (y .linked) (c .before .before .before .before .before .before .before .before .before .before .before
-    .before .if1 .left) (c .before .before .before .before .before .before .before .before .before .before .before .from-record .ensures)
-    (c .before .before .before .before .before .before .before .before .before .before .look .ensures) in
-    (omega (arith, w .down, y .less), record { forest = w .below; linked = w .first }))
-    (λ c f h. let y = c .before .before .before .before .before .before .before .before .before .before .before .before .before
-    .before .find-maker .ensures f h in
-    let w = step (y .forest) (y .linked) (c .before .before .before .before .before .before .before .before .before .before .before .before
-    .before .if1 .left) (c .before .before .before .before .before .before .before .before .before .before .before .before .from-record .ensures)
-    (c .before .before .before .before .before .before .before .before .before .before .before .look .ensures) in
-    c .seek-field2 .ensures (w .below) (w .first)
-    ∙ on-right w _ (c .before .before .before .before .before .before .before .before .before .before .role-of .ensures) _ _ _ _
-    (sym (c .before .before .before .before .under3 .given .1) ∙
-    (rw (
-      c .before .before .before .before .before .before .before .question .ensures,
+    (λ c κs. tt)
+    (λ c κs. let y = c .before .before .before .before .before .before .before .before .before .before .before .before .before .before
+    .find-maker .ensures (c .before .before .before .before .before .before .before .before .before .before .before .before .before .before
+    .before .before .pre .1 .forest) (c .before .before .before .before .before .before .before .before .before .before .before .before .before
+    .before .before .before .pre .1 .linked) in let w = step (y .forest) (y .linked) (c .before .before .before .before .before .before .before
+    .before .before .before .before .before .before .if1 .left) (c .before .before .before .before .before .before .before .before .before
+    .before .before .before .from-record .ensures) (c .before .before .before .before .before .before .before .before .before .before .before
+    .look .ensures) in (omega (arith, w .down, y .less), record { forest = w .below; linked = w .first }))
+    (λ c f h. let y = c .before .before .before .before .before .before .before .before .before .before .before .before .before .before .before
+    .find-maker .ensures f h in let w = step (y .forest) (y .linked) (c .before .before .before .before .before .before .before .before .before
+    .before .before .before .before .before .if1 .left) (c .before .before .before .before .before .before .before .before .before .before
+    .before .before .before .from-record .ensures) (c .before .before .before .before .before .before .before .before .before .before .before
+    .before .look .ensures) in c .seek-field2 .ensures (w .below) (w .first) ∙ of-second _ _ _ _ w (y .begins) (c .before .before .before
+    .before .before .before .before .before .before .before .before .role-of .ensures) (sym (c .before .before .before .before .before .before
+    .before .before .before .before .creates .ensures) ∙ c .before .before .before .before .before .before .before .before .before .if2 .left)
+    (sym (c .before .before .before .before .under3 .given .1) ∙ (rw (
+      c .before .before .before .before .before .before .before .question
+          .ensures,
       c .before .before .before .before .before .before .before .before .own-input .ensures,
-    ) at
-    (c .before .before .before .before .before .before .seek-field .ensures (w .below) (w .first)))) (c .before .if3 .taken)
-    ∙ y .same _ _)
-    (λ c κs. let p = c .before .before .before .before .before .before .before .before .before .before .before .before .before .before .before
-    .before .pre .1 in let y = c .before .before .before .before .before .before .before .before .before .before .before .before .before
-    .before .find-maker .ensures (p .forest) (p .linked) in
-    let w = step (y .forest) (y .linked) (c .before .before .before .before .before .before .before .before .before .before .before .before
-    .before .if1 .left) (c .before .before .before .before .before .before .before .before .before .before .before .before .from-record .ensures)
-    (c .before .before .before .before .before .before .before .before .before .before .before .look .ensures) in
-    (omega (arith, w .down, y .less), record { forest = w .below; linked = w .first }))
-    (λ c f h. let y = c .before .before .before .before .before .before .before .before .before .before .before .before .before .before
-    .before .find-maker .ensures f h in
-    let w = step (y .forest) (y .linked) (c .before .before .before .before .before .before .before .before .before .before .before .before .before
-    .before .if1 .left) (c .before .before .before .before .before .before .before .before .before .before .before .before
-    .before .from-record .ensures) (c .before .before .before .before .before .before .before .before .before .before .before
-    .before .look .ensures) in
-    c .seek-parts2 .ensures (w .below) (w .first)
-    ∙ on-parts w _ (c .before .before .before .before .before .before .before .before .before .before .before .role-of .ensures) _ _ _ _
-    (sym (c .before .before .before .before .before .under3 .given .1) ∙
-    (rw (
-      c .before .before .before .before .before .before .before .before .question .ensures,
-      c .before .before .before .before .before .before .before .before .before .own-input .ensures,
-    ) at
-    (c .before .before .before .before .before .before .before .seek-field .ensures (w .below) (w .first)))) (c .before .if4 .taken)
-    ∙ y .same _ _)
-    (λ c f h. let y = c .before .before .before .before .before .before .before .before .before .before .before .find-maker .ensures f h in
-    let w = step (y .forest) (y .linked) (c .before .before .before .before .before .before .before .before .before .before .if1 .left)
-    (c .before .before .before .before .before .before .before .before .before .from-record .ensures)
-    (c .before .before .before .before .before .before .before .before .look .ensures) in
-    by-stop w _ (c .before .before .before .before .before .before .before .role-of .ensures) _ _ _ _
-    (is-plan w (c .before .before .before .before .before .before .before .role-of .ensures) (y .begins))
-    (c .before .before .before .before .before .before .if2 .left) _
-    (sym (c .before .under .given .1) ∙ (rw (
-      c .before .before .before .before .question .ensures,
+    ) at (c .before .before .before .before
+    .before .before .seek-field .ensures (w .below) (w .first)))) (sym (c .before .before .gives-both .ensures) ∙ c .before .if3 .taken) ∙ y
+    .same _ _)
+    (λ c κs. tt)
+    (λ c κs. let y = c .before .before .before .before .before .before .before .before .before .before .before .before .before .before .before
+    .before .find-maker .ensures (c .before .before .before .before .before .before .before .before .before .before .before .before .before
+    .before .before .before .before .before .pre .1 .forest) (c .before .before .before .before .before .before .before .before .before .before
+    .before .before .before .before .before .before .before .before .pre .1 .linked) in let w = step (y .forest) (y .linked) (c .before .before
+    .before .before .before .before .before .before .before .before .before .before .before .before .before .if1 .left) (c .before .before
+    .before .before .before .before .before .before .before .before .before .before .before .before .from-record .ensures) (c .before .before
+    .before .before .before .before .before .before .before .before .before .before .before .look .ensures) in (
+      omega (arith, w .down, y .less),
+      record { forest = w .below; linked = w .first },
+    ))
+    (λ c f h. let y = c .before .before .before .before .before .before .before .before .before .before .before .before .before .before .before
+    .before .before .find-maker .ensures f h in let w = step (y .forest) (y .linked) (c .before .before .before .before .before .before .before
+    .before .before .before .before .before .before .before .before .before .if1 .left) (c .before .before .before .before .before .before
+    .before .before .before .before .before .before .before .before .before .from-record .ensures) (c .before .before .before .before .before
+    .before .before .before .before .before .before .before .before .before .look .ensures) in c .seek-parts2 .ensures (w .below) (w .first) ∙
+    of-more _ _ _ _ w (y .begins) (c .before .before .before .before .before .before .before .before .before .before .before .before .before
+    .role-of .ensures) (sym (c .before .before .before .before .before .before .before .before .before .before .before .before .creates
+    .ensures) ∙ c .before .before .before .before .before .before .before .before .before .before .before .if2 .left) (sym (c .before .before
+    .before .before .before .before .under3 .given .1) ∙ (rw (
+      c .before .before .before .before .before .before .before .before .before
+          .question .ensures,
+      c .before .before .before .before .before .before .before .before .before .before .own-input .ensures,
+    ) at (c .before
+    .before .before .before .before .before .before .before .seek-field .ensures (w .below) (w .first)))) (sym (c .before .before .before
+    .before .gives-both .ensures) ∙ c .before .before .before .if3 .left) (sym (c .before .before .extends .ensures) ∙ c .before .if4 .taken) ∙
+    y .same _ _)
+    (λ c f h. let y = c .before .before .before .before .before .before .before .before .before .before .before .before .find-maker .ensures f h
+    in let w = step (y .forest) (y .linked) (c .before .before .before .before .before .before .before .before .before .before .before .if1
+    .left) (c .before .before .before .before .before .before .before .before .before .before .from-record .ensures) (c .before .before .before
+    .before .before .before .before .before .before .look .ensures) in of-input _ _ _ _ w (y .begins) (c .before .before .before .before .before
+    .before .before .before .role-of .ensures) (sym (c .before .before .before .before .before .before .before .creates .ensures) ∙ c .before
+    .before .before .before .before .before .if2 .left) _ (sym (c .before .under .given .1) ∙ (rw (
+      c .before .before .before .before .question
+          .ensures,
       c .before .before .before .before .before .own-input .ensures,
-    ) at (c .before .before .before .seek-field .ensures (w .below) (w .first))))
-    (λ g. refl)
-    ∙ y .same _ _)
-    (λ c f h. let y = c .before .before .before .before .before .before .before .before .before .before .before .find-maker .ensures f h in
-    let w = step (y .forest) (y .linked) (c .before .before .before .before .before .before .before .before .before .before .if1 .left)
-    (c .before .before .before .before .before .before .before .before .before .from-record .ensures)
-    (c .before .before .before .before .before .before .before .before .look .ensures) in
-    by-stop w _ (c .before .before .before .before .before .before .before .role-of .ensures) _ _ _ _
-    (is-plan w (c .before .before .before .before .before .before .before .role-of .ensures) (y .begins))
-    (c .before .before .before .before .before .before .if2 .left) _
-    (sym (c .before .under2 .given .1) ∙ (rw
-    (c .before .before .before .before .question .ensures, c .before .before .before .before .before .own-input .ensures) at
-    (c .before .before .before .seek-field .ensures (w .below) (w .first)))) (λ g. refl)
-    ∙ y .same _ _)
-    (λ c f h. let y = c .before .before .before .before .before .before .before .before .before .before .before .before .before
-    .before .find-maker .ensures f h in
-    let w = step (y .forest) (y .linked) (c .before .before .before .before .before .before .before .before .before .before .before .before
-    .before .if1 .left) (c .before .before .before .before .before .before .before .before .before .before .before .before .from-record .ensures)
-    (c .before .before .before .before .before .before .before .before .before .before .before .look .ensures) in
-    sym (c .before .before .before .before .under3 .given .1) ∙
-    (rw (
-      c .before .before .before .before .before .before .before .question .ensures,
-      c .before .before .before .before .before .before .before .before .own-input .ensures,
-    ) at
-    (c .before .before .before .before .before .before .seek-field .ensures (w .below) (w .first)))
-    ∙ by-asked w _ (c .before .before .before .before .before .before .before .before .before .before .role-of .ensures) _ _ _ _
-    (is-plan w (c .before .before .before .before .before .before .before .before .before .before .role-of .ensures) (y .begins))
-    (c .before .before .before .before .before .before .before .before .before .if2 .left) (c .before .if3 .left) (c .if4 .left)
-    ∙ y .same _ _))
+    ) at (c .before .before .before .seek-field .ensures (w .below) (w
+    .first)))) (λ g. refl) ∙ y .same _ _)
+    (λ c f h. let y = c .before .before .before .before .before .before .before .before .before .before .before .before .find-maker .ensures f h
+    in let w = step (y .forest) (y .linked) (c .before .before .before .before .before .before .before .before .before .before .before .if1
+    .left) (c .before .before .before .before .before .before .before .before .before .before .from-record .ensures) (c .before .before .before
+    .before .before .before .before .before .before .look .ensures) in of-input _ _ _ _ w (y .begins) (c .before .before .before .before .before
+    .before .before .before .role-of .ensures) (sym (c .before .before .before .before .before .before .before .creates .ensures) ∙ c .before
+    .before .before .before .before .before .if2 .left) _ (sym (c .before .under2 .given .1) ∙ (rw (
+      c .before .before .before .before .question
+          .ensures,
+      c .before .before .before .before .before .own-input .ensures,
+    ) at (c .before .before .before .seek-field .ensures (w .below) (w
+    .first)))) (λ g. refl) ∙ y .same _ _)
+    (λ c f h. let y = c .before .before .before .before .before .before .before .before .before .before .before .before .before .before .before
+    .before .find-maker .ensures f h in let w = step (y .forest) (y .linked) (c .before .before .before .before .before .before .before .before
+    .before .before .before .before .before .before .before .if1 .left) (c .before .before .before .before .before .before .before .before
+    .before .before .before .before .before .before .from-record .ensures) (c .before .before .before .before .before .before .before .before
+    .before .before .before .before .before .look .ensures) in sym (c .before .before .before .before .before .under3 .given .1) ∙ (rw (
+      c
+          .before .before .before .before .before .before .before .before .question .ensures,
+      c .before .before .before .before .before .before
+          .before .before .before .own-input .ensures,
+    ) at (c .before .before .before .before .before .before .before .seek-field .ensures (w .below)
+    (w .first))) ∙ of-one _ _ _ _ w (y .begins) (c .before .before .before .before .before .before .before .before .before .before .before
+    .before .role-of .ensures) (sym (c .before .before .before .before .before .before .before .before .before .before .before .creates
+    .ensures) ∙ c .before .before .before .before .before .before .before .before .before .before .if2 .left) (sym (c .before .before .before
+    .gives-both .ensures) ∙ c .before .before .if3 .left) (sym (c .before .extends .ensures) ∙ c .if4 .left) ∙ y .same _ _))
     λ t. seek-parts-lts.spec (
       seek-made-reads.Asked,
       seek-made-reads.Learnt,

@@ -33,8 +33,8 @@ seek-made-spec =
     (c .before .before .before .before .before .before .before .loop-test .taken)
     (c .before .before .before .before .before .before .from-record .ensures) (c .before .before .before .before .before .look .ensures) f h in
     c .made-by .ensures (w .label) (w .below) d (w .kind) (w .r) (w .first)
-    (it-makes w _ (c .before .before .before .before .makes-one .ensures) (c .before .before .if1 .taken))
-    ∙ made-found _ _ _ _ w (c .before .before .before .before .makes-one .ensures) (c .before .before .before .is-hit .ensures)
+    (it-makes w _ (c .before .before .before .before .makes-field .ensures) (c .before .before .if1 .taken))
+    ∙ made-found _ _ _ _ w (c .before .before .before .before .makes-field .ensures) (c .before .before .before .is-hit .ensures)
     (c .before .before .if1 .taken) (c .before .if2 .taken) d
     ∙ sym (c .before .before .before .before .before .before .before .before .loop .inv .still f h .so-far d))
     (λ c. omega (arith, c .if2 .left))
@@ -44,11 +44,11 @@ seek-made-spec =
     (λ c. along-step (c .before .before .before .before .before .before .before .loop .inv)
     (c .before .before .before .before .before .before .loop-test .taken) (c .before .before .before .before .before .from-record .ensures)
     (c .before .before .before .before .look .ensures) _
-    (λ f g w e d. e d ∙ made-pass _ _ _ _ w (c .before .before .before .makes-one .ensures) (c .before .before .is-hit .ensures)
+    (λ f g w e d. e d ∙ made-pass _ _ _ _ w (c .before .before .before .makes-field .ensures) (c .before .before .is-hit .ensures)
     (c .before .if1 .taken) (c .if2 .left) d))
     (λ c. here (c .before .before .before .before .before .before .loop .inv) (c .before .before .before .before .before .loop-test .taken)
     (c .before .before .before .before .from-record .ensures) (c .before .before .before .look .ensures) .less)
     (λ c. along-step (c .before .before .before .before .before .before .loop .inv) (c .before .before .before .before .before .loop-test .taken)
     (c .before .before .before .before .from-record .ensures) (c .before .before .before .look .ensures) _
-    (λ f g w e d. e d ∙ made-skip _ _ _ _ w (c .before .before .makes-one .ensures) (c .before .is-hit .ensures) (c .if1 .left) d))
+    (λ f g w e d. e d ∙ made-skip _ _ _ _ w (c .before .before .makes-field .ensures) (c .before .is-hit .ensures) (c .if1 .left) d))
     (λ c f d h. made-done _ _ _ _ _ f (along-end (c .before .loop .inv) (c .loop-test .left) f h) d))

@@ -15,7 +15,7 @@ use Rattle.check_names.proofs.schemas.all_made.Kinds as all-made-kinds
 use Rattle.check_names.proofs.schemas.+all_made.Lts-all_made as all-made-lts
 use Rattle.image.proofs.records.from_record.Reads as from-record-reads
 use Rattle.image.proofs.records.look.Reads as look-reads
-use Rattle.check_fields.proofs.fields.makes_one.Reads as makes-one-reads
+use Rattle.plan.proofs.field_sources.makes_field.Reads as makes-field-reads
 use Rattle.check_names.proofs.schemas.is_single.Reads as is-single-reads
 use Rattle.check_names.proofs.schemas.qualifier.Reads as qualifier-reads
 use Rattle.check_names.proofs.schemas.+all_made.{statement}
@@ -37,8 +37,8 @@ pub +all-made-spec : {M : Type 1} → statement M
   from-record-reads.Learnt,
   look-reads.Asked,
   look-reads.Learnt,
-  makes-one-reads.Asked,
-  makes-one-reads.Learnt,
+  makes-field-reads.Asked,
+  makes-field-reads.Learnt,
   all-made-below t,
   all-made.Post,
   qualifier-reads.Asked,
@@ -66,13 +66,13 @@ pub +all-made-spec : {M : Type 1} → statement M
     let w = step f h (c .before .before .before .before .before .if1 .left) (c .before .before .before .before .from-record .ensures)
     (c .before .before .before .look .ensures) in
     c .all-made .ensures e (w .after) d g (w .next)
-    ∙ made-other _ w d (c .before .before .makes-one .ensures) (not-true _ (c .before .if2 .taken)))
+    ∙ made-other _ w d (c .before .before .makes-field .ensures) (not-true _ (c .before .if2 .taken)))
     (λ c κs. tt)
     (λ c κs. c .before .before .before .before .before .before .before .before .pre .1 .0)
     (λ c e f d g h.
     let w = step f h (c .before .before .before .before .before .before .before .if1 .left)
     (c .before .before .before .before .before .before .from-record .ensures) (c .before .before .before .before .before .look .ensures) in
-    made-fails _ w d (c .before .before .before .before .makes-one .ensures) (not-false _ (c .before .before .before .if2 .left))
+    made-fails _ w d (c .before .before .before .before .makes-field .ensures) (not-false _ (c .before .before .before .if2 .left))
     (sym (rw (c .before .before .qualifier .ensures) at (c .before .is-single .ensures e g)) ∙ not-true _ (c .if3 .taken)))
     (λ c κs.
     let p = c .before .before .before .before .before .before .before .before .before .before .pre .1 .1 in
@@ -89,7 +89,7 @@ pub +all-made-spec : {M : Type 1} → statement M
     (c .before .before .before .before .before .before .before .from-record .ensures)
     (c .before .before .before .before .before .before .look .ensures) in
     c .all-made2 .ensures e (w .after) d g (w .next)
-    ∙ made-passes _ w d (c .before .before .before .before .before .makes-one .ensures)
+    ∙ made-passes _ w d (c .before .before .before .before .before .makes-field .ensures)
     (not-false _ (c .before .before .before .before .if2 .left))
     (sym (rw (c .before .before .before .qualifier .ensures) at (c .before .before .is-single .ensures e g))
     ∙ not-false _ (c .before .if3 .left)))

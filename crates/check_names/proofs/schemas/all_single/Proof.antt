@@ -1,8 +1,7 @@
 -- `schemas::all_single` meets its contract: an arm for each view.
 use mathlib.Core.Path.{sym, ap, _∙_}
 use mathlib.Core.List.{[]}
-use Rattle.check_fields.specs.Count.{input}
-use Rattle.check_fields.specs.Fields.{made, inputs}
+use Rattle.check_fields.specs.Fields.{input, made, inputs}
 use Rattle.check_names.specs.Singles.{allOf}
 use Rattle.check_names.proofs.Telling.{as-called, first-fails, first-passes, none-fails}
 use Rattle.check_names.proofs.Telling.{own-none, own-first-input, own-second-input, own-both-inputs, own-parts, own-input-and-parts}

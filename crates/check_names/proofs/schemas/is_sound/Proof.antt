@@ -13,11 +13,11 @@ is-sound-spec =
     (tie.spec
     (λ c κs. search needs)
     (λ c κs. search needs)
-    (λ c k l f e h.
-    rw (← rule-by-role k l f e, ← c .before .before .own-view .ensures)
+    (λ c f d p h.
+    rw (← rule-by-role _ p d f, ← c .before .before .own-view .ensures)
     (too-many _ _ (c .before .held-in .ensures f h) (c .if1 .taken)))
     (λ c κs. search needs)
     (λ c κs. search needs)
-    (λ c k l f e h.
-    rw (← rule-by-role k l f e, ← c .before .before .before .before .own-view .ensures, ← c .before .own-question .ensures)
+    (λ c f d p h.
+    rw (← rule-by-role _ p d f, ← c .before .before .before .before .own-view .ensures, ← c .before .own-question .ensures)
     (c .all-single .ensures f h ∙ not-many _ _ (c .before .before .before .held-in .ensures f h) (omega arith))))

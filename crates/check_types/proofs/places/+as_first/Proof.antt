@@ -15,7 +15,7 @@ use Rattle.check_types.proofs.places.as_first.Kinds as as-first-kinds
 use Rattle.check_types.proofs.places.+as_first.Lts-as_first as as-first-lts
 use Rattle.image.proofs.records.from_record.Reads as from-record-reads
 use Rattle.image.proofs.records.look.Reads as look-reads
-use Rattle.check_fields.proofs.fields.role_of.Reads as role-of-reads
+use Rattle.plan.proofs.kinds.is_plan.Reads as is-plan-reads
 use Rattle.check_types.proofs.places.same_fields.Reads as same-fields-reads
 use Rattle.check_types.proofs.places.+as_first.{statement}
 use Rattle.check_types.proofs.places.+as_first.Tie.{close}
@@ -36,8 +36,8 @@ pub +as-first-spec : {M : Type 1} → statement M
   from-record-reads.Learnt,
   look-reads.Asked,
   look-reads.Learnt,
-  role-of-reads.Asked,
-  role-of-reads.Learnt,
+  is-plan-reads.Asked,
+  is-plan-reads.Learnt,
   same-fields-reads.Asked,
   same-fields-reads.Learnt,
   as-first-below t,
@@ -52,8 +52,8 @@ pub +as-first-spec : {M : Type 1} → statement M
     (λ c κs. tt)
     (λ c κs. c .before .before .before .before .before .before .before .pre .1)
     (λ c f e h g. let w = step f h (c .before .before .before .before .before .before .if1 .left)
-    (c .before .before .before .before .before .from-record .ensures) (c .before .before .before .before .look .ensures) in all-not w _
-    (c .before .before .before .role-of .ensures) _ (c .before .before .if2 .taken) (c .before .same-fields .ensures f e h g)
+    (c .before .before .before .before .before .from-record .ensures) (c .before .before .before .before .look .ensures) in all-not w
+    (c .before .before .before .is-plan .ensures) _ (c .before .before .if2 .taken) (c .before .same-fields .ensures f e h g)
     (not-true _ (c .if3 .taken)))
     (λ c κs. let p = c .before .before .before .before .before .before .before .before .before .pre .1 .0 in let w = step (p .forest)
     (p .linked) (c .before .before .before .before .before .before .if1 .left)
@@ -68,7 +68,7 @@ pub +as-first-spec : {M : Type 1} → statement M
     (λ c f e h g. let w = step f h (c .before .before .before .before .before .before .before .if1 .left)
     (c .before .before .before .before .before .before .from-record .ensures)
     (c .before .before .before .before .before .look .ensures) in c .as-first .ensures (w .after) e (w .next) g
-    ∙ all-more w _ (c .before .before .before .before .role-of .ensures) _ (c .before .before .before .if2 .taken)
+    ∙ all-more w (c .before .before .before .before .is-plan .ensures) _ (c .before .before .before .if2 .taken)
     (c .before .before .same-fields .ensures f e h g) (not-false _ (c .before .if3 .left)))
     (λ c κs. let p = c .before .before .before .before .before .before .before .pre .1 .0 in let w = step (p .forest) (p .linked)
     (c .before .before .before .before .if1 .left) (c .before .before .before .from-record .ensures) (c .before .before .look .ensures) in (
@@ -81,4 +81,4 @@ pub +as-first-spec : {M : Type 1} → statement M
     ))
     (λ c f e h g. let w = step f h (c .before .before .before .before .before .if1 .left)
     (c .before .before .before .before .from-record .ensures) (c .before .before .before .look .ensures) in c .as-first2 .ensures
-    (w .after) e (w .next) g ∙ all-skip w _ (c .before .before .role-of .ensures) _ (c .before .if2 .left))
+    (w .after) e (w .next) g ∙ all-skip w (c .before .before .is-plan .ensures) _ (c .before .if2 .left))

@@ -47,7 +47,8 @@ pub +trees-end-spec : {M : Type 1} → statement M
     let w = step f h (p .1 .0) (c .before .before .before .before .from-record .ensures) (c .before .before .before .look .ensures) in
     ends-beside w (c .before .if1 .taken) (c .trees-end .ensures (w .after) (w .next)))
     (λ c κs. let p = c .before .before .before .before .before .before .before .pre in
-    let w = step-at (p .1 .0) (p .1 .1 .0) (c .before .before .before .before .before .from-record .ensures) (c .before .before .before .before .look .ensures) in
+    let w = step-at (p .1 .0) (p .1 .1 .0) (c .before .before .before .before .before .from-record .ensures)
+    (c .before .before .before .before .look .ensures) in
     let u = turn (p .1 .0 .forest) (p .1 .0 .linked) (p .1 .1 .0) in (
       omega (arith, w .down, p .0),
       (
@@ -56,7 +57,8 @@ pub +trees-end-spec : {M : Type 1} → statement M
       ),
     ))
     (λ c f h. let p = c .before .before .before .before .before .before .before .before .pre .1 in
-    let w = step f h (p .1 .0) (c .before .before .before .before .before .before .from-record .ensures) (c .before .before .before .before .before .look .ensures) in
+    let w = step f h (p .1 .0) (c .before .before .before .before .before .before .from-record .ensures)
+    (c .before .before .before .before .before .look .ensures) in
     ends-below w (c .before .before .before .if1 .left) (c .before .if2 .taken) (c .trees-end2 .ensures (w .below) (w .first)))
     (λ c. let p = c .before .before .before .before .before .before .before .pre .1 in
     let u = turn (p .0 .forest) (p .0 .linked) (p .1 .0) in

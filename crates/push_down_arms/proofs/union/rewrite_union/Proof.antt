@@ -12,7 +12,8 @@ use Rattle.plan.specs.Schema.{schema}
 use Rattle.rewrite.specs.PushDownFilter.{rewrite-filter}
 use Rattle.plan.specs.Trees.{planTree}
 use Rattle.push_down_base.proofs.Answering.{answers}
-use Rattle.push_down_arms.proofs.Unions.{Inputs, Spread, spread-of, all-inputs, first, renames-first, more, none-more, union-lists, union-wrote, SomeSpread, readable-deep}
+use Rattle.push_down_arms.proofs.Unions.{Inputs, Spread, spread-of, all-inputs, first, renames-first, more, none-more, union-lists}
+use Rattle.push_down_arms.proofs.Unions.{union-wrote, SomeSpread, readable-deep}
 use Rattle.utils.proofs.Appending.{standing-plan}
 use Rattle.writing.proofs.Stretches.{input-at}
 use Rattle.push_down_arms.proofs.union.rewrite_union.Statement.{statement}

@@ -6,7 +6,7 @@ use native.Mathlib.Omega.{arith}
 use lib.ListN.{length-drop}
 use Rattle.image.proofs.Walking.{Chain, chain, round, again, done, for-all}
 use Rattle.image.specs.Places.{left}
-use Rattle.push_down_base.proofs.Windows.{Rest, rest-all, rest-next, rest-end, wrote-none, wrote-one}
+use Rattle.push_down_base.proofs.WrittenRuns.{Rest, rest-all, rest-next, rest-end, wrote-none, wrote-one}
 use borrow.Fn.Kinds.{In}
 use borrow.Fn.PlainCycle.{Measures, is, falls, and}
 use Rattle.push_down_arms.proofs.with_filters.copy_some.Reads as copy-some

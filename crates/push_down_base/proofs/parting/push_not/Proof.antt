@@ -10,5 +10,6 @@ push-not-spec =
     tie.close
     (tie.spec
     (λ c κs. search needs)
-    (λ c es ns names h k m. rw (stay-open _ names es (c .before .if1 .taken)) (reads-keep _ h (c .select-side .ensures es ns (has names) (h .lists) k (h .over) m)))
+    (λ c es ns names h k m. rw (stay-open _ names es (c .before .if1 .taken))
+    (reads-keep _ h (c .select-side .ensures es ns (has names) (h .lists) k (h .over) m)))
     (λ c es ns names h k m. rw (stay-shut _ names es (c .if1 .left)) h))

@@ -10,6 +10,7 @@ push-to-spec =
     tie.close
     (tie.spec
     (λ c κs. search needs)
-    (λ c es ns names h k m. rw (push-open _ names es (c .before .if1 .taken)) (reads-keep _ h (c .select-side .ensures es ns (has names) (h .lists) k (h .over) m)))
+    (λ c es ns names h k m. rw (push-open _ names es (c .before .if1 .taken))
+    (reads-keep _ h (c .select-side .ensures es ns (has names) (h .lists) k (h .over) m)))
     (λ c κs. search needs)
     (λ c es ns names h k m. rw (push-shut _ names es (c .before .if1 .left)) (reads-none (c .empty .ensures))))

@@ -10,7 +10,8 @@ use Rattle.plan.specs.Trees.{planTree, kidsP}
 use Rattle.utils.proofs.Named.{names-fit, names-count}
 use Rattle.writing.proofs.Pushing.{plan-readable}
 use Rattle.push_down_join.specs.Partners.{partnerIn, orSelf}
-use Rattle.push_down_join.proofs.JoinScope.{plan-here, join-short, join-single, keys-read, swap-has}
+use Rattle.utils.proofs.Appending.{standing-plan}
+use Rattle.push_down_join.proofs.JoinScope.{join-short, join-single, keys-read, swap-has}
 use Rattle.push_down_join.proofs.ScopeSets.{partner-records}
 use Rattle.writing.proofs.Stretches.{input-within, input-at, input-here}
 use Rattle.push_down_join.proofs.column_checker.join_scope.Statement.{statement}
@@ -24,10 +25,10 @@ join-scope-spec =
     (λ c κs. let j = c .before .pre .join-at in input-within (j .first) (j .stretch) (omega arith))
     (λ c κs. search needs)
     (λ c κs. let j = c .before .before .before .pre .join-at in rw (input-at (j .first) (j .stretch) (omega arith)
-    (c .before .from-record .ensures)) (plan-here (j .first)))
+    (c .before .from-record .ensures)) (standing-plan (j .first)))
     (λ c κs. let j = c .before .before .before .before .pre .join-at in input-within (j .second) (j .stretch) (j .after))
     (λ c κs. let j = c .before .before .before .before .before .pre .join-at in rw (input-at (j .second) (j .stretch) (j .after)
-    (c .from-record2 .ensures)) (plan-here (j .second)))
+    (c .from-record2 .ensures)) (standing-plan (j .second)))
     (λ c κs. let p = c .before .before .before .before .before .before .pre in
     let j = p .join-at in
     let first = c .before .before .schema-columns .ensures (p .lhs) [] (input-here (j .first) (j .stretch) (omega arith)

@@ -14,7 +14,8 @@ pair-of-spec =
     (λ c. search needs)
     (λ c. search needs)
     (λ c x y h k. rw (pair-right h k _ _ (c .before .before .before .a .given .1) (c .enum-told2 .given .1)) untold)
-    (λ c x y h k. rw (pair-is h k _ _ (c .before .before .before .before .before .a .given .1) (c .before .before .b .given .1), c .if1 .taken) (told-as k (c .before .before .b .given .1)))
+    (λ c x y h k. rw (pair-is h k _ _ (c .before .before .before .before .before .a .given .1) (c .before .before .b .given .1), c .if1 .taken)
+    (told-as k (c .before .before .b .given .1)))
     (λ c x y h k. rw (
       pair-is h k _ _ (c .before .before .before .before .before .before .a .given .1) (c .before .before .before .b .given .1),
       c .before .if1 .left,

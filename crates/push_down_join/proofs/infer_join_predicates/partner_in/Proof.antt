@@ -26,7 +26,8 @@ partner-in-spec =
     rw (c .from-record .ensures, length-drop) (omega (arith, u .fits)))
     (λ c t h. let u = first-turn h (c .before .before .before .before .word-at2 .ensures .0) (c .before .before .before .if2 .left) in
     rw (
-      key-is _ (t .label) (t .below) (sym (kind-at h (c .before .before .before .before .before .before .word-at .ensures .0)) ∙ c .before .before .before .before .before .if1 .left),
+      key-is _ (t .label) (t .below) (sym (kind-at h (c .before .before .before .before .before .before .word-at .ensures .0))
+          ∙ c .before .before .before .before .before .if1 .left),
       pair-one _ u (none-after u (c .before .before .from-record .ensures) (c .before .word-at3 .ensures .0) (c .if3 .taken)),
     ) untold)
     (λ c κs. let u = first-turn (c .before .before .before .before .before .before .before .before .pre .1 .at)

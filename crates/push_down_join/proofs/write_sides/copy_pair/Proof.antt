@@ -5,7 +5,7 @@ use lib.Dec.{eqb}
 use Rattle.image.specs.Tree.{Label}
 use Rattle.image.specs.Records.{recs}
 use Rattle.push_down_join.proofs.JoinParts.{wrote-when, wrote-unless}
-use Rattle.push_down_base.proofs.Windows.{wrote-tree}
+use Rattle.push_down_base.proofs.WrittenRuns.{wrote-tree}
 use Rattle.push_down_join.proofs.write_sides.copy_pair.Statement.{statement}
 use Rattle.push_down_join.proofs.write_sides.copy_pair.Tie as tie
 

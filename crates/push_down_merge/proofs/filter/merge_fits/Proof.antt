@@ -11,7 +11,8 @@ use Rattle.writing.proofs.Stretches.{own-here, own-readable}
 use Rattle.answers.proofs.Whole.{wrote-small}
 use Rattle.answers.proofs.Splice.{spliced}
 use Rattle.answers.proofs.Fitting.{fits-over, begun-count}
-use Rattle.push_down_merge.proofs.Tested.{made-predicate, few-records, all-records, sized, stands-inside, end-within, level-small, too-long, few-lists, fits-is}
+use Rattle.push_down_merge.proofs.Tested.{made-predicate, few-records, all-records, sized, stands-inside, end-within, level-small}
+use Rattle.push_down_merge.proofs.Tested.{too-long, few-lists, fits-is}
 use Rattle.push_down_merge.proofs.filter.merge_fits.Statement.{statement}
 use Rattle.push_down_merge.proofs.filter.merge_fits.Tie as tie
 

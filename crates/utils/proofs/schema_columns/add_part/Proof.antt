@@ -16,7 +16,7 @@ add-part-spec =
     (λ c ns h. let a = c .before .before .before .before .before .before .args in
     rw (
       ← c .before .before .before .before .label-at .ensures .0,
-      part-set (a .set) (a .q) _ (c .before .if2 .taken)
+      part-set (a .set) (a .q) (c .before .before .before .before .label-at .result) (c .before .if2 .taken)
           (sym (c .before .before .before .makes-field .ensures) ∙ c .before .before .if1 .taken),
     )
     (c .add-field .ensures ns h))
@@ -24,14 +24,14 @@ add-part-spec =
     (λ c ns h. let a = c .before .before .before .before .before .before .args in
     rw (
       ← c .before .before .before .before .label-at .ensures .0,
-      part-kept (a .set) (a .q) _ (c .before .if2 .left)
+      part-kept (a .set) (a .q) (c .before .before .before .before .label-at .result) (c .before .if2 .left)
           (sym (c .before .before .before .makes-field .ensures) ∙ c .before .before .if1 .taken),
     )
     (c .add-field2 .ensures ns h))
     (λ c ns h. let a = c .before .before .before .before .args in
     rw (
       ← c .before .before .label-at .ensures .0,
-      part-none (a .set) (a .q) _
+      part-none (a .set) (a .q) (c .before .before .label-at .result)
           (sym (c .before .makes-field .ensures) ∙ c .if1 .left),
       append-nil,
     ) h))

@@ -1,4 +1,5 @@
--- `replace_cols_by_name::replace_cols_by_name` meets its contract. The measure is the depth. The loop's invariant: what is left of the children, with its columns
+-- `replace_cols_by_name::replace_cols_by_name` meets its contract. The measure is the depth. The loop's invariant: what is left of the
+-- children, with its columns
 -- replaced, completes the output.
 use mathlib.Core.Path.{sym, _∙_}
 use Prim.Native.Nat.{ℕ, _+_, _<_}

@@ -1,4 +1,4 @@
--- `fields::plan_at` meets its contract. The loop's invariant: the plan sought is among the trees still to come.
+-- `inputs::plan_at` meets its contract. The loop's invariant: the plan sought is among the trees still to come.
 use mathlib.Core.Path.{refl, ap, _∙_}
 use native.Mathlib.Omega.{arith}
 use borrow.Author.Needs.{needs}
@@ -6,11 +6,10 @@ use Prim.Native.Nat.{ℕ}
 use Rattle.image.specs.Places.{left}
 use Rattle.image.proofs.Along.{Along, within, whole, along-start, along-step, along-end, here, here-in}
 use lib.ListN.{drop}
-use Rattle.check_fields.specs.Fields.{inputs}
-use Rattle.check_fields.proofs.Counting.{skip-part, skip-plan}
-use Rattle.check_fields.proofs.Seeking.{Plans, plan-none, begins}
-use Rattle.check_fields.proofs.fields.plan_at.Statement.{statement}
-use Rattle.check_fields.proofs.fields.plan_at.Tie as tie
+use Rattle.plan.specs.Inputs.{plansIn}
+use Rattle.plan.proofs.Inputting.{Plans, plan-none, skip-part, skip-plan, begins}
+use Rattle.plan.proofs.inputs.plan_at.Statement.{statement}
+use Rattle.plan.proofs.inputs.plan_at.Tie as tie
 
 abbrev Inv-loop : tie.InvT-loop
 Inv-loop s base at skip j₀ i₀ j i = Along (Plans skip j) s base at i
@@ -34,8 +33,8 @@ plan-at-spec =
     record {
       forest = u .rest;
       linked = u .linked;
-      begins = begins w (c .before .before .role-of .ensures) (c .before .if1 .taken);
-      plans = u .so-far ∙ ap (λ (k : ℕ). drop k (inputs (u .rest))) (c .if2 .taken);
+      begins = begins w (c .before .before .is-plan .ensures) (c .before .if1 .taken);
+      plans = u .so-far ∙ ap (λ (k : ℕ). drop k (plansIn (u .rest))) (c .if2 .taken);
       less = i .less;
     })
     (λ c. omega (arith, c .if2 .left))
@@ -43,10 +42,10 @@ plan-at-spec =
     (c .before .before .before .before .from-record .ensures) (c .before .before .before .look .ensures) .less)
     (λ c. along-step (c .before .before .before .before .before .before .loop .inv) (c .before .before .before .before .before .loop-test .taken)
     (c .before .before .before .before .from-record .ensures) (c .before .before .before .look .ensures) _
-    (λ f g w e. e ∙ skip-plan w _ (c .before .before .role-of .ensures) (c .before .if1 .taken) _ (c .if2 .left)))
+    (λ f g w e. e ∙ skip-plan w (c .before .before .is-plan .ensures) (c .before .if1 .taken) _ (c .if2 .left)))
     (λ c. here (c .before .before .before .before .before .loop .inv) (c .before .before .before .before .loop-test .taken)
     (c .before .before .before .from-record .ensures) (c .before .before .look .ensures) .less)
     (λ c. along-step (c .before .before .before .before .before .loop .inv) (c .before .before .before .before .loop-test .taken)
     (c .before .before .before .from-record .ensures) (c .before .before .look .ensures) _
-    (λ f g w e. e ∙ ap (drop (c .before .before .before .before .before .loop .left)) (skip-part w _ (c .before .role-of .ensures) (c .if1 .left))))
+    (λ f g w e. e ∙ ap (drop (c .before .before .before .before .before .loop .left)) (skip-part w (c .before .is-plan .ensures) (c .if1 .left))))
     (λ c f h. plan-none _ (c .before .loop .left) (along-end (c .before .loop .inv) (c .loop-test .left) f h)))

@@ -1,11 +1,11 @@
--- `fields::role_of` meets its contract.
+-- `field_sources::role_of` meets its contract.
 use mathlib.Core.Path.{refl, sym, _∙_}
 use borrow.Author.Needs.{needs}
 use mathlib.Core.Bool.{true, false}
 use Rattle.plan.specs.Kinds.{whatOf, among}
-use Rattle.check_fields.proofs.Counting.{role-last}
-use Rattle.check_fields.proofs.fields.role_of.Statement.{statement}
-use Rattle.check_fields.proofs.fields.role_of.Tie as tie
+use Rattle.plan.proofs.FieldSources.{role-last}
+use Rattle.plan.proofs.field_sources.role_of.Statement.{statement}
+use Rattle.plan.proofs.field_sources.role_of.Tie as tie
 
 pub role-of-spec : {M : Type 1} → statement M
 unfolding whatOf among

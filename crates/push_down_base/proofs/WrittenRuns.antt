@@ -1,4 +1,4 @@
--- Laws of runs of records, written flat.
+-- Laws of runs of records: written flat, one behind another, and by a loop over the children of a record.
 use Prim.Native.Nat.{ℕ, zero, suc, _+_, _-_, _*_, _≤_, _<_}
 use native.Mathlib.Omega.{arith}
 use native.Mathlib.Nat.{add-zero}
