@@ -11,6 +11,7 @@ INSTALL = install
 HEADER = include/push_down_filter.h
 LIBRARY = target/staticlib/libpush_down_filter.a
 LICENCES = LICENSE NOTICE
+PAGES = docs/FORMAT.md docs/MEANING.md docs/REWRITE.md docs/GLOSSARY.md
 
 # The header alone says the version.
 part = $(shell sed -n 's/^.define PUSH_DOWN_FILTER_VERSION_$(1) //p' $(HEADER))
@@ -29,7 +30,7 @@ pc = sed -e 's|@prefix@|$(1)|' -e 's|@includedir@|$(2)|' -e 's|@libdir@|$(3)|' -
 help:
 	@echo 'make install    the header, the library, its .pc file and the licence; PREFIX ($(PREFIX)), INCLUDEDIR, LIBDIR, DOCDIR, DESTDIR'
 	@echo 'make uninstall  removes them again, with the same words'
-	@echo 'make dist       $(PACKED).tar.gz: the same, with a README, the example and SHA256SUMS'
+	@echo 'make dist       $(PACKED).tar.gz: the same, with a README, the pages, the example and SHA256SUMS'
 	@echo 'version $(VERSION); $(LIBRARY) is made by ./run or rt staticlib push_down_filter'
 
 $(LIBRARY):
@@ -53,7 +54,7 @@ dist: $(LIBRARY)
 	$(INSTALL) -d $(PACKED)/include $(PACKED)/lib/pkgconfig
 	$(INSTALL) -m 644 $(HEADER) $(PACKED)/include
 	$(INSTALL) -m 644 $(LIBRARY) $(PACKED)/lib
-	$(INSTALL) -m 644 $(LICENCES) packaging/README.md examples/c/example.c examples/expected.txt $(PACKED)
+	$(INSTALL) -m 644 $(LICENCES) packaging/README.md examples/c/example.c examples/expected.txt SECURITY.md $(PAGES) $(PACKED)
 	$(call pc,$${pcfiledir}/../..,$${prefix}/include,$${prefix}/lib) >$(PACKED)/lib/pkgconfig/push_down_filter.pc
 	cd $(PACKED) && find . -type f ! -name SHA256SUMS | LC_ALL=C sort | xargs sha256sum >SHA256SUMS
 	tar --sort=name --mtime=@0 --owner=0 --group=0 --numeric-owner --mode=u=rwX,go=rX -C target/dist -cf - $(NAME) | gzip -9n >$(PACKED).tar.gz

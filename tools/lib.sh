@@ -2,18 +2,20 @@
 
 fail() { echo "$1" >&2; exit 1; }
 
-# The tools that a command needs, and what each is.
+# The tools that a command needs.
 need() {
     local tool
     for tool in "$@"; do
-        command -v "$tool" >/dev/null && continue
-        case $tool in
-        rt) fail "rt, the command of the Rattle kit, is not on the PATH: README.md, 'What it needs'" ;;
-        cargo) fail "cargo, of Rust, is not on the PATH: README.md, 'What it needs'" ;;
-        *) fail "$tool is not on the PATH: README.md, 'What it needs'" ;;
-        esac
+        command -v "$tool" >/dev/null || fail "$tool is not on the PATH: README.md, 'What it needs', says what it is"
     done
     [ "$(uname -sm)" = "Linux x86_64" ] || fail "this is $(uname -sm): the library is compiled for x86-64 Linux"
+}
+
+# Two at a time would write over each other in target/. What ./test starts itself goes with it.
+alone() {
+    [ -z "${PART_OF_TEST-}" ] || return 0
+    exec 9<crates.txt
+    flock -n 9 || fail "another ./run or ./test is at work here"
 }
 
 # rt waits for a whole batch of proofs before it begins the next, so that four at a time leave less of two cores idle than two. One
@@ -24,7 +26,35 @@ batches() {
     [ -n "${RT_JOBS:-}" ] || [ "${free:-0}" -lt 10 ] || export RT_JOBS=4
 }
 
-# Reads what rt prints and tells it line by line: the crate or the edit, how many of how many, how long it took, and what an error says.
+# Starts a command in a group of its own, so that it can be ended with all that it started; its number is in `started`.
+start() {
+    set -m
+    "$@" &
+    started=$!
+    set +m
+}
+
+# Ends what was started.
+end() {
+    local group
+    for group in "$@"; do kill -- "-$group" 2>/dev/null; done
+}
+
+# What rt says of each crate and each edit as soon as it is done, until the process ends. (rt itself tells them by batches.)
+finished_ones() { # PROCESS
+    local begun=$1 file told=' ' again=yes
+    while [ "$again" = yes ]; do
+        kill -0 "$begun" 2>/dev/null && sleep 1 || again=no
+        for file in target/log/*.out target/must-fail/*/*.out; do
+            case $told in *" $file "*) continue ;; esac
+            [ "$file" -nt "$since" ] && grep -q '^rt: ' "$file" || continue
+            told="$told$file "
+            cat "$file"
+        done
+    done
+}
+
+# Reads what rt says and tells it in a line: the crate or the edit, how many of how many, how long it took; and what an error says.
 progress() { # CRATES EDITS
     local line name took proved=0 refused=0 errors=0
     while IFS= read -r line; do

@@ -30,9 +30,9 @@ fn folder() -> PathBuf {
 /// Says what is missing, and ends the build.
 fn missing(library: &std::path::Path) -> ! {
     let what = format!("{} is not there", library.display());
-    let help = format!("make it by 'rt staticlib push_down_filter', or name its folder in {FOLDER}");
+    let help = format!("./run at the root of the repository makes it; or name its folder in {FOLDER}");
     println!("cargo:warning={what}: {help}");
     eprintln!("{what}: {help}");
-    eprintln!("without it: --no-default-features, which leaves the calls out");
+    eprintln!("without it: 'default-features = false' where you depend on this crate, which leaves the calls out");
     exit(1)
 }

@@ -1,23 +1,35 @@
-//! Says where the text in a file cannot be read as a plan. It needs no library: `./run` asks it before anything is proved.
+//! Says where the text in a file cannot be read as a plan, with the words of a names file if one is given. An image, which has a
+//! zero byte, is left to the check. It needs no library: `./run` asks it before anything is proved.
 
 use push_down_filter::text::{read, Names};
 use std::process::ExitCode;
 
 fn main() -> ExitCode {
-    let Some(file) = std::env::args().nth(1) else {
-        eprintln!("usage: parse FILE");
-        return ExitCode::from(2);
+    let files: Vec<String> = std::env::args().skip(1).collect();
+    let told = match files.as_slice() {
+        [plan] => text(plan).and_then(|text| parsed(plan, &text, &Names::NONE)),
+        [plan, names] => text(names)
+            .and_then(|words| Names::read(&words).map_err(|trouble| format!("{names}:{trouble}")))
+            .and_then(|names| text(plan).and_then(|text| parsed(plan, &text, &names))),
+        _ => Err("usage: parse PLAN [NAMES]".to_string()),
     };
-    let trouble = match std::fs::read(&file).map(String::from_utf8) {
-        Ok(Ok(text)) => read(&text, &Names::NONE).err().map(|trouble| format!("{file}:{trouble}")),
-        Ok(Err(_)) => Some(format!("{file}: is no text")),
-        Err(error) => Some(format!("{file}: {error}")),
-    };
-    match trouble {
-        Some(trouble) => {
+    match told {
+        Ok(()) => ExitCode::SUCCESS,
+        Err(trouble) => {
             eprintln!("{trouble}");
             ExitCode::FAILURE
         }
-        None => ExitCode::SUCCESS,
+    }
+}
+
+fn text(file: &str) -> Result<String, String> {
+    let bytes = std::fs::read(file).map_err(|error| format!("{file}: {error}"))?;
+    String::from_utf8(bytes).map_err(|_| format!("{file}: is no text"))
+}
+
+fn parsed(file: &str, text: &str, names: &Names) -> Result<(), String> {
+    match text.contains('\0') {
+        true => Ok(()),
+        false => read(text, names).map(|_| ()).map_err(|trouble| format!("{file}:{trouble}")),
     }
 }

@@ -50,7 +50,8 @@ pub fn rewrite(image: &[u8], node: u32, out: &mut [u8]) -> Result<Rewritten, Ref
 pub struct Passed {
     /// How many nodes were visited.
     pub visits: u64,
-    /// How many of these rewrites said that they changed the plan.
+    /// How many of these rewrites said that they changed the plan. A plan that no longer alters can have some at each
+    /// pass: compare images, do not wait for 0.
     pub changed: u64,
     /// Whether every node was visited.
     pub finished: bool,

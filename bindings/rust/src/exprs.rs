@@ -269,18 +269,28 @@ impl Expr {
         self.listed(true, items)
     }
 
-    /// Marks a function as volatile; any other expression stays as it is.
+    /// Marks a function as volatile.
+    ///
+    /// # Panics
+    ///
+    /// If the expression is no function: the mark would be lost.
     pub fn volatile(mut self) -> Expr {
-        if let Expr::Function { volatile, .. } = &mut self {
-            *volatile = true;
+        match &mut self {
+            Expr::Function { volatile, .. } => *volatile = true,
+            _ => panic!("only a function can be volatile"),
         }
         self
     }
 
-    /// Marks a function as leafward; any other expression stays as it is.
+    /// Marks a function as leafward.
+    ///
+    /// # Panics
+    ///
+    /// If the expression is no function: the mark would be lost.
     pub fn leafward(mut self) -> Expr {
-        if let Expr::Function { leafward, .. } = &mut self {
-            *leafward = true;
+        match &mut self {
+            Expr::Function { leafward, .. } => *leafward = true,
+            _ => panic!("only a function can be leafward"),
         }
         self
     }

@@ -27,7 +27,7 @@
 //! Plans travel as images: 1 to 2,048 records of 32 bytes, eight little-endian words each: kind, p, q, r, lo, hi,
 //! first, next ([`image`], [`kinds`]). The calls on bytes, `check`, `rewrite`, `pass` and `row_test`, take any bytes:
 //! what is no image of a plan is refused with a [`Refusal`], and [`explain`] says what is wrong there. They keep
-//! nothing between calls: any number of threads may call them at once.
+//! nothing between calls: any number of threads may call them at once, each with 1 MiB of stack or more.
 //!
 //! Tables, qualifiers, names and functions are numbers; [`Names`] has words for them in texts ([`text`]).
 //!

@@ -19,7 +19,8 @@ pub struct PassedPlan {
     pub plan: Plan,
     /// How many nodes were visited.
     pub visits: u64,
-    /// How many of these rewrites said that they changed the plan.
+    /// How many of these rewrites said that they changed the plan. A plan that no longer alters can have some at each
+    /// pass: compare images, do not wait for 0.
     pub changed: u64,
     /// Whether every node was visited.
     pub finished: bool,

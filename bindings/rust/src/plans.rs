@@ -144,7 +144,8 @@ impl From<Join> for Plan {
 }
 
 /// A query plan. Build it from [`scan`] and [`union`] by the methods here; any plan can be built, and
-/// `Plan::check` says whether it is sound and within the limits.
+/// `Plan::check` says whether it is sound and within the limits, of which one is a depth of 256. Plans are walked by
+/// recursion: one that is some thousands of levels deep may need more stack than a thread has.
 ///
 /// ```
 /// use push_down_filter::{col, field, scan, JoinKind, Type::Integer};
@@ -251,10 +252,15 @@ pub fn union<P: Into<Plan>>(inputs: impl IntoIterator<Item = P>) -> Plan {
 }
 
 impl Plan {
-    /// Adds filters to a scan; any other plan stays as it is.
+    /// Adds filters to a scan.
+    ///
+    /// # Panics
+    ///
+    /// If the plan is no scan: the filters would be lost.
     pub fn scan_filters(mut self, more: impl IntoIterator<Item = Expr>) -> Plan {
-        if let Plan::TableScan { filters, .. } = &mut self {
-            filters.extend(more);
+        match &mut self {
+            Plan::TableScan { filters, .. } => filters.extend(more),
+            _ => panic!("only a scan has filters of its own"),
         }
         self
     }

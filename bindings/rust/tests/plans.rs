@@ -158,3 +158,9 @@ fn unsound_plans_are_written() {
     assert_eq!(Plan::from_image(&deep(256).to_image()), Ok(deep(256)));
     assert_eq!(refused(&deep(257).to_image()), "refused 4: record 256 (TableScan): stands at depth 257; at most 256");
 }
+
+#[test]
+#[should_panic(expected = "only a function can be volatile")]
+fn a_mark_is_not_lost() {
+    let _ = col(1, 1).gt(function(1, Integer, [])).volatile();
+}

@@ -37,7 +37,12 @@ pub fn pass(arguments: &Arguments) -> Outcome {
     let before = input.plan()?;
     let last = steps::after(&input.image, budget).map_err(|refusal| refused(&input, budget, refusal))?;
     match (wanted, page) {
-        (Some(wanted), _) => Ok(to(wanted, &last.plan, &input.names)),
+        (Some(wanted), _) => {
+            if !last.finished {
+                eprintln!("{}: the budget ended before the pass did", counts(&last));
+            }
+            Ok(to(wanted, &last.plan, &input.names))
+        }
         (_, Some(page)) => write_page(page, &input, budget),
         _ => Ok(format!("{}{}\n", columns(&before, &last.plan, &input.names), counts(&last)).into()),
     }
