@@ -209,7 +209,8 @@ typedef struct {
     uint32_t number;
     uint32_t record;
     uint64_t visits;   /* how many nodes were visited */
-    uint64_t changed;  /* how many of these rewrites raised the flag; not 0 can be said of a plan that no longer alters, again and again */
+    uint64_t changed;  /* how many of these rewrites raised the flag; it can stay above 0 at every pass over a plan
+                          that no longer alters, so compare images and do not wait for 0 */
     uint32_t finished; /* 1 if every node was visited, 0 if nodes remain */
     uint32_t records;
 } push_down_filter_passed;
