@@ -30,8 +30,9 @@ const BENT: usize = 80;
 /// A plan of more records than this is not bent, which would take long.
 const MOST_BENT: usize = 400;
 
-const FAMILIES: [Family; 11] = [
-    Family { percent: 38, name: "drawn for the rewrite", draw: drawn, bends: true },
+const FAMILIES: [Family; 12] = [
+    Family { percent: 30, name: "drawn for the rewrite", draw: drawn, bends: true },
+    Family { percent: 8, name: "InLists", draw: listed, bends: true },
     Family { percent: 6, name: "drawn for the check", draw: drawn_for_check, bends: true },
     Family { percent: 10, name: "stacked Filters", draw: stacked, bends: true },
     Family { percent: 10, name: "bounds", draw: bounds, bends: true },
@@ -114,6 +115,16 @@ fn stacked(random: &mut Random) -> Tree {
     let mut draw = Draw::for_aim(aim, random, 200);
     let filters = draw.random.within(2, 5);
     (0..filters).fold(input.plan, |plan, _| filter(draw.conjunction(&input.fields), plan))
+}
+
+/// InLists, most of them with a NULL among their items, over a small plan or a join.
+fn listed(random: &mut Random) -> Tree {
+    let (aim, records) = (aim(random), random.within(1, 40));
+    let input = drawn_for(aim, random, records);
+    let mut draw = Draw::for_aim(aim, random, 200);
+    let length = draw.random.within(1, 4);
+    let conjuncts = (0..length).map(|_| draw.listed(&input.fields)).collect();
+    filter(conjunction(conjuncts, Nesting::Left), input.plan)
 }
 
 /// Many bounds on one or two columns, most of them with the same literal, over a plan that takes some of them or none.

@@ -194,6 +194,9 @@ fn drawn(random: &mut Random) -> Tree {
         return planned.plan;
     }
     let mut draw = Draw::new(random, 60);
+    if draw.random.chance(20) {
+        return filter(draw.listed(&planned.fields), planned.plan);
+    }
     let levels = draw.random.within(1, 5);
     filter(draw.expr(&planned.fields, OF_BOOLEAN, levels), planned.plan)
 }

@@ -19,7 +19,7 @@ pub struct RowCounts {
     pub compared: u64,
     pub not_empty: u64,
     pub too_many: u64,
-    /// By the kinds of plans and joins that the plan holds: those of rows that are not empty, and all.
+    /// By the kinds of plans and joins that the plan holds, and by a NULL in its InLists: those of rows that are not empty, and all.
     kinds: BTreeMap<String, (u64, u64)>,
 }
 
@@ -100,9 +100,11 @@ fn drawn(random: &mut Random, plan: &Tree) -> (World, Option<Vec<Row>>) {
     last
 }
 
-/// A join by its kind, another plan by its name.
+/// A join by its kind, another plan by its name; and an InList with a NULL item.
 fn kind(tree: &Tree) -> Option<String> {
+    let has_null_item = || tree.children[1..].iter().any(|item| item.label.kind == NULL);
     match tree.label.kind {
+        IN_LIST if has_null_item() => Some("NULL in an InList".to_string()),
         JOIN => Some(format!("{} join", word(&JOINS, tree.label.p))),
         kind if is_plan(kind) => Some(PLANS[(kind - SCAN) as usize].to_string()),
         _ => None,

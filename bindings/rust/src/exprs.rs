@@ -67,7 +67,7 @@ pub enum Expr {
         /// The upper bound.
         high: Box<Expr>,
     },
-    /// Whether one of the items equals the operand, or its negation.
+    /// Whether one of the items equals the operand, or its negation. Where none does and one is NULL, UNKNOWN.
     InList {
         /// Whether it is NOT IN.
         negated: bool,
@@ -264,7 +264,7 @@ impl Expr {
         self.listed(false, items)
     }
 
-    /// `self NOT IN (items)`, of which there must be one or more.
+    /// `self NOT IN (items)`, of which there must be one or more. With a NULL among them it is never TRUE.
     pub fn not_in_list<I: Into<Expr>>(self, items: impl IntoIterator<Item = I>) -> Expr {
         self.listed(true, items)
     }

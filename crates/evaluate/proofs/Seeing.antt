@@ -3,19 +3,21 @@
 --     by-binary, by-not, ..       what the operator of a kind makes of what is seen
 -- Assumes nothing.
 use mathlib.Core.Path.{_≡_, refl, _∙_}
-use mathlib.Core.Bool.{Bool, true, false, _&&_, _||_, cond}
+use mathlib.Core.Bool.{Bool, true, false, not, _&&_, _||_, cond}
 use mathlib.Core.List.{List, [], _∷_, _++_}
 use Prim.Native.Nat.{ℕ, suc, _-_, _≤_}
 use native.Mathlib.Omega.{arith}
 use lib.Dec.{eqb, leb}
+use lib.ListN.{drop}
 use borrow.Author.Tests.{ne-eqb, le-leb, leb-true}
 use Rattle.plan.specs.Lists.{any}
 use Rattle.plan.specs.Read.{nth, ops, tests}
 use Rattle.plan.specs.Syntax.{booleanType, noType, Value, null, truth, eq, and, isNull}
-use Rattle.plan.specs.Values.{ValueRecord, caseOf}
-use Rattle.meaning.specs.Meaning.{tri, isT, isF, isN, and3, or3, not3, negate, binary, compared, tested, within}
+use Rattle.plan.specs.Values.{ValueRecord, caseOf, caseNull}
+use Rattle.meaning.specs.Meaning.{tri, isT, isF, isN, and3, or3, not3, negate, binary, compared, tested, within, in-list}
+use Rattle.meaning.proofs.Cases.{null-case}
 use Rattle.image.specs.Tree.{Label}
-use Rattle.evaluate.specs.Operators.{cmpOf, operated, operatedType, Sees}
+use Rattle.evaluate.specs.Operators.{cmpOf, operand, operated, operatedType, Sees}
 use Rattle.evaluate.specs.declared.operands.Seen.{Seen}
 use Rattle.evaluate.proofs.TruthLaws.{of-value, of-value-f, other-op, some-cmp}
 
@@ -34,45 +36,52 @@ any-snoc f (y ∷ xs) x = rw (any-snoc f xs x) (go (f y))
     go true = refl
     go false = refl
 
-abbrev saw : ℕ → ValueRecord → ValueRecord → ValueRecord → Bool → Seen
-saw n a b d e = record { count = n; first = a; second = b; third = d; equal = e }
+abbrev saw : ℕ → ValueRecord → ValueRecord → ValueRecord → Bool → Bool → Seen
+saw n a b d e z = record { count = n; first = a; second = b; third = d; equal = e; null = z }
 
 module _ {s : Seen} (v : ValueRecord) where
-  pub seen-first : (vs : List Value) → Sees s vs → s .count ≡ 0 → Sees (saw 1 v (s .second) (s .third) false) (vs ++ (caseOf (v .case) ∷ []))
+  pub seen-first : (vs : List Value) → Sees s vs → s .count ≡ 0
+      → Sees (saw 1 v (s .second) (s .third) false false) (vs ++ (caseOf (v .case) ∷ []))
   unfolding any
-  seen-first [] h z = record { count = refl; first = refl; second = h .second; third = h .third; equal = refl }
+  seen-first [] h z = record { count = refl; first = refl; second = h .second; third = h .third; equal = refl; null = refl }
   seen-first (a ∷ []) h z = absurd (omega (arith, h .count))
   seen-first (a ∷ b ∷ []) h z = absurd (omega (arith, h .count))
   seen-first (a ∷ b ∷ d ∷ vs) h z = absurd (omega (arith, h .count))
 
-  -- the item is compared with the first
-  equal-more : (a : Value) (vs : List Value) → Sees s (a ∷ vs)
-      → (s .equal || isT (compared eq (caseOf (s .first .case)) (caseOf (v .case))))
-      ≡ any (λ w. isT (compared eq a w)) (vs ++ (caseOf (v .case) ∷ []))
-  equal-more a vs h = rw (any-snoc (λ w. isT (compared eq a w)) vs (caseOf (v .case)), h .equal, h .first)
+  -- the item is compared with the first, and may be NULL
+  module _ {e n : Bool} (e-is : e ≡ isT (compared eq (caseOf (s .first .case)) (caseOf (v .case)))) (n-is : n ≡ caseNull (v .case)) where
+    equal-more : (a : Value) (vs : List Value) → Sees s (a ∷ vs)
+        → (s .equal || e) ≡ any (λ w. isT (compared eq a w)) (vs ++ (caseOf (v .case) ∷ []))
+    equal-more a vs h = rw (e-is, any-snoc (λ w. isT (compared eq a w)) vs (caseOf (v .case)), h .equal, h .first)
 
-  module _ (e : Bool) (is : e ≡ (s .equal || isT (compared eq (caseOf (s .first .case)) (caseOf (v .case))))) where
-    pub seen-second : (vs : List Value) → Sees s vs → s .count ≡ 1 → Sees (saw 2 (s .first) v (s .third) e) (vs ++ (caseOf (v .case) ∷ []))
-    seen-second [] h z = absurd (omega (arith, h .count))
-    seen-second (a ∷ []) h z =
-        record { count = refl; first = h .first; second = refl; third = h .third; equal = is ∙ equal-more a [] h }
-    seen-second (a ∷ b ∷ []) h z = absurd (omega (arith, h .count))
-    seen-second (a ∷ b ∷ d ∷ vs) h z = absurd (omega (arith, h .count))
+    null-more : (a : Value) (vs : List Value) → Sees s (a ∷ vs) → (s .null || n) ≡ any isN (vs ++ (caseOf (v .case) ∷ []))
+    null-more a vs h = rw (n-is ∙ null-case (v .case), any-snoc isN vs (caseOf (v .case)), h .null)
 
-    pub seen-third : (vs : List Value) → Sees s vs → s .count ≡ 2 → Sees (saw 3 (s .first) (s .second) v e) (vs ++ (caseOf (v .case) ∷ []))
-    seen-third [] h z = absurd (omega (arith, h .count))
-    seen-third (a ∷ []) h z = absurd (omega (arith, h .count))
-    seen-third (a ∷ b ∷ []) h z =
-        record { count = refl; first = h .first; second = h .second; third = refl; equal = is ∙ equal-more a (b ∷ []) h }
-    seen-third (a ∷ b ∷ d ∷ vs) h z = absurd (omega (arith, h .count))
+    pub seen-second : (vs : List Value) → Sees s vs → s .count ≡ 1
+        → Sees (saw 2 (s .first) v (s .third) (s .equal || e) (s .null || n)) (vs ++ (caseOf (v .case) ∷ []))
+    seen-second [] h c = absurd (omega (arith, h .count))
+    seen-second (a ∷ []) h c =
+        record { count = refl; first = h .first; second = refl; third = h .third; equal = equal-more a [] h; null = null-more a [] h }
+    seen-second (a ∷ b ∷ []) h c = absurd (omega (arith, h .count))
+    seen-second (a ∷ b ∷ d ∷ vs) h c = absurd (omega (arith, h .count))
+
+    pub seen-third : (vs : List Value) → Sees s vs → s .count ≡ 2
+        → Sees (saw 3 (s .first) (s .second) v (s .equal || e) (s .null || n)) (vs ++ (caseOf (v .case) ∷ []))
+    seen-third [] h c = absurd (omega (arith, h .count))
+    seen-third (a ∷ []) h c = absurd (omega (arith, h .count))
+    seen-third (a ∷ b ∷ []) h c =
+        let vs = b ∷ [] in
+        record { count = refl; first = h .first; second = h .second; third = refl; equal = equal-more a vs h; null = null-more a vs h }
+    seen-third (a ∷ b ∷ d ∷ vs) h c = absurd (omega (arith, h .count))
 
     pub seen-more : (vs : List Value) → Sees s vs → (s .count ≡ 0 → ⊥) → (s .count ≡ 1 → ⊥) → (s .count ≡ 2 → ⊥)
-        → Sees (saw 3 (s .first) (s .second) (s .third) e) (vs ++ (caseOf (v .case) ∷ []))
-    seen-more [] h x y z = absurd (x (h .count))
-    seen-more (a ∷ []) h x y z = absurd (y (h .count))
-    seen-more (a ∷ b ∷ []) h x y z = absurd (z (h .count))
-    seen-more (a ∷ b ∷ d ∷ vs) h x y z =
-        record { count = refl; first = h .first; second = h .second; third = h .third; equal = is ∙ equal-more a (b ∷ d ∷ vs) h }
+        → Sees (saw 3 (s .first) (s .second) (s .third) (s .equal || e) (s .null || n)) (vs ++ (caseOf (v .case) ∷ []))
+    seen-more [] h none one two = absurd (none (h .count))
+    seen-more (a ∷ []) h none one two = absurd (one (h .count))
+    seen-more (a ∷ b ∷ []) h none one two = absurd (two (h .count))
+    seen-more (a ∷ b ∷ d ∷ more) h none one two =
+        let vs = b ∷ d ∷ more in
+        record { count = refl; first = h .first; second = h .second; third = h .third; equal = equal-more a vs h; null = null-more a vs h }
 
 -- ---- operators
 
@@ -108,6 +117,11 @@ as-cmp p v w e =
     let q : suc (p - 1) ≡ p = omega arith in
     rw (some-cmp (p - 1) (omega arith) (omega arith), q)
 
+-- InList, by what is seen
+pub list-seen : {s : Seen} {vs : List Value} {n : Bool} → Sees s vs → n ≡ caseNull (s .first .case)
+    → in-list (operand 0 vs) (drop 1 vs) ≡ cond n null (tri (s .equal) (not (s .null)))
+list-seen {s = s} h e = rw (← h .equal, ← h .null, ← h .first, ← null-case (s .first .case), ← e)
+
 module _ {s : Seen} {vs : List Value} (h : Sees s vs) (p k : ℕ) where
   pub by-binary : k ≡ 5 → binary (nth and ops (p - 1)) (caseOf (s .first .case)) (caseOf (s .second .case)) ≡ operated k p vs
   unfolding operated
@@ -126,9 +140,9 @@ module _ {s : Seen} {vs : List Value} (h : Sees s vs) (p k : ℕ) where
   unfolding operated
   by-between e = rw (e, h .first, h .second, h .third)
 
-  pub by-list : k ≡ 9 → negate (eqb p 1) (cond (isN (caseOf (s .first .case))) null (truth (s .equal))) ≡ operated k p vs
+  pub by-list : k ≡ 9 → negate (eqb p 1) (in-list (operand 0 vs) (drop 1 vs)) ≡ operated k p vs
   unfolding operated
-  by-list e = rw (e, h .first, h .equal)
+  by-list e = rw e
 
   pub by-none : (k ≡ 5 → ⊥) → (k ≡ 6 → ⊥) → (k ≡ 7 → ⊥) → (k ≡ 8 → ⊥) → (k ≡ 9 → ⊥) → null ≡ operated k p vs
   unfolding operated

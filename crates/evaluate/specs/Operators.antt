@@ -13,7 +13,7 @@ use Rattle.plan.specs.Read.{nth, ops, tests, exprBy, exprsOf}
 use Rattle.plan.specs.Syntax.{booleanType, noType, Value, Expr, null, truth, Cmp, eq, ne, lt, le, gt, ge, and, cmp, isNull}
 use Rattle.plan.specs.Trees.{bitOf, opNumber}
 use Rattle.plan.specs.Values.{Right, caseOf}
-use Rattle.meaning.specs.Meaning.{isT, compared, binary, not3, negate, tested, within, in-list}
+use Rattle.meaning.specs.Meaning.{isT, isN, compared, binary, not3, negate, tested, within, in-list}
 use Rattle.evaluate.specs.declared.operands.Seen.{Seen}
 
 -- the comparison with this number; Eq for the number of none
@@ -60,6 +60,7 @@ pub record Sees (s : Seen) (vs : List Value) : Type 0 where
   pub second : caseOf (s .second .case) ≡ operand 1 vs
   pub third : caseOf (s .third .case) ≡ operand 2 vs
   pub equal : s .equal ≡ any (λ v. isT (compared eq (operand 0 vs) v)) (drop 1 vs)
+  pub null : s .null ≡ any isN (drop 1 vs)
 
 -- what is seen is right
 pub record SeesRight (s : Seen) : Type 0 where

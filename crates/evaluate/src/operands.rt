@@ -27,24 +27,25 @@ use plan::words::NEGATED;
 use plan::words::NO_TYPE;
 use plan::words::OR;
 ghost use mathlib.Core.Path.{_≡_};
-ghost use mathlib.Core.Bool.{cond};
 ghost use mathlib.Core.List.{_++_, _∷_, List, []};
 ghost use Prim.Native.Nat.{_-_};
+ghost use lib.ListN.{drop};
 ghost use Rattle.plan.specs.Read.{nth, ops};
-ghost use Rattle.plan.specs.Syntax.{and as And, null, truth};
+ghost use Rattle.plan.specs.Syntax.{and as And};
 ghost use Rattle.plan.specs.Values.{Right, Valued, caseOf};
-ghost use Rattle.evaluate.specs.Operators.{Sees, SeesRight, operated, operatedType};
+ghost use Rattle.evaluate.specs.Operators.{Sees, SeesRight, operand, operated, operatedType};
 ghost use Rattle.evaluate.specs.Truths.{valueOf};
 ghost use Rattle.meaning.specs.Meaning as M;
 ghost use Rattle.plan.specs.Syntax as S;
 
-// The first three operands, and whether one after the first equals it: no operator asks for more.
+// The first three operands, and whether one after the first equals it, and whether one is NULL: no operator asks for more.
 pub struct Seen {
     pub count: usize,
     pub first: Value,
     pub second: Value,
     pub third: Value,
     pub equal: bool,
+    pub null: bool,
 }
 
 pub fn no_operands() -> Seen
@@ -58,6 +59,7 @@ pub fn no_operands() -> Seen
         second: none,
         third: none,
         equal: false,
+        null: false,
     }
 }
 
@@ -78,9 +80,11 @@ pub fn with_operand(seen: Seen, v: Value) -> Seen
             second,
             third,
             equal: false,
+            null: false,
         };
     }
     let equal = seen.equal | equals(first, v);
+    let null = seen.null | is_null(v);
     if count == 1 {
         return Seen {
             count: 2,
@@ -88,6 +92,7 @@ pub fn with_operand(seen: Seen, v: Value) -> Seen
             second: v,
             third,
             equal,
+            null,
         };
     }
     if count == 2 {
@@ -97,6 +102,7 @@ pub fn with_operand(seen: Seen, v: Value) -> Seen
             second,
             third: v,
             equal,
+            null,
         };
     }
     Seen {
@@ -105,6 +111,7 @@ pub fn with_operand(seen: Seen, v: Value) -> Seen
         second,
         third,
         equal,
+        null,
     }
 }
 
@@ -122,14 +129,21 @@ fn binary(p: usize, a: Value, b: Value) -> Truth
     and(truth_of(a), truth_of(b))
 }
 
-// UNKNOWN for a NULL operand, TRUE if an item equals it, else FALSE.
-fn in_list(operand: Value, equal: bool) -> Truth
-    ensures { λ r. ⌜ valueOf r ≡ cond (M.isN (caseOf (operand .case))) null (truth equal) ⌝ }
+// UNKNOWN for a NULL operand; else TRUE if an item equals it, and if none does UNKNOWN if an item is NULL, FALSE if none is.
+fn in_list(seen: Seen) -> Truth
+    ensures { λ r. ⌜ ((vs : List S.Value) → Sees seen vs → valueOf r ≡ M.in-list (operand 0 vs) (drop 1 vs)) ⌝ }
 {
+    let operand = seen.first;
     if is_null(operand) {
         return Truth::Unknown;
     }
-    known(equal)
+    if seen.equal {
+        return Truth::True;
+    }
+    if seen.null {
+        return Truth::Unknown;
+    }
+    Truth::False
 }
 
 // What the operator with this label makes of its operands; NULL where it is none, and of a function's type where it is one.
@@ -156,7 +170,7 @@ pub fn operate(l: Label, seen: Seen) -> Value
         return value_of(negated(p == NEGATED, within(first, second, third)));
     }
     if kind == IN_LIST {
-        return value_of(negated(p == NEGATED, in_list(first, seen.equal)));
+        return value_of(negated(p == NEGATED, in_list(seen)));
     }
     if kind == FUNCTION {
         return null_of(l.r);

@@ -6,7 +6,7 @@ use mathlib.Core.List.{List, [], _∷_, _++_, map}
 use lib.ListN.{length, take, drop}
 use lib.IntN.{ℤ, pos}
 use Rattle.plan.specs.Lists.{_&_, keep, flatten}
-use Rattle.plan.specs.Syntax.{Value, null, int, truth, Name, Cmp, le, and, cmp, Expr, bin, between, inlist, Exprs, AggEntry, count, min}
+use Rattle.plan.specs.Syntax.{Value, null, int, truth, Name, Cmp, le, and, cmp, Expr, bin, between, AggEntry, count, min}
 use Rattle.plan.specs.Syntax.{max, left, full, rightAnti, Plan, limit, repartition, union, pnil, pcons}
 use Rattle.meaning.specs.Meaning.{World, Row, Env, compared, sortsBefore, sameV, nulls, joined, aggregated, grouped, eval, rows}
 
@@ -29,12 +29,6 @@ module _ (W : World) (ρ : Env) where
       → eval W ρ (between false a low high) ≡ eval W ρ (bin and (bin (cmp le) low a) (bin (cmp le) a high))
   unfolding eval
   between-is a low high = refl
-
-  -- InList is UNKNOWN for a NULL operand, negated or not
-  pub in-list-null : (n : Bool) (a : Expr) (xs : Exprs) → eval W ρ a ≡ null → eval W ρ (inlist n a xs) ≡ null
-  unfolding eval
-  in-list-null true a xs h = rw h
-  in-list-null false a xs h = rw h
 
 -- ---- plans
 

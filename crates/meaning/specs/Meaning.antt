@@ -121,9 +121,9 @@ compared c a b = cond (comparable a b) (truth (holds c (code a) (code b))) null
 abbrev pub within : Value → Value → Value → Value
 within operand low high = and3 (compared le low operand) (compared le operand high)
 
--- InList is UNKNOWN for a NULL operand, TRUE if an item equals it, else FALSE
+-- InList is UNKNOWN for a NULL operand; else TRUE if an item equals it, and if none does UNKNOWN if an item is NULL, FALSE if none is
 abbrev pub in-list : Value → List Value → Value
-in-list operand items = cond (isN operand) null (truth (any (λ item. isT (compared eq operand item)) items))
+in-list operand items = cond (isN operand) null (tri (any (λ item. isT (compared eq operand item)) items) (not (any isN items)))
 
 -- ---- expressions
 

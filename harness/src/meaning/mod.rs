@@ -326,9 +326,16 @@ mod tests {
         let world = world(&[], &[]);
         let value = |expr: &Tree| world.value(expr, &[], &[]);
         let nothing = || null(OF_INTEGER);
-        assert_eq!(value(&in_list(false, vec![nothing(), integer(1)])), Null);
-        assert_eq!(value(&in_list(false, vec![integer(1), nothing()])), Truth(false));
-        assert_eq!(value(&in_list(true, vec![integer(1), nothing(), integer(1)])), Truth(false));
+        assert_eq!(value(&in_list(false, vec![nothing(), integer(4)])), Null);
+        assert_eq!(value(&in_list(false, vec![nothing(), nothing()])), Null);
+        assert_eq!(value(&in_list(false, vec![integer(5), nothing()])), Null);
+        assert_eq!(value(&in_list(true, vec![integer(5), integer(4), nothing()])), Null);
+        assert_eq!(value(&in_list(true, vec![integer(4), integer(4), nothing()])), Truth(false));
+        assert_eq!(value(&in_list(false, vec![integer(4), nothing(), integer(4)])), Truth(true));
+        assert_eq!(value(&in_list(false, vec![integer(5), integer(4)])), Truth(false));
+        assert_eq!(value(&in_list(true, vec![integer(5), integer(4)])), Truth(true));
+        // a NULL value counts as an item, not only a NULL literal
+        assert_eq!(world.value(&in_list(true, vec![integer(5), column(1, 1)]), &[(1, 1)], &[Null]), Null);
         assert_eq!(value(&between(false, integer(5), nothing(), integer(3))), Truth(false));
         assert_eq!(value(&between(true, integer(2), integer(1), nothing())), Null);
         assert_eq!(value(&binary(OR, null(OF_BOOLEAN), boolean(true))), Truth(true));

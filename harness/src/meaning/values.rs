@@ -69,12 +69,15 @@ pub fn compared(operator: u32, left: Value, right: Value) -> Value {
     })
 }
 
-/// UNKNOWN for a NULL operand, TRUE if an item equals it, else FALSE.
-pub fn in_list(operand: Value, mut items: impl Iterator<Item = Value>) -> Value {
-    if operand == Null {
-        return Null;
+/// UNKNOWN for a NULL operand, TRUE if an item equals it. With no equal item UNKNOWN if any item is NULL, FALSE if none is.
+pub fn in_list(operand: Value, items: impl Iterator<Item = Value>) -> Value {
+    let items: Vec<Value> = items.collect();
+    match operand {
+        Null => Null,
+        _ if items.contains(&operand) => Truth(true),
+        _ if items.contains(&Null) => Null,
+        _ => Truth(false),
     }
-    Truth(items.any(|item| compared(EQ, operand, item) == Truth(true)))
 }
 
 /// The order of two rows' key values: by the first key that tells them apart, NULL last whichever way it sorts.

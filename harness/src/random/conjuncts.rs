@@ -53,6 +53,35 @@ impl Draw<'_> {
         self.compared(operator, &field, literal)
     }
 
+    /// A column looked for among literals, in two of three cases with a NULL among them and now and then a column; or tested for its truth.
+    pub fn listed(&mut self, over: &[Field]) -> Tree {
+        if over.is_empty() {
+            return self.column_free();
+        }
+        let field = *self.random.pick(over);
+        self.spend(5);
+        let mut items: Vec<Tree> = (0..self.random.within(1, 3)).map(|_| self.item(over, field.of)).collect();
+        if self.random.chance(67) {
+            let at = self.random.below(items.len() + 1);
+            items.insert(at, null(field.of));
+        }
+        items.insert(0, field.reference());
+        let list = in_list(self.random.chance(50), items);
+        match self.random.below(4) {
+            0 => test(self.random.within(3, 8) as u32, list),
+            _ => list,
+        }
+    }
+
+    /// A literal, one of few, or a column.
+    fn item(&mut self, over: &[Field], of: u32) -> Tree {
+        match of {
+            _ if self.random.chance(15) => self.leaf(over, of),
+            OF_BOOLEAN => boolean(self.random.chance(50)),
+            _ => integer(self.random.below(4) as i64),
+        }
+    }
+
     /// The column on the left, or the same said with the literal on the left.
     pub fn compared(&mut self, operator: u32, field: &Field, literal: Tree) -> Tree {
         self.spend(3);

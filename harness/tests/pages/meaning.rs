@@ -1,10 +1,11 @@
 //! docs/MEANING.md: plans with their rows, expressions with their values.
 
 use super::{blocks, number, Block};
+use harness::ffi;
 use harness::image::Tree;
 use harness::kinds::*;
 use harness::meaning::{value_on, Row, Value, World};
-use harness::row_tests::types;
+use harness::row_tests::{types, Tested, FALSE, TRUE, UNKNOWN};
 use harness::text::{self, Names};
 use std::collections::{BTreeMap, BTreeSet};
 
@@ -56,13 +57,22 @@ fn assert_fit(place: &str, plan: &Tree, tables: &BTreeMap<u32, Vec<Row>>) {
     }
 }
 
-/// `EXPR -> VALUE`, with no columns.
+/// `EXPR -> VALUE`, with no columns; by the exported row test too, where it is linked.
 fn assert_value(place: &str, item: &str) {
     let (expr, stated) = item.split_once("->").unwrap_or_else(|| panic!("{place}: {item} has no value"));
     let scan = scan(1, vec![]);
     let read = text::read(&format!("Filter {expr}\n  TableScan 1 []"), &Names::NONE)
         .unwrap_or_else(|e| panic!("{place}: {expr}: {e}"));
-    assert_eq!(value_on(&read.plan.children[0], &scan, &[]), value(place, stated.trim()), "{place}: {expr}");
+    let stated = value(place, stated.trim());
+    assert_eq!(value_on(&read.plan.children[0], &scan, &[]), stated, "{place}: {expr}");
+    if let Some(tested) = ffi::row_test(&read.plan.image(), 0, &[], &[]) {
+        let truth = match stated {
+            Value::Truth(false) => FALSE,
+            Value::Truth(true) => TRUE,
+            _ => UNKNOWN,
+        };
+        assert_eq!(tested, Tested { number: 0, record: 0, truth }, "{place}: {expr}");
+    }
 }
 
 #[test]

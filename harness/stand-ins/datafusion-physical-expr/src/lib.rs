@@ -105,15 +105,9 @@ fn compared(op: Operator, left: &ScalarValue, right: &ScalarValue) -> Result<Opt
     }))
 }
 
-/// UNKNOWN for a NULL operand, TRUE if an item equals it, else FALSE. The operand stands before the items.
+/// TRUE if an item equals the operand, FALSE if all differ from it, else UNKNOWN: one of them is NULL, or the operand is, and there is an
+/// item. The operand stands before the items.
 fn in_list(operands: &[ScalarValue]) -> Result<Option<bool>> {
-    let operand = &operands[0];
-    if operand.is_null() {
-        return Ok(None);
-    }
-    let mut found = false;
-    for item in &operands[1..] {
-        found |= compared(Operator::Eq, operand, item)? == Some(true);
-    }
-    Ok(Some(found))
+    let (operand, items) = (&operands[0], &operands[1..]);
+    items.iter().try_fold(Some(false), |found, item| Ok(or(found, compared(Operator::Eq, operand, item)?)))
 }

@@ -1,7 +1,6 @@
 -- `operands::in_list` meets its contract.
-use mathlib.Core.Path.{_∙_}
 use borrow.Author.Needs.{needs}
-use Rattle.meaning.proofs.Cases.{null-case}
+use Rattle.evaluate.proofs.Seeing.{list-seen}
 use Rattle.evaluate.proofs.operands.in_list.Statement.{statement}
 use Rattle.evaluate.proofs.operands.in_list.Tie as tie
 
@@ -10,8 +9,7 @@ in-list-spec =
     tie.close
     (tie.spec
     (λ c κs. search needs)
-    (λ c. let a = c .before .before .args in
-    rw (← c .before .is-null .ensures ∙ null-case (a .operand .case), c .if1 .taken))
-    (λ c κs. search needs)
-    (λ c. let a = c .before .before .before .args in
-    rw (c .known .ensures, ← c .before .before .is-null .ensures ∙ null-case (a .operand .case), c .before .if1 .left)))
+    (λ c. λ vs h. rw (list-seen h (c .before .is-null .ensures), c .if1 .taken))
+    (λ c. λ vs h. rw (list-seen h (c .before .before .is-null .ensures), c .before .if1 .left, c .if2 .taken))
+    (λ c. λ vs h. rw (list-seen h (c .before .before .before .is-null .ensures), c .before .before .if1 .left, c .before .if2 .left, c .if3 .taken))
+    (λ c. λ vs h. rw (list-seen h (c .before .before .before .is-null .ensures), c .before .before .if1 .left, c .before .if2 .left, c .if3 .left)))

@@ -11,5 +11,5 @@ no-operands-spec =
     tie.close (tie.spec (λ c κs. search needs)
     (λ c. rw (c .null-of .ensures) (
       record { first = refl; second = refl; third = refl },
-      record { count = refl; first = refl; second = refl; third = refl; equal = refl },
+      record { count = refl; first = refl; second = refl; third = refl; equal = refl; null = refl },
     )))

@@ -71,7 +71,7 @@ operate-spec =
             (c .before .before .before .if5 .taken) refl;
         value = c .value-of5 .ensures .1 .value ∙ c .before .negated2 .ensures ∙ ap (negate (eqb
             (c .before .before .before .before .before .before .before .before .before .before .before .args .l .p) 1))
-            (c .before .before .in-list .ensures) ∙ by-list h _ _ (c .before .before .before .if5 .taken);
+            (c .before .before .in-list .ensures vs h) ∙ by-list h _ _ (c .before .before .before .if5 .taken);
       },
     ))
     (λ c κs. search needs)
