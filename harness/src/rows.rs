@@ -19,7 +19,8 @@ pub struct RowCounts {
     pub compared: u64,
     pub not_empty: u64,
     pub too_many: u64,
-    /// By the kinds of plans and joins that the plan holds, and by a NULL in its InLists: those of rows that are not empty, and all.
+    /// By the kinds of plans and joins that the plan holds, and by a NULL literal in its InLists: those of rows that are not empty, and
+    /// all.
     kinds: BTreeMap<String, (u64, u64)>,
 }
 
@@ -100,7 +101,7 @@ fn drawn(random: &mut Random, plan: &Tree) -> (World, Option<Vec<Row>>) {
     last
 }
 
-/// A join by its kind, another plan by its name; and an InList with a NULL item.
+/// A join by its kind, another plan by its name; and an InList with a NULL literal among its items.
 fn kind(tree: &Tree) -> Option<String> {
     let has_null_item = || tree.children[1..].iter().any(|item| item.label.kind == NULL);
     match tree.label.kind {

@@ -67,7 +67,7 @@ pub enum Expr {
         /// The upper bound.
         high: Box<Expr>,
     },
-    /// Whether one of the items equals the operand, or its negation. Where none does and one is NULL, UNKNOWN.
+    /// Whether one of the items equals the operand, or its negation. UNKNOWN if the operand is NULL, or if none equals it and one is NULL.
     InList {
         /// Whether it is NOT IN.
         negated: bool,

@@ -38,7 +38,7 @@ ghost use Rattle.evaluate.specs.Truths.{valueOf};
 ghost use Rattle.meaning.specs.Meaning as M;
 ghost use Rattle.plan.specs.Syntax as S;
 
-// The first three operands, and whether one after the first equals it, and whether one is NULL: no operator asks for more.
+// The first three operands, and of those after the first whether one equals it and whether one is NULL: no operator asks for more.
 pub struct Seen {
     pub count: usize,
     pub first: Value,

@@ -1,24 +1,37 @@
 -- InList: the rules of docs/MEANING.md, each as a law, and that it is ISO/IEC 9075's.
---     not-in-with-null    the example of docs/MEANING.md, computed
+--     not-in-with-null, not-in-with-column    examples, computed
 --     in-list-null, in-list-negated   UNKNOWN for a NULL operand; NOT
 --     not-in-never-true   of a list with a NULL item
---     in-list-equal, in-list-gap, in-list-no-gap      for another operand: by an equal item, else by a NULL one
---     in-list-none, in-list-or        the OR of Eq with each item
+--     in-list-equal, in-list-gap, in-list-no-gap      for an operand that is not NULL: by an equal item, else by a NULL one
+--     in-list-one, in-list-or     the OR of Eq with each item
 -- Assumes nothing.
-use mathlib.Core.Path.{_≡_, refl, sym, ap, _∙_}
+use Prim.Native.Nat.{ℕ}
+use mathlib.Core.Path.{_≡_, refl}
 use mathlib.Core.Bool.{Bool, true, false, not, _||_, cond}
 use mathlib.Core.List.{List, [], _∷_, map}
+use native.Mathlib.Omega.{arith}
+use lib.Dec.{eqb}
 use lib.IntN.{pos}
 use Rattle.plan.specs.Lists.{_&_, any}
-use Rattle.plan.specs.Syntax.{Value, null, int, truth, eq, Expr, inlist, Exprs}
-use Rattle.meaning.specs.Meaning.{World, Env, isT, isN, tri, or3, not3, code, holds, comparable, compared, in-list, eval, evals}
-use Rattle.meaning.proofs.Sentences.{compared-null}
+use Rattle.plan.specs.Syntax.{integerType, Value, null, int, truth, eq, Name, Expr, col, num, nul, inlist, Exprs, enil, econs}
+use Rattle.meaning.specs.Meaning.{World, Env, isT, isN, tri, or3, not3, kindOf, code, holds, compared, in-list, eval, evals}
 
--- NOT IN (4, NULL) for 4, 5 and NULL
-pub not-in-with-null : map (λ v. not3 (in-list v (int (pos 4) ∷ null ∷ []))) (int (pos 4) ∷ int (pos 5) ∷ null ∷ [])
-    ≡ truth false ∷ null ∷ null ∷ []
-unfolding any _&_
-not-in-with-null = refl
+-- the values 3, 4, 5 and NULL of a column
+abbrev column-values : List Value
+column-values = int (pos 3) ∷ int (pos 4) ∷ int (pos 5) ∷ null ∷ []
+
+module _ (W : World) (c : Name) where
+  -- c NOT IN (4, NULL)
+  pub not-in-with-null : map (λ v. eval W (λ x. v) (inlist true (col c) (econs (num (pos 4)) (econs (nul integerType) enil)))) column-values
+      ≡ null ∷ truth false ∷ null ∷ null ∷ []
+  unfolding any _&_ eval
+  not-in-with-null = refl
+
+  -- 5 NOT IN (c, 4): an item is NULL by its value
+  pub not-in-with-column : map (λ v. eval W (λ x. v) (inlist true (num (pos 5)) (econs (col c) (econs (num (pos 4)) enil)))) column-values
+      ≡ truth true ∷ truth true ∷ truth false ∷ null ∷ []
+  unfolding any _&_ eval
+  not-in-with-column = refl
 
 module _ (W : World) (ρ : Env) where
   -- InList is UNKNOWN for a NULL operand, negated or not
@@ -65,43 +78,53 @@ module _ (W : World) (ρ : Env) where
     unfolding eval
     in-list-no-gap e g = rw (e, g, h)
 
--- InList is ISO/IEC 9075's, for an operand that is not NULL and items that are NULL or of its type: FALSE of no items, and with one item
--- more the OR with its Eq
-module _ (a : Value) (h : isN a ≡ false) where
-  abbrev equal : List Value → Bool
-  equal items = any (λ item. isT (compared eq a item)) items
+-- ---- InList is ISO/IEC 9075's: Eq with one item, and with one item more the OR with its Eq
 
-  known : (items : List Value) → in-list a items ≡ tri (equal items) (not (any isN items))
-  known items = ap (λ (b : Bool). cond b null (tri (equal items) (not (any isN items)))) h
+-- one of them is NULL, or both are of one type
+abbrev alike : Value → Value → Bool
+alike a b = isN a || (isN b || eqb (kindOf a) (kindOf b))
 
-  pub in-list-none : in-list a [] ≡ truth false
-  unfolding any
-  in-list-none = known []
+abbrev equal-to : Value → List Value → Bool
+equal-to a items = any (λ item. isT (compared eq a item)) items
 
-  -- what a NULL item, and what another, adds to an OR
-  or-null : (e n : Bool) {c : Value} → c ≡ null → tri (isT c || e) (not true) ≡ or3 c (tri e (not n))
-  unfolding _&_
-  or-null true n is = rw is refl
-  or-null false true is = rw is refl
-  or-null false false is = rw is refl
+never : {X : Type 0} → false ≡ true → X
+never e = let z : _≡_ {A = ℕ} 0 1 = cc in absurd (omega arith)
 
-  or-truth : (x e n : Bool) {c : Value} → c ≡ truth x → tri (isT c || e) (not n) ≡ or3 c (tri e (not n))
-  unfolding _&_
-  or-truth true e n is = rw is refl
-  or-truth false true n is = rw is refl
-  or-truth false false true is = rw is refl
-  or-truth false false false is = rw is refl
+as-truth : (x : Bool) → tri (x || false) true ≡ truth x
+as-truth true = refl
+as-truth false = refl
 
-  pub in-list-or : (item : Value) (items : List Value) → (isN item || comparable a item) ≡ true
-      → in-list a (item ∷ items) ≡ or3 (compared eq a item) (in-list a items)
-  unfolding any
-  in-list-or item items t = known (item ∷ items) ∙ more item t ∙ sym (ap (or3 (compared eq a item)) (known items))
-    where
-      as-compared : (v : Value) → comparable a v ≡ true → compared eq a v ≡ truth (holds eq (code a) (code v))
-      as-compared v t = ap (λ (b : Bool). cond b (truth (holds eq (code a) (code v))) null) t
+or-null : (e n : Bool) → tri e false ≡ or3 null (tri e (not n))
+unfolding _&_
+or-null true n = refl
+or-null false true = refl
+or-null false false = refl
 
-      more : (v : Value) → (isN v || comparable a v) ≡ true
-          → tri (equal (v ∷ items)) (not (any isN (v ∷ items))) ≡ or3 (compared eq a v) (tri (equal items) (not (any isN items)))
-      more null t = or-null (equal items) (any isN items) (compared-null eq a)
-      more (int z) t = or-truth (holds eq (code a) z) (equal items) (any isN items) (as-compared (int z) t)
-      more (truth b) t = or-truth (holds eq (code a) (code (truth b))) (equal items) (any isN items) (as-compared (truth b) t)
+or-truth : (x e n : Bool) → tri (x || e) (not n) ≡ or3 (truth x) (tri e (not n))
+unfolding _&_
+or-truth true e n = refl
+or-truth false true n = refl
+or-truth false false true = refl
+or-truth false false false = refl
+
+pub in-list-one : (a item : Value) → alike a item ≡ true → in-list a (item ∷ []) ≡ compared eq a item
+unfolding any _&_
+in-list-one null item t = refl
+in-list-one (int z) null t = refl
+in-list-one (int z) (int w) t = as-truth (holds eq z w)
+in-list-one (int z) (truth b) t = never t
+in-list-one (truth c) null t = refl
+in-list-one (truth c) (int w) t = never t
+in-list-one (truth c) (truth b) t = as-truth (holds eq (code (truth c)) (code (truth b)))
+
+pub in-list-or : (a item next : Value) (items : List Value) → alike a item ≡ true
+    → in-list a (item ∷ next ∷ items) ≡ or3 (compared eq a item) (in-list a (next ∷ items))
+unfolding any _&_
+in-list-or null item next items t = refl
+in-list-or (int z) null next items t = or-null (equal-to (int z) (next ∷ items)) (any isN (next ∷ items))
+in-list-or (int z) (int w) next items t = or-truth (holds eq z w) (equal-to (int z) (next ∷ items)) (any isN (next ∷ items))
+in-list-or (int z) (truth b) next items t = never t
+in-list-or (truth c) null next items t = or-null (equal-to (truth c) (next ∷ items)) (any isN (next ∷ items))
+in-list-or (truth c) (int w) next items t = never t
+in-list-or (truth c) (truth b) next items t =
+    or-truth (holds eq (code (truth c)) (code (truth b))) (equal-to (truth c) (next ∷ items)) (any isN (next ∷ items))

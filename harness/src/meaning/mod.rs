@@ -334,7 +334,7 @@ mod tests {
         assert_eq!(value(&in_list(false, vec![integer(4), nothing(), integer(4)])), Truth(true));
         assert_eq!(value(&in_list(false, vec![integer(5), integer(4)])), Truth(false));
         assert_eq!(value(&in_list(true, vec![integer(5), integer(4)])), Truth(true));
-        // a NULL value counts as an item, not only a NULL literal
+        // an item is NULL by its value, not only as a literal
         assert_eq!(world.value(&in_list(true, vec![integer(5), column(1, 1)]), &[(1, 1)], &[Null]), Null);
         assert_eq!(value(&between(false, integer(5), nothing(), integer(3))), Truth(false));
         assert_eq!(value(&between(true, integer(2), integer(1), nothing())), Null);

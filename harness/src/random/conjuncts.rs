@@ -53,7 +53,8 @@ impl Draw<'_> {
         self.compared(operator, &field, literal)
     }
 
-    /// A column looked for among literals, in two of three cases with a NULL among them and now and then a column; or tested for its truth.
+    /// A column looked for among literals, now and then columns, in two of three cases with a NULL among them; one in four under a test
+    /// of its truth.
     pub fn listed(&mut self, over: &[Field]) -> Tree {
         if over.is_empty() {
             return self.column_free();

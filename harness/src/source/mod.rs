@@ -65,7 +65,46 @@ fn merged_filters(node: &Tree, lists: Vec<Vec<Expr>>) -> Vec<Tree> {
 #[cfg(test)]
 mod tests {
     use super::*;
-    use crate::random::{accepted, size, Random};
+    use crate::kinds::{field, scan, FUNCTION, OF_BOOLEAN, OF_INTEGER};
+    use crate::meaning::{value_on, Value};
+    use crate::random::{accepted, size, Draw, Field, Random};
+    use arrow::array::RecordBatch;
+    use arrow::datatypes::Schema;
+    use datafusion_common::ScalarValue;
+    use datafusion_expr::ColumnarValue;
+    use datafusion_physical_expr::create_physical_expr;
+    use std::sync::Arc;
+
+    /// On NULL columns the stand-in that the source asks for a predicate's value has the meaning's.
+    #[test]
+    fn the_stand_in_gives_predicates_their_meaning() {
+        let fields = [(1, OF_INTEGER), (2, OF_BOOLEAN)].map(|(name, of)| Field { qualifier: 1, name, of });
+        let input = scan(1, fields.map(|Field { qualifier, name, of }| field(qualifier, name, of, false)).to_vec());
+        let of_input = into_plan::plan(&input);
+        let batch = RecordBatch::try_new(Arc::new(Schema::new(vec![])), vec![]).expect("a batch");
+        let mut met = [0; 3];
+        for case in 0..20_000 {
+            let random = &mut Random::of_case(7, case);
+            let mut draw = Draw::new(random, 40);
+            let predicate = if case % 2 == 0 { draw.listed(&fields) } else { draw.expr(&fields, OF_BOOLEAN, 3) };
+            if predicate.parent_first().iter().any(|(_, tree)| tree.label.kind == FUNCTION) {
+                continue;
+            }
+            let expr = into_plan::expr(&predicate);
+            let physical = create_physical_expr(&expr, of_input.schema(), &Default::default(), &Default::default());
+            let found = match physical.and_then(|physical| physical.evaluate(&batch)) {
+                Ok(ColumnarValue::Scalar(ScalarValue::Boolean(Some(truth)))) => Value::Truth(truth),
+                Ok(ColumnarValue::Scalar(ScalarValue::Boolean(None) | ScalarValue::Null)) => Value::Null,
+                _ => panic!("{expr} has no truth"),
+            };
+            assert_eq!(found, value_on(&predicate, &input, &[Value::Null, Value::Null]), "{expr}");
+            met[match found {
+                Value::Truth(truth) => usize::from(truth),
+                _ => 2,
+            }] += 1;
+        }
+        assert!(met.iter().all(|&count| count > 1000), "{met:?}");
+    }
 
     #[test]
     fn a_plan_comes_back_as_it_was() {
