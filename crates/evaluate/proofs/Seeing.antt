@@ -1,6 +1,7 @@
 -- Laws of operands as the code sees them, and of what operators make of them.
 --     seen-first, seen-more       one operand more
 --     by-binary, by-not, ..       what the operator of a kind makes of what is seen
+--     list-seen                   InList, by what is seen of the items
 -- Assumes nothing.
 use mathlib.Core.Path.{_≡_, refl, _∙_}
 use mathlib.Core.Bool.{Bool, true, false, not, _&&_, _||_, cond}
@@ -117,7 +118,6 @@ as-cmp p v w e =
     let q : suc (p - 1) ≡ p = omega arith in
     rw (some-cmp (p - 1) (omega arith) (omega arith), q)
 
--- InList, by what is seen
 pub list-seen : {s : Seen} {vs : List Value} {n : Bool} → Sees s vs → n ≡ caseNull (s .first .case)
     → in-list (operand 0 vs) (drop 1 vs) ≡ cond n null (tri (s .equal) (not (s .null)))
 list-seen {s = s} h e = rw (← h .equal, ← h .null, ← h .first, ← null-case (s .first .case), ← e)

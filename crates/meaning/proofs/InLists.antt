@@ -5,14 +5,13 @@
 --     in-list-equal, in-list-gap, in-list-no-gap      for an operand that is not NULL: by an equal item, else by a NULL one
 --     in-list-one, in-list-or     the OR of Eq with each item
 -- Assumes nothing.
-use Prim.Native.Nat.{ℕ}
 use mathlib.Core.Path.{_≡_, refl}
 use mathlib.Core.Bool.{Bool, true, false, not, _||_, cond}
 use mathlib.Core.List.{List, [], _∷_, map}
-use native.Mathlib.Omega.{arith}
 use lib.Dec.{eqb}
 use lib.IntN.{pos}
 use Rattle.plan.specs.Lists.{_&_, any}
+use Rattle.plan.proofs.Bools.{no-yes}
 use Rattle.plan.specs.Syntax.{integerType, Value, null, int, truth, eq, Name, Expr, col, num, nul, inlist, Exprs, enil, econs}
 use Rattle.meaning.specs.Meaning.{World, Env, isT, isN, tri, or3, not3, kindOf, code, holds, compared, in-list, eval, evals}
 
@@ -33,6 +32,10 @@ module _ (W : World) (c : Name) where
   unfolding any _&_ eval
   not-in-with-column = refl
 
+-- whether an item equals the operand
+abbrev equal-to : Value → List Value → Bool
+equal-to operand items = any (λ item. isT (compared eq operand item)) items
+
 module _ (W : World) (ρ : Env) where
   -- InList is UNKNOWN for a NULL operand, negated or not
   pub in-list-null : (n : Bool) (a : Expr) (xs : Exprs) → eval W ρ a ≡ null → eval W ρ (inlist n a xs) ≡ null
@@ -48,7 +51,7 @@ module _ (W : World) (ρ : Env) where
   -- with a NULL item NOT IN is never TRUE, whatever the operand
   pub not-in-never-true : (a : Expr) (xs : Exprs) → any isN (evals W ρ xs) ≡ true → isT (eval W ρ (inlist true a xs)) ≡ false
   unfolding eval
-  not-in-never-true a xs g = rw g (go (isN (eval W ρ a)) (any (λ item. isT (compared eq (eval W ρ a) item)) (evals W ρ xs)))
+  not-in-never-true a xs g = rw g (go (isN (eval W ρ a)) (equal-to (eval W ρ a) (evals W ρ xs)))
     where
       go : (n e : Bool) → isT (not3 (cond n null (tri e (not true)))) ≡ false
       go true e = refl
@@ -58,7 +61,7 @@ module _ (W : World) (ρ : Env) where
   -- for an operand that is not NULL
   module _ (a : Expr) (xs : Exprs) (h : isN (eval W ρ a) ≡ false) where
     abbrev an-equal-item : Bool
-    an-equal-item = any (λ item. isT (compared eq (eval W ρ a) item)) (evals W ρ xs)
+    an-equal-item = equal-to (eval W ρ a) (evals W ρ xs)
 
     abbrev a-null-item : Bool
     a-null-item = any isN (evals W ρ xs)
@@ -84,12 +87,6 @@ module _ (W : World) (ρ : Env) where
 abbrev alike : Value → Value → Bool
 alike a b = isN a || (isN b || eqb (kindOf a) (kindOf b))
 
-abbrev equal-to : Value → List Value → Bool
-equal-to a items = any (λ item. isT (compared eq a item)) items
-
-never : {X : Type 0} → false ≡ true → X
-never e = let z : _≡_ {A = ℕ} 0 1 = cc in absurd (omega arith)
-
 as-truth : (x : Bool) → tri (x || false) true ≡ truth x
 as-truth true = refl
 as-truth false = refl
@@ -112,9 +109,9 @@ unfolding any _&_
 in-list-one null item t = refl
 in-list-one (int z) null t = refl
 in-list-one (int z) (int w) t = as-truth (holds eq z w)
-in-list-one (int z) (truth b) t = never t
+in-list-one (int z) (truth b) t = no-yes t
 in-list-one (truth c) null t = refl
-in-list-one (truth c) (int w) t = never t
+in-list-one (truth c) (int w) t = no-yes t
 in-list-one (truth c) (truth b) t = as-truth (holds eq (code (truth c)) (code (truth b)))
 
 pub in-list-or : (a item next : Value) (items : List Value) → alike a item ≡ true
@@ -123,8 +120,8 @@ unfolding any _&_
 in-list-or null item next items t = refl
 in-list-or (int z) null next items t = or-null (equal-to (int z) (next ∷ items)) (any isN (next ∷ items))
 in-list-or (int z) (int w) next items t = or-truth (holds eq z w) (equal-to (int z) (next ∷ items)) (any isN (next ∷ items))
-in-list-or (int z) (truth b) next items t = never t
+in-list-or (int z) (truth b) next items t = no-yes t
 in-list-or (truth c) null next items t = or-null (equal-to (truth c) (next ∷ items)) (any isN (next ∷ items))
-in-list-or (truth c) (int w) next items t = never t
+in-list-or (truth c) (int w) next items t = no-yes t
 in-list-or (truth c) (truth b) next items t =
     or-truth (holds eq (code (truth c)) (code (truth b))) (equal-to (truth c) (next ∷ items)) (any isN (next ∷ items))
