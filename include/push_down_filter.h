@@ -77,8 +77,8 @@ enum {
     PUSH_DOWN_FILTER_KIND_NOT = 6,             /* operand */
     PUSH_DOWN_FILTER_KIND_TEST = 7,            /* p test; operand */
     PUSH_DOWN_FILTER_KIND_BETWEEN = 8,         /* p 0 or NEGATED; operand, low, high */
-    PUSH_DOWN_FILTER_KIND_IN_LIST = 9,         /* p 0 or NEGATED; operand, one or more items; if none of them equals the operand and one
-                                                  is NULL it is UNKNOWN, so NOT IN a list with a NULL is never TRUE */
+    PUSH_DOWN_FILTER_KIND_IN_LIST = 9,         /* p 0 or NEGATED; operand, one or more items. UNKNOWN if the operand is NULL, or if no
+                                                  item equals it and one is NULL: NOT IN a list with a NULL is never TRUE */
     PUSH_DOWN_FILTER_KIND_FUNCTION = 10,       /* p number, q marks, r type; any arguments */
     /* plans */
     PUSH_DOWN_FILTER_KIND_TABLE_SCAN = 32,     /* p table; fields, filters */

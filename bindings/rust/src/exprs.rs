@@ -259,12 +259,19 @@ impl Expr {
         Expr::InList { negated, operand: Box::new(self), items: items.into_iter().map(Into::into).collect() }
     }
 
-    /// `self IN (items)`, of which there must be one or more.
+    /// `self IN (items)`, of which there must be one or more. UNKNOWN if `self` is NULL, or if no item equals it and one is NULL.
     pub fn in_list<I: Into<Expr>>(self, items: impl IntoIterator<Item = I>) -> Expr {
         self.listed(false, items)
     }
 
-    /// `self NOT IN (items)`, of which there must be one or more. With a NULL among them it is never TRUE.
+    /// `self NOT IN (items)`, the NOT of [`in_list`](Expr::in_list): with a NULL among the items it is FALSE or UNKNOWN, never TRUE.
+    ///
+    /// ```
+    /// use push_down_filter::{col, field, lit, null, scan, Names, Type::Integer};
+    ///
+    /// let plan = scan(1, [field(1, 1, Integer)]).filter(col(1, 1).not_in_list([lit(4), null(Integer)]));
+    /// assert_eq!(plan.to_text(&Names::NONE), "Filter t1.c1 NOT IN (4, NULL:int)\n  TableScan 1 [t1.c1:int]\n");
+    /// ```
     pub fn not_in_list<I: Into<Expr>>(self, items: impl IntoIterator<Item = I>) -> Expr {
         self.listed(true, items)
     }
