@@ -18,7 +18,8 @@ with-operand-spec = tie.close (tie.spec
     ))
     (λ c. let a = c .before .before .before .before .before .before .before .before .before .before in (
       record { first = a .pre .0 .first; second = a .pre .0 .second; third = a .pre .1 },
-      λ vs h. seen-third (a .args .v) (c .before .before .before .before .before .equals .ensures) (c .before .before .before .is-null .ensures) vs h (c .if3 .taken),
+      λ vs h. seen-third (a .args .v) (c .before .before .before .before .before .equals .ensures) (c .before .before .before .is-null .ensures) vs h
+          (c .if3 .taken),
     ))
     (λ c. let a = c .before .before .before .before .before .before .before .before .before .before in (
       record { first = a .pre .0 .first; second = a .pre .0 .second; third = a .pre .0 .third },
