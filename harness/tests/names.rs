@@ -8,7 +8,7 @@ use std::fs;
 use std::path::{Path, PathBuf};
 
 const PAGES: &str = "README.md docs/FORMAT.md docs/MEANING.md docs/REWRITE.md docs/GLOSSARY.md docs/TRUST.md \
-    docs/PORT.md docs/DECISIONS.md docs/DIFFERENCES.md docs/SPEED.md docs/PROGRAMS.md harness/README.md \
+    docs/PORT-OTHER.md docs/DECISIONS.md docs/DIFFERENCES.md docs/SPEED.md docs/PROGRAMS.md harness/README.md \
     bindings/rust/README.md tools/plan/README.md examples/plans/README.md packaging/README.md \
     CONTRIBUTING.md SECURITY.md CHANGELOG.md";
 const SOURCES: [&str; 12] =

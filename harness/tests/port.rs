@@ -1,4 +1,4 @@
-//! docs/PORT.md is true: each name of a row stands in the file that the row gives, and every function of the source has a row.
+//! docs/PORT-OTHER.md is true: each name of a row stands in the file that the row gives, and every function of the source has a row.
 
 use std::collections::BTreeSet;
 use std::fs;
@@ -99,7 +99,7 @@ fn check_places(definition: &str, code: &str) -> usize {
 
 #[test]
 fn every_row_is_there() {
-    let port = read("docs/PORT.md");
+    let port = read("docs/PORT-OTHER.md");
     let (mut count, mut names) = (0, 0);
     for section in port.split("\n## ").skip(1) {
         let file = section.lines().next().unwrap();
@@ -135,7 +135,7 @@ fn every_row_is_there() {
             for word in ["fn ", "pub fn ", "pub(crate) fn ", "struct ", "pub struct ", "pub(crate) struct "] {
                 if let Some(rest) = line.strip_prefix(word) {
                     let name = rest.split(|c: char| !c.is_alphanumeric() && c != '_').next().unwrap();
-                    assert!(told.contains(name), "{file}: {name} has no row in docs/PORT.md");
+                    assert!(told.contains(name), "{file}: {name} has no row in docs/PORT-OTHER.md");
                 }
             }
         }
