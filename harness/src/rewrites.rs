@@ -108,31 +108,13 @@ fn drawn_for_check(random: &mut Random) -> Tree {
     accepted(random, records).plan
 }
 
-/// Two to five Filters over a small plan; in one of five such plans predicates may differ in the links of their records alone.
+/// Two to five Filters over a small plan.
 fn stacked(random: &mut Random) -> Tree {
     let (aim, records) = (aim(random), random.within(1, 25));
     let input = drawn_for(aim, random, records);
     let mut draw = Draw::for_aim(aim, random, 200);
-    let (filters, linked) = (draw.random.within(2, 5), draw.random.chance(20));
-    (0..filters).fold(input.plan, |plan, _| {
-        let drawn = draw.conjunction(&input.fields);
-        let predicate = if linked { binary(AND, called(draw.random), drawn) } else { drawn };
-        filter(predicate, plan)
-    })
-}
-
-/// A function over others, five in all: the same labels in the same order, whatever the links are.
-fn called(random: &mut Random) -> Tree {
-    let call = |arguments: Vec<Tree>| function(2, 0, OF_INTEGER, arguments);
-    let (none, one) = (call(vec![]), call(vec![call(vec![])]));
-    let arguments = match random.below(5) {
-        0 => vec![none.clone(), none.clone(), none.clone(), none],
-        1 => vec![one.clone(), one],
-        2 => vec![call(vec![one]), none],
-        3 => vec![none, call(vec![one])],
-        _ => vec![call(vec![none.clone(), none.clone(), none])],
-    };
-    function(1, 0, OF_BOOLEAN, arguments)
+    let filters = draw.random.within(2, 5);
+    (0..filters).fold(input.plan, |plan, _| filter(draw.conjunction(&input.fields), plan))
 }
 
 /// InLists, most of them with a NULL among their items, over a small plan or a join.

@@ -73,14 +73,7 @@ fn ordinary() -> Vec<Set> {
 }
 
 /// Plans that make the rewrite work hard.
-const HARD_TO_REWRITE: [(&str, Build); 6] = [
-    ("stacked-filters-30", |_| stacked(30, 1, by_last_item)),
-    ("stacked-filters-60", |_| stacked(60, 1, by_last_item)),
-    ("stacked-filters", |_| stacked(120, 1, by_last_item)),
-    ("stacked-links", |_| stacked(120, 1, by_links)),
-    ("stacked-bounds", |_| stacked(120, COLUMNS, by_column)),
-    ("growing", growing),
-];
+const HARD_TO_REWRITE: [(&str, Build); 2] = [("stacked-filters", stacked_filters), ("growing", growing)];
 
 /// Sets for the rewrite: the ordinary plans, plans with Filters everywhere, of which the largest have room to grow, and the
 /// hard ones.
@@ -151,39 +144,15 @@ fn deep_filters(size: Size) -> Tree {
     referring(size, 1, size.fields, chain)
 }
 
-/// So many Filters over each other, which merge one by one.
-fn stacked(levels: usize, fields: usize, predicate: fn(usize) -> Tree) -> Tree {
-    (0..levels).fold(table(1, 1, fields, 0), |input, level| filter(predicate(level), input))
-}
-
-/// The columns of the bounds.
-const COLUMNS: usize = 60;
-
-/// Bounds of one column after another: simplifying groups them by column.
-fn by_column(level: usize) -> Tree {
-    binary(GT, column(1, (level % COLUMNS) as u32 + 1), integer(level as i64))
-}
-
-/// InLists that differ in the last item alone: to tell two apart all of both must be read.
-fn by_last_item(level: usize) -> Tree {
-    const ITEMS: usize = 13;
-    let numbers = (0..ITEMS).map(|item| integer((item + level * usize::from(item + 1 == ITEMS)) as i64));
-    in_list(false, std::iter::once(column(1, 1)).chain(numbers).collect())
-}
-
-/// Functions of as many records, with the same labels in the same order: each but the first is the argument of the one before it, or stands
-/// beside it, by the bits of `level` in the last of them.
-fn by_links(level: usize) -> Tree {
-    const ARGUMENTS: usize = 14;
-    let call = |arguments: Vec<Tree>| function(2, 0, OF_INTEGER, arguments);
-    let arguments = (1..ARGUMENTS).fold(vec![call(vec![])], |mut behind: Vec<Tree>, place| {
-        if place < 8 && level >> (place - 1) & 1 == 1 {
-            return vec![call(behind)];
-        }
-        behind.insert(0, call(vec![]));
-        behind
-    });
-    function(1, 0, OF_BOOLEAN, arguments)
+/// Filters over each other, nearly as many as a list holds, no two with the same predicate: they merge one by one.
+fn stacked_filters(size: Size) -> Tree {
+    let levels = size.list - 8;
+    let items = size.records / levels - 4;
+    let predicate = |level: usize| {
+        let numbers = (0..items).map(|item| integer((item + level * usize::from(item + 1 == items)) as i64));
+        in_list(false, std::iter::once(column(1, 1)).chain(numbers).collect())
+    };
+    (0..levels).fold(table(1, 1, 1, 0), |input, level| filter(predicate(level), input))
 }
 
 /// A Filter that refers again and again to a Projection's entry of half of the records: it would grow to half a million.

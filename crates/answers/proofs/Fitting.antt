@@ -1,6 +1,6 @@
 -- Test 11 on what was written, and the answer's bytes.
 --     list_back                                   the lists of a plan with another in the place of one
---     fits_over, fits_long, fits_is               when such a plan fits
+--     fits_over, fits_deep, fits_long, fits_all   when such a plan fits
 --     flattened, answered                         it can be linked, and then its image is there
 -- Assumes nothing.
 use mathlib.Core.Path.{◌≡◌, refl, sym, ◌∙◌}
@@ -22,7 +22,6 @@ use Rattle.image.proofs.Writing.{bytes_of_length}
 use Rattle.image.proofs.Room.{cap_is}
 use Rattle.image.proofs.RoundTrip.{enc_length}
 use Rattle.plan.specs.Lists.{◌&◌}
-use Rattle.plan.proofs.Lists.{and_false}
 use Rattle.plan.specs.Syntax.{Plan}
 use Rattle.plan.specs.Trees.{plan_tree}
 use Rattle.plan.specs.Measure.{depth_t, size_p, depth_p}
@@ -56,22 +55,14 @@ over (through_limit i j) = record { own = 0; is = λ x. omega arith }
 over (through_aggregate gs ags) = record { own = 0; is = λ x. omega arith }
 over (through_window ws) = record { own = 0; is = λ x. omega arith }
 
--- with another in the place of one: the other's measure is reached, and none but what was there and the other's
-pub record Among (old new other : ℕ) : Type 0 where
-  pub low : other ≤ new
-  pub high : new ≤ larger old other
-
--- where the old measure was within a limit, the new one is exactly if the other's is
-pub decided : {old new other : ℕ} → Among old new other → (most : ℕ) → old ≤ most → leb new most ≡ leb other most
-decided {new = new} {other} h most le = go (leb other most) refl
-  where
-    go : (b : Bool) → leb other most ≡ b → leb new most ≡ leb other most
-    go true g = le-leb new most (omega (arith, h.high, leb-true other most g)) ∙ sym g
-    go false g = lt-leb new most (omega (arith, h.low, leb-false other most g)) ∙ sym g
+-- with another in the place of one: those of the other are among them, and there are no more than were there and those of the other
+record WithinLists (old new other : ℕ) : Type 0 where
+  low : other ≤ new
+  high : new ≤ larger old other
 
 abbrev Listed : Plan → Place → Type 0
-Listed q (one p c) = Among (list_p p) (list_p (c.back q)) (list_p q)
-Listed q (all ps c) = Among (list_ps ps) (list_ps (c.back q)) (list_p q)
+Listed q (one p c) = WithinLists (list_p p) (list_p (c.back q)) (list_p q)
+Listed q (all ps c) = WithinLists (list_ps ps) (list_ps (c.back q)) (list_p q)
 
 listed : {n : ℕ} {x : Place} → Within n x → (q : Plan) → Listed q x
 unfolding list_p
@@ -86,9 +77,21 @@ listed (later p h) q = let k = listed h q in record { low = omega (arith, k.low)
 -- where the lists of the whole were within a limit, they are again exactly if those of the new plan are
 pub list_back : (p : Plan) (n : ℕ) (c : Focus) → focus n p ≡ some c → (q : Plan) (most : ℕ) → list_p p ≤ most
     → leb (list_p (c.back q)) most ≡ leb (list_p q) most
-list_back p n c e q most le = decided (listed (focus_within p n c e) q) most le
+list_back p n c e q most le = go (leb (list_p q) most) refl
+  where
+    h : WithinLists (list_p p) (list_p (c.back q)) (list_p q)
+    h = listed (focus_within p n c e) q
+
+    go : (b : Bool) → leb (list_p q) most ≡ b → leb (list_p (c.back q)) most ≡ leb (list_p q) most
+    go true g = le-leb _ most (omega (arith, h.high, leb-true (list_p q) most g)) ∙ sym g
+    go false g = lt-leb _ most (omega (arith, h.low, leb-false (list_p q) most g)) ∙ sym g
 
 -- ---- whether a plan fits
+
+and_false : (b : Bool) → (b & false) ≡ false
+unfolding ◌&◌
+and_false true = refl
+and_false false = refl
 
 -- too many records
 pub fits_over : {out : List ℕ} {n : ℕ} (p : Plan) → Begun out n (plan_tree p) → max_records < n → within_limits p ≡ false
@@ -96,7 +99,7 @@ unfolding within_limits size_p ◌&◌ cap
 fits_over {n = n} p h many = rw (lt-leb (size_t (plan_tree p)) max_records (omega (arith, h.count)))
 
 -- too deep
-fits_deep : (p : Plan) → leb (depth_t (plan_tree p)) max_depth ≡ false → within_limits p ≡ false
+pub fits_deep : (p : Plan) → leb (depth_t (plan_tree p)) max_depth ≡ false → within_limits p ≡ false
 unfolding within_limits depth_p ◌&◌
 fits_deep p h = rw (h, and_false (leb (size_p p) max_records))
 
@@ -106,19 +109,10 @@ unfolding within_limits
 fits_long p h = rw (h, and_false (leb (depth_p p) max_depth), and_false (leb (size_p p) max_records))
 
 -- within all limits
-fits_all : {out : List ℕ} {n : ℕ} (p : Plan) → Begun out n (plan_tree p) → n ≤ max_records → leb (depth_t (plan_tree p)) max_depth ≡ true
+pub fits_all : {out : List ℕ} {n : ℕ} (p : Plan) → Begun out n (plan_tree p) → n ≤ max_records → leb (depth_t (plan_tree p)) max_depth ≡ true
     → leb (list_p p) max_list ≡ true → within_limits p ≡ true
 unfolding within_limits size_p depth_p ◌&◌
 fits_all {n = n} p h few deep lists = rw (deep, lists, le-leb (size_t (plan_tree p)) max_records (counted _ n h.count few))
-
--- where its records and its lists are within the limits, a plan fits exactly if its depth is
-pub fits_is : {out : List ℕ} {n : ℕ} (p : Plan) → Begun out n (plan_tree p) → n ≤ max_records → leb (list_p p) max_list ≡ true
-    → leb (depth_t (plan_tree p)) max_depth ≡ within_limits p
-fits_is p b few lists = go (leb (depth_t (plan_tree p)) max_depth) refl
-  where
-    go : (d : Bool) → leb (depth_t (plan_tree p)) max_depth ≡ d → d ≡ within_limits p
-    go true e = sym (fits_all p b few e lists)
-    go false e = sym (fits_deep p e)
 
 -- ---- what was written
 

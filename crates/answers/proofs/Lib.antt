@@ -5,4 +5,3 @@ pub mod Whole
 pub mod Noting
 pub mod Splice
 pub mod Fitting
-pub mod Deepened

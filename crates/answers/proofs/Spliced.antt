@@ -1,5 +1,4 @@
 -- A plan with another in the place of one of its plans, on flat bytes: what stands before it and behind it stays.
---     level_at    how deep the plan at a record stands
 --     split_at    where the plan at a record stands, and that another in its place leaves the rest as it is
 -- Assumes nothing.
 use mathlib.Core.Path.{◌≡◌, refl, sym, ap, ◌∙◌}
@@ -23,9 +22,10 @@ use Rattle.writing.proofs.Focused.{Way, through_filter, through_project, through
 use Rattle.writing.proofs.Focused.{through_sort, through_repartition, through_limit, through_aggregate, through_window, Within}
 use Rattle.writing.proofs.Focused.{Place, one, all, itself, below, input, first, later, focus_within}
 
--- ---- what stands before a plan, which is at a level, and what stands behind it
+-- ---- what stands before a plan, how deep it is, and what stands behind it
 
-pub record Split (level d n : ℕ) (whole : List ℕ) (old : Plan) (new : Plan → List ℕ) : Type 0 where
+pub record Split (d n : ℕ) (whole : List ℕ) (old : Plan) (new : Plan → List ℕ) : Type 0 where
+  pub level : ℕ
   pub before : List ℕ
   pub after : List ℕ
   pub small : level ≤ d + n
@@ -34,11 +34,12 @@ pub record Split (level d n : ℕ) (whole : List ℕ) (old : Plan) (new : Plan �
   pub again : (q : Plan) → new q ≡ before ++ (flat level (plan_tree q) ++ after)
 
 -- more before it and behind it
-framed : {level d e n m : ℕ} {w w' : List ℕ} {old : Plan} {new new' : Plan → List ℕ} (k : ℕ) (pre post : List ℕ) → length pre ≡ 32 * k → n ≡ k + m
+framed : {d e n m : ℕ} {w w' : List ℕ} {old : Plan} {new new' : Plan → List ℕ} (k : ℕ) (pre post : List ℕ) → length pre ≡ 32 * k → n ≡ k + m
     → e ≤ d + k
-    → w' ≡ pre ++ (w ++ post) → ((q : Plan) → new' q ≡ pre ++ (new q ++ post)) → Split level e m w old new → Split level d n w' old new'
+    → w' ≡ pre ++ (w ++ post) → ((q : Plan) → new' q ≡ pre ++ (new q ++ post)) → Split e m w old new → Split d n w' old new'
 framed k pre post count e deep f g h =
     record {
+      level = h.level;
       before = pre ++ h.before;
       after = h.after ++ post;
       small = omega (arith, h.small);
@@ -150,23 +151,15 @@ pcons_flat d p ps = simp append_assoc
 
 -- ---- where the plan at a record stands
 
--- its level, where the whole is at d
-unfoldable pub level_of : {n : ℕ} {x : Place} → Within n x → ℕ → ℕ
-level_of (itself p) d = d
-level_of (below w h) d = level_of h (d + 1)
-level_of (input h) d = level_of h (d + 1)
-level_of (first ps h) d = level_of h d
-level_of (later p h) d = level_of h d
-
 -- what is said of a place
-abbrev Parted : ℕ → ℕ → ℕ → Place → Type 0
-Parted level d n (one p c) = Split level d n (flat d (plan_tree p)) c.plan (λ q. flat d (plan_tree (c.back q)))
-Parted level d n (all ps c) = Split level d n (flat_any d (forest_p ps)) c.plan (λ q. flat_any d (forest_p (c.back q)))
+abbrev Parted : ℕ → ℕ → Place → Type 0
+Parted d n (one p c) = Split d n (flat d (plan_tree p)) c.plan (λ q. flat d (plan_tree (c.back q)))
+Parted d n (all ps c) = Split d n (flat_any d (forest_p ps)) c.plan (λ q. flat_any d (forest_p (c.back q)))
 
-split : {n : ℕ} {x : Place} (h : Within n x) (d : ℕ) → Parted (level_of h d) d n x
-unfolding size_p level_of
+split : {n : ℕ} {x : Place} → Within n x → (d : ℕ) → Parted d n x
+unfolding size_p
 split (itself p) d =
-    record { before = []; after = []; small = omega arith; count = refl; is = sym (append-nil _); again = λ q. sym (append-nil _) }
+    record { level = d; before = []; after = []; small = omega arith; count = refl; is = sym (append-nil _); again = λ q. sym (append-nil _) }
 split (below {k} {p = p} {c} w h) d =
     let a = frame_of d w in
     framed k a.pre a.post a.count refl (omega (arith, a.some)) (a.is p) (λ q. a.is (c.back q)) (split h (d + 1))
@@ -180,11 +173,7 @@ split (later {ps = ps} {c} p h) d =
     (pcons_flat d p ps ∙ ap (flat d (plan_tree p) ++◌) (sym (append-nil _)))
     (λ q. pcons_flat d p (c.back q) ∙ ap (flat d (plan_tree p) ++◌) (sym (append-nil _))) (split h d)
 
--- the level of the plan at a record
-abbrev pub level_at : (p : Plan) (n : ℕ) (c : Focus) → focus n p ≡ some c → ℕ → ℕ
-level_at p n c e d = level_of (focus_within p n c e) d
-
 -- the plan at a record, and another in its place
-pub split_at : (p : Plan) (n d : ℕ) (c : Focus) (e : focus n p ≡ some c)
-    → Split (level_at p n c e d) d n (flat d (plan_tree p)) c.plan (λ q. flat d (plan_tree (c.back q)))
+pub split_at : (p : Plan) (n d : ℕ) (c : Focus) → focus n p ≡ some c
+    → Split d n (flat d (plan_tree p)) c.plan (λ q. flat d (plan_tree (c.back q)))
 split_at p n d c e = split (focus_within p n c e) d

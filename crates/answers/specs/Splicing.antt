@@ -28,14 +28,11 @@ pub record Ran (before after : List ℕ) (at k r : ℕ) (bs : List ℕ) : Type 0
   pub next : r ≡ cap (at + k)
   pub bytes : after ≡ sets before (32 * at) bs
 
--- r says where a new tree goes that is to stand in the place of `old`, at record `node` of p
-pub record Where (p : Plan) (node : ℕ) (old : Plan) (r : Spot) : Type 0 where
-  pub level : r.level ≡ word (flat 1 (plan_tree p)) (32 * node + 24)
-  pub end : r.end ≡ node + size_p old
-  pub records : r.records ≡ size_p p
-
--- .. and the records of p before `node` are written flat, and the depths of all its records are known
+-- the records of p before `node` are written flat, the depths of all its records are known, and r says where a new tree goes that is to
+-- stand in the place of `old`, at record `node`
 pub record Before (out levels : List ℕ) (p : Plan) (node : ℕ) (old : Plan) (r : Spot) : Type 0 where
   pub bytes : take (32 * node) out ≡ take (32 * node) (flat 1 (plan_tree p))
   pub depths : Levels levels (plan_tree p)
-  pub spot : Where p node old r
+  pub level : r.level ≡ word (flat 1 (plan_tree p)) (32 * node + 24)
+  pub end : r.end ≡ node + size_p old
+  pub records : r.records ≡ size_p p

@@ -1,6 +1,6 @@
--- Equal labels, and equal expressions.
---     label_is, label_same  `same_label` says that two labels are equal
---     tree_expr             expressions of one tree are equal
+-- Equal trees, and equal expressions.
+--     same_is, is_same      `same` says that two trees are equal
+--     same_exprs            the trees of two expressions are the same if they are equal
 --     false_label           an expression is FALSE if its record says so
 -- Assumes nothing.
 use mathlib.Core.Path.{◌≡◌, refl, sym, ap, subst, ◌∙◌}
@@ -22,14 +22,18 @@ use Rattle.rewrite.specs.Utils.{Expr-eq, same_e}
 use Rattle.rewrite.proofs.Exprs.{same_e_eq}
 use Rattle.conjuncts.specs.Standing.{Standing}
 use Rattle.conjuncts.specs.Items.{FALSE}
-use Rattle.conjuncts.specs.Equality.{same_label}
+use Rattle.conjuncts.specs.Equality.{same_label, same_any, same}
 use Rattle.conjuncts.specs.Labels.{is_false}
+
+pub for_both : (P : Tree → Tree → Type 0) {t u : Tree} {s v : List ℕ} {b d : ℕ} → At t s b → At u v d → P t u → (t' u' : Tree) → At t' s b
+    → At u' v d → P t' u'
+for_both P h k p t' u' h' k' = rw (only h' h, only k' k) p
 
 pub and_both : (a b : Bool) → (a && b) ≡ true → (a ≡ true) × (b ≡ true)
 and_both true b e = (refl, e)
 and_both false b e = let z : ◌≡◌ {A = ℕ} 0 1 = cc in absurd (omega arith)
 
-pub label_is : (l k : Label) → same_label l k ≡ true → l ≡ k
+label_is : (l k : Label) → same_label l k ≡ true → l ≡ k
 label_is l k e =
     let a = and_both _ _ e in
     let b = and_both _ _ a.0 in
@@ -44,7 +48,23 @@ label_is l k e =
     let kind : l.kind ≡ k.kind = eqb-true _ _ f.0 in
     ap (λ (x : ℕ × ℕ × ℕ × ℕ × ℕ × ℕ). record { kind = x.0; p = x.1; q = x.2; r = x.3; lo = x.4; hi = x.5 }) (cc)
 
-pub label_same : (l : Label) → same_label l l ≡ true
+any_is : (f g : Forest) → same_any f g ≡ true → f ≡ g
+any_is none none e = refl
+any_is none (node l cs ns) e = let z : ◌≡◌ {A = ℕ} 0 1 = cc in absurd (omega arith)
+any_is (node l cs ns) none e = let z : ◌≡◌ {A = ℕ} 0 1 = cc in absurd (omega arith)
+any_is (node l cs ns) (node l' cs' ns') e =
+    let a = and_both _ _ e in
+    let b = and_both _ _ a.0 in
+    rw (label_is l l' b.0, any_is cs cs' b.1, any_is ns ns' a.1)
+
+pub same_is : (t u : Tree) → same t u ≡ true → t ≡ u
+same_is t u e =
+    let a = and_both _ _ e in
+    let l = label_is t.label u.label a.0 in
+    let b = any_is t.below u.below a.1 in
+    ap (λ (x : Label × Forest). record { label = x.0; below = x.1 }) (cc)
+
+label_same : (l : Label) → same_label l l ≡ true
 label_same l = rw (
   eq-eqb l.kind _ refl,
   eq-eqb l.p _ refl,
@@ -55,10 +75,17 @@ label_same l = rw (
       l.hi _ refl,
 )
 
+any_same : (f : Forest) → same_any f f ≡ true
+any_same none = refl
+any_same (node l cs ns) = rw (label_same l, any_same cs, any_same ns)
+
+pub is_same : (t u : Tree) → t ≡ u → same t u ≡ true
+is_same t u e = rw (e, label_same u.label, any_same u.below)
+
 -- ---- expressions
 
 -- two tests that hold together are one
-pub both_ways : (a b : Bool) → (a ≡ true → b ≡ true) → (b ≡ true → a ≡ true) → a ≡ b
+both_ways : (a b : Bool) → (a ≡ true → b ≡ true) → (b ≡ true → a ≡ true) → a ≡ b
 both_ways true b f g = sym (f refl)
 both_ways false true f g = g refl
 both_ways false false f g = refl
@@ -77,8 +104,14 @@ same_turned a b = both_ways (same_e a b) (same_e b a) (λ h. eq_same (sym (same_
 abbrev tree_back : (t : Tree) → Expr
 tree_back t = expr_by (what t.label) t.label (exprs_of t.below)
 
-pub tree_expr : {a b : Expr} → FitsE a → FitsE b → expr_tree a ≡ expr_tree b → a ≡ b
-tree_expr {a} {b} f g e = sym (expr_back a f) ∙ (ap tree_back e ∙ expr_back b g)
+back : {a b : Expr} → FitsE a → FitsE b → expr_tree a ≡ expr_tree b → a ≡ b
+back {a} {b} f g e = sym (expr_back a f) ∙ (ap tree_back e ∙ expr_back b g)
+
+pub same_exprs : (a b : Expr) → FitsE a → FitsE b → same (expr_tree a) (expr_tree b) ≡ same_e a b
+same_exprs a b f g =
+    both_ways (same (expr_tree a) (expr_tree b)) (same_e a b)
+    (λ h. eq_same (back f g (same_is _ _ h)))
+    (λ h. is_same _ _ (ap expr_tree (same_e_eq a b h)))
 
 -- an expression is FALSE if its record says so
 says_false : (e : Expr) → is_false (label_e e) ≡ true → FALSE ≡ e

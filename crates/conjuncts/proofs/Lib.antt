@@ -3,7 +3,5 @@ pub mod Kept
 pub mod Operands
 pub mod FunctionsIn
 pub mod Equals
-pub mod Agreeing
-pub mod Printing
 pub mod Onto
 pub mod LeftDeeps

@@ -2,7 +2,7 @@
 --     lists_none, lists_add, item_false  an empty list, an item appended, the item 0
 --     lists_length, -room, -at           of a whole list: how many, that each can be read, what the number read at i stands for
 --     known_of                           a list of few enough expressions is whole
---     lists_full, lists_long             past the end nothing changes
+--     lists_full                         past the end nothing changes
 --     next, next_back, same_next, at_end a walk along a list of expressions, and for a test of each:
 --     any_next, keep_next, put_then      what it does to `any` and `keep`
 -- Assumes nothing.
@@ -114,10 +114,6 @@ module _ {s : List ℕ} where
   unfolding put
   lists_full {n = n} true h k many = lists_add n h k (λ xs g. holds_full n g many)
   lists_full {es = es} false h k many = rw (append-nil es) h
-
-  -- one that is too long is of many
-  pub lists_long : {c : Conjuncts} {es : List Expr} → Lists s c es → max_list < c.len → max_list ≤ length es
-  lists_long h many = rw (items_length h.items) (count_more h.holds (omega arith)).0
 
   -- a list of few enough is whole
   pub known_of : {c : Conjuncts} {es : List Expr} → Lists s c es → length es ≤ max_list → Known s c

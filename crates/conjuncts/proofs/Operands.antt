@@ -1,6 +1,5 @@
 -- Expressions that stand in an image, and where the operands of a binary one stand.
 --     readable_of     an expression that stands can be read
---     starts_of       .. and begins a stretch of the image
 --     operands        where the operands of a binary expression stand, in bytes that begin at it
 --     standing_left, standing_right   the same, in the whole image
 -- Assumes nothing.
@@ -19,16 +18,12 @@ use Rattle.plan.specs.Syntax.{Op, and, or, cmp, eq, ne, lt, le, gt, ge, Expr, co
 use Rattle.plan.specs.Trees.{label_e, kids_e, expr_tree}
 use Rattle.plan.specs.Integers.{FitsE}
 use Rattle.rewrite.specs.Utils.{split_conjunction}
-use Rattle.conjuncts.specs.Standing.{Starts, Standing, ReadableE}
+use Rattle.conjuncts.specs.Standing.{Standing, ReadableE}
 use Rattle.conjuncts.specs.Items.{Item}
 use Rattle.conjuncts.specs.Labels.{is_and}
 
 pub readable_of : {s : List ℕ} {n : ℕ} {e : Expr} → Standing s n e → Readable max_depth (drop (32 * n) s) n
 readable_of {e = e} h = record { tree = expr_tree e; at = h.here; some = omega arith; deep = h.deep }
-
--- .. and is the start of a stretch
-pub starts_of : {s : List ℕ} {n : ℕ} {e : Expr} → Standing s n e → length s ≤ work_bytes → Starts (drop (32 * n) s) n
-starts_of {s} {n} {e} h short = ((expr_tree e, h.here), rw length-drop (omega (arith, h.within)))
 
 -- a forest is no deeper than one more
 deeper : (f : Forest) (d : ℕ) → Deep f (d - 1) → Deep f d

@@ -1,6 +1,5 @@
 pub mod Standing
 pub mod Items
-pub mod Fingerprints
 pub mod Labels
 pub mod Functions
 pub mod Equality

@@ -1,7 +1,7 @@
 -- Where expressions and plans stand in the bytes of an image. Record numbers are counted from the image's start.
 use Rattle.std.specs.Prelude.{◌≡◌, List, ℕ, ◌+◌, ◌-◌, ◌*◌, ◌≤◌, ◌<◌, length, drop}
 use Rattle.image.specs.Limits.{max_below, max_records, work_bytes}
-use Rattle.image.specs.Tree.{Tree, At, Deep}
+use Rattle.image.specs.Tree.{At, Deep}
 use Rattle.plan.specs.Syntax.{Expr, Plan}
 use Rattle.plan.specs.Integers.{FitsE, FitsP}
 use Rattle.plan.specs.Trees.{expr_tree, kids_e, plan_tree, kids_p}
@@ -9,10 +9,6 @@ use Rattle.plan.specs.Trees.{expr_tree, kids_e, plan_tree, kids_p}
 -- `part` is the stretch of the image s that begins at record n
 abbrev pub Stretch : List ℕ → ℕ → List ℕ → Type 0
 Stretch s n part = part ≡ drop (32 * n) s
-
--- some tree stands at the start of `part`, which begins at record `base` of an image
-abbrev pub Starts : List ℕ → ℕ → Type 0
-Starts part base = ((t : Tree) × At t part base) × (32 * base + length part ≤ work_bytes)
 
 -- e stands at record n of the image s
 pub record Standing (s : List ℕ) (n : ℕ) (e : Expr) : Type 0 where

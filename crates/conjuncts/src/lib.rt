@@ -1,6 +1,5 @@
 // Lists of conjuncts: the records of an image at which they stand. What the source asks of datafusion-expr's utils for such lists.
 pub mod equality;
-pub mod fingerprints;
 pub mod items;
 pub mod lists;
 pub mod split_conjunction;

@@ -6,4 +6,3 @@ pub mod Shorter
 pub mod Merges
 pub mod Tested
 pub mod OneMerge
-pub mod Extents

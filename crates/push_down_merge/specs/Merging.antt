@@ -2,17 +2,14 @@
 use Rattle.std.specs.Prelude.{◌≡◌, Bool, true, false, List, ℕ, ◌+◌, ◌*◌, ◌≤◌, length, drop}
 use Rattle.std.proofs.Math.Option.{Option, none, some}
 use Rattle.image.specs.Word.{word}
-use Rattle.image.specs.Limits.{work_bytes, max_depth, max_list}
+use Rattle.image.specs.Limits.{work_bytes, max_list}
 use Rattle.plan.specs.Syntax.{Expr, Plan, scan, filter, project, join, alias, union, distinct, sort, repartition, limit, aggregate, window}
-use Rattle.plan.specs.Measure.{depth_p}
 use Rattle.acceptance.specs.NamesRule.{ok}
 use Rattle.rewrite.specs.Utils.{split_conjunction, conjunction}
 use Rattle.rewrite.specs.Limits.{list_p}
 use Rattle.rewrite.specs.RewriteAt.{Focus, focus}
 use Rattle.conjuncts.specs.Standing.{StandingP, Stretch}
 use Rattle.conjuncts.specs.Items.{Lists}
-use Rattle.answers.specs.declared.splicing.Spot.{Spot}
-use Rattle.answers.specs.Splicing.{Where}
 use Rattle.push_down_base.specs.Predicates.{Predicate}
 use Rattle.push_down_base.specs.Arms.{Shaped}
 
@@ -63,22 +60,15 @@ pub record FilterInput (s : List ℕ) (x y : ℕ) (q : Plan) : Type 0 where
   pub after : x ≤ y
   pub standing : StandingP s y q
 
--- r says where a new tree goes that is to stand in the place of the plan at record `node`
-abbrev pub Locates : List ℕ → ℕ → Spot → Type 0
-Locates s node r = (w : Plan) (c : Focus) → Inside s node w c → Where w node c.plan r
-
--- a predicate that was merged can stand over the plan at record x, in the place of record `node` of the whole, which `at` locates: the
--- plan is not too deep there
-pub record Mergeable (s : List ℕ) (node : ℕ) (at : Spot) (p : Predicate) (x : ℕ) : Type 0 where
+-- a predicate that was merged can stand over the plan at record x, in the place of record `node` of the whole
+pub record Mergeable (s : List ℕ) (node : ℕ) (p : Predicate) (x : ℕ) : Type 0 where
   pub whole : Plan
   pub spot : Focus
   pub inside : Inside s node whole spot
-  pub located : Locates s node at
   pub expr : Expr
   pub made : Made s p expr
   pub plan : Plan
   pub standing : StandingP s x plan
-  pub low : at.level + depth_p plan ≤ max_depth
 
 -- a Filter stands at record `node` of the whole
 pub record FilterInside (s : List ℕ) (node : ℕ) : Type 0 where

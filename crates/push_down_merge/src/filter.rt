@@ -2,6 +2,7 @@
 // rewrite again: a predicate is simplified, and merged with that of the Filter below.
 ghost use Rattle.std.specs.Prelude.{◌≡◌, List, ◌<◌, ◌≤◌, ℕ, length};
 ghost use Rattle.std.proofs.Math.Option.{some};
+ghost use Rattle.image.specs.Buffers.{Scratch};
 ghost use Rattle.image.specs.Limits.{max_list, work_bytes};
 ghost use Rattle.plan.specs.Syntax.{Expr, Plan, filter};
 ghost use Rattle.rewrite.specs.Limits.{list_p, within_limits};
@@ -13,18 +14,18 @@ ghost use Rattle.conjuncts.specs.Standing.{Standing, StandingP, Stretch, There};
 ghost use Rattle.push_down_base.specs.Arms.{Shaped};
 ghost use Rattle.push_down_merge.specs.Merging.{FilterIn, FilterInput, Formed, Inside, Made, Mergeable, Remains};
 
-use crate::extent::conjunction_extent;
-use answers::splicing::Spot;
+use answers::handing_out::is_shallow;
+use answers::splicing::{write_before, write_records};
 use conjuncts::lists::{Conjuncts, empty};
 use conjuncts::split_conjunction::split_at;
 use conjuncts::unique::unique;
-use image::ends::tree_end;
 use image::limits::{MAX_DEPTH, MAX_LIST, MAX_RECORDS};
 use image::records::{NEXT_LINK, from_record};
 use image::words::word_at;
 use push_down_base::predicates::Predicate;
 use simplify_expressions::reorder_predicates::reorder_predicates;
 use simplify_expressions::simplify_predicates::simplify_predicates;
+use writing::make_filter::make_filter;
 
 // The predicate at record n as it is written, with its conjuncts.
 pub fn predicate_at(s: &[u8], n: usize) -> Predicate
@@ -57,7 +58,6 @@ pub fn simplify_filter(s: &[u8], p: Predicate) -> Predicate
 pub fn merge(s: &[u8], upper: Predicate, lower: Conjuncts) -> Predicate
     requires formed { Formed s.now upper }
     requires known { Known s.now lower }
-    requires s_len_bound { length s.now ≤ work_bytes }
     ensures { (e b m : Expr) → Shaped s.now upper e → Lists s.now lower (split_conjunction b) →
         conjunction (merged e b) ≡ some m → Made s.now result m }
 {
@@ -77,12 +77,19 @@ pub fn filter_input(part: &[u8], x: usize) -> usize
     word_at(from_record(part, x, x + 1), NEXT_LINK)
 }
 
-// Test 11 on the plan after a merge: the whole, with the Filter p over `input`, the plan at record x, in the place of record `node`; `spot` has
-// its depth, the record behind it and the number of all records. Sizes and depths decide it, and nothing is written: what stands around
-// the Filter stays, and `input` comes up.
-pub fn merge_fits(s: &[u8], node: usize, spot: Spot, p: Predicate, input: &[u8], x: usize) -> bool
+// Test 11 on the plan after a merge: the whole, with the Filter p over `input`, the plan at record x, in the place of record `node`.
+pub fn merge_fits(
+    s: &[u8],
+    node: usize,
+    p: Predicate,
+    input: &[u8],
+    x: usize,
+    work: &mut [u8],
+    levels: &mut [u32],
+) -> bool
     requires stretch { Stretch s.now x input.now }
-    requires mergeable { Mergeable s.now node spot p x }
+    requires mergeable { Mergeable s.now node p x }
+    requires scratch { Scratch work.old levels.old }
     ensures { (w : Plan) (c : Focus) → Inside s.now node w c → (e : Expr) (q : Plan) → Made s.now p e →
         StandingP s.now x q → list_p q ≤ max_list → result ≡ within_limits (c.back (filter e q)) }
 {
@@ -90,8 +97,14 @@ pub fn merge_fits(s: &[u8], node: usize, spot: Spot, p: Predicate, input: &[u8],
     if MAX_LIST < list.len {
         return false;
     }
-    let made = conjunction_extent(s, list);
-    let rest = spot.records - (spot.end - node);
-    let records = rest + 1 + made.records + (tree_end(input, x) - x);
-    (records <= MAX_RECORDS) & (spot.level + made.depth <= MAX_DEPTH)
+    let spot = write_before(s, node, work, levels);
+    // No item of a merged list has its columns replaced: any plan of the image serves as the map.
+    let end = make_filter(
+        s, input, x, MAX_DEPTH, p.written, list, input, x, work, node, spot.level,
+    );
+    let records = write_records(s, levels, spot.end, spot.records, work, end);
+    if MAX_RECORDS < records {
+        return false;
+    }
+    is_shallow(work, records)
 }

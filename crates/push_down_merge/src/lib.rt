@@ -1,3 +1,2 @@
 // push_down_filter.rs: a Filter is simplified, and merged with the Filter below it.
-pub mod extent;
 pub mod filter;

@@ -1,4 +1,4 @@
--- What falls from a Filter to its input: the plan nodes below it, and how deep it goes.
+-- Below the input of a Filter stand fewer plan nodes than below the Filter.
 use Prim.Native.Nat.{ℕ, zero, suc, ◌+◌, ◌-◌, ◌*◌, ◌≤◌, ◌<◌}
 use native.Mathlib.Omega.{arith}
 use mathlib.Core.Path.{◌≡◌, ap, ◌∙◌}
@@ -7,24 +7,17 @@ use mathlib.Core.List.{List}
 use lib.Dec.{eqb}
 use lib.ListN.{length, drop}
 use borrow.Author.Tests.{ne_eqb}
-use Rattle.image.specs.Limits.{max_depth, max_records, work_bytes}
-use Rattle.image.specs.Flat.{flat}
+use Rattle.image.specs.Limits.{max_records, work_bytes}
 use Rattle.image.specs.Tree.{label_at}
 use Rattle.image.specs.Word.{word}
 use Rattle.plan.specs.Kinds.{is_plan}
-use Rattle.plan.specs.Measure.{depth_p, size_e}
+use Rattle.plan.specs.Measure.{size_e}
 use Rattle.plan.specs.Syntax.{Expr, Plan, filter}
-use Rattle.plan.specs.Trees.{kids_p, plan_tree}
-use Rattle.plan.proofs.Measure.{deep_filter}
+use Rattle.plan.specs.Trees.{kids_p}
 use Rattle.rewrite.proofs.Marks.{plan_mark}
-use Rattle.rewrite.specs.RewriteAt.{Focus}
 use Rattle.conjuncts.specs.Standing.{StandingP}
-use Rattle.answers.proofs.Deepened.{deepened}
-use Rattle.push_down_merge.specs.Merging.{Inside}
-use Rattle.push_down_merge.proofs.Tested.{few_levels, level_there}
 use Rattle.push_down_merge.proofs.Merges.{filter_next}
 use Rattle.push_down_rewrite.specs.Filters.{plans, plans_below}
-use Rattle.push_down_rewrite.proofs.Outcoming.{put_back}
 
 cond_more : (b : Bool) {m n : ℕ} → m ≤ n → cond b 0 m ≤ cond b 0 n
 cond_more true h = omega arith
@@ -63,17 +56,3 @@ plans_fall {s} {x} {y} {b} {q} short h e g =
       rw mark at (plans_at k s y (λ z. omega arith)),
       plans_more (max_records - y) k s (word (drop (32 * y) s) 24) (omega arith),
     ))
-
--- at first the input of the Filter is not too deep below it: it stands one level further down, in an image that is not too deep
-pub low_first : {s : List ℕ} {node : ℕ} {w : Plan} {c : Focus} {level : ℕ} (e : Expr) (q : Plan) → Inside s node w c
-    → level ≡ word (flat 1 (plan_tree w)) (32 * node + 24) → c.plan ≡ filter e q → level + depth_p q ≤ max_depth
-low_first {node = node} {w} {c} e q h l is =
-    omega (
-      arith,
-      level_there h l,
-      (deepened w node c h.there c.plan).low,
-      ap depth_p (put_back node w c h.there),
-      few_levels h,
-      ap depth_p is,
-      deep_filter e q,
-    )

@@ -21,11 +21,11 @@ use Rattle.answers.specs.declared.splicing.Spot.{Spot}
 use Rattle.answers.specs.Splicing.{Ran}
 use Rattle.answers.proofs.Whole.{wrote_small}
 use Rattle.answers.proofs.Splice.{Begun, spliced}
-use Rattle.answers.proofs.Fitting.{list_back, fits_over, fits_long, fits_is}
+use Rattle.answers.proofs.Fitting.{list_back, fits_over, fits_long}
 use Rattle.push_down_base.specs.Arms.{Written}
 use Rattle.plan.proofs.Bools.{no_yes}
 use Rattle.plan.proofs.Lists.{and_true}
-use Rattle.push_down_merge.proofs.Tested.{few_records}
+use Rattle.push_down_merge.proofs.Tested.{few_records, fits_is}
 use Rattle.push_down_rewrite.specs.Outcomes.{Outcome, Replaces, Finishes}
 
 -- what does not fit is not asked for more

@@ -3,22 +3,24 @@ use Prim.Native.Nat.{ℕ}
 use mathlib.Core.Path.{◌≡◌, refl, sym, ap, subst, ◌∙◌}
 use mathlib.Core.Bool.{Bool, true, false}
 use mathlib.Core.List.{List, []}
-use mathlib.Core.Option.{Option, some}
+use mathlib.Core.Option.{Option}
 use Rattle.plan.specs.Lists.{◌&◌, all}
 use Rattle.plan.specs.Syntax.{Expr, Kind, Pair, Plan}
 use Rattle.plan.specs.Syntax.{filter, project, join, alias, union, distinct, sort, repartition, limit, aggregate, window}
 use Rattle.plan.specs.Syntax.{pcons}
 use Rattle.plan.specs.Measure.{size_p, depth_p}
-use Rattle.image.specs.Limits.{max_records, max_depth, max_list}
+use Rattle.plan.specs.Trees.{plan_tree}
+use Rattle.image.specs.Limits.{max_records, max_list}
 use borrow.Author.Tests.{le-leb}
 use Rattle.plan.proofs.Lists.{and_true, and_intro}
 use Rattle.rewrite.specs.Limits.{list_p, within_limits}
 use Rattle.rewrite.specs.PushDownFilter.{Transformed, rewrite, merges, push_down_join}
-use Rattle.rewrite.specs.RewriteAt.{Focus, focus, result_fits}
+use Rattle.rewrite.specs.RewriteAt.{Focus, result_fits}
+use Rattle.answers.proofs.Depths.{deep_tested}
 use Rattle.push_down_base.specs.Paths.{Ways}
 use Rattle.push_down_base.proofs.Finding.{path_to}
 use Rattle.push_down_merge.specs.Merging.{Inside}
-use Rattle.push_down_merge.proofs.Tested.{few_records, few_levels}
+use Rattle.push_down_merge.proofs.Tested.{few_records}
 use Rattle.push_down_stays.specs.Staying.{Stays}
 use Rattle.push_down_rewrite.specs.Outcomes.{Outcome, Finishes, answer, Outcomes}
 use Rattle.plan.proofs.Bools.{no_yes}
@@ -61,15 +63,12 @@ ways = record {
   in_later = λ n ps t C p h. ap (pcons p) h;
 }
 
-pub put_back : (node : ℕ) (w : Plan) (c : Focus) → focus node w ≡ some c → c.back c.plan ≡ w
-put_back node w c e = path_to ways node w c e
-
 -- the image that was read is within the limits
 read_fits : {s : List ℕ} {node : ℕ} {w : Plan} {c : Focus} → Inside s node w c → within_limits w ≡ true
-unfolding within_limits
+unfolding within_limits depth_p
 read_fits {w = w} h =
     and_intro (le-leb (size_p w) max_records (few_records h))
-    (and_intro (le-leb (depth_p w) max_depth (few_levels h)) (le-leb (list_p w) max_list h.lists))
+    (and_intro (deep_tested (plan_tree w) h.root.deep) (le-leb (list_p w) max_list h.lists))
 
 -- one that stays
 pub stays_outcomes : {work s : List ℕ} {b : Bool} {r : Outcome} {w : Plan} {node : ℕ} {c : Focus} → Inside s node w c → Stays b c.plan → b ≡ true
@@ -77,7 +76,7 @@ pub stays_outcomes : {work s : List ℕ} {b : Bool} {r : Outcome} {w : Plan} {no
 unfolding result_fits all
 stays_outcomes {w = w} {node = node} {c = c} h u t y f n =
     let k = u.kept.yes t in
-    let back : answer c ≡ w = ap (λ t. c.back t.plan) k ∙ put_back node w c h.there in
+    let back : answer c ≡ w = ap (λ t. c.back t.plan) k ∙ path_to ways node w c h.there in
     record {
       fit =
           y
@@ -113,4 +112,4 @@ apart = record {
 
 pub changed : {s : List ℕ} {b : Bool} {w : Plan} {node : ℕ} {c : Focus} → Inside s node w c → Stays b c.plan → b ≡ false → answer c ≡ w → ⊥
 changed {w = w} {node} {c} h u n e =
-    u.kept.no n (path_to apart node w c h.there (rewrite c.plan).plan c.plan (e ∙ sym (put_back node w c h.there)))
+    u.kept.no n (path_to apart node w c h.there (rewrite c.plan).plan c.plan (e ∙ sym (path_to ways node w c h.there)))

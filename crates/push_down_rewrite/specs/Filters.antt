@@ -1,38 +1,29 @@
 -- A Filter that is rewritten: a predicate over a plan of the image, in the place of a record, and what is left of it.
-use Rattle.std.specs.Prelude.{◌≡◌, true, false, cond, List, ℕ, zero, suc, ◌+◌, ◌-◌, ◌*◌, ◌≤◌, eqb, drop}
+use Rattle.std.specs.Prelude.{◌≡◌, true, false, cond, List, ℕ, zero, suc, ◌+◌, ◌-◌, ◌*◌, eqb, drop}
 use Rattle.std.proofs.Math.Option.{Option, some}
-use Rattle.image.specs.Limits.{max_depth, max_records}
+use Rattle.image.specs.Limits.{max_records}
 use Rattle.image.specs.Tree.{label_at}
 use Rattle.image.specs.Word.{word}
 use Rattle.plan.specs.Kinds.{is_plan}
 use Rattle.plan.specs.Syntax.{Expr, Plan, filter}
 use Rattle.plan.specs.Schema.{schema}
-use Rattle.plan.specs.Measure.{depth_p}
 use Rattle.acceptance.specs.NamesRule.{reads?}
 use Rattle.rewrite.specs.RewriteAt.{Focus}
-use Rattle.answers.specs.declared.splicing.Spot.{Spot}
-use Rattle.answers.specs.Splicing.{Before}
 use Rattle.push_down_base.specs.Predicates.{Predicate}
 use Rattle.push_down_base.specs.Arms.{Placed, Rests}
 use Rattle.push_down_merge.specs.Merging.{Remains, Inside, is_filter}
 
--- what stands before record `node` is written, and r says where a new tree goes that is to stand in the place of the plan there
-abbrev pub Begins : (s work levels : List ℕ) (node : ℕ) (r : Spot) → Type 0
-Begins s work levels node r = (w : Plan) (c : Focus) → Inside s node w c → Before work levels w node c.plan r
-
--- a predicate rests on the plan at record x, in the place of record `node` of the whole; below a Filter at the level of `at` the plan is not
--- too deep
-pub record OnPlan (s : List ℕ) (node : ℕ) (at : Spot) (p : Predicate) (x : ℕ) : Type 0 where
+-- a predicate rests on the plan at record x, in the place of record `node` of the whole
+pub record OnPlan (s : List ℕ) (node : ℕ) (p : Predicate) (x : ℕ) : Type 0 where
   pub whole : Plan
   pub spot : Focus
   pub inside : Inside s node whole spot
   pub expr : Expr
   pub plan : Plan
   pub rests : Rests s x p expr plan
-  pub low : at.level + depth_p plan ≤ max_depth
 
 -- the plan is a Filter
-pub record OnFilter (s : List ℕ) (node : ℕ) (at : Spot) (p : Predicate) (x : ℕ) : Type 0 where
+pub record OnFilter (s : List ℕ) (node : ℕ) (p : Predicate) (x : ℕ) : Type 0 where
   pub whole : Plan
   pub spot : Focus
   pub inside : Inside s node whole spot
@@ -40,7 +31,6 @@ pub record OnFilter (s : List ℕ) (node : ℕ) (at : Spot) (p : Predicate) (x :
   pub lower : Expr
   pub plan : Plan
   pub rests : Rests s x p expr (filter lower plan)
-  pub low : at.level + depth_p (filter lower plan) ≤ max_depth
 
 -- o is left of a predicate over the plan q at record x; where that is something, the plan is no Filter
 pub record Left (s : List ℕ) (x : ℕ) (p : Predicate) (o : Option Expr) (q : Plan) : Type 0 where

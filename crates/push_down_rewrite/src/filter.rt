@@ -8,12 +8,12 @@ ghost use Rattle.rewrite.specs.RewriteAt.{Focus};
 ghost use Rattle.conjuncts.specs.Standing.{Stretch};
 ghost use Rattle.push_down_base.specs.Arms.{Rests};
 ghost use Rattle.push_down_merge.specs.Merging.{Inside};
-ghost use Rattle.push_down_rewrite.specs.Filters.{Begins, Left, LeftInside, OnFilter, OnPlan};
+ghost use Rattle.push_down_rewrite.specs.Filters.{Left, LeftInside, OnFilter, OnPlan};
 ghost use Rattle.push_down_rewrite.specs.Outcomes.{Finishes};
 
 use crate::input::resume;
 use crate::node::{Outcome, finish};
-use answers::splicing::Spot;
+use answers::splicing::write_before;
 use conjuncts::lists::empty;
 use conjuncts::split_conjunction::split_at;
 use image::records::{KIND, from_record};
@@ -26,21 +26,20 @@ use push_down_merge::filter::{filter_input, merge, merge_fits, simplify_filter};
 fn resume_in_place(
     s: &[u8],
     node: usize,
-    spot: Spot,
     p: Predicate,
     input: &[u8],
     x: usize,
     m: &mut [u8],
     work: &mut [u8],
-    levels: &[u32],
+    levels: &mut [u32],
 ) -> Outcome
     requires stretch { Stretch s.now x input.now }
     requires left_inside { LeftInside s.now node p x }
-    requires begins { Begins s.now work.old levels.now node spot }
-    requires scratch_map { ScratchMap m.old work.old levels.now }
+    requires scratch_map { ScratchMap m.old work.old levels.old }
     ensures { (w : Plan) (c : Focus) → Inside s.now node w c → (o : Option Expr) (q : Plan) →
         Left s.now x p o q → Finishes work.new result c [] (resume o (λ e. rewrite_filter e q) q) }
 {
+    let spot = write_before(s, node, work, levels);
     let new = resume(s, input, x, p, m, work, node, spot.level);
     finish(s, spot, levels, new, work)
 }
@@ -51,29 +50,27 @@ fn resume_in_place(
 pub fn rewrite_filter(
     s: &[u8],
     node: usize,
-    spot: Spot,
     p: Predicate,
     input: &[u8],
     x: usize,
     m: &mut [u8],
     work: &mut [u8],
-    levels: &[u32],
+    levels: &mut [u32],
 ) -> Outcome
     requires stretch { Stretch s.now x input.now }
-    requires on_plan { OnPlan s.now node spot p x }
-    requires begins { Begins s.now work.old levels.now node spot }
-    requires scratch_map { ScratchMap m.old work.old levels.now }
+    requires on_plan { OnPlan s.now node p x }
+    requires scratch_map { ScratchMap m.old work.old levels.old }
     ensures { (w : Plan) (c : Focus) → Inside s.now node w c → (e : Expr) (q : Plan) → Rests s.now x p e q →
         Finishes work.new result c (merges (filter e q)) (rewrite (filter e q)) }
 {
     let left = simplify_filter(s, p);
     if is_gone(left) {
-        return resume_in_place(s, node, spot, left, input, x, m, work, levels);
+        return resume_in_place(s, node, left, input, x, m, work, levels);
     }
     if word_at(input, KIND) == FILTER {
-        return merge_filter(s, node, spot, left, input, x, m, work, levels);
+        return merge_filter(s, node, left, input, x, m, work, levels);
     }
-    resume_in_place(s, node, spot, left, input, x, m, work, levels)
+    resume_in_place(s, node, left, input, x, m, work, levels)
 }
 
 // The predicate p, which is simplified already, over `child`, the Filter at record x: both become one, which is rewritten again.
@@ -81,18 +78,16 @@ pub fn rewrite_filter(
 fn merge_filter(
     s: &[u8],
     node: usize,
-    spot: Spot,
     p: Predicate,
     child: &[u8],
     x: usize,
     m: &mut [u8],
     work: &mut [u8],
-    levels: &[u32],
+    levels: &mut [u32],
 ) -> Outcome
     requires stretch { Stretch s.now x child.now }
-    requires on_filter { OnFilter s.now node spot p x }
-    requires begins { Begins s.now work.old levels.now node spot }
-    requires scratch_map { ScratchMap m.old work.old levels.now }
+    requires on_filter { OnFilter s.now node p x }
+    requires scratch_map { ScratchMap m.old work.old levels.old }
     ensures { (w : Plan) (c : Focus) → Inside s.now node w c → (e b : Expr) (q : Plan) →
         Rests s.now x p e (filter b q) →
         Finishes work.new result c (merges_under e (filter b q)) (rewrite_filter e (filter b q)) }
@@ -100,7 +95,7 @@ fn merge_filter(
     let y = filter_input(child, x);
     let input = from_record(child, x, y);
     let merged = merge(s, p, split_at(s, x + 1, empty()));
-    if !merge_fits(s, node, spot, merged, input, y) {
+    if !merge_fits(s, node, merged, input, y, work, levels) {
         return Outcome {
             fits: false,
             flag: false,
@@ -108,5 +103,5 @@ fn merge_filter(
             records: 0,
         };
     }
-    rewrite_filter(s, node, spot, merged, input, y, m, work, levels)
+    rewrite_filter(s, node, merged, input, y, m, work, levels)
 }

@@ -103,9 +103,7 @@ pub fn rewrite_anew(
     if kind == FILTER {
         let p = predicate_at(s, node + 1);
         let x = filter_input(part, node);
-        let input = from_record(part, node, x);
-        let spot = write_before(s, node, work, levels);
-        return rewrite_filter(s, node, spot, p, input, x, m, work, levels);
+        return rewrite_filter(s, node, p, from_record(part, node, x), x, m, work, levels);
     }
     if kind == JOIN {
         return rewrite_join_node(s, part, node, m, work, levels);

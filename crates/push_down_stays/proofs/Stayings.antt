@@ -20,9 +20,10 @@ use Rattle.rewrite.specs.Utils.{split_conjunction, split_conjunction?, conjuncti
 use Rattle.rewrite.specs.PushDownFilter.{Transformed, Transformed·no, supported_filters, in_groups, stay, move, nothing_moves, push_down_join}
 use Rattle.rewrite.specs.PushDownFilter.{simplify_filter, rewrite_filter, rewrite, merges}
 use Rattle.rewrite.proofs.Staying.{none_of, all_left, filtered, join_stays, bare_join_stays, filter_join_stays}
+use Rattle.rewrite.proofs.Exprs.{same_e_eq}
 use Rattle.conjuncts.specs.Says.{Says, LeftDeep}
 use Rattle.conjuncts.specs.Standing.{Standing, StandingP}
-use Rattle.conjuncts.proofs.Equals.{tree_expr}
+use Rattle.conjuncts.proofs.Equals.{is_same, same_exprs}
 use Rattle.push_down_base.specs.Arms.{Shaped, Placed, Rests}
 use Rattle.push_down_arms.specs.Divided.{pushed}
 use Rattle.push_down_merge.specs.Merging.{is_filter}
@@ -249,7 +250,7 @@ join_stays_so k l r on f h = record { kept = h; unmerged = λ y. refl }
 
 -- what stands at a record
 same_standing : {s : List ℕ} {n : ℕ} {a b : Expr} → Standing s n a → Standing s n b → a ≡ b
-same_standing h k = tree_expr h.fits k.fits (only h.here k.here)
+same_standing {a = a} {b} h k = same_e_eq a b (sym (same_exprs a b h.fits k.fits) ∙ is_same _ _ (only h.here k.here))
 
 -- x is left of it
 module _ {s : List ℕ} {p r : Predicate} {e x : Expr} (h : Shaped s p e) (i : simplify_filter e ≡ some x) (k : Shaped s r x) where

@@ -63,33 +63,23 @@ fn numbered(random: &mut Random, length: usize) -> Vec<Tree> {
     (0..length).map(predicate).collect()
 }
 
-/// Plans that a rewrite makes 254 to 258 deep: by a list joined anew, by Filters merged, by an entry put in a column's place, or by a
-/// Filter that moves below a node.
+/// Plans that a rewrite makes 254 to 258 deep: by a list joined anew, by an entry put in a column's place, or by a Filter
+/// that moves below a node.
 pub fn near_depth(random: &mut Random) -> Tree {
     let depth = random.within(DEPTH - 2, DEPTH + 2);
     let table = || scan(1, vec![field(1, 1, OF_BOOLEAN, false)]);
     let nots = |count: usize| (0..count).fold(column(1, 1), |operand, _| not(operand));
     let nodes_above = |plan: Tree, count: usize| (0..count).fold(plan, |plan, _| repartition(plan));
-    // each conjunct has three levels; the first of them gets the whole list above it
-    let three_deep = |at: usize| binary(EQ, column(1, 1), test(1, integer(at as i64)));
-    match random.below(4) {
+    match random.below(3) {
         0 => {
+            // each conjunct has three levels; the first of them gets the whole list above it
             let length = random.within(LIST - 30, LIST);
-            let conjuncts = (0..length).map(three_deep).collect();
+            let conjuncts = (0..length).map(|at| binary(EQ, column(1, 1), test(1, integer(at as i64)))).collect();
             let counted = window_entry(0, 9, COUNT, vec![integer(1)]);
             let plan = filter(conjunction(conjuncts, Nesting::Balanced), over(WINDOW, vec![counted], table()));
             nodes_above(plan, depth - length - 3)
         }
         1 => {
-            // the scan may take the merged list afterwards, and the answer is shallow again
-            let length = random.within(LIST - 30, LIST);
-            let mut lower: Vec<Tree> = (0..length).map(three_deep).collect();
-            let upper = lower.split_off(random.within(1, length - 1));
-            let table = scan(1, vec![field(1, 1, OF_BOOLEAN, random.chance(50))]);
-            let balanced = |conjuncts: Vec<Tree>| conjunction(conjuncts, Nesting::Balanced);
-            nodes_above(filter(balanced(upper), filter(balanced(lower), table)), depth - length - 3)
-        }
-        2 => {
             let (above, inside) = (random.within(0, 100), random.within(1, 100));
             let entries = vec![entry(1, 1, nots(inside))];
             nodes_above(filter(nots(depth - above - inside - 3), over(PROJECTION, entries, table())), above)

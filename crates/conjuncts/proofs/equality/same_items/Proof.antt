@@ -28,36 +28,33 @@ same_items_spec =
     (λ c xs ys h k. let p = c.before.before.before.requires in
     record {
       yes = λ y. no_yes (sym y);
-      no = λ n e. c.if1.true (sym (lists_length h p.0.most) ∙ ap length e ∙ lists_length k p.1.0.most);
+      no = λ n e. c.if1.true (sym (lists_length h p.0.most) ∙ ap length e ∙ lists_length k p.1.most);
     })
     (λ c. (omega arith, λ xs ys h k e. e))
     (λ c κs. let p = c.before.before.before.before.before.requires in omega (arith, lists_room p.0.lists p.0.most, c.loop-test.true))
     (λ c κs. let p = c.before.before.before.before.before.before.requires in omega (
       arith,
-      lists_room p.1.0.lists
-          p.1.0.most,
+      lists_room p.1.lists
+          p.1.most,
       c.before.loop-test.true,
       c.before.before.before.if1.false,
     ))
     (λ c κs. let p = c.before.before.before.before.before.before.before.requires in (
       record { expr = _; item = lists_at p.0.lists p.0.most _ _ c.before.before.loop-test.true c.before.item-at.ensures },
-      (
-        record {
-          expr = _;
-          item = lists_at p.1.0.lists p.1.0.most _ _ (omega (
-            arith,
-            c.before.before.loop-test.true,
-            c.before.before.before.before.if1.false,
-          )) c.item-at2.ensures;
-        },
-        p.1.1,
-      ),
+      record {
+        expr = _;
+        item = lists_at p.1.lists p.1.most _ _ (omega (
+          arith,
+          c.before.before.loop-test.true,
+          c.before.before.before.before.if1.false,
+        )) c.item-at2.ensures;
+      },
     ))
     (λ c xs ys h k. let p = c.before.before.before.before.before.before.before.before.before.requires in
     let i = c.before.before.before.before.before.loop.i in
     let s = c.before.same_item.ensures _ _ (lists_at h p.0.most i _ c.before.before.before.before.loop-test.true
     c.before.before.before.item-at.ensures)
-    (lists_at k p.1.0.most i _ (omega (
+    (lists_at k p.1.most i _ (omega (
       arith,
       c.before.before.before.before.loop-test.true,
       c.before.before.before.before.before.before.if1.false,
@@ -75,13 +72,13 @@ same_items_spec =
           let i = c.before.before.before.before.before.loop.i in
           let lt = c.before.before.before.before.loop-test.true in
           let s = c.before.same_item.ensures _ _ (lists_at h p.0.most i _ lt c.before.before.before.item-at.ensures)
-          (lists_at k p.1.0.most i _ (omega (arith, c.before.before.before.before.before.before.if1.false))
+          (lists_at k p.1.most i _ (omega (arith, c.before.before.before.before.before.before.if1.false))
           c.before.before.item-at2.ensures) in
           c.before.before.before.before.before.loop.invariant.1 xs ys h k
           (same_next xs ys i (omega (arith, lists_length h p.0.most)) (omega (
             arith,
             lists_length k
-                p.1.0.most,
+                p.1.most,
             c.before.before.before.before.before.before.if1.false,
           ))
           (same_e_eq _ _ (sym s ∙ told c.if2.false)) e),
@@ -91,6 +88,6 @@ same_items_spec =
     record {
       yes = λ y. c.before.loop.invariant.1 xs ys h k
           (at_end xs i (omega (arith, lists_length h p.0.most, c.loop-test.false))
-          ∙ sym (at_end ys i (omega (arith, lists_length k p.1.0.most, c.loop-test.false, c.before.before.if1.false))));
+          ∙ sym (at_end ys i (omega (arith, lists_length k p.1.most, c.loop-test.false, c.before.before.if1.false))));
       no = λ n. no_yes n;
     }))

@@ -25,7 +25,7 @@ rewrite_table_scan_spec =
     (λ c κs. let p = c.before.before.before.before.before.before.before.before.requires in
     let h = p.1.0.rests in
     let z = c.before.before.before.before.share-of.ensures _ _ _ _ h in
-    (known_of (c.scan-filters.ensures _ _ _ _ p.0 h.placed) (own_few h), (known_of z.takes (taken_few h), h.placed.short)))
+    (known_of (c.scan-filters.ensures _ _ _ _ p.0 h.placed) (own_few h), known_of z.takes (taken_few h)))
     (λ c e t fs es h. let z = c.before.before.before.before.before.before.before.share-of.ensures e t fs es h in
     let own = c.before.before.before.scan-filters.ensures _ t fs es
     c.before.before.before.before.before.before.before.before.before.before.before.requires.0 h.placed in

@@ -7,7 +7,6 @@ use borrow.Author.Rules.{rules}
 use borrow.Fn.Kinds.{In}
 use borrow.Fn.PlainCycle.{Measures, is, falls, and}
 use Rattle.plan.proofs.Bools.{told, untold}
-use Rattle.plan.proofs.Measure.{deep_filter}
 use Rattle.conjuncts.proofs.Listed.{lists_none, known_of}
 use Rattle.push_down_base.proofs.Steps.{filter_predicate}
 use Rattle.writing.proofs.Stretches.{input_within, input_at}
@@ -36,10 +35,10 @@ use Rattle.push_down_rewrite.proofs.filter.+merge_filter_rewrite_filter.{stateme
 use Rattle.push_down_rewrite.proofs.filter.+merge_filter_rewrite_filter.Tie.{close}
 
 abbrev μ-merge-filter : Measures 5 merge-filter-kinds.ps ℕ
-μ-merge-filter κs a = plans_below a.0.now a.1.1.1.1.1.0 + plans_below a.0.now a.1.1.1.1.1.0
+μ-merge-filter κs a = plans_below a.0.now a.1.1.1.1.0 + plans_below a.0.now a.1.1.1.1.0
 
 abbrev μ-rewrite-filter : Measures 5 rewrite-filter-kinds.ps ℕ
-μ-rewrite-filter κs a = plans_below a.0.now a.1.1.1.1.1.0 + plans_below a.0.now a.1.1.1.1.1.0 + 1
+μ-rewrite-filter κs a = plans_below a.0.now a.1.1.1.1.0 + plans_below a.0.now a.1.1.1.1.0 + 1
 
 abbrev merge_filter_at : ℕ → In 5 merge-filter-kinds.ps
 merge_filter_at t = and 5 merge-filter-kinds.ps (is 5 merge-filter-kinds.ps μ-merge-filter t) merge-filter.Pre
@@ -93,42 +92,43 @@ pub +merge-filter-rewrite-filter-spec : {M : Type 1} → statement M
     (λ c κs. let p = c.before.before.before.before.before.before.before.before.before.requires.1.1.0 in
     let h = p.rests.placed in (
       record { expr = p.expr; shaped = p.rests.shaped },
-      (
-        known_of (c.split_at.ensures p.lower _ (filter_predicate h.short h.standing) (lists_none c.before.empty.ensures))
-            (own_few p.lower p.plan h.lists),
-        h.short,
-      ),
+      known_of (c.split_at.ensures p.lower _ (filter_predicate h.short h.standing) (lists_none c.before.empty.ensures))
+          (own_few p.lower p.plan h.lists),
     ))
-    (λ c κs. let u = c.before.before.before.before.before.before.before.before.before.before.requires in
+    (λ c κs. let a = c.before.before in
+    let u = a.before.before.before.before.before.before.before.before.before.before.requires in
     let p = u.1.1.0 in
     let k = p.rests in
     let h = k.placed in
-    let y = c.before.before.before.before.filter_input.ensures _ p.lower p.plan u.1.0 h.short h.standing in
-    let l = c.before.split_at.ensures p.lower _ (filter_predicate h.short h.standing) (lists_none c.before.before.empty.ensures) in
-    let m = one_merge k (λ n i. c.merge.ensures p.expr p.lower n k.shaped l i)
+    let y = a.before.before.before.before.filter_input.ensures _ p.lower p.plan u.1.0 h.short h.standing in
+    let l = a.before.split_at.ensures p.lower _ (filter_predicate h.short h.standing) (lists_none a.before.before.empty.ensures) in
+    let m = one_merge k (λ n i. a.merge.ensures p.expr p.lower n k.shaped l i)
     y.standing in (
-      input_at y.standing u.1.0 y.after c.before.before.before.from-record.ensures,
-      record {
-        whole = p.whole;
-        spot = p.spot;
-        inside = p.inside;
-        located = λ w f i. (u.1.1.1.0 w f i).spot;
-        expr = m.expr;
-        made = m.made;
-        plan = p.plan;
-        standing = m.input.standing;
-        low = omega (arith, p.low, deep_filter p.lower p.plan);
-      },
+      input_at y.standing u.1.0 y.after a.before.before.before.from-record.ensures,
+      (
+        record {
+          whole = p.whole;
+          spot = p.spot;
+          inside = p.inside;
+          expr = m.expr;
+          made = m.made;
+          plan = p.plan;
+          standing = m.input.standing;
+        },
+        (u.1.1.1.1, u.1.1.1.2),
+      ),
     ))
-    (λ c w f i e b q k. let a = c.before.before in
+    (λ c. search rules)
+    (λ c. search rules)
+    (λ c w f i e b q k. let a = c.before.before.before.before.before.before.before.before in
     let h = k.placed in
     let l = a.before.split_at.ensures b _ (filter_predicate h.short h.standing) (lists_none a.before.before.empty.ensures) in
     let m = one_merge k (λ n j. a.merge.ensures e b n k.shaped l j) (a.before.before.before.before.filter_input.ensures _ b q
     a.before.before.before.before.before.before.before.before.before.before.requires.1.0 h.short h.standing).standing in
-    let fit = c.before.merge-fits.ensures w f i m.expr q m.made m.input.standing m.input.lists in
+    let fit = c.before.before.before.before.before.merge-fits.ensures w f i m.expr q m.made m.input.standing m.input.lists in
     merge_unfit e b q m.is refl (sym fit ∙ untold c.if1.true))
-    (λ c κs. let a = c.before.before.before.before in
-    let g = c.before.before.before.merge-fits in
+    (λ c κs. let a = c.before.before.before.before.before.before.before.before.before.before.before in
+    let g = c.before.before.before.before.before.before.before.before.merge-fits in
     let u = a.before.before.before.before.before.before.before.before.before.before.requires in
     let p = u.1.1.0 in
     let k = p.rests in
@@ -148,24 +148,23 @@ pub +merge-filter-rewrite-filter-spec : {M : Type 1} → statement M
             inside = p.inside;
             expr = m.expr;
             plan = p.plan;
-            rests = merge_rests k p.inside m (sym fit ∙ told c.before.before.if1.false);
-            low = omega (arith, p.low, deep_filter p.lower p.plan);
+            rests = merge_rests k p.inside m (sym fit ∙ told c.before.before.before.if1.false);
           },
-          u.1.1.1,
+          (u.1.1.1.0, g.auto.1.1.1.1.1.0 ∙ u.1.1.1.1, g.auto.1.1.1.1.1.1.0 ∙ u.1.1.1.2),
         ),
       ),
     ))
     (λ c. search rules)
     (λ c. search rules)
-    (λ c w f i e b q k. let a = c.before.before.before.before.before.before.before.before.before in
+    (λ c. search rules)
+    (λ c w f i e b q k. let a = c.before.before.before.before.before.before.before.before.before.before.before.before.before.before.before.before.before.before in
     let h = k.placed in
     let l = a.before.split_at.ensures b _ (filter_predicate h.short h.standing) (lists_none a.before.before.empty.ensures) in
     let m = one_merge k (λ n j. a.merge.ensures e b n k.shaped l j) (a.before.before.before.before.filter_input.ensures _ b q
-    a.before.before.before.before.before.before.before.before.before.before.requires.1.0 h.short h.standing).standing in
-    let fit = c.before.before.before.before.before.before.before.before.merge-fits.ensures w f i m.expr q m.made
-    m.input.standing m.input.lists in
-    let yes = sym fit ∙ told c.before.before.before.before.before.before.before.if1.false in
-    again e b q m.is yes (c.before.before.before.before.rewrite_filter.ensures w f i m.expr q (merge_rests k i m yes))))
+    a.before.before.before.before.before.before.before.before.before.before.pre.1.0 h.short h.standing).standing in
+    let fit = c.before.before.before.before.before.before.before.before.before.before.before.before.before.before.before.merge-fits.ensures w f i m.expr q m.made m.input.standing m.input.lists in
+    let yes = sym fit ∙ told c.before.before.before.before.before.before.before.before.before.before.if1.false in
+    again e b q m.is yes (c.before.before.before.before.before.before.rewrite_filter.ensures w f i m.expr q (merge_rests k i m yes))))
     (λ t. rewrite-filter-lts.spec (
       simplify_filter_reads.Asked,
       simplify_filter_reads.Learnt,
@@ -182,9 +181,9 @@ pub +merge-filter-rewrite-filter-spec : {M : Type 1} → statement M
     rewrite_filter.Post
     (λ c κs. let p = c.before.before.before.before.before.requires.1.1.0 in record { expr = p.expr; shaped = p.rests.shaped })
     (λ c κs. tt)
-    (λ c κs. let u = c.before.before.before.before.before.before.before.before.before.before.requires.1 in
+    (λ c κs. let u = c.before.before.before.before.before.before.before.before.before.before.before.requires.1 in
     let p = u.1.0 in
-    let k = c.before.before.before.before.simplify_filter.ensures.0 p.expr p.rests.shaped in (
+    let k = c.before.before.before.before.before.simplify_filter.ensures.0 p.expr p.rests.shaped in (
       u.0,
       (
         record {
@@ -193,19 +192,20 @@ pub +merge-filter-rewrite-filter-spec : {M : Type 1} → statement M
           inside = p.inside;
           option = _;
           plan = p.plan;
-          left = left_gone p.rests k (sym c.before.before.before.is_gone.ensures ∙ c.before.before.if1.true);
+          left = left_gone p.rests k (sym c.before.before.before.before.is_gone.ensures ∙ c.before.before.before.if1.true);
         },
         u.1.1,
       ),
     ))
     (λ c. search rules)
     (λ c. search rules)
-    (λ c w f i e q h. let a = c.before.before.before.before.before.before.before in
+    (λ c. search rules)
+    (λ c w f i e q h. let a = c.before.before.before.before.before.before.before.before.before.before in
     let l = left_gone h (a.before.before.simplify_filter.ensures.0 e h.shaped) (sym a.before.is_gone.ensures ∙ a.if1.true) in
-    at_rest e l (c.before.before.before.before.resume-in-place.ensures w f i _ q l))
+    at_rest e l (c.before.before.before.before.before.before.resume-in-place.ensures w f i _ q l))
     (λ c κs. let u = c.before.before.before.before.before.before.before.before.requires.1 in rw u.0 (omega
     (arith, u.1.0.rests.placed.standing.here.head.room)))
-    (λ c κs. let a = c.before.before in
+    (λ c κs. let a = c.before.before.before in
     let u = a.before.before.before.before.before.before.before.before.before.before.requires in
     let p = u.1.1.0 in
     let n = read_kind u.1.0 a.before.word_at.ensures.0 p.rests.placed.standing in
@@ -224,7 +224,6 @@ pub +merge-filter-rewrite-filter-spec : {M : Type 1} → statement M
             lower = o.below.expr;
             plan = o.below.plan;
             rests = o.rests;
-            low = rw o.below.is at p.low;
           },
           u.1.1.1,
         ),
@@ -232,14 +231,15 @@ pub +merge-filter-rewrite-filter-spec : {M : Type 1} → statement M
     ))
     (λ c. search rules)
     (λ c. search rules)
-    (λ c w f i e q h. let a = c.before.before.before.before.before.before.before in
+    (λ c. search rules)
+    (λ c w f i e q h. let a = c.before.before.before.before.before.before.before.before.before.before in
     let k = a.before.before.before.before.simplify_filter.ensures.0 e h.shaped in
     let n = read_kind a.before.before.before.before.before.before.before.before.before.before.requires.1.0
     a.before.word_at.ensures.0 h.placed.standing in
     let o = rests_over h k n a.if2.true (sym a.before.before.before.is_gone.ensures ∙ a.before.before.if1.false) in
-    with_left h k o (c.before.before.before.before.merge-filter.ensures w f i o.upper o.below.expr o.below.plan
+    with_left h k o (c.before.before.before.before.before.before.merge-filter.ensures w f i o.upper o.below.expr o.below.plan
     o.rests))
-    (λ c κs. let a = c.before.before in
+    (λ c κs. let a = c.before.before.before in
     let u = a.before.before.before.before.before.before.before.before.before.before.requires in
     let p = u.1.1.0 in
     let n = read_kind u.1.0 a.before.word_at.ensures.0 p.rests.placed.standing in (
@@ -259,8 +259,9 @@ pub +merge-filter-rewrite-filter-spec : {M : Type 1} → statement M
     ))
     (λ c. search rules)
     (λ c. search rules)
-    (λ c w f i e q h. let a = c.before.before.before.before.before.before.before in
+    (λ c. search rules)
+    (λ c w f i e q h. let a = c.before.before.before.before.before.before.before.before.before.before in
     let n = read_kind a.before.before.before.before.before.before.before.before.before.before.requires.1.0
     a.before.word_at.ensures.0 h.placed.standing in
     let l = left_other h (a.before.before.before.before.simplify_filter.ensures.0 e h.shaped) n a.if2.false in
-    at_rest e l (c.before.before.before.before.resume-in-place2.ensures w f i _ q l)))
+    at_rest e l (c.before.before.before.before.before.before.resume-in-place2.ensures w f i _ q l)))

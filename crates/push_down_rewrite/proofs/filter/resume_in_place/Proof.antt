@@ -4,7 +4,7 @@ use native.Mathlib.Omega.{arith}
 use borrow.Author.Rules.{rules}
 use Rattle.plan.specs.Measure.{size_p}
 use Rattle.rewrite.specs.PushDownFilter.{resume, rewrite_filter}
-use Rattle.push_down_merge.proofs.Tested.{few_records, end_within, level_small}
+use Rattle.push_down_merge.proofs.Tested.{few_records, sized, stands_inside, end_within, level_small}
 use Rattle.push_down_rewrite.proofs.filter.resume_in_place.Statement.{statement}
 use Rattle.push_down_rewrite.proofs.filter.resume_in_place.Tie as tie
 
@@ -13,50 +13,50 @@ unfolding size_p
 resume_in_place_spec =
     tie.close
     (tie.spec
-    (λ c κs. let u = c.before.before.before.before.before.before.before.requires in
-    let p = u.1.0 in
-    let i = p.inside in
-    let z = u.1.1.1 in (
+    (λ c κs. let p = c.before.before.before.before.before.before.before.requires.1 in
+    let i = p.0.inside in
+    (sized i, (record { plan = p.0.spot.plan; standing = stands_inside i }, (p.1.1, p.1.2))))
+    (λ c κs. let u = c.before.before.before.before.before.before.before.before.before.before.before.before.before.before.requires in
+    let p = u.1 in
+    let i = p.0.inside in
+    let w = c.before.before.before.before.before.before.write-before in
+    let b = w.ensures p.0.whole p.0.spot i.root i.there (stands_inside i) in (
       u.0,
       (
-        record { option = p.option; plan = p.plan; left = p.left },
-        (
-          z.0,
-          omega (arith, level_small i (u.1.1.0 p.whole p.spot i).spot.level),
-          z.1,
-          omega (arith, end_within i, few_records i),
-        ),
+        record { option = p.0.option; plan = p.0.plan; left = p.0.left },
+        (p.1.0, omega (arith, level_small i b.level), w.auto.1.1.0 ∙ p.1.1, omega (arith, end_within i, few_records i)),
       ),
     ))
-    (λ c κs. let u = c.before.before.before.before.before.before.before.before.before.before.before.before.before.requires in
-    let p = u.1.0 in
-    let q = p.plan in
-    let z = u.1.1.1 in
-    let r = c.before.before.before.before.before.resume in (
+    (λ c κs. let p = c.before.before.before.before.before.before.before.before.before.before.before.before.before.before.before.before.before.before.before.before.before.requires.1 in
+    let i = p.0.inside in
+    let q = p.0.plan in
+    let w = c.before.before.before.before.before.before.before.before.before.before.before.before.before.write-before in
+    let r = c.before.before.before.before.before.before.resume in
+    let long = w.auto.1.1.0 ∙ p.1.1 in (
       record {
         node = _;
-        whole = p.whole;
-        place = p.spot;
-        answer = resume p.option (λ e. rewrite_filter e q) q;
+        whole = p.0.whole;
+        place = p.0.spot;
+        answer = resume p.0.option (λ e. rewrite_filter e q) q;
         replaces = record {
-          inside = p.inside;
+          inside = i;
           before = _;
-          long = z.1;
-          begun = u.1.1.0 p.whole p.spot p.inside;
-          answers = r.ensures p.option q p.left;
+          long = long;
+          begun = w.ensures p.0.whole p.0.spot i.root i.there (stands_inside i);
+          answers = r.ensures p.0.option q p.0.left;
         };
       },
-      (r.auto.1.1.1.1.1.0 ∙ z.1, z.2),
+      (r.auto.1.1.1.1.1.0 ∙ long, w.auto.1.1.1.0 ∙ p.1.2),
     ))
     (λ c. search rules)
     (λ c. search rules)
-    (λ c w f h o q l.
-    let u = c.before.before.before.before.before.before.before.before.before.before.before.before.before.before.before.before.requires in
-    c.before.before.finish.ensures _ w f (resume o (λ e. rewrite_filter e q) q)
+    (λ c. search rules)
+    (λ c w f h o q l. c.before.before.finish.ensures _ w f (resume o (λ e. rewrite_filter e q) q)
     (record {
       inside = h;
       before = _;
-      long = u.1.1.1.1;
-      begun = u.1.1.0 w f h;
-      answers = c.before.before.before.before.before.before.before.before.resume.ensures o q l;
+      long = c.before.before.before.before.before.before.before.before.before.before.before.before.before.before.before.before.write-before.auto.1.1.0
+          ∙ c.before.before.before.before.before.before.before.before.before.before.before.before.before.before.before.before.before.before.before.before.before.before.before.before.requires.1.1.1;
+      begun = c.before.before.before.before.before.before.before.before.before.before.before.before.before.before.before.before.write-before.ensures w f h.root h.there (stands_inside h);
+      answers = c.before.before.before.before.before.before.before.before.before.resume.ensures o q l;
     })))

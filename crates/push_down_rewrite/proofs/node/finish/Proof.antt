@@ -20,21 +20,21 @@ finish_spec =
     let b = r.begun in
     let i = r.inside in (
       (
-        omega (arith, b.spot.records, few_records i),
-        omega (arith, b.spot.records, all_records i),
+        omega (arith, b.records, few_records i),
+        omega (arith, b.records, all_records i),
         c.before.before.before.before.requires.1.1,
       ),
-      (omega (arith, b.spot.records, b.spot.end, end_within i), next_small r, c.before.before.before.before.requires.1.0),
+      (omega (arith, b.records, b.end, end_within i), next_small r, c.before.before.before.before.requires.1.0),
     ))
     (λ c. search rules)
     (λ c node w f t h. unfit refl (at_once f t.plan
     (too_many h (c.before.before.before.write-records.ensures (plan_tree w) h.inside.root.here (few_records h.inside)
-    (omega (arith, h.begun.spot.records)) h.begun.depths) c.if1.true)))
+    (omega (arith, h.begun.records)) h.begun.depths) c.if1.true)))
     (λ c κs. search rules)
     (λ c. search rules)
     (λ c node w f t h.
     let v = c.before.before.before.before.before.before.write-records.ensures (plan_tree w) h.inside.root.here (few_records h.inside)
-    (omega (arith, h.begun.spot.records)) h.begun.depths in
+    (omega (arith, h.begun.records)) h.begun.depths in
     let few = c.before.before.before.if1.false in
     let b = begun h v few in
     unfit refl (at_once f t.plan
@@ -43,14 +43,14 @@ finish_spec =
     (λ c κs.
     let h = c.before.before.before.before.before.before.before.before.before.before.before.before.requires.0.replaces in
     let v = c.before.before.before.before.before.before.before.write-records.ensures _ h.inside.root.here (few_records h.inside)
-    (omega (arith, h.begun.spot.records)) h.begun.depths in
+    (omega (arith, h.begun.records)) h.begun.depths in
     let few = c.before.before.before.before.if1.false in
     let b = begun h v few in
     flattened b few (sym (c.before.before.is-shallow.ensures _ b.rest (begun_count b few) (b.bytes few)) ∙ told c.before.if2.false))
     (λ c. search rules)
     (λ c node w f t h.
     let v = c.before.before.before.before.before.before.before.before.before.before.write-records.ensures (plan_tree w) h.inside.root.here
-    (few_records h.inside) (omega (arith, h.begun.spot.records)) h.begun.depths in
+    (few_records h.inside) (omega (arith, h.begun.records)) h.begun.depths in
     let few = c.before.before.before.before.before.before.before.if1.false in
     let b = begun h v few in
     let deep = sym (c.before.before.before.before.before.is-shallow.ensures (plan_tree (f.back t.plan)) b.rest (begun_count b few)

@@ -4,12 +4,11 @@ use native.Mathlib.Omega.{arith}
 use borrow.Author.Rules.{rules}
 use Rattle.push_down_base.proofs.Steps.{filter_predicate}
 use Rattle.push_down_merge.proofs.OneMerge.{own_few}
-use Rattle.push_down_merge.proofs.Tested.{sized, stands_inside}
+use Rattle.push_down_merge.proofs.Tested.{stands_inside}
 use Rattle.writing.proofs.Stretches.{input_within, input_at}
 use Rattle.push_down_stays.proofs.Dispatches.{read_kind}
 use Rattle.push_down_stays.proofs.Nodes.{a_filter, a_join, other_stays, placed_inside}
 use Rattle.push_down_stays.proofs.Stayings.{rests_written}
-use Rattle.push_down_rewrite.proofs.Falling.{low_first}
 use Rattle.push_down_rewrite.proofs.Outcoming.{filter_outcomes, stays_outcomes}
 use Rattle.push_down_rewrite.proofs.node.rewrite_anew.Statement.{statement}
 use Rattle.push_down_rewrite.proofs.node.rewrite_anew.Tie as tie
@@ -36,30 +35,26 @@ rewrite_anew_spec =
       short = i.short;
       there = record { expr = a.expr; plan = a.plan; standing = (placed_inside i a.is).standing };
     })
-    (λ c κs. let f = c.before.before.before.before.before.before.before.before.before.requires.0 in
-    let i = f.inside in
-    let b = a_filter f.spot.plan (sym (read_kind c.before.before.before.before.record-at.ensures c.before.before.before.word_at.ensures.0
+    (λ c κs. let i = c.before.before.before.before.before.before.before.before.before.requires.0.inside in
+    let a = a_filter c.before.before.before.before.before.before.before.before.before.requires.0.spot.plan (sym (read_kind
+    c.before.before.before.before.record-at.ensures c.before.before.before.word_at.ensures.0
     (stands_inside i)) ∙ c.before.before.if1.true) in
-    let g = c.filter_input.ensures _ b.expr b.plan c.before.before.before.before.record-at.ensures i.short (placed_inside i
-    b.is).standing in
+    let g = c.filter_input.ensures _ a.expr a.plan c.before.before.before.before.record-at.ensures i.short (placed_inside i
+    a.is).standing in
     input_within g.standing c.before.before.before.before.record-at.ensures g.after)
-    (λ c κs. let p = c.before.before.before.before.before.before.before.before.before.before.before.before.requires in
-    let i = p.0.inside in
-    (sized i, (record { plan = p.0.spot.plan; standing = stands_inside i }, (p.1.1, p.1.2))))
-    (λ c κs. let a = c.before.before.before.before.before.before.before.before.before.before.before in
-    let part = a.before.before.before.before.record-at.ensures in
-    let v = c.before.before.before.before.before.before.before.write-before in
-    let u = a.before.before.before.before.before.before.before.before.before.requires in
-    let f = u.0 in
+    (λ c κs. let f = c.before.before.before.before.before.before.before.before.before.before.before.before.before.requires.0 in
     let i = f.inside in
-    let b = a_filter f.spot.plan (sym (read_kind part a.before.before.before.word_at.ensures.0 (stands_inside i))
-    ∙ a.before.before.if1.true) in
-    let e = b.expr in
-    let q = b.plan in
-    let h = placed_inside i b.is in
-    let k = a.before.predicate-at.ensures e (filter_predicate i.short h.standing) (own_few e q h.lists) in
-    let g = a.filter_input.ensures _ e q part i.short h.standing in (
-      input_at g.standing part g.after c.before.before.before.before.before.before.before.before.before.before.from-record.ensures,
+    let a = a_filter f.spot.plan (sym (read_kind c.before.before.before.before.before.before.before.before.record-at.ensures
+    c.before.before.before.before.before.before.before.word_at.ensures.0 (stands_inside i))
+    ∙ c.before.before.before.before.before.before.if1.true) in
+    let e = a.expr in
+    let q = a.plan in
+    let h = placed_inside i a.is in
+    let k = c.before.before.before.before.before.predicate-at.ensures e (filter_predicate i.short h.standing) (own_few e q h.lists) in
+    let g = c.before.before.before.before.filter_input.ensures _ e q
+    c.before.before.before.before.before.before.before.before.record-at.ensures i.short h.standing in (
+      input_at g.standing c.before.before.before.before.before.before.before.before.record-at.ensures g.after
+          c.before.before.before.from-record.ensures,
       (
         record {
           whole = f.whole;
@@ -68,27 +63,26 @@ rewrite_anew_spec =
           expr = e;
           plan = q;
           rests = rests_written e q h k g.standing;
-          low = low_first e q i (v.ensures f.whole f.spot i.root i.there (stands_inside i)).spot.level b.is;
         },
-        (
-          λ w f h. v.ensures w f h.root h.there (stands_inside h),
-          (u.1.0, v.auto.1.1.0 ∙ u.1.1, v.auto.1.1.1.0 ∙ u.1.2),
-        ),
+        c.before.before.before.before.before.before.before.before.before.before.before.before.before.requires.1,
       ),
     ))
     (λ c. search rules)
     (λ c. search rules)
     (λ c. search rules)
-    (λ c w f i. let a = c.before.before.before.before.before.before.before.before.before.before.before.before.before.before.before.before in
-    let b = a_filter f.plan (sym (read_kind a.before.before.before.before.record-at.ensures
-    a.before.before.before.word_at.ensures.0 (stands_inside i)) ∙ a.before.before.if1.true) in
-    let e = b.expr in
-    let q = b.plan in
-    let h = placed_inside i b.is in
-    let k = a.before.predicate-at.ensures e (filter_predicate i.short h.standing) (own_few e q h.lists) in
-    filter_outcomes b.is
-    (c.before.before.before.before.rewrite_filter.ensures w f i e q (rests_written e q h k
-    (a.filter_input.ensures _ e q a.before.before.before.before.record-at.ensures i.short h.standing).standing)))
+    (λ c w f i.
+    let a = a_filter f.plan (sym (read_kind
+    c.before.before.before.before.before.before.before.before.before.before.before.before.before.before.before.record-at.ensures c.before.before.before.before.before.before.before.before.before.before.before.before.before.before.word_at.ensures.0 (stands_inside i)) ∙ c.before.before.before.before.before.before.before.before.before.before.before.before.before.if1.true) in
+    let e = a.expr in
+    let q = a.plan in
+    let h = placed_inside i a.is in
+    let k = c.before.before.before.before.before.before.before.before.before.before.before.before.predicate-at.ensures e
+    (filter_predicate
+    i.short h.standing) (own_few e q h.lists) in
+    filter_outcomes a.is
+    (c.before.before.before.before.before.before.rewrite_filter.ensures w f i e q (rests_written e q h k
+    (c.before.before.before.before.before.before.before.before.before.before.before.filter_input.ensures _ e q
+    c.before.before.before.before.before.before.before.before.before.before.before.before.before.before.before.record-at.ensures i.short h.standing).standing)))
     (λ c κs. let p = c.before.before.before.before.before.before.before.before.before.before.before.requires in
     let f = p.0 in
     let a = a_join f.spot.plan

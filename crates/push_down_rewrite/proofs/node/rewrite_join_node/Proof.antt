@@ -34,7 +34,7 @@ rewrite_join_node_spec =
         none_under (placed_inside i j.is) c.before.before.empty.ensures,
         (
           p.1.0,
-          omega (arith, level_small i b.spot.level),
+          omega (arith, level_small i b.level),
           c.before.before.before.before.before.before.before.write-before.auto.1.1.0 ∙ p.1.1,
           omega (arith, end_within i, few_records i),
         ),

@@ -19,11 +19,10 @@ is_simple_spec =
     c.before.before.before.is_gone.ensures ∙ c.before.before.if1.false) in
     simple_written h g.is g.shaped c.before.before.before.before.before.before.requires.1
     (c.before.before.before.before.simplify_filter.ensures.1 c.if2.true))
-    (λ c κs. let p = c.before.before.before.before.before.before.before.before.requires in
-    let f = p.0 in
+    (λ c κs. let f = c.before.before.before.before.before.before.before.before.requires.0 in
     let g = leaves_some (c.before.before.before.before.before.before.simplify_filter.ensures.0 f.expr f.shaped) (sym
     c.before.before.before.before.before.is_gone.ensures ∙ c.before.before.before.before.if1.false) in
-    (shaped_known g.shaped, (shaped_known f.shaped, p.2)))
+    (shaped_known g.shaped, shaped_known f.shaped))
     (λ c κs. let p = c.before.before.before.before.before.before.before.before.before.before.requires in
     (record { expr = p.0.expr; standing = p.0.shaped.stands p.1 }, p.2))
     (λ c e h. let g = leaves_some (c.before.before.before.before.before.before.before.before.before.simplify_filter.ensures.0 e h)
