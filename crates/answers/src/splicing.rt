@@ -22,7 +22,7 @@ use image::records::record_at;
 use image::words::wide;
 
 // Where a new tree goes: at what depth, and what record stands behind the old one; and how many records there are.
-#[derive(Drop)]
+#[derive(Clone, Copy)]
 pub struct Spot {
     pub level: usize,
     pub end: usize,

@@ -15,7 +15,7 @@ use pass::visits::{Walk, visit_all};
 
 // Visits, flags raised, whether no plan is left to visit, and the number of records; or what stands against it: a test of the image, a
 // rewrite whose answer is too large, at this record of the plan as it then stood, an output that is too short.
-#[derive(Drop)]
+#[derive(Clone, Copy)]
 pub enum Answer {
     Image(Checked),
     Refused(usize),

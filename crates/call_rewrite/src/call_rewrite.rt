@@ -20,7 +20,7 @@ use push_down_stays::stays::stays;
 
 // The flag and the number of records, or what stands against it: a test of the image, no plan at this record, an answer that is too large
 // for the rewrite at this record, an output that is too short.
-#[derive(Drop)]
+#[derive(Clone, Copy)]
 pub enum Answer {
     Image(Checked),
     NoPlan(usize),

@@ -30,7 +30,7 @@ use utils::schema_columns::{Fields, no_fields, schema_columns};
 const BELOW: usize = MAX_DEPTH - 1;
 
 // A truth, or what stands against it: a test of the image, no Filter at this record, the row, a function in the predicate of this Filter.
-#[derive(Drop)]
+#[derive(Clone, Copy)]
 pub enum Answer {
     Image(Checked),
     NoFilter(usize),

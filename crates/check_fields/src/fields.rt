@@ -75,7 +75,7 @@ fn question(role: Role, p: usize, asks: Question, q: usize) -> Question
 }
 
 // What a search for a field finds.
-#[derive(Drop)]
+#[derive(Clone, Copy)]
 pub enum Sought {
     // The field, and its type.
     Known(usize),
@@ -170,7 +170,7 @@ pub fn seek_made(
 }
 
 // The plan that is asked for fields, or 0, and the question that is put to it.
-#[derive(Drop)]
+#[derive(Clone, Copy)]
 pub struct Maker {
     pub at: usize,
     pub asks: Question,

@@ -1,5 +1,5 @@
 // What a search for fields asks for: by a qualifier and a name, both or neither of which may count.
-#[derive(Drop)]
+#[derive(Clone, Copy)]
 pub enum Question {
     // The field with the qualifier and the name.
     Exact,

@@ -15,7 +15,7 @@ use plan::kinds::{JOIN, PAIR, TABLE_SCAN, UNION, is_plan};
 use plan::words::NO_TYPE;
 
 // Which fields of a plan's children are seen.
-#[derive(Drop)]
+#[derive(Clone, Copy)]
 pub enum View {
     Nothing,
     FirstInput,

@@ -11,7 +11,7 @@ use image::limits::RECORD_BYTES;
 use image::places::Place;
 
 // The first test that an image meets, and the record at which it does.
-#[derive(Drop)]
+#[derive(Clone, Copy)]
 pub enum Formed {
     Buffer,
     Record(usize),

@@ -1,4 +1,6 @@
 // The check of an image up to its form: tests 1 to 5.
+#![tactic(auto)]
+
 pub mod buffer;
 pub mod checked;
 pub mod children;

@@ -9,7 +9,7 @@ use image::records::{FIRST_LINK, NEXT_LINK};
 use image::words::word_at;
 
 // What the links of an image come to.
-#[derive(Drop)]
+#[derive(Clone, Copy)]
 pub enum Linking {
     // One tree of all its records.
     Whole,

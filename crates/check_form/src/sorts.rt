@@ -5,7 +5,7 @@ ghost use Rattle.check_form.specs.Sorts.{sort_of};
 use plan::kinds::{is_expression, is_plan};
 
 // Which records a place in a pattern takes.
-#[derive(Drop)]
+#[derive(Clone, Copy)]
 pub enum Sort {
     Expression,
     Plan,

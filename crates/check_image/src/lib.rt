@@ -1,4 +1,6 @@
 // The check of an image: the tests 1 to 7, in their order.
+#![tactic(auto)]
+
 ghost use Rattle.std.specs.Prelude.{◌≡◌, ◌/◌, length};
 ghost use Rattle.acceptance.specs.Check.{linked};
 ghost use Rattle.check_form.specs.Formed.{later};
@@ -12,7 +14,7 @@ use check_types::walk::bad_types;
 use image::places::Place;
 
 // The first test that an image meets, and the record at which it does.
-#[derive(Drop)]
+#[derive(Clone, Copy)]
 pub enum Checked {
     Accepted,
     Buffer,

@@ -19,7 +19,7 @@ use plan::field_sources::{
 use plan::inputs::plan_at;
 
 // The schema whose fields are told apart: the children of its plan, which of their fields it has, and the question that tells them.
-#[derive(Drop)]
+#[derive(Clone, Copy)]
 pub struct Whole {
     pub base: usize,
     pub at: usize,

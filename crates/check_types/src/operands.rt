@@ -19,7 +19,7 @@ use plan::kinds::{
 use plan::words::{BOOLEAN, COUNT, INTEGER, IS_NOT_NULL, NO_TYPE, OR};
 
 // What a record asks of the types of its own expressions.
-#[derive(Drop)]
+#[derive(Clone, Copy)]
 pub enum Demand {
     Nothing,
     Booleans,

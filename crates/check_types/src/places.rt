@@ -16,7 +16,7 @@ use plan::inputs::plan_at;
 use plan::kinds::is_plan;
 
 // Whose fields are meant, of the trees from a record on.
-#[derive(Drop)]
+#[derive(Clone, Copy)]
 pub enum Whose {
     // Those that the parts make, as a scan's.
     Parts,

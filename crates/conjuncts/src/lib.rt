@@ -1,4 +1,6 @@
 // Lists of conjuncts: the records of an image at which they stand. What the source asks of datafusion-expr's utils for such lists.
+#![tactic(auto)]
+
 pub mod equality;
 pub mod items;
 pub mod lists;

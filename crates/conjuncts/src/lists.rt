@@ -7,7 +7,7 @@ ghost use Rattle.conjuncts.specs.Items.{Holds, Item, Lists, listed};
 
 use image::limits::{MAX_LIST, TOO_MANY};
 
-#[derive(Drop)]
+#[derive(Clone, Copy)]
 pub struct Conjuncts {
     pub at: [u16; MAX_LIST],
     pub len: usize,

@@ -1,4 +1,6 @@
 // The value of an expression on a row, in three-valued logic.
+#![tactic(auto)]
+
 pub mod cells;
 pub mod comparing;
 pub mod expressions;

@@ -8,7 +8,7 @@ ghost use Rattle.evaluate.specs.Truths.{value_of};
 use plan::values::{Case, Value, null_of};
 use plan::words::BOOLEAN;
 
-#[derive(Drop)]
+#[derive(Clone, Copy)]
 pub enum Truth {
     False,
     True,

@@ -16,7 +16,7 @@ use plan::values::{Value, is_null, null_of};
 use plan::words::{EQ, GT_EQ, NEGATED, NO_TYPE, OR};
 
 // The first three operands, and of those after the first whether one equals it and whether one is NULL: no operator asks for more.
-#[derive(Drop)]
+#[derive(Clone, Copy)]
 pub struct Seen {
     pub count: usize,
     pub first: Value,

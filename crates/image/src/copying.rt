@@ -59,7 +59,7 @@ pub fn copy_tree(
 // Writes a record of this kind, with the word p and no other.
 pub fn put_kind(out: &mut [u8], at: usize, kind: usize, p: usize, level: usize) -> usize
     requires { length out.old ≡ work_bytes }
-    ensures { Put out.old out.new at level result (record { kind = kind; p = p; q = 0; result = 0; lo = 0; hi = 0 }) }
+    ensures { Put out.old out.new at level result (record { kind = kind; p = p; q = 0; r = 0; lo = 0; hi = 0 }) }
 {
     let label = Label {
         kind,

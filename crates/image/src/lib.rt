@@ -1,4 +1,6 @@
 // An image of a query plan: its words, its records and their links, and trees copied and linked again.
+#![tactic(auto)]
+
 pub mod copying;
 pub mod ends;
 pub mod limits;

@@ -8,7 +8,7 @@ use crate::records::{FIRST_LINK, NEXT_LINK};
 use crate::words::word_at;
 
 // What reading links comes to.
-#[derive(Drop)]
+#[derive(Clone, Copy)]
 pub enum Walk {
     // All is read before this record.
     Next(usize),

@@ -1,5 +1,5 @@
 // Where a search ends: at a record, or nowhere.
-#[derive(Drop)]
+#[derive(Clone, Copy)]
 pub enum Place {
     At(usize),
     Nowhere,

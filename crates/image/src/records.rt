@@ -33,7 +33,7 @@ pub const FIRST_LINK: usize = 24;
 pub const NEXT_LINK: usize = 28;
 
 // What a record says of itself, without its links.
-#[derive(Drop)]
+#[derive(Clone, Copy)]
 pub struct Label {
     pub kind: usize,
     pub p: usize,
@@ -59,7 +59,7 @@ pub fn label_at(s: &[u8]) -> Label
 }
 
 // What a walk looks at in a record: its kind, its first words and its links.
-#[derive(Drop)]
+#[derive(Clone, Copy)]
 pub struct Node {
     pub kind: usize,
     pub p: usize,

@@ -1,5 +1,7 @@
 // Lists the plan that a pass leaves of the image on standard input: depth, kind, p, q, r, lo, hi of each record, then the counts; or only
 // the refusal.
+#![tactic(auto)]
+
 use listing::{TEXT_BYTES, list};
 
 fn main() {

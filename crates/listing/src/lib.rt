@@ -1,4 +1,6 @@
 // What the lister prints: the text of the plan that a pass leaves, or of its refusal, for any bytes.
+#![tactic(auto)]
+
 ghost use Rattle.std.specs.Prelude.{◌≡◌, ◌*◌, ◌+◌, ◌≤◌, length, take};
 ghost use Rattle.image.specs.Limits.{max_records, work_bytes};
 ghost use Rattle.listing.specs.Listing.{listing};

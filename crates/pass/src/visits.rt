@@ -19,7 +19,7 @@ use push_down_rewrite::node::{Outcome, rewrite};
 
 // Where a pass stands: whether each rewrite was within the limits; how many records the image has now, and the one to visit next, if it is
 // one of them; what is left of the budget; the visits and the flags raised so far.
-#[derive(Drop)]
+#[derive(Clone, Copy)]
 pub struct Walk {
     pub fits: bool,
     pub records: usize,

@@ -11,7 +11,7 @@ use crate::kinds::{
 use crate::words::{FULL, RIGHT_ANTI, RIGHT_SEMI};
 
 // Where a record has its fields from.
-#[derive(Drop)]
+#[derive(Clone, Copy)]
 pub enum Role {
     // It is no plan.
     NoPlan,

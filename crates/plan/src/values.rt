@@ -8,14 +8,14 @@ use crate::kinds::{BOOLEAN_LITERAL, INTEGER_LITERAL, NULL_LITERAL};
 use crate::words::{BOOLEAN, INTEGER, NO_TYPE, TRUE};
 use image::records::Label;
 
-#[derive(Drop)]
+#[derive(Clone, Copy)]
 pub enum Case {
     Null,
     Integer(i64),
     Truth(bool),
 }
 
-#[derive(Drop)]
+#[derive(Clone, Copy)]
 pub struct Value {
     pub ty: usize,
     pub case: Case,
@@ -74,7 +74,7 @@ pub fn code_of(v: Value) -> i64
 }
 
 // A literal, or a record that is none.
-#[derive(Drop)]
+#[derive(Clone, Copy)]
 pub enum Literal {
     Of(Value),
     Not,

@@ -1,4 +1,6 @@
 // push_down_filter.rs: the arms of the match on a Filter's input (835 to 1263), but Filter and Join.
+#![tactic(auto)]
+
 pub mod aggregate;
 pub mod contain;
 pub mod projection;

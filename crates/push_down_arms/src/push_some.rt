@@ -29,7 +29,7 @@ use utils::schema_columns::{no_fields, schema_columns};
 use writing::replace_cols_by_name::value_for;
 
 // The conjuncts of a Filter that stay above the plan under it, and those that move below it.
-#[derive(Drop)]
+#[derive(Clone, Copy)]
 pub struct Divided {
     pub kept: Conjuncts,
     pub moved: Conjuncts,

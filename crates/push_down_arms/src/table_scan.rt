@@ -108,7 +108,7 @@ fn marked_fields(part: &[u8], x: usize, k: usize) -> u64
 }
 
 // What a scan takes of a predicate's conjuncts, and what stays above it; and how many fields it has.
-#[derive(Drop)]
+#[derive(Clone, Copy)]
 pub struct Share {
     pub fields: usize,
     pub taken: Conjuncts,

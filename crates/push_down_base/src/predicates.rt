@@ -4,7 +4,7 @@ ghost use Rattle.std.specs.Prelude.{◌≡◌, ◌&&◌, eqb};
 
 use conjuncts::lists::Conjuncts;
 
-#[derive(Drop)]
+#[derive(Clone, Copy)]
 pub struct Predicate {
     pub written: usize,
     pub list: Conjuncts,
@@ -19,7 +19,7 @@ pub fn is_gone(p: Predicate) -> bool
 }
 
 // What a rewrite answers: the record after the plan that it wrote, or NO_ROOM where that has no room; and whether it raises the flag.
-#[derive(Drop)]
+#[derive(Clone, Copy)]
 pub struct Written {
     pub next: usize,
     pub flag: bool,

@@ -1,4 +1,6 @@
 // What C and Rust call: functions on byte slices and numbers.
+#![tactic(auto)]
+
 ghost use Rattle.std.specs.Prelude.{◌≡◌, length};
 ghost use Rattle.rewrite.specs.OnBytes.{pass_bytes, rewrite_bytes};
 ghost use Rattle.rewrite.specs.RowTest.{row_test_bytes};
@@ -29,7 +31,7 @@ pub extern "C" fn push_down_filter_version() -> u32
 
 // Number and record of a refusal; 0 and 0 for an accepted image.
 #[repr(C)]
-#[derive(Drop)]
+#[derive(Clone, Copy)]
 pub struct Verdict {
     pub number: u32,
     pub record: u32,
@@ -50,7 +52,7 @@ pub extern "C" fn push_down_filter_check(image: &[u8]) -> Verdict
 
 // Number and record of a refusal, or 0, 0, the flag and how many records the answer has.
 #[repr(C)]
-#[derive(Drop)]
+#[derive(Clone, Copy)]
 pub struct Rewritten {
     pub number: u32,
     pub record: u32,
@@ -77,7 +79,7 @@ pub extern "C" fn push_down_filter_rewrite(image: &[u8], node: u32, out: &mut [u
 
 // Number and record of a refusal, or 0, 0, the visits, the flags raised, whether no plan was left to visit, and how many records there are.
 #[repr(C)]
-#[derive(Drop)]
+#[derive(Clone, Copy)]
 pub struct Passed {
     pub number: u32,
     pub record: u32,
@@ -108,7 +110,7 @@ pub extern "C" fn push_down_filter_pass(image: &[u8], budget: u64, out: &mut [u8
 
 // Number and record of a refusal, or 0, 0 and the truth: 0 FALSE, 1 TRUE, 2 UNKNOWN.
 #[repr(C)]
-#[derive(Drop)]
+#[derive(Clone, Copy)]
 pub struct Tested {
     pub number: u32,
     pub record: u32,

@@ -18,7 +18,7 @@ use utils::sets::{all_but, low_places};
 
 // The fields of both inputs of a join, the left one's first; the same with each key's partner in its place; and sets of them: those of each
 // input, those that have no partner by the keys, and those whose partner, or where they have none they themselves, are of each input.
-#[derive(Drop)]
+#[derive(Clone, Copy)]
 pub struct Scope {
     pub fields: Fields,
     pub to: Fields,

@@ -68,7 +68,7 @@ pub fn extract_or_clauses_for_join(
 }
 
 // A clause or nothing. `copy_clause` writes it, from the expression that yields it.
-#[derive(Drop)]
+#[derive(Clone, Copy)]
 pub enum Clause {
     Made,
     Nothing,

@@ -33,7 +33,7 @@ pub fn infer_join_predicates(s: &[u8], c: Conjuncts, sc: Scope, inner: bool) -> 
 }
 
 // A column, by its qualifier and its name, or none.
-#[derive(Drop)]
+#[derive(Clone, Copy)]
 pub enum Column {
     Is(usize, usize),
     Nothing,
@@ -131,7 +131,7 @@ fn add_partner(to: Fields, c: Column, q: usize, n: usize) -> Fields
 }
 
 // The fields with each key's partner in its place, and the places of those that have none.
-#[derive(Drop)]
+#[derive(Clone, Copy)]
 pub struct Swapped {
     pub to: Fields,
     pub alone: u64,

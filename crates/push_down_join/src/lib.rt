@@ -1,4 +1,6 @@
 // push_down_filter.rs: Join (169 to 770), its tables, what is decided about it, and the plan that is written for it.
+#![tactic(auto)]
+
 pub mod column_checker;
 pub mod extract_or_clause;
 pub mod infer_join_predicates;

@@ -7,7 +7,7 @@ ghost use Rattle.rewrite.specs.PushDownFilter.{is_inner, left_preserved, on_left
 use plan::words::{INNER, LEFT, LEFT_ANTI, LEFT_SEMI, RIGHT, RIGHT_ANTI, RIGHT_SEMI};
 
 // Whether predicates may move to the left input of a join, and to its right one.
-#[derive(Drop)]
+#[derive(Clone, Copy)]
 pub struct Preserved {
     pub left: bool,
     pub right: bool,

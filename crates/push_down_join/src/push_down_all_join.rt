@@ -54,7 +54,7 @@ pub fn append(to: Conjuncts, c: Conjuncts, more: usize) -> Conjuncts
 
 // What of a list of conjuncts a side gets: those that move there, those of which others are inferred that do, and those that move to no
 // side, the clauses of which do.
-#[derive(Drop)]
+#[derive(Clone, Copy)]
 pub struct Part {
     pub moved: Conjuncts,
     pub keyed: Conjuncts,
@@ -89,7 +89,7 @@ fn if_list(told: bool, c: Conjuncts) -> Conjuncts
 }
 
 // What of a list of conjuncts each input gets, and those that move to neither.
-#[derive(Drop)]
+#[derive(Clone, Copy)]
 pub struct Parts {
     pub left: Part,
     pub right: Part,

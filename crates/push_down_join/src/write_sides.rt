@@ -36,7 +36,7 @@ use utils::schema_columns::Fields;
 use writing::conjunction::{copy_item, copy_joined};
 
 // The lists of a join: what moves to each input, what becomes its filter, and what stays above it; and whether anything moves.
-#[derive(Drop)]
+#[derive(Clone, Copy)]
 pub struct Moves {
     pub left: Conjuncts,
     pub right: Conjuncts,

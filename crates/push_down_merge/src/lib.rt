@@ -1,2 +1,4 @@
 // push_down_filter.rs: a Filter is simplified, and merged with the Filter below it.
+#![tactic(auto)]
+
 pub mod filter;

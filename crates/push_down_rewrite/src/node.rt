@@ -25,7 +25,7 @@ use push_down_stays::stays::stays;
 
 // What a rewrite comes to: whether it is within the limits, and the flag; whether a new image was written, of so many records, or the one
 // that was read is the answer.
-#[derive(Drop)]
+#[derive(Clone, Copy)]
 pub struct Outcome {
     pub fits: bool,
     pub flag: bool,

@@ -1,2 +1,4 @@
 // Whether PushDownFilter::rewrite leaves a plan as it is, decided by reading alone.
+#![tactic(auto)]
+
 pub mod stays;

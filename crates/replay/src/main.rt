@@ -1,6 +1,7 @@
 // Replays the list of calls on standard input, whose head says what its lines are: each call is made and compared with the answer that
 // stands in its line, with every byte of an output. Names the first lines that differ, then says how many there were of each sort and how
 // many of them differ.
+#![tactic(auto)]
 
 ghost use Rattle.std.specs.Prelude.{◌≡◌, length};
 

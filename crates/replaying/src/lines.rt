@@ -40,14 +40,14 @@ const LETTER_R: u8 = 114;
 const LETTER_T: u8 = 116;
 
 // What is kept from line to line: how long the image is and the answer that was spelt last.
-#[derive(Drop)]
+#[derive(Clone, Copy)]
 pub struct Kept {
     pub image: usize,
     pub spelt: usize,
 }
 
 // A line that was run: what it is, whether it agrees, and what is kept now.
-#[derive(Drop)]
+#[derive(Clone, Copy)]
 pub struct Ran {
     pub sort: usize,
     pub agrees: bool,

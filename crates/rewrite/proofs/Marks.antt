@@ -417,8 +417,8 @@ mutual
       ∙ ap (choose (eqb n 0) true)
       (some_choose (leb (suc (size_p l)) n) _ _
       ∙ ap₂ (choose (leb (suc (size_p l)) n))
-      (some_inside _ (focus (n - suc (size_p l)) r) ∙ focus_marks r _)
-      (some_inside _ (focus (n - 1) l) ∙ focus_marks l _))
+      (some_inside (λ x. join k l x on f) (focus (n - suc (size_p l)) r) ∙ focus_marks r _)
+      (some_inside (λ x. join k x r on f) (focus (n - 1) l) ∙ focus_marks l _))
       ∙ sym (at_two (plan_marks l) (plan_marks r) (sizes pair_kids on + size (filter_kids f)) (size_p l) (marks_length l) n)
       ∙ ap (λ bs. get_or bs n false) (sym (marks_join k l r on f))
   focus_marks (alias q p) n =

@@ -10,7 +10,7 @@ use Rattle.plan.proofs.Lists.{and_assoc, and_comm, and_l, and_r, and_intro, All-
 use Rattle.plan.proofs.Lists.{keep_all, keep_cong, keep_keep, all_parts, all_append}
 use Rattle.plan.specs.Syntax.{Name, Expr, Field, Entry, Pair, AggEntry, WinEntry, Kind, Plan, scan, filter, project, join, alias, union}
 use Rattle.plan.specs.Syntax.{distinct, sort, repartition, limit, aggregate, window, Plans}
-use Rattle.meaning.specs.Meaning.{World, Row, look, sat, sats, sat?, rows}
+use Rattle.meaning.specs.Meaning.{World, Row, look, sat, sats, sat?, rows, grouped}
 use Rattle.meaning.specs.Tables.{TablesFit}
 use Rattle.meaning.proofs.Tables.{fit_left, fit_right, fit_same}
 use Rattle.plan.specs.Schema.{same, schema, schema_first, requalify, sides, has}
@@ -310,16 +310,32 @@ unfolding keep put
 keep_none [] = refl
 keep_none (x ∷ xs) = keep_none xs
 
+-- the fields of an Aggregate are those of its entries, whatever its input
+agg_schema : (gs : List Entry) (ags : List AggEntry) (p q : Plan) → schema (aggregate gs ags p) ≡ schema (aggregate gs ags q)
+unfolding schema
+agg_schema gs ags p q = refl
+
+-- an Aggregate over Filters groups the rows that pass
+agg_input : (W : World) (gs : List Entry) (ags : List AggEntry) (es : List Expr) (p : Plan)
+    → rows W (aggregate gs ags (with_filters es p)) ≡ grouped W (schema p) gs ags (keep (sats W (schema p) es) (rows W p))
+unfolding rows
+agg_input W gs ags es p = ap₂ (λ s rs. grouped W s gs ags rs) (filtered_schema es p) (filtered_rows W es p)
+
 agg_rows : (W : World) (e : Expr) (gs : List Entry) (ags : List AggEntry) (p : Plan) → ok (aggregate gs ags p) ≡ true
     → rows W (rewrite_aggregate e gs ags p).plan ≡ rows W (filter e (aggregate gs ags p))
 unfolding rewrite_aggregate rows schema rule with_filters
 agg_rows W e [] ags p o = rw (keep_none (split_conjunction e), keep_all (split_conjunction e)) (split_rows W e (aggregate [] ags p))
 agg_rows W e (g ∷ gs) ags p o =
-    simp (filtered_rows W, filtered_schema)
-    (ap (keep (sats W (schema (aggregate (g ∷ gs) ags p)) (stay (in_groups (g ∷ gs)) e)))
-    (sym (with_aggs_kept W (schema p) (g ∷ gs) ags (move (in_groups (g ∷ gs)) e) (passes _ (split_conjunction e)) _
+    let es = stay (in_groups (g ∷ gs)) e in
+    let fs = map (replace_cols (pick (g ∷ gs))) (move (in_groups (g ∷ gs)) e) in
+    let q = with_filters fs p in
+    filtered_rows W es (aggregate (g ∷ gs) ags q)
+    ∙ ap (λ s. keep (sats W s es) (rows W (aggregate (g ∷ gs) ags q))) (agg_schema (g ∷ gs) ags q p)
+    ∙ ap (keep (sats W (schema (aggregate (g ∷ gs) ags p)) es))
+    (agg_input W (g ∷ gs) ags fs p
+    ∙ sym (with_aggs_kept W (schema p) (g ∷ gs) ags (move (in_groups (g ∷ gs)) e) (passes _ (split_conjunction e)) _
     (names_nodup _ (and_l _ _ o)) (rows W p)))
-    ∙ rejoin W (schema (aggregate (g ∷ gs) ags p)) (in_groups (g ∷ gs)) e _)
+    ∙ rejoin W (schema (aggregate (g ∷ gs) ags p)) (in_groups (g ∷ gs)) e _
 
 in_groups_over : (gs : List Entry) (e : Expr) → Over (names gs) (move (in_groups gs) e)
 in_groups_over [] e = All-map (λ x h. cc) (passes (λ x. false) (split_conjunction e))

@@ -10,7 +10,7 @@ ghost use Rattle.simplify_expressions.specs.Cost.{of_cost};
 use conjuncts::lists::{Conjuncts, add_if, empty, item_at};
 use conjuncts::volatility::function_at;
 
-#[derive(Drop)]
+#[derive(Clone, Copy)]
 pub struct Reordered {
     pub list: Conjuncts,
     pub changed: bool,

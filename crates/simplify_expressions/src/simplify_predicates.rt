@@ -29,7 +29,7 @@ use plan::values::{Literal, Value, code_of, is_null, kind_of, literal_of, null_o
 use plan::words::{EQ, GT, LT, NO_TYPE, NOT_EQ};
 
 // Which predicates: the equalities, the lower bounds or the upper bounds of a column; or what is no comparison of a column with a literal.
-#[derive(Drop)]
+#[derive(Clone, Copy)]
 pub enum Class {
     Equality,
     Lower,
@@ -38,7 +38,7 @@ pub enum Class {
 }
 
 // What a comparison says of its column: that it is the literal, lies above it or below it; strictly, or not.
-#[derive(Drop)]
+#[derive(Clone, Copy)]
 pub enum Relation {
     SameAs,
     Above(bool),
@@ -46,13 +46,13 @@ pub enum Relation {
 }
 
 // The name of a column.
-#[derive(Drop)]
+#[derive(Clone, Copy)]
 pub struct Name {
     pub q: usize,
     pub n: usize,
 }
 
-#[derive(Drop)]
+#[derive(Clone, Copy)]
 pub enum Operand {
     Column(Name),
     Literal(Value),
@@ -60,7 +60,7 @@ pub enum Operand {
 }
 
 // A comparison: its column, what it says of it, and its literal, which stands on the right or, flipped, on the left.
-#[derive(Drop)]
+#[derive(Clone, Copy)]
 pub struct Bound {
     pub column: Name,
     pub relation: Relation,
@@ -68,14 +68,14 @@ pub struct Bound {
     pub value: Value,
 }
 
-#[derive(Drop)]
+#[derive(Clone, Copy)]
 pub enum Compared {
     Of(Bound),
     Not,
 }
 
 // A column, or none.
-#[derive(Drop)]
+#[derive(Clone, Copy)]
 pub enum Key {
     At(Name),
     None,

@@ -17,7 +17,7 @@ const TENTH: u64 = 1844674407370955161;
 const MAX_LINE: usize = 1000000;
 
 // What was read of the input and is not used yet: the bytes of a chunk from `at` to `end`.
-#[derive(Drop)]
+#[derive(Clone, Copy)]
 pub struct Unread {
     pub at: usize,
     pub end: usize,
@@ -25,7 +25,7 @@ pub struct Unread {
 
 // A line: its first byte, its last byte that is no digit, no minus and no space, how many numbers it has, what is unread behind it, and
 // whether the input ended before it.
-#[derive(Drop)]
+#[derive(Clone, Copy)]
 pub struct Line {
     pub first: u8,
     pub mark: u8,
@@ -35,7 +35,7 @@ pub struct Line {
 }
 
 // A line that is being read: the number in hand, whether it has a digit and a minus, the last mark, and how many numbers are stored.
-#[derive(Drop)]
+#[derive(Clone, Copy)]
 struct Scan {
     value: u64,
     digits: bool,

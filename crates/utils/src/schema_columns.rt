@@ -15,7 +15,7 @@ use plan::field_sources::{creates, extends, gives_both, makes_field, own_input, 
 use plan::inputs::plan_at;
 
 // A schema of at most MAX_FIELDS fields: the qualifiers and the names of its fields.
-#[derive(Drop)]
+#[derive(Clone, Copy)]
 pub struct Fields {
     pub q: [u32; MAX_FIELDS],
     pub n: [u32; MAX_FIELDS],

@@ -1,4 +1,6 @@
 // Writing the answer of a rewrite: expressions and plans written flat into a work buffer.
+#![tactic(auto)]
+
 pub mod conjunction;
 pub mod make_filter;
 pub mod renames;

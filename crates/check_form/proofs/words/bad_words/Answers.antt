@@ -1,0 +1,26 @@
+use mathlib.Core.Path.{sym, ap, ◌∙◌}
+use Prim.Native.Nat.{◌-◌}
+use native.Mathlib.Omega.{arith}
+use lib.ListN.{length-drop}
+use borrow.Author.Tests.{not-true, not-false}
+use borrow.Author.Rules.{rules}
+use Rattle.image.specs.Places.{place_of}
+use Rattle.check_form.proofs.Rows.{Passed, passed_none, bad_here, passed_one, passed_all}
+use Rattle.check_form.proofs.words.bad_words.Goals as goal
+
+pub returns-then-not-words_ok : goal.returns-then-not-words_ok
+returns-then-not-words_ok c =
+    sym (ap place_of (bad_here _ _ _ c.loop-i.invariant
+    _ _ c.from_record.ensures c.label_at-label.ensures.0
+    c.loop-i-test.true (sym c.words_ok.ensures ∙ c.if-not-words_ok.true)))
+
+pub loop-i-preserved : goal.loop-i-preserved
+loop-i-preserved c =
+    passed_one _ _ _ c.loop-i.invariant
+    _ _ c.from_record.ensures c.label_at-label.ensures.0
+    c.loop-i-test.true (sym c.words_ok.ensures ∙ c.if-not-words_ok.false)
+
+pub returns : goal.returns
+returns c =
+    sym (ap place_of (passed_all _ _ _ c.loop-i.invariant c.loop-i-test.false))
+
