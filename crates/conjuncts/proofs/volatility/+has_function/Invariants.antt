@@ -1,0 +1,25 @@
+-- `volatility::has_function` meets its contract. The measure is the depth. The loop's invariant: whether the tree holds a function
+-- is whether the children that are left do.
+use mathlib.Core.Path.{◌≡◌, sym, ◌∙◌}
+use Prim.Native.Nat.{ℕ, ◌<◌}
+use native.Mathlib.Omega.{arith}
+use mathlib.Core.Bool.{Bool, true, false}
+use lib.ListN.{length-drop}
+use Rattle.image.specs.Tree.{Tree, Forest}
+use Rattle.image.proofs.Walking.{Chain, chain, round, again, done, for_all}
+use Rattle.image.specs.Places.{left}
+use Rattle.conjuncts.specs.Functions.{marked, fn_any, fn_in}
+use Rattle.conjuncts.proofs.volatility.+has_function.Given as goal
+
+abbrev pub P : Bool → Tree → Forest → Type 0
+P o t f = fn_in (marked o) t ≡ fn_any (marked o) f
+
+abbrev pub decreases-has_function : goal.decreases-has_function
+decreases-has_function l = l.depth
+
+abbrev pub invariant-loop-at : goal.invariant-loop-at
+invariant-loop-at l = Chain (P l.volatile) l.depth l.part l.base l.at
+
+abbrev pub decreases-loop-at : goal.decreases-loop-at
+decreases-loop-at l = left l.part l.base l.at
+
