@@ -48,8 +48,7 @@ unfolding bad_names
 returns c =
     λ t h. let w = rooted t h c.look-v.ensures in
     let ok : name_ok nothing_seen t.label t.below ≡ true =
-    sym (c.name_ok.ensures t.label t.below none w.kind w.p w.q w.first refl no_yes) ∙ not-false _
-    c.if-not-name_ok.false in
+    sym (c.name_ok.ensures t.label t.below none w.kind w.p w.q w.first refl no_yes) ∙ c.if-not-name_ok.false in
     c.bad_name.ensures t.below t.below w.first w.first
     (sound_below nothing_seen t.label t.below
     (c.role_of-role.ensures ∙ ap (λ (n : ℕ). role (what_of n)) w.kind) c.known_inputs.ensures

@@ -8,6 +8,7 @@ use Rattle.image.proofs.Along.{within, whole}
 use Rattle.check_names.specs.Singles.{all_of}
 use Rattle.check_fields.proofs.Seeking.{plan_fields, missing}
 use Rattle.check_names.proofs.Telling.{none_held, held_parts, held_fails, held_both, held_more, held_first, held_renamed}
+use Rattle.check_names.specs.Singles.{own_of}
 use Rattle.check_names.proofs.schemas.+all_held.Goals as goal
 
 pub returns-then-here-eq0 : goal.returns-then-here-eq0
@@ -40,7 +41,7 @@ all_held-requires t c =
 pub returns-then-renames : goal.returns-then-renames
 returns-then-renames t c =
     λ e f g h. let y = c.plan_at-here.ensures f h in let w =
-    step y.forest y.linked c.if-here-eq0.false c.from_record-part.ensures c.look-v.ensures in (rw c.qualifier.ensures at (c.all_held.ensures e w.below g w.first)) ∙ held_renamed w y.begins c.role_of-role.ensures _ _ _ _ (sym c.renames.ensures ∙ c.if-renames.true) ∙ ap (all_of _) (plan_fields y)
+    step y.forest y.linked c.if-here-eq0.false c.from_record-part.ensures c.look-v.ensures in (rw c.qualifier.ensures at (c.all_held.ensures e w.below g w.first)) ∙ held_renamed w y.begins c.role_of-role.ensures (own_of c.args.w.view e) c.args.w.asks c.args.renamed c.args.to (sym c.renames.ensures ∙ c.if-renames.true) ∙ ap (all_of _) (plan_fields y)
 
 pub all_held-requires-2 : goal.all_held-requires-2
 all_held-requires-2 t c =
