@@ -1,0 +1,25 @@
+-- `checked_plan` meets its contract: names first, then types, as the check has them.
+use mathlib.Core.Path.{sym, ◌∙◌}
+use borrow.Author.Rules.{rules}
+use Rattle.check_image.proofs.Later.{later_name, later_type, later_none}
+use Rattle.check_image.proofs.checked_plan.Goals as goal
+
+pub returns-in-At : goal.returns-in-At
+returns-in-At c =
+    let w = c.requires in
+    later_name w _ (sym c.in-At.is ∙ c.bad_names-name.ensures w.tree w.stands)
+
+pub returns-in-At-ty : goal.returns-in-At-ty
+returns-in-At-ty c =
+    let w = c.requires in
+    later_type w (sym c.in_default.is
+    ∙ c.bad_names-name.ensures w.tree w.stands) _
+    (sym c.in-At-ty.is ∙ c.bad_types-ty.ensures w.tree w.stands)
+
+pub returns : goal.returns
+returns c =
+    let w = c.requires in
+    later_none w (sym c.in_default.is
+    ∙ c.bad_names-name.ensures w.tree w.stands)
+    (sym c.in_default-ty.is ∙ c.bad_types-ty.ensures w.tree w.stands)
+
