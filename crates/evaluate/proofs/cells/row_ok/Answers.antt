@@ -1,6 +1,6 @@
 use mathlib.Core.Path.{◌≡◌, refl, sym, ◌∙◌}
 use Prim.Native.Nat.{◌≤◌, ◌-◌}
-use mathlib.Core.Bool.{Bool, true, false, not}
+use mathlib.Core.Bool.{Bool, true, false}
 use Rattle.plan.specs.Lists.{◌&◌}
 use native.Mathlib.Omega.{arith}
 use lib.ListN.{length, drop}
@@ -10,15 +10,15 @@ use Rattle.evaluate.proofs.Rows.{row_short, same_lengths, row_step, row_end}
 use Rattle.evaluate.proofs.cells.row_ok.Goals as goal
 
 -- a cell that is none ends it; one that is leaves the rest
-failed : {b x z : Bool} (y : Bool) → b ≡ x → not b ≡ true → z ≡ x & y → false ≡ z
+failed : {b x z : Bool} (y : Bool) → b ≡ x → b ≡ false → z ≡ x & y → false ≡ z
 unfolding ◌&◌
 failed {b = false} y e n h = sym (h ∙ rw (← e))
-failed {b = true} y e n h = never n
+failed {b = true} y e n h = never (sym n)
 
-passed : {b x z : Bool} (y : Bool) → b ≡ x → not b ≡ false → z ≡ x & y → y ≡ z
+passed : {b x z : Bool} (y : Bool) → b ≡ x → b ≡ true → z ≡ x & y → y ≡ z
 unfolding ◌&◌
 passed {b = true} y e n h = sym (h ∙ rw (← e))
-passed {b = false} y e n h = never (sym n)
+passed {b = false} y e n h = never n
 
 pub returns-then-values-n : goal.returns-then-values-n
 returns-then-values-n c =
