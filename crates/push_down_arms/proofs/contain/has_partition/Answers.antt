@@ -33,7 +33,7 @@ unfolding partition_in named_in
 loop-at-init c =
     let p = c.requires in (
       p.0,
-      partition_chain _ p.1 c.word_at-first.ensures.0 c.if-first-eq0.false c.from_record.ensures
+      partition_chain (nm c.args.q c.args.n) p.1 c.word_at-first.ensures.0 c.if-first-eq0.false c.from_record.ensures
           c.word_at-at.ensures.0,
     )
 
@@ -65,5 +65,5 @@ loop-at-preserved c =
 pub returns : goal.returns
 unfolding partition_in named_in
 returns c =
-    let k = c.loop-at.invariant.1 in for_all (λ t. false ≡ partition_in _ t.below) k.stands (sym (done _ k c.loop-at-test.false))
+    let k = c.loop-at.invariant.1 in for_all (λ t. false ≡ partition_in (nm c.args.q c.args.n) t.below) k.stands (sym (done _ k c.loop-at-test.false))
 

@@ -33,7 +33,7 @@ returns-then-not-is_nothing c =
     let g = c.args in
     for_all (λ t. Told c.partner_in-c.result (partner_in (nm g.q g.n) t.below)) k.stands
     (rw u.so_far (partner_stop _ u.turn.child.label u.turn.child.below u.turn.after h
-    (ap not (sym (c.is_nothing.ensures _ h)) ∙ c.if-not-is_nothing.true)))
+    (ap not (sym (c.is_nothing.ensures _ h) ∙ c.if-not-is_nothing.true))))
 
 pub word_at-at-requires-in-loop-at : goal.word_at-at-requires-in-loop-at
 unfolding partner_in
@@ -56,7 +56,7 @@ loop-at-preserved c =
       k.0,
       rw (c.word_at-at-in-loop-at.ensures.0, c.from_record-child.ensures)
           (again _ k.1 u (u.so_far ∙ partner_step _ u.turn.child.label u.turn.child.below u.turn.after
-          (ap not (sym (c.is_nothing.ensures _ h)) ∙ c.if-not-is_nothing.false))),
+          (ap not (sym (c.is_nothing.ensures _ h) ∙ c.if-not-is_nothing.false)))),
     )
 
 pub returns : goal.returns
