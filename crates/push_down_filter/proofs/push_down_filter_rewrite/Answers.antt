@@ -20,8 +20,7 @@ use Rattle.rewrite.specs.RewriteAt.{Focus, focus, Answer, granted, refused, resu
 use Rattle.call_rewrite.specs.Answer.{rewritten_of}
 use Rattle.call_rewrite.specs.declared.call_rewrite.Answer.{Answer as Code}
 use Rattle.call_rewrite.specs.declared.call_rewrite.Answer.TheVariants.{Image, NoPlan, TooLarge, NoRoom, Is}
-use Rattle.push_down_filter.proofs.push_down_filter_rewrite.Statement.{statement}
-use Rattle.push_down_filter.proofs.push_down_filter_rewrite.Tie as tie
+use Rattle.push_down_filter.proofs.push_down_filter_rewrite.Goals as goal
 
 -- the record and the count fit 32 bits
 abbrev Small : Rewritten → Type 0
@@ -79,22 +78,16 @@ module _ (s : List ℕ) (n room : ℕ) {t : Rewritten} {a : ℕ} (i : t ≡ rewr
   records_fit : a ≡ t.records → a < 4294967296
   records_fit e = rw (e, i) (small n l s room).1
 
-pub push_down_filter_rewrite_spec : {M : Type 1} → statement M
-push_down_filter_rewrite_spec =
-    tie.close
-    (tie.spec
-    (λ c κs. search rules)
-    (λ c κs. search rules)
-    (λ c κs. search rules)
-    (λ c κs. search rules)
-    (λ c. let h : c.before.before.place_of.result < 4294967296 =
-    place_fits _ _ _ c.before.before.before.before.before.rewrite_bytes.ensures (search rules) (c.before.before.place_of.ensures _) in
-    search rules)
-    (λ c κs. search rules)
-    (λ c. let h : c.before.before.records-of.result < 4294967296 =
-    records_fit _ _ _ c.before.before.before.before.before.before.rewrite_bytes.ensures (search rules)
-    (c.before.before.records-of.ensures _) in
-    search rules)
-    (λ c. search rules)
-    (λ c. all_are (c.before.number_of_lem.ensures _) (c.before.before.before.place_of.ensures _) (c.flag-of.ensures _) (c.before.before.records-of.ensures _) (output_is c.before.before.before.before.before.before.rewrite_bytes.result _)
-    c.before.before.before.before.before.before.rewrite_bytes.ensures))
+pub overflow_cast-result : goal.overflow_cast-result
+overflow_cast-result c =
+    let h : c.place_of-place.result < 4294967296 =
+    place_fits _ _ _ c.rewrite_bytes-answer.ensures (search rules) (c.place_of-place.ensures _) in
+    search rules
+
+pub overflow_cast-result-2 : goal.overflow_cast-result-2
+overflow_cast-result-2 c =
+    let h : c.records_of-records.result < 4294967296 =
+    records_fit _ _ _ c.rewrite_bytes-answer.ensures (search rules)
+    (c.records_of-records.ensures _) in
+    search rules
+

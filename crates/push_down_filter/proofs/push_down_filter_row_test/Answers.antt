@@ -15,8 +15,7 @@ use Rattle.rewrite.specs.OnBytes.{plan_in, is_accepted}
 use Rattle.rewrite.specs.RewriteAt.{Focus, focus}
 use Rattle.rewrite.specs.RowTest.{Tested, row_ok, no_test, test_predicate, test_plan, test_focus, row_test_bytes}
 use Rattle.rewrite.specs.Utils.{any_fn}
-use Rattle.push_down_filter.proofs.push_down_filter_row_test.Statement.{statement}
-use Rattle.push_down_filter.proofs.push_down_filter_row_test.Tie as tie
+use Rattle.push_down_filter.proofs.push_down_filter_row_test.Goals as goal
 
 -- the record fits 32 bits
 abbrev Small : Tested → Type 0
@@ -66,16 +65,9 @@ place_fits : (s : List ℕ) (n : ℕ) (zs : List ℤ) (ms : List ℕ) {t : Teste
     → a ≡ t.place → a < 4294967296
 place_fits s n zs ms i l e = rw (e, i) (small n zs ms l s)
 
-pub push_down_filter_row_test_spec : {M : Type 1} → statement M
-push_down_filter_row_test_spec =
-    tie.close
-    (tie.spec
-    (λ c κs. search rules)
-    (λ c κs. search rules)
-    (λ c κs. search rules)
-    (λ c. let h : c.before.place_of.result < 4294967296 =
-    place_fits _ _ _ _ c.before.before.row-test.ensures (search rules) c.before.place_of.ensures in
-    search rules)
-    (λ c κs. search rules)
-    (λ c. all_are c.before.number_of_lem.ensures c.before.before.place_of.ensures c.truth_number.ensures
-    c.before.before.before.row-test.ensures))
+pub overflow_cast-result : goal.overflow_cast-result
+overflow_cast-result c =
+    let h : c.place_of-place.result < 4294967296 =
+    place_fits _ _ _ _ c.row_test-answer.ensures (search rules) c.place_of-place.ensures in
+    search rules
+

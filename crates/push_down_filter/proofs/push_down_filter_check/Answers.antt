@@ -7,8 +7,7 @@ use borrow.Author.Rules.{rules}
 use Rattle.acceptance.specs.Check.{Verdict, verdict, check}
 use Rattle.image.specs.Limits.{max_records}
 use Rattle.acceptance.proofs.Places.{place_within}
-use Rattle.push_down_filter.proofs.push_down_filter_check.Statement.{statement}
-use Rattle.push_down_filter.proofs.push_down_filter_check.Tie as tie
+use Rattle.push_down_filter.proofs.push_down_filter_check.Goals as goal
 
 small : (v : Verdict) {p : ℕ} (s : List ℕ) → p ≡ v.place → v ≡ check s → p ≤ max_records
 small v s e h = rw (e ∙ ap (λ (x : Verdict). x.place) h) (place_within s)
@@ -16,13 +15,8 @@ small v s e h = rw (e ∙ ap (λ (x : Verdict). x.place) h) (place_within s)
 both_are : {v w : Verdict} {n p : ℕ} → n ≡ v.number → p ≡ v.place → v ≡ w → verdict n p ≡ w
 both_are e f h = ap₂ verdict e f ∙ h
 
-pub push_down_filter_check_spec : {M : Type 1} → statement M
-push_down_filter_check_spec =
-    tie.close
-    (tie.spec
-    (λ c κs. search rules)
-    (λ c κs. search rules)
-    (λ c κs. search rules)
-    (λ c. let h = small _ c.before.before.before.before.args.image.now c.before.place_of.ensures c.before.before.check.ensures in
-    omega arith)
-    (λ c. both_are c.number_of_lem.ensures c.before.place_of.ensures c.before.before.check.ensures))
+pub overflow_cast-result : goal.overflow_cast-result
+overflow_cast-result c =
+    let h = small _ c.args.image.now c.place_of-record.ensures c.check-answer.ensures in
+    omega arith
+
