@@ -17,7 +17,7 @@ use Rattle.plan.specs.Kinds as K
 use Rattle.plan.specs.Kinds.{What, expr, plan, part, unknown, what, what_of, among, number_of, expr_w, plan_w, is_expr, is_plan, is_kind}
 use Rattle.plan.specs.Words.{Range, WordRow, row_e, row_p, row_q, in_range, row_fits, words_by, words_ok, Worded}
 use Rattle.plan.specs.Form.{end, one, past, perhaps, children_e, children_p, children_q, children_by, form_ok}
-use Rattle.plan.specs.Syntax.{and, Test, is_null, Exprs, enil, econs, count, inner, Plans}
+use Rattle.plan.specs.Syntax.{and, is_null, Exprs, enil, econs, count, inner, Plans}
 use Rattle.plan.specs.Trees.{low_half, high_half, bit_of, op_number, test_number, join_number, agg_number, column_label, label_e, kids_e}
 use Rattle.plan.specs.Trees.{forest_e, in_front, each, nothing_below, field_label, entry_label, entry_kids, pair_label, pair_kids, key_label}
 use Rattle.plan.specs.Trees.{key_kids, agg_label, agg_kids, win_label, win_kids, fetch_bit, fetch_of, filter_kids, label_p, kids_p, forest_p}

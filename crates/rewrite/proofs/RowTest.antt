@@ -1,6 +1,6 @@
 -- The row test asks no function: a predicate without functions means the same in every world.
 use mathlib.Core.Path.{◌≡◌, refl, ap, ap₂}
-use mathlib.Core.Bool.{Bool, true, false, ◌||◌}
+use mathlib.Core.Bool.{Bool, true, false}
 use mathlib.Core.List.{◌∷◌}
 use Rattle.plan.proofs.Bools.{neither_left, neither_right}
 use Rattle.plan.specs.Syntax.{truth, Expr, col, num, bool, nul, bin, neg, test, between, inlist, fn, Exprs, enil, econs}

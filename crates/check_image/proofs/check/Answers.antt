@@ -1,6 +1,5 @@
 -- `check` meets its contract: the answer for the tests 1 to 5 is taken over, and where none is met names and types decide.
 use mathlib.Core.Path.{sym, ◌∙◌}
-use borrow.Author.Rules.{rules}
 use Rattle.check_form.proofs.Sound.{sound}
 use Rattle.check_image.proofs.Later.{told}
 use Rattle.check_image.proofs.check.Goals as goal
@@ -32,4 +31,3 @@ returns-in-Form c =
 pub returns-in-Whole : goal.returns-in-Whole
 returns-in-Whole c =
     c.checked_plan.ensures ∙ told _ _ c.checked_form-formed.ensures c.in-Whole.is
-

@@ -1,6 +1,5 @@
 -- `checked_plan` meets its contract: names first, then types, as the check has them.
 use mathlib.Core.Path.{sym, ◌∙◌}
-use borrow.Author.Rules.{rules}
 use Rattle.check_image.proofs.Later.{later_name, later_type, later_none}
 use Rattle.check_image.proofs.checked_plan.Goals as goal
 
@@ -22,4 +21,3 @@ returns c =
     later_none w (sym c.in_default.is
     ∙ c.bad_names-name.ensures w.tree w.stands)
     (sym c.in_default-ty.is ∙ c.bad_types-ty.ensures w.tree w.stands)
-

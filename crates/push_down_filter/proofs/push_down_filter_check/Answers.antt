@@ -3,7 +3,6 @@ use native.Mathlib.Omega.{arith}
 use mathlib.Core.Path.{◌≡◌, ap, ap₂, ◌∙◌}
 use mathlib.Core.List.{List}
 use Prim.Native.Nat.{ℕ, ◌≤◌}
-use borrow.Author.Rules.{rules}
 use Rattle.acceptance.specs.Check.{Verdict, verdict, check}
 use Rattle.image.specs.Limits.{max_records}
 use Rattle.acceptance.proofs.Places.{place_within}
@@ -19,4 +18,3 @@ pub overflow_cast-result : goal.overflow_cast-result
 overflow_cast-result c =
     let h = small _ c.args.image.now c.place_of-record.ensures c.check-answer.ensures in
     omega arith
-

@@ -90,4 +90,3 @@ overflow_cast-result-2 c =
     records_fit _ _ _ c.rewrite_bytes-answer.ensures (search rules)
     (c.records_of-records.ensures _) in
     search rules
-

@@ -70,4 +70,3 @@ overflow_cast-result c =
     let h : c.place_of-place.result < 4294967296 =
     place_fits _ _ _ _ c.row_test-answer.ensures (search rules) c.place_of-place.ensures in
     search rules
-

@@ -1,9 +1,7 @@
 -- `handing_out::copy_bytes` meets its contract. The loop's invariant: the first i bytes are copied.
-use mathlib.Core.Path.{◌≡◌, refl}
+use mathlib.Core.Path.{◌≡◌}
 use Prim.Native.Nat.{◌-◌, ◌≤◌}
-use native.Mathlib.Omega.{arith}
-use lib.ListN.{length, take, length-set}
-use Rattle.answers.proofs.Filling.{byte_more}
+use lib.ListN.{length, take}
 use Rattle.answers.proofs.handing_out.copy_bytes.Given as goal
 
 abbrev pub invariant-loop-i : goal.invariant-loop-i
@@ -11,4 +9,3 @@ invariant-loop-i l = (l.i ≤ l.m) × (length l.to ≡ length l.initial.to) × (
 
 abbrev pub decreases-loop-i : goal.decreases-loop-i
 decreases-loop-i l = l.m - l.i
-

@@ -2,14 +2,12 @@
 use mathlib.Core.Path.{◌≡◌}
 use mathlib.Core.List.{List, ◌++◌}
 use Prim.Native.Nat.{ℕ, ◌-◌, ◌≤◌, ◌<◌}
-use native.Mathlib.Omega.{arith}
 use lib.ListN.{get_or}
-use borrow.Author.Count.{below_more}
 use Rattle.image.specs.Limits.{max_depth}
 use Rattle.image.specs.Tree.{Tree}
 use Rattle.image.specs.Flat.{size_t, flat}
 use Rattle.image.specs.Records.{recs}
-use Rattle.answers.proofs.Depths.{first, depth_at, passed, failed}
+use Rattle.answers.proofs.Depths.{first}
 use Rattle.answers.proofs.handing_out.is_shallow.Given as goal
 
 abbrev pub invariant-loop-i : goal.invariant-loop-i
@@ -19,4 +17,3 @@ invariant-loop-i l =
 
 abbrev pub decreases-loop-i : goal.decreases-loop-i
 decreases-loop-i l = l.n - l.i
-

@@ -1,12 +1,11 @@
-use mathlib.Core.Path.{◌≡◌, sym, ap, ◌∙◌}
-use Prim.Native.Nat.{ℕ, ◌+◌, ◌-◌, ◌≤◌, ◌<◌}
+use mathlib.Core.Path.{ap, ◌∙◌}
+use Prim.Native.Nat.{ℕ, ◌+◌, ◌≤◌}
 use native.Mathlib.Nat.{zero-add}
 use native.Mathlib.Omega.{arith}
-use lib.ListN.{length, length-set}
+use lib.ListN.{length-set}
 use Rattle.image.specs.Limits.{max_records}
-use Rattle.image.specs.Tree.{Tree, At}
-use Rattle.image.specs.Flat.{size_t, flat}
-use Rattle.answers.proofs.Noting.{Noted, noted_start, noted_next, noted_here, noted_all, known, leads_small}
+use Rattle.image.specs.Flat.{size_t}
+use Rattle.answers.proofs.Noting.{noted_start, noted_next, noted_here, noted_all, known, leads_small}
 use Rattle.answers.proofs.levels.note_levels.Goals as goal
 
 pub loop-i-init : goal.loop-i-init
@@ -56,4 +55,3 @@ returns c =
     λ t h. let v = c.loop-i.invariant in
     let e = c.tree_end-n.ensures t h ∙ zero-add (size_t t) in
     (e, noted_all h e (omega arith) (omega arith) (v.3 t h e))
-

@@ -1,13 +1,11 @@
 -- `levels::note_levels` meets its contract. The loop's invariant: the records that those passed lead to have their depths.
-use mathlib.Core.Path.{◌≡◌, sym, ap, ◌∙◌}
-use Prim.Native.Nat.{ℕ, ◌+◌, ◌-◌, ◌≤◌, ◌<◌}
-use native.Mathlib.Nat.{zero-add}
-use native.Mathlib.Omega.{arith}
-use lib.ListN.{length, length-set}
+use mathlib.Core.Path.{◌≡◌}
+use Prim.Native.Nat.{◌-◌, ◌≤◌, ◌<◌}
+use lib.ListN.{length}
 use Rattle.image.specs.Limits.{max_records}
 use Rattle.image.specs.Tree.{Tree, At}
 use Rattle.image.specs.Flat.{size_t, flat}
-use Rattle.answers.proofs.Noting.{Noted, noted_start, noted_next, noted_here, noted_all, known, leads_small}
+use Rattle.answers.proofs.Noting.{Noted}
 use Rattle.answers.proofs.levels.note_levels.Given as goal
 
 abbrev pub invariant-loop-i : goal.invariant-loop-i
@@ -16,4 +14,3 @@ invariant-loop-i l =
 
 abbrev pub decreases-loop-i : goal.decreases-loop-i
 decreases-loop-i l = l.n - l.i
-

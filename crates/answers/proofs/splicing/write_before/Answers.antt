@@ -1,9 +1,7 @@
 -- `splicing::write_before` meets its contract.
-use mathlib.Core.Path.{subst, ◌∙◌}
+use mathlib.Core.Path.{subst}
 use Prim.Native.Nat.{◌≤◌}
 use native.Mathlib.Omega.{arith}
-use lib.ListN.{length-drop}
-use borrow.Author.Rules.{rules}
 use Rattle.image.specs.Limits.{max_records}
 use Rattle.image.specs.Tree.{Tree}
 use Rattle.image.specs.Flat.{size_t}
@@ -20,4 +18,3 @@ returns c =
     (omega (arith, node_small p _ f e)) n.1 in
     before_of p _ f e few c.requires.scratch.0 w n.1 c.wide.ensures.0
     (c.tree_end.ensures (plan_tree f.plan) (rw c.record_at.ensures k.here)) n.0
-

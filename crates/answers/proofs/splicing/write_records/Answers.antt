@@ -1,14 +1,7 @@
-use mathlib.Core.Path.{◌≡◌, refl, sym, ◌∙◌}
-use Prim.Native.Nat.{◌-◌, ◌≤◌}
+use mathlib.Core.Path.{◌∙◌}
 use native.Mathlib.Omega.{arith}
-use borrow.Author.Rules.{rules}
-use lib.ListN.{length, length-drop}
-use Rattle.image.specs.Limits.{work_bytes, max_records, no_room}
-use Rattle.image.specs.Tree.{Tree, At}
-use Rattle.image.specs.Flat.{size_t}
 use Rattle.image.proofs.Room.{cap_le}
-use Rattle.answers.specs.Splicing.{Levels}
-use Rattle.answers.proofs.Whole.{Run, run_next, run_end}
+use Rattle.answers.proofs.Whole.{run_next, run_end}
 use Rattle.answers.proofs.splicing.write_records.Goals as goal
 
 pub loop-i-preserved : goal.loop-i-preserved
@@ -26,4 +19,3 @@ loop-i-preserved c =
 pub returns : goal.returns
 returns c =
     λ t h f e l. let k = c.loop-i.invariant in run_end e (omega arith) k.1 (k.2 t h f e l)
-

@@ -1,7 +1,6 @@
 -- `call_pass::pass_in_output` meets its contract.
-use mathlib.Core.Path.{sym, ◌∙◌}
+use mathlib.Core.Path.{◌∙◌}
 use native.Mathlib.Nat.{le_of_lt}
-use borrow.Author.Rules.{rules}
 use lib.ListN.{drop}
 use lib.Seq.{length-take-le, length_front}
 use Rattle.image.specs.Limits.{work_bytes}
@@ -13,11 +12,11 @@ use Rattle.call_pass.proofs.call_pass.pass_in_output.Goals as goal
 pub walk_in-w-requires-clause-lent : goal.walk_in-w-requires-clause-lent
 walk_in-w-requires-clause-lent c =
     let l = c.requires.scratch_map.0 in record {
-        image_long = length-take-le work_bytes c.args.out.now c.requires.scratch_map.1;
-        m_long = l.0;
-        work_long = l.1;
-        levels_long = l.2;
-      }
+      image_long = length-take-le work_bytes c.args.out.now c.requires.scratch_map.1;
+      m_long = l.0;
+      work_long = l.1;
+      levels_long = l.2;
+    }
 
 pub returns-then-not-w : goal.returns-then-not-w
 returns-then-not-w c =
@@ -40,4 +39,3 @@ returns c =
     let left = c.walk_in-w.ensures.left (told c.if-not-w.false) in
     let long = length_front out c.walk_in-w.new.a work_bytes c.walk_in-w.auto.a in
     (e.0, rw long at (e.1 _ (left_front left (drop work_bytes out))) ∙ called _ _ _)
-

@@ -1,8 +1,5 @@
 -- `call_pass::walk_in` meets its contract.
-use mathlib.Core.Path.{refl}
 use native.Mathlib.Omega.{arith}
-use borrow.Author.Rules.{rules}
-use Rattle.pass.proofs.Steps.{lent_still}
 use Rattle.call_pass.proofs.Reports.{short, copied}
 use Rattle.call_pass.proofs.call_pass.walk_in.Goals as goal
 
@@ -18,4 +15,3 @@ pub returns : goal.returns
 returns c =
     let w = c.requires.whole in
     c.visit_all.ensures _ w.accepted.well (copied w c.copy_bytes.ensures)
-

@@ -1,5 +1,4 @@
 -- `call_rewrite::hand_over` meets its contract.
-use borrow.Author.Rules.{rules}
 use Rattle.call_rewrite.proofs.Calls.{no_room, some_room}
 use Rattle.call_rewrite.proofs.call_rewrite.hand_over.Goals as goal
 
@@ -10,4 +9,3 @@ returns-then-out-records c =
 pub returns : goal.returns
 returns c =
     λ q h. some_room _ _ q h c.if-out-records.false c.hand_out.ensures
-

@@ -1,6 +1,5 @@
 -- `call_rewrite::rewrite_apart` meets its contract.
 use mathlib.Core.Path.{refl, sym, ◌∙◌}
-use borrow.Author.Rules.{rules}
 use Rattle.plan.proofs.Bools.{told, untold}
 use Rattle.push_down_rewrite.proofs.Images.{image_room, whole_image}
 use Rattle.call_rewrite.proofs.Calls.{refused_11, granted_call}
@@ -33,4 +32,3 @@ returns c =
     let y = (told c.if-not-r.false) in
     c.hand_over-2.ensures _ (whole_image h.whole refl)
     ∙ granted_call _ _ _ h.inside.there (sym o.fit ∙ y) (o.flag y) (sym (o.same y c.if-r.false))
-

@@ -1,9 +1,5 @@
 -- `call_rewrite::rewrite_at` meets its contract.
 use mathlib.Core.Path.{refl, ◌∙◌}
-use native.Mathlib.Omega.{arith}
-use lib.ListN.{length-drop}
-use borrow.Author.Rules.{rules}
-use Rattle.plan.proofs.Bools.{told, untold}
 use Rattle.push_down_rewrite.proofs.Images.{whole_image}
 use Rattle.call_rewrite.proofs.Calls.{refused_8, absent, no_plan, a_plan, stayed}
 use Rattle.call_rewrite.proofs.call_rewrite.rewrite_at.Goals as goal
@@ -39,4 +35,3 @@ pub rewrite_here-requires : goal.rewrite_here-requires
 rewrite_here-requires c =
     a_plan c.requires c.if-image-node.false c.record_at.ensures c.word_at.ensures.0 c.is_plan.ensures
     (c.if-not-is_plan.false)
-

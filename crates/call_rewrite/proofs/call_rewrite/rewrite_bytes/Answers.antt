@@ -1,7 +1,6 @@
 -- `call_rewrite::rewrite_bytes` meets its contract.
 use mathlib.Core.Path.{◌∙◌}
 use native.Mathlib.Omega.{arith}
-use borrow.Author.Rules.{rules}
 use Rattle.check_image.proofs.Accepting.{is_accepted}
 use Rattle.push_down_rewrite.proofs.Images.{whole}
 use Rattle.call_rewrite.proofs.Calls.{refused_image, accepted_image}
@@ -24,4 +23,3 @@ pub returns : goal.returns
 returns c =
     c.rewrite_at.ensures
     ∙ accepted_image _ _ _ c.check-answer.result c.check-answer.ensures c.number_of.ensures c.if-number_of-ne0.false
-

@@ -1,6 +1,5 @@
 -- `call_rewrite::rewrite_in_output` meets its contract.
 use mathlib.Core.Path.{refl, sym, ◌∙◌}
-use borrow.Author.Rules.{rules}
 use lib.ListN.{drop}
 use lib.Seq.{length-take-le, length_front}
 use Rattle.image.specs.Limits.{work_bytes}
@@ -13,10 +12,10 @@ use Rattle.call_rewrite.proofs.call_rewrite.rewrite_in_output.Goals as goal
 pub rewrite_anew-r-requires-clause-scratch_map : goal.rewrite_anew-r-requires-clause-scratch_map
 rewrite_anew-r-requires-clause-scratch_map c =
     let h = c.requires.here in (
-        c.requires.map_bytes_in_bounds.0,
-        length-take-le work_bytes c.args.out.now c.requires.map_bytes_in_bounds.2,
-        c.requires.map_bytes_in_bounds.1,
-      )
+      c.requires.map_bytes_in_bounds.0,
+      length-take-le work_bytes c.args.out.now c.requires.map_bytes_in_bounds.2,
+      c.requires.map_bytes_in_bounds.1,
+    )
 
 pub returns-then-not-r : goal.returns-then-not-r
 returns-then-not-r c =
@@ -49,4 +48,3 @@ returns c =
     rw (length_front c.args.out.now c.rewrite_anew-r.new.work work_bytes
     c.rewrite_anew-r.auto.work) at (c.hand_over.ensures _ (whole_image h.whole refl))
     ∙ granted_call _ _ _ h.inside.there (sym o.fit ∙ y) (o.flag y) (sym (o.same y c.if-r.false))
-

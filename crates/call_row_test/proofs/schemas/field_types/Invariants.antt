@@ -6,9 +6,6 @@ use Rattle.image.specs.Limits.{max_fields}
 use Rattle.image.specs.Tree.{Forest, Linked}
 use Rattle.check_fields.specs.Fields.{input, inputs}
 use Rattle.check_types.specs.ByPlace.{ty_at}
-use Rattle.call_row_test.proofs.FieldTypes.{placed, by_place}
-use native.Mathlib.Omega.{arith}
-use borrow.Author.Rules.{rules}
 use Rattle.call_row_test.proofs.schemas.field_types.Given as goal
 
 abbrev pub invariant-loop-k : goal.invariant-loop-k
@@ -17,4 +14,3 @@ invariant-loop-k l =
 
 abbrev pub decreases-loop-k : goal.decreases-loop-k
 decreases-loop-k l = l.n - l.k
-

@@ -1,6 +1,5 @@
 -- `testing::place_of` meets its contract.
 use Rattle.rewrite.specs.RowTest.{no_test}
-use borrow.Author.Rules.{rules}
 use Rattle.call_row_test.proofs.testing.place_of.Goals as goal
 
 pub returns-in-Image : goal.returns-in-Image
@@ -22,4 +21,3 @@ pub returns-in-HasFunction : goal.returns-in-HasFunction
 unfolding no_test
 returns-in-HasFunction c =
     rw c.in-HasFunction.is
-

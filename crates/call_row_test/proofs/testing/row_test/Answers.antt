@@ -3,7 +3,6 @@ use native.Mathlib.Omega.{arith}
 use mathlib.Core.Path.{◌∙◌}
 use Rattle.check_image.proofs.Accepting.{is_accepted}
 use Rattle.call_row_test.proofs.RowTesting.{whole, refused, granted}
-use borrow.Author.Rules.{rules}
 use Rattle.call_row_test.proofs.testing.row_test.Goals as goal
 
 pub returns-then-number_of-ne0 : goal.returns-then-number_of-ne0
@@ -20,4 +19,3 @@ pub returns : goal.returns
 returns c =
     c.test_at.ensures ∙ granted _ _ _ _ c.check-answer.result c.check-answer.ensures
     c.number_of.ensures c.if-number_of-ne0.false
-

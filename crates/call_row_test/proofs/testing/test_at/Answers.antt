@@ -1,10 +1,8 @@
 -- `testing::test_at` meets its contract.
 use native.Mathlib.Omega.{arith}
 use mathlib.Core.Path.{◌∙◌}
-use lib.ListN.{length-drop}
 use Rattle.call_row_test.proofs.Locating.{located}
 use Rattle.call_row_test.proofs.RowTesting.{absent, other_kind, present, filter_sound, filter_stands, filter_tested}
-use borrow.Author.Rules.{rules}
 use Rattle.call_row_test.proofs.testing.test_at.Goals as goal
 
 pub returns-then-image-node : goal.returns-then-image-node
@@ -40,4 +38,3 @@ returns c =
     (rw (← c.record_at-part.ensures, ← c.word_at.ensures.0) c.if-word_at-ne-FILTER.false) in
     c.test_filter.ensures f.filter_is.predicate f.filter_is.input
     (rw c.record_at-part.ensures (filter_stands f)) (filter_sound f) ∙ filter_tested f _ _
-

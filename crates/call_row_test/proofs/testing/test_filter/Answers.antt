@@ -96,7 +96,8 @@ test_predicate-requires c =
       c.from_record-predicate.ensures,
       c.word_at-first.ensures.0,
     ) u.input)
-    c.no_fields.ensures) in record { readable = record {
+    c.no_fields.ensures) in record {
+      readable = record {
         tree = expr_tree F.predicate;
         at = rw (
           c.from_record-predicate.ensures,
@@ -105,7 +106,9 @@ test_predicate-requires c =
         some = omega arith;
         deep = below_predicate _
             _ F.sound;
-      }; len_le_max_fields = a.1 }
+      };
+      len_le_max_fields = a.1;
+    }
 
 pub returns : goal.returns
 returns c =
@@ -123,4 +126,3 @@ returns c =
     ) u.predicate) o.fits.0 names
     (its_types e p (c.field_types-types.ensures (kids_p (filter e p))
     (rw c.word_at-first.ensures.0 u.linked) (as_many e p a.0)))
-

@@ -6,7 +6,6 @@ use Rattle.plan.specs.Trees.{expr_tree}
 use Rattle.plan.specs.Values.{case_of}
 use Rattle.conjuncts.proofs.FunctionsIn.{fn_tree}
 use Rattle.call_row_test.proofs.RowTesting.{bad_row, with_function, with_truth, read_back, narrow, on_row}
-use borrow.Author.Rules.{rules}
 use Rattle.call_row_test.proofs.testing.test_predicate.Goals as goal
 
 pub returns-then-not-row_ok : goal.returns-then-not-row_ok
@@ -24,4 +23,3 @@ returns c =
     (c.has_function.ensures (expr_tree e) h ∙ fn_tree _ e) (ap not c.if-not-row_ok.false)
     c.truth_of.result (case_of c.evaluate.result.case) c.if-has_function.false c.truth_of.ensures
     ((c.evaluate.ensures.is (expr_tree e) (schema p) h n (narrow p t)).value ∙ on_row p _ _ t (read_back e f))
-

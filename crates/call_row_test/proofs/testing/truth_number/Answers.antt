@@ -1,6 +1,5 @@
 -- `testing::truth_number` meets its contract.
 use Rattle.rewrite.specs.RowTest.{no_test, truth_number}
-use borrow.Author.Rules.{rules}
 use Rattle.call_row_test.proofs.testing.truth_number.Goals as goal
 
 pub returns-in-Image : goal.returns-in-Image
@@ -37,4 +36,3 @@ pub returns-in-Unknown : goal.returns-in-Unknown
 unfolding no_test truth_number
 returns-in-Unknown c =
     rw (c.in-Is.is, c.in-Unknown.is)
-

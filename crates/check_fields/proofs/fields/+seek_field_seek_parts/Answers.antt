@@ -1,12 +1,7 @@
-use mathlib.Core.Path.{refl, sym, ap, ◌∙◌}
+use mathlib.Core.Path.{refl, sym, ◌∙◌}
 use native.Mathlib.Omega.{arith}
-use borrow.Author.Rules.{rules}
-use Rattle.image.specs.Places.{left}
 use Rattle.image.proofs.Stepping.{step}
-use Rattle.image.proofs.Along.{within, whole}
-use Rattle.check_fields.specs.Seek.{told}
 use Rattle.check_fields.proofs.Seeking.{makes_none, of_parts, of_input, of-second, of-more, of_one, named_none, named_some}
-use Prim.Native.Nat.{ℕ, ◌<◌, ◌+◌}
 use Rattle.check_fields.proofs.fields.+seek_field_seek_parts.Goals as goal
 
 pub seek_field-returns-then-here-eq0 : goal.seek_field-returns-then-here-eq0
@@ -91,4 +86,3 @@ seek_parts-returns-else-kind-eq-TABLE_SCAN t c =
     λ f h. named_some _ f c.in-Named.is
     (c.seek_made-made.ensures f _ h) c.if-kind-eq-TABLE_SCAN.false c.type_found.ensures
     (c.seek_field.ensures f h)
-

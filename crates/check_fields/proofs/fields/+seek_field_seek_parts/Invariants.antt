@@ -1,13 +1,6 @@
 -- The cycle of `fields::seek_field` and `fields::seek_parts`. The measure of both is how many bytes are left, twice, and one more for the parts.
-use mathlib.Core.Path.{refl, sym, ap, ◌∙◌}
-use native.Mathlib.Omega.{arith}
-use borrow.Author.Rules.{rules}
 use Rattle.image.specs.Places.{left}
-use Rattle.image.proofs.Stepping.{step}
-use Rattle.image.proofs.Along.{within, whole}
-use Rattle.check_fields.specs.Seek.{told}
-use Rattle.check_fields.proofs.Seeking.{makes_none, of_parts, of_input, of-second, of-more, of_one, named_none, named_some}
-use Prim.Native.Nat.{ℕ, ◌<◌, ◌+◌}
+use Prim.Native.Nat.{◌+◌}
 use Rattle.check_fields.proofs.fields.+seek_field_seek_parts.Given as goal
 
 abbrev pub decreases-seek_parts : goal.decreases-seek_parts
@@ -15,4 +8,3 @@ decreases-seek_parts l = left l.s.now l.base l.at + left l.s.now l.base l.at + 1
 
 abbrev pub decreases-seek_field : goal.decreases-seek_field
 decreases-seek_field l = left l.s.now l.base l.at + left l.s.now l.base l.at
-

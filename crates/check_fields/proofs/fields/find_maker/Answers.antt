@@ -1,11 +1,6 @@
 use native.Mathlib.Omega.{arith}
-use borrow.Author.Rules.{rules}
-use Rattle.image.specs.Tree.{Forest, Linked}
-use Rattle.image.specs.Places.{left}
 use Rattle.image.proofs.Stepping.{step, within_first, less_first}
-use Rattle.image.proofs.Along.{within, whole}
-use Rattle.check_fields.specs.Seek.{Makes}
-use Rattle.check_fields.proofs.Seeking.{makes_start, makes_step, makes_end}
+use Rattle.check_fields.proofs.Seeking.{makes_start, makes_step}
 use Rattle.check_fields.proofs.fields.find_maker.Goals as goal
 
 pub loop-here-init : goal.loop-here-init
@@ -31,4 +26,3 @@ pub loop-here-preserved : goal.loop-here-preserved
 loop-here-preserved c =
     λ f h. let y = c.loop-here.invariant f h in let w = step
     y.forest y.linked c.loop-here-test.true c.from_record.ensures c.look-v.ensures in makes_step y w c.role_of-role.ensures c.creates.ensures c.extends.ensures c.gives_both.ensures c.if-creates-extends.false c.question-asked.ensures c.own_input.ensures (c.plan_at-here-in-loop-here.ensures w.below (within_first w c.from_record.ensures)) (less_first w c.from_record.ensures y.linked c.loop-here-test.true)
-

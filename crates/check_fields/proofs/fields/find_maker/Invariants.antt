@@ -1,12 +1,7 @@
 -- `fields::find_maker` meets its contract. The loop's invariant: the plan at `here` is to be asked. The measure is how many bytes are left.
-use native.Mathlib.Omega.{arith}
-use borrow.Author.Rules.{rules}
 use Rattle.image.specs.Tree.{Forest, Linked}
 use Rattle.image.specs.Places.{left}
-use Rattle.image.proofs.Stepping.{step, within_first, less_first}
-use Rattle.image.proofs.Along.{within, whole}
 use Rattle.check_fields.specs.Seek.{Makes}
-use Rattle.check_fields.proofs.Seeking.{makes_start, makes_step, makes_end}
 use Rattle.check_fields.proofs.fields.find_maker.Given as goal
 
 abbrev pub invariant-loop-here : goal.invariant-loop-here
@@ -14,4 +9,3 @@ invariant-loop-here l = (f : Forest) → Linked f l.s l.base l.at → Makes f l.
 
 abbrev pub decreases-loop-here : goal.decreases-loop-here
 decreases-loop-here l = left l.s l.base l.here
-

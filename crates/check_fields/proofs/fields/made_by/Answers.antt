@@ -1,6 +1,5 @@
 -- `fields::made_by` meets its contract.
 use mathlib.Core.Path.{ap, ◌∙◌}
-use Rattle.image.proofs.Along.{within, whole}
 use Rattle.check_fields.specs.declared.fields.Sought.TheVariants.{Known}
 use Rattle.check_fields.proofs.Typing.{of_field, of_no_entry, of_an_entry, of_other}
 use Rattle.check_fields.proofs.fields.made_by.Goals as goal
@@ -23,4 +22,3 @@ returns-then-v-eq-ENTRY c =
 pub returns : goal.returns
 returns c =
     λ l cs d k r h m. ap Known (of_other l cs d c.args.v k m c.if-v-eq-FIELD.false c.if-v-eq-ENTRY.false)
-

@@ -1,7 +1,6 @@
 -- `fields::plain_type` meets its contract.
 use mathlib.Core.Path.{refl, sym, ◌∙◌}
-use borrow.Author.Rules.{rules}
-use mathlib.Core.Bool.{true, false}
+use mathlib.Core.Bool.{true}
 use Rattle.plan.specs.Kinds.{what_of, among}
 use Rattle.check_fields.proofs.Typing.{plain_other}
 use Rattle.check_fields.proofs.fields.plain_type.Goals as goal
@@ -31,4 +30,3 @@ unfolding what_of among
 returns-then-is_expression c =
     plain_other _ _ _ c.if-kind-eq-INTEGER_LITERAL.false c.if-kind-eq-NULL_LITERAL.false
     c.if-kind-eq-FUNCTION.false c.if-kind-eq-COLUMN.false true (sym c.is_expression.ensures ∙ c.if-is_expression.true)
-

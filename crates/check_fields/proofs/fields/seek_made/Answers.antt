@@ -1,9 +1,6 @@
-use mathlib.Core.Path.{refl, sym, ◌∙◌}
-use native.Mathlib.Omega.{arith}
-use borrow.Author.Rules.{rules}
-use Rattle.image.specs.Places.{left}
-use Rattle.image.proofs.Along.{Along, within, whole, along_start, along_step, along_end, here, here_in}
-use Rattle.check_fields.proofs.Seeking.{Made, made_done, made_skip, made_pass, made_found, it_makes}
+use mathlib.Core.Path.{sym, ◌∙◌}
+use Rattle.image.proofs.Along.{along_step, along_end, here, here_in}
+use Rattle.check_fields.proofs.Seeking.{made_done, made_skip, made_pass, made_found, it_makes}
 use Rattle.check_fields.proofs.fields.seek_made.Goals as goal
 
 pub made_by-requires : goal.made_by-requires
@@ -41,4 +38,3 @@ loop-here-preserved c =
 pub returns : goal.returns
 returns c =
     λ f d h. made_done _ _ _ _ _ f (along_end c.loop-here.invariant c.loop-here-test.false f h) d
-

@@ -1,10 +1,7 @@
 -- `fields::seek_made` meets its contract. The loop's invariant: what is sought of all parts is what is sought of those still to come.
-use mathlib.Core.Path.{refl, sym, ◌∙◌}
-use native.Mathlib.Omega.{arith}
-use borrow.Author.Rules.{rules}
 use Rattle.image.specs.Places.{left}
-use Rattle.image.proofs.Along.{Along, within, whole, along_start, along_step, along_end, here, here_in}
-use Rattle.check_fields.proofs.Seeking.{Made, made_done, made_skip, made_pass, made_found, it_makes}
+use Rattle.image.proofs.Along.{Along}
+use Rattle.check_fields.proofs.Seeking.{Made}
 use Rattle.check_fields.proofs.fields.seek_made.Given as goal
 
 abbrev pub invariant-loop-here : goal.invariant-loop-here
@@ -12,4 +9,3 @@ invariant-loop-here l = Along (Made l.asks l.q l.n l.k l.left) l.s l.base l.at l
 
 abbrev pub decreases-loop-here : goal.decreases-loop-here
 decreases-loop-here l = left l.s l.base l.here
-

@@ -3,7 +3,6 @@ use mathlib.Core.Path.{refl, sym, ◌∙◌}
 use mathlib.Core.List.{[]}
 use Rattle.check_fields.proofs.Seeking.{seek_none, told_same}
 use Rattle.check_fields.proofs.Scoping.{seek_one, seek_left, seek_right, seek_parts}
-use borrow.Author.Rules.{rules}
 use Rattle.check_fields.proofs.scopes.seek_seen.Goals as goal
 
 pub returns-in-Nothing : goal.returns-in-Nothing
@@ -47,4 +46,3 @@ pub returns-in-Left-under : goal.returns-in-Left-under
 returns-in-Left-under c =
     λ f h. rw c.in-FirstInputAndParts.is
     (seek_parts _ _ _ _ _ c.seek_made-in-Left-under.result (sym c.in-Left-under.is ∙ c.seek_field-under.ensures f h) (c.seek_made-in-Left-under.ensures f [] h))
-

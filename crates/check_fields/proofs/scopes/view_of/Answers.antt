@@ -1,7 +1,6 @@
 -- `scopes::view_of` meets its contract.
 use mathlib.Core.Path.{refl, sym, ◌∙◌}
-use borrow.Author.Rules.{rules}
-use mathlib.Core.Bool.{true, false}
+use mathlib.Core.Bool.{true}
 use Rattle.plan.specs.Kinds.{what_of, among}
 use Rattle.check_fields.proofs.Scoping.{view_last}
 use Rattle.check_fields.proofs.scopes.view_of.Goals as goal
@@ -25,4 +24,3 @@ pub returns-then-is_plan : goal.returns-then-is_plan
 unfolding what_of among
 returns-then-is_plan c =
     view_last _ c.if-kind-eq-TABLE_SCAN.false c.if-kind-eq-JOIN.false c.if-kind-eq-UNION.false true (sym c.is_plan.ensures ∙ c.if-is_plan.true)
-

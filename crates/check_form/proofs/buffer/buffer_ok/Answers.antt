@@ -7,4 +7,3 @@ pub returns : goal.returns
 unfolding buffer_ok
 returns c =
     simp both
-

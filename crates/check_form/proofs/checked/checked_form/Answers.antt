@@ -1,8 +1,6 @@
 -- `checked::checked_form` meets its contract: each answer, where the tests before it are not met.
 use native.Mathlib.Omega.{arith}
 use mathlib.Core.Path.{sym, ◌∙◌}
-use borrow.Author.Rules.{rules}
-use borrow.Author.Tests.{not-true, not-false}
 use Rattle.acceptance.proofs.Accept.{buffer_of as sized}
 use Rattle.check_form.proofs.Stages.{stage_buffer, stage_words, stage_links, stage_tree, stage_depth, stage_form, stage_whole}
 use Rattle.check_form.proofs.checked.checked_form.Goals as goal
@@ -77,4 +75,3 @@ returns c =
     c.in_default-links.is)
     c.bad_depth-depth.ensures c.in_default-depth.is
     c.bad_root_form-form.ensures c.in_default-form.is
-

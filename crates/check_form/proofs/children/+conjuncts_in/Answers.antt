@@ -1,12 +1,9 @@
 use mathlib.Core.Path.{sym, ◌∙◌}
 use native.Mathlib.Omega.{arith}
-use borrow.Author.Rules.{rules}
 use Rattle.image.proofs.Walking.{ended}
-use Rattle.image.specs.Places.{left}
 use Rattle.image.proofs.Stepping.{step}
-use Rattle.image.proofs.Along.{within, whole, step_at}
+use Rattle.image.proofs.Along.{step_at}
 use Rattle.check_form.proofs.Counts.{conj_none, conj_and, conj_one, conj_room}
-use Prim.Native.Nat.{ℕ, ◌<◌}
 use Rattle.check_form.proofs.children.+conjuncts_in.Goals as goal
 
 pub returns-then-first-eq0 : goal.returns-then-first-eq0
@@ -71,4 +68,3 @@ returns t c =
     conj_one w
     (sym c.if-splits.false ∙ c.splits.ensures w.label w.below w.kind w.p w.first)
     c.of_sort.ensures c.one_if.ensures (c.conjuncts_in-rest.ensures w.after w.next)
-

@@ -1,6 +1,5 @@
 -- `children::children_ok` meets its contract.
 use mathlib.Core.Path.{◌∙◌}
-use borrow.Author.Rules.{rules}
 use Rattle.check_form.proofs.Counts.{fits_aggregate, fits_other, leaf_meets}
 use Rattle.check_form.proofs.children.children_ok.Goals as goal
 
@@ -16,4 +15,3 @@ returns-then-pattern-eq-LEAF c =
 pub returns : goal.returns
 returns c =
     λ f h. fits_other _ _ f c.if-kind-eq-AGGREGATE.false (c.meets_pattern-2.ensures f h) ∙ c.pattern_of-pattern.ensures f
-

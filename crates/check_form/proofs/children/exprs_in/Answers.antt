@@ -1,8 +1,5 @@
 use native.Mathlib.Omega.{arith}
-use borrow.Author.Rules.{rules}
-use Rattle.image.specs.Places.{left}
-use Rattle.image.proofs.Along.{Along, within, whole, here}
-use Rattle.check_form.proofs.Counts.{Counted, count_start, count_on, count_room, count_end}
+use Rattle.check_form.proofs.Counts.{count_on, count_room, count_end}
 use Rattle.check_form.proofs.children.exprs_in.Goals as goal
 
 pub overflow_add-n : goal.overflow_add-n
@@ -23,4 +20,3 @@ loop-at-preserved c =
 pub returns : goal.returns
 returns c =
     count_end c.loop-at.invariant c.loop-at-test.false
-

@@ -1,9 +1,7 @@
 -- `children::exprs_in` meets its contract. The loop's invariant: n expressions stand before `at`.
-use native.Mathlib.Omega.{arith}
-use borrow.Author.Rules.{rules}
 use Rattle.image.specs.Places.{left}
-use Rattle.image.proofs.Along.{Along, within, whole, here}
-use Rattle.check_form.proofs.Counts.{Counted, count_start, count_on, count_room, count_end}
+use Rattle.image.proofs.Along.{Along}
+use Rattle.check_form.proofs.Counts.{Counted}
 use Rattle.check_form.proofs.children.exprs_in.Given as goal
 
 abbrev pub invariant-loop-at : goal.invariant-loop-at
@@ -11,4 +9,3 @@ invariant-loop-at l = Along (Counted l.n) l.s l.base l.first l.at
 
 abbrev pub decreases-loop-at : goal.decreases-loop-at
 decreases-loop-at l = left l.s l.base l.at
-

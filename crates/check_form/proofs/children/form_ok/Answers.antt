@@ -1,7 +1,5 @@
 -- `children::form_ok` meets its contract.
 use mathlib.Core.Path.{sym, ◌∙◌}
-use borrow.Author.Rules.{rules}
-use borrow.Author.Tests.{not-true, not-false}
 use Rattle.check_form.proofs.Counts.{form_children, form_list}
 use Rattle.check_form.proofs.children.form_ok.Goals as goal
 
@@ -13,4 +11,3 @@ pub returns : goal.returns
 returns c =
     λ l f k h. form_list l f k (sym c.if-not-children_ok.false ∙ c.children_ok.ensures f h)
     (c.list_len.ensures f h)
-

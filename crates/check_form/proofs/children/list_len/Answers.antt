@@ -1,5 +1,4 @@
 -- `children::list_len` meets its contract.
-use borrow.Author.Rules.{rules}
 use Rattle.check_form.proofs.Counts.{list_scan, list_filter, list_join, list_other}
 use Rattle.check_form.proofs.children.list_len.Goals as goal
 
@@ -18,4 +17,3 @@ returns-then-kind-eq-JOIN c =
 pub returns : goal.returns
 returns c =
     λ f h. list_other f _ c.if-kind-eq-TABLE_SCAN.false c.if-kind-eq-FILTER.false c.if-kind-eq-JOIN.false
-

@@ -1,5 +1,4 @@
 -- `children::splits` meets its contract.
-use borrow.Author.Rules.{rules}
 use Rattle.check_form.proofs.Counts.{and_kind, and_operator, and_two}
 use Rattle.check_form.proofs.children.splits.Goals as goal
 
@@ -14,4 +13,3 @@ returns-then-v-ne-AND c =
 pub returns : goal.returns
 returns c =
     λ l f k p h. and_two l f k p c.if-v-ne-BINARY_EXPR.false c.if-v-ne-AND.false (c.meets_pattern.ensures f h)
-

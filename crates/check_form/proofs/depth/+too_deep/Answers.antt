@@ -2,15 +2,13 @@ use mathlib.Core.Path.{refl}
 use mathlib.Core.Bool.{Bool}
 use lib.Dec.{leb}
 use native.Mathlib.Omega.{arith}
-use borrow.Author.Rules.{rules}
 use borrow.Author.Tests.{le-leb, lt-leb}
 use Rattle.image.specs.Limits.{max_depth}
 use Rattle.image.specs.Tree.{Label, Forest}
 use Rattle.image.specs.Limits.{max_depth}
-use Rattle.image.specs.Places.{left}
-use Rattle.image.proofs.Along.{within, whole, here}
-use Rattle.check_form.proofs.Search.{Sought, search_start, search_here, search_below, search_on, search_end}
-use Prim.Native.Nat.{ℕ, ◌+◌, ◌<◌}
+use Rattle.image.proofs.Along.{here}
+use Rattle.check_form.proofs.Search.{search_here, search_below, search_on, search_end}
+use Prim.Native.Nat.{ℕ, ◌+◌}
 use Rattle.check_form.proofs.depth.+too_deep.Goals as goal
 
 abbrev rule : ℕ → Label → Forest → Bool
@@ -48,4 +46,3 @@ loop-at-preserved t c =
 pub returns : goal.returns
 returns t c =
     search_end rule deeper _ c.loop-at.invariant c.loop-at-test.false
-

@@ -1,18 +1,13 @@
 -- `depth::too_deep` meets its contract. The measure is how many bytes are left.
 -- The loop's invariant: no record before `at` is too deep.
-use mathlib.Core.Path.{refl}
 use mathlib.Core.Bool.{Bool}
 use lib.Dec.{leb}
-use native.Mathlib.Omega.{arith}
-use borrow.Author.Rules.{rules}
-use borrow.Author.Tests.{le-leb, lt-leb}
 use Rattle.image.specs.Limits.{max_depth}
 use Rattle.image.specs.Tree.{Label, Forest}
 use Rattle.image.specs.Limits.{max_depth}
 use Rattle.image.specs.Places.{left}
-use Rattle.image.proofs.Along.{within, whole, here}
-use Rattle.check_form.proofs.Search.{Sought, search_start, search_here, search_below, search_on, search_end}
-use Prim.Native.Nat.{ℕ, ◌+◌, ◌<◌}
+use Rattle.check_form.proofs.Search.{Sought}
+use Prim.Native.Nat.{ℕ, ◌+◌}
 use Rattle.check_form.proofs.depth.+too_deep.Given as goal
 
 abbrev rule : ℕ → Label → Forest → Bool
@@ -29,4 +24,3 @@ invariant-loop-at l = Sought rule deeper l.level l.s l.base l.first l.at
 
 abbrev pub decreases-loop-at : goal.decreases-loop-at
 decreases-loop-at l = left l.s l.base l.at
-

@@ -23,4 +23,3 @@ returns c =
     λ t h. let e = c.word_at.ensures.0 in
     c.too_deep.ensures t.below (rw e (linked_first t _ _ h))
     ∙ sym (ap place_of (low_root (λ d l cs. leb d max_depth) (λ d. d + 1) 1 t h e))
-

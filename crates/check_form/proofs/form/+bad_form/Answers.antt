@@ -1,14 +1,10 @@
 use mathlib.Core.Path.{sym, ◌∙◌}
 use mathlib.Core.Bool.{Bool}
 use native.Mathlib.Omega.{arith}
-use borrow.Author.Rules.{rules}
-use borrow.Author.Tests.{not-true, not-false}
 use Rattle.image.specs.Tree.{Label, Forest}
-use Rattle.image.specs.Places.{left}
 use Rattle.plan.specs.Form.{form_ok}
-use Rattle.image.proofs.Along.{within, whole, here}
-use Rattle.check_form.proofs.Search.{Sought, search_start, search_here, search_below, search_on, search_end}
-use Prim.Native.Nat.{ℕ, ◌<◌}
+use Rattle.image.proofs.Along.{here}
+use Rattle.check_form.proofs.Search.{search_here, search_below, search_on, search_end}
 use Rattle.check_form.proofs.form.+bad_form.Goals as goal
 
 abbrev rule : Unit {0} → Label → Forest → Bool
@@ -62,4 +58,3 @@ loop-at-preserved t c =
 pub returns : goal.returns
 returns t c =
     search_end rule same tt c.loop-at.invariant c.loop-at-test.false
-

@@ -1,16 +1,10 @@
 -- `form::bad_form` meets its contract. The measure is how many bytes are left.
 -- The loop's invariant: no record before `at` is of the wrong form, and none below it.
-use mathlib.Core.Path.{sym, ◌∙◌}
 use mathlib.Core.Bool.{Bool}
-use native.Mathlib.Omega.{arith}
-use borrow.Author.Rules.{rules}
-use borrow.Author.Tests.{not-true, not-false}
 use Rattle.image.specs.Tree.{Label, Forest}
 use Rattle.image.specs.Places.{left}
 use Rattle.plan.specs.Form.{form_ok}
-use Rattle.image.proofs.Along.{within, whole, here}
-use Rattle.check_form.proofs.Search.{Sought, search_start, search_here, search_below, search_on, search_end}
-use Prim.Native.Nat.{ℕ, ◌<◌}
+use Rattle.check_form.proofs.Search.{Sought}
 use Rattle.check_form.proofs.form.+bad_form.Given as goal
 
 abbrev rule : Unit {0} → Label → Forest → Bool
@@ -27,4 +21,3 @@ invariant-loop-at l = Sought rule same tt l.s l.base l.first l.at
 
 abbrev pub decreases-loop-at : goal.decreases-loop-at
 decreases-loop-at l = left l.s l.base l.at
-

@@ -1,8 +1,5 @@
 -- `form::bad_root_form` meets its contract.
 use mathlib.Core.Path.{sym, ◌∙◌}
-use native.Mathlib.Omega.{arith}
-use borrow.Author.Rules.{rules}
-use borrow.Author.Tests.{not-true, not-false}
 use Rattle.check_form.proofs.Rooting.{root_kind, root_linked, no_plan, bad_root, root_good}
 use Rattle.check_form.proofs.form.bad_root_form.Goals as goal
 
@@ -38,4 +35,3 @@ returns c =
     (sym (c.form_ok.ensures t.label t.below
     (root_kind t h c.look-v.ensures)
     (root_linked t h c.look-v.ensures)) ∙ c.if-not-form_ok.false)
-

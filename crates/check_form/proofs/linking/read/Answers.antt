@@ -1,5 +1,4 @@
 -- `linking::read` meets its contract.
-use borrow.Author.Rules.{rules}
 use Rattle.check_form.proofs.Roots.{broken_below, broken_next, broken_left, one_tree}
 use Rattle.check_form.proofs.linking.read.Goals as goal
 
@@ -25,4 +24,3 @@ returns-else-j-n c =
     one_tree _ _ _ c.word_at.ensures.0
     c.links-children.ensures c.word_at-next.ensures.0
     c.in-Next.is c.if-next-ne0.false c.if-j-n.false
-

@@ -1,6 +1,5 @@
 -- `patterns::last_item` meets its contract.
 use mathlib.Core.Path.{sym, ap, ◌∙◌}
-use borrow.Author.Rules.{rules}
 use Rattle.plan.specs.Form.{end, perhaps}
 use Rattle.check_form.specs.declared.sorts.Sort.{Sort}
 use Rattle.check_form.specs.Sorts.{of_sort}
@@ -21,4 +20,3 @@ pub returns : goal.returns
 returns c =
     λ f h. leads_on c.past_item-past.ensures end c.in-At.is (λ g k. end_link g _ _ _ k) f h
     ∙ sym (last_other _ c.if-n-eq3.false f)
-

@@ -1,7 +1,6 @@
 -- `patterns::meets_pattern` meets its contract.
-use borrow.Author.Rules.{rules}
 use Rattle.check_form.specs.Patterns.{meets}
-use Rattle.check_form.proofs.Patterned.{leads_nowhere, leads_on, leads_chained}
+use Rattle.check_form.proofs.Patterned.{leads_nowhere, leads_on}
 use Rattle.check_form.proofs.patterns.meets_pattern.Goals as goal
 
 pub returns-in_default : goal.returns-in_default
@@ -31,4 +30,3 @@ returns c =
     (leads_on c.past_item-b.ensures _
     c.in-At-b.is
     (leads_on c.past_item-c.ensures _ c.in-At-c.is c.last_item.ensures))
-

@@ -1,8 +1,6 @@
 -- `patterns::one_or_none` meets its contract.
-use borrow.Author.Rules.{rules}
 use Rattle.image.proofs.Walking.{ended}
 use Rattle.image.proofs.Stepping.{step}
-use Rattle.image.proofs.Along.{within, whole}
 use Rattle.check_form.proofs.Patterned.{sorted, perhaps_none, perhaps_one}
 use Rattle.check_form.proofs.patterns.one_or_none.Goals as goal
 
@@ -15,4 +13,3 @@ returns c =
     λ f h. let w = step f h c.if-first-eq0.false c.from_record.ensures
     c.look-v.ensures in
     perhaps_one _ w.label w.below w.after _ _ _ w.is (sorted _ w c.of_sort.ensures) w.next
-

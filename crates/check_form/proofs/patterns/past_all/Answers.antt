@@ -1,10 +1,5 @@
-use borrow.Author.Rules.{rules}
-use borrow.Author.Tests.{not-true, not-false}
 use mathlib.Core.Path.{◌∙◌}
-use Rattle.image.specs.Places.{left}
-use Rattle.check_form.specs.Sorts.{of_sort}
-use Rattle.image.proofs.Along.{Along, within, whole, here}
-use Rattle.check_form.proofs.Patterned.{Past, sorted, past_start, past_stay, past_on, past_end}
+use Rattle.check_form.proofs.Patterned.{sorted, past_stay, past_on, past_end}
 use Rattle.check_form.proofs.patterns.past_all.Goals as goal
 
 pub returns-then-not-of_sort : goal.returns-then-not-of_sort
@@ -22,4 +17,3 @@ loop-at-preserved c =
 pub returns : goal.returns
 returns c =
     past_end _ c.loop-at.invariant c.loop-at-test.false
-

@@ -1,5 +1,4 @@
 -- `patterns::past_item` meets its contract.
-use borrow.Author.Rules.{rules}
 use Rattle.check_form.proofs.Patterned.{leads_gone, leads_one, leads_many, leads_never}
 use Rattle.check_form.proofs.patterns.past_item.Goals as goal
 
@@ -18,4 +17,3 @@ returns-then-how-eq2 c =
 pub returns : goal.returns
 returns c =
     leads_never _ c.sort_for-sort.ensures c.if-how-eq0.false c.if-how-eq1.false c.if-how-eq2.false
-

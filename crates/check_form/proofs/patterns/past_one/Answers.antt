@@ -1,9 +1,7 @@
 -- `patterns::past_one` meets its contract.
 use mathlib.Core.Path.{◌∙◌}
-use borrow.Author.Rules.{rules}
 use Rattle.image.proofs.Walking.{ended}
 use Rattle.image.proofs.Stepping.{step}
-use Rattle.image.proofs.Along.{within, whole}
 use Rattle.check_form.proofs.Patterned.{sorted, one_none, one_yes, one_no}
 use Rattle.check_form.proofs.patterns.past_one.Goals as goal
 
@@ -26,4 +24,3 @@ returns c =
           c.look-v.ensures in
           one_no _ w.label w.below w.after w.is (sorted _ w c.of_sort.ensures ∙ c.if-of_sort.false);
     }
-

@@ -1,5 +1,4 @@
 -- `sorts::of_sort` meets its contract.
-use borrow.Author.Rules.{rules}
 use Rattle.check_form.specs.Sorts.{sort_of}
 use Rattle.check_form.proofs.sorts.of_sort.Goals as goal
 
@@ -17,4 +16,3 @@ pub returns-in-Kind : goal.returns-in-Kind
 unfolding sort_of
 returns-in-Kind c =
     rw c.in-Kind.is
-

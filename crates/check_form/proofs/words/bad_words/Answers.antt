@@ -1,11 +1,6 @@
 use mathlib.Core.Path.{sym, ap, ◌∙◌}
-use Prim.Native.Nat.{◌-◌}
-use native.Mathlib.Omega.{arith}
-use lib.ListN.{length-drop}
-use borrow.Author.Tests.{not-true, not-false}
-use borrow.Author.Rules.{rules}
 use Rattle.image.specs.Places.{place_of}
-use Rattle.check_form.proofs.Rows.{Passed, passed_none, bad_here, passed_one, passed_all}
+use Rattle.check_form.proofs.Rows.{bad_here, passed_one, passed_all}
 use Rattle.check_form.proofs.words.bad_words.Goals as goal
 
 pub returns-then-not-words_ok : goal.returns-then-not-words_ok
@@ -23,4 +18,3 @@ loop-i-preserved c =
 pub returns : goal.returns
 returns c =
     sym (ap place_of (passed_all _ _ _ c.loop-i.invariant c.loop-i-test.false))
-

@@ -1,5 +1,4 @@
 -- `words::in_range` meets its contract.
-use borrow.Author.Rules.{rules}
 use Rattle.plan.specs.Words.{in_range}
 use Rattle.check_form.specs.Rows.{range_of}
 use Rattle.plan.proofs.Bools.{both}
@@ -9,4 +8,3 @@ pub returns : goal.returns
 unfolding in_range range_of
 returns c =
     both _ _
-

@@ -1,5 +1,4 @@
 -- `words::words_ok` meets its contract.
-use borrow.Author.Rules.{rules}
 use Rattle.check_form.proofs.Rows.{words_are}
 use Rattle.check_form.proofs.words.words_ok.Goals as goal
 
@@ -12,4 +11,3 @@ returns c =
     c.in_range-3.ensures
     c.in_range-4.ensures
     c.in_range-5.ensures
-

@@ -1,13 +1,9 @@
 use mathlib.Core.Path.{◌≡◌, refl, sym, ap, ◌∙◌}
 use mathlib.Core.Bool.{true}
-use Prim.Native.Nat.{ℕ, ◌<◌}
+use Prim.Native.Nat.{ℕ}
 use native.Mathlib.Omega.{arith}
-use borrow.Author.Rules.{rules}
-use borrow.Author.Tests.{not-true, not-false}
 use Rattle.image.proofs.Walking.{ended}
-use Rattle.image.specs.Places.{left}
 use Rattle.image.proofs.Stepping.{step}
-use Rattle.image.proofs.Along.{within, whole}
 use Rattle.plan.specs.Kinds.{what_of}
 use Rattle.plan.specs.FieldSources.{role}
 use Rattle.check_fields.specs.Rules.{name_ok, hand}
@@ -103,4 +99,3 @@ returns-in-Nowhere-under t c =
     ok (sym c.in-Nowhere-under.is ∙ c.bad_name-under.ensures w.below w.below w.first
     w.first (sound_below here w.label w.below (c.role_of-role.ensures ∙ ap (λ (n : ℕ). role (what_of n)) w.kind) c.known_inputs-inputs.ensures
     ok))
-

@@ -3,7 +3,6 @@ use mathlib.Core.Path.{◌≡◌, refl, sym, ap, ◌∙◌}
 use mathlib.Core.Bool.{true}
 use mathlib.Core.List.{[]}
 use Prim.Native.Nat.{ℕ}
-use borrow.Author.Tests.{not-true, not-false}
 use Rattle.image.specs.Tree.{none}
 use Rattle.plan.specs.Kinds.{what_of}
 use Rattle.plan.proofs.Bools.{no_yes}
@@ -13,7 +12,6 @@ use Rattle.check_fields.specs.Scopes.{view_w}
 use Rattle.check_names.proofs.Finding.{root_here, root_below, rooted}
 use Rattle.check_names.proofs.NameRule.{sound_below}
 use Rattle.check_fields.proofs.Scoping.{hand_root}
-use borrow.Author.Rules.{rules}
 use Rattle.check_names.proofs.naming.bad_names.Goals as goal
 
 -- the root stands over nothing
@@ -55,4 +53,3 @@ returns c =
     ok)
     ∙ root_below name_ok hand nothing_seen nothing_seen t _ _ _ w.first_number
     (hand_root t.label t.below (c.view_of-own.ensures ∙ ap (λ (n : ℕ). view_w (what_of n)) w.kind)) ok
-

@@ -1,8 +1,6 @@
 -- `naming::name_ok` meets its contract.
 use mathlib.Core.Path.{sym, ap, ◌∙◌}
 use Prim.Native.Nat.{ℕ}
-use borrow.Author.Rules.{rules}
-use borrow.Author.Tests.{not-true, not-false}
 use Rattle.plan.specs.Kinds.{what_of}
 use Rattle.plan.specs.FieldSources.{role}
 use Rattle.check_fields.specs.Fields.{parts_over, inputs}
@@ -42,4 +40,3 @@ returns c =
       c.gives_both.ensures,
       hp,
     ) at c.if-joins-gives_both.false)
-

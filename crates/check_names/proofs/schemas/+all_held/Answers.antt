@@ -1,10 +1,6 @@
 use mathlib.Core.Path.{sym, ap, ◌∙◌}
-use Prim.Native.Nat.{ℕ, ◌<◌}
 use native.Mathlib.Omega.{arith}
-use borrow.Author.Tests.{not-true, not-false}
-use Rattle.image.specs.Places.{left}
 use Rattle.image.proofs.Stepping.{step}
-use Rattle.image.proofs.Along.{within, whole}
 use Rattle.check_names.specs.Singles.{all_of}
 use Rattle.check_fields.proofs.Seeking.{plan_fields, missing}
 use Rattle.check_names.proofs.Telling.{none_held, held_parts, held_fails, held_both, held_more, held_first, held_renamed}
@@ -99,4 +95,3 @@ pub returns : goal.returns
 returns t c =
     λ e f g h. let y = c.plan_at-here.ensures f h in let w = step y.forest y.linked c.if-here-eq0.false c.from_record-part.ensures c.look-v.ensures in held_first w y.begins c.role_of-role.ensures _ (sym c.creates.ensures ∙ c.if-creates.false) (sym c.renames.ensures ∙ c.if-renames.false) (sym (rw c.own_input.ensures at (c.all_held-2.ensures e w.below g w.first)) ∙ c.if-not-all_held.false) (sym c.gives_both.ensures ∙
     c.if-gives_both.false) (sym c.extends.ensures ∙ c.if-extends.false) ∙ ap (all_of _) (plan_fields y)
-

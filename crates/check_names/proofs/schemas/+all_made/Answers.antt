@@ -1,10 +1,6 @@
 use mathlib.Core.Path.{sym, ◌∙◌}
-use Prim.Native.Nat.{ℕ, ◌<◌}
 use native.Mathlib.Omega.{arith}
-use lib.ListN.{length-drop}
-use borrow.Author.Tests.{not-true, not-false}
-use Rattle.image.proofs.Walking.{turn, ended}
-use Rattle.image.specs.Places.{left}
+use Rattle.image.proofs.Walking.{ended}
 use Rattle.image.proofs.Stepping.{step}
 use Rattle.check_names.proofs.Telling.{none_made, made_other, made_fails, made_passes}
 use Rattle.check_names.proofs.schemas.+all_made.Goals as goal
@@ -58,4 +54,3 @@ returns t c =
     c.if-not-makes_field.false
     (sym (rw c.qualifier.ensures at (c.is_single.ensures e g))
     ∙ c.if-not-is_single.false)
-

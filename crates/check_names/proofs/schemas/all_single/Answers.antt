@@ -5,7 +5,6 @@ use Rattle.check_fields.specs.Fields.{input, made, inputs}
 use Rattle.check_names.specs.Singles.{all_of}
 use Rattle.check_names.proofs.Telling.{as_called, first_fails, first_passes, none_fails}
 use Rattle.check_names.proofs.Telling.{own_none, own_first_input, own_second_input, own_both_inputs, own_parts, own_input_and_parts}
-use borrow.Author.Rules.{rules}
 use Rattle.check_names.proofs.schemas.all_single.Goals as goal
 
 pub returns-then-all_held : goal.returns-then-all_held
@@ -43,4 +42,3 @@ pub returns-else-all_held-2 : goal.returns-else-all_held-2
 returns-else-all_held-2 c =
     λ e h. first_fails _ _ (made [] e) (sym (c.all_held-in-FirstInputAndParts.ensures e e h h) ∙ c.if-all_held-2.false)
     ∙ as_called _ _ _ ∙ ap (all_of _) (own_input_and_parts _ e c.in-FirstInputAndParts.is)
-

@@ -4,7 +4,6 @@ use mathlib.Core.List.{◌++◌}
 use Prim.Native.Nat.{◌-◌}
 use Rattle.plan.specs.FieldSources.{own}
 use native.Mathlib.Omega.{arith}
-use borrow.Author.Rules.{rules}
 use Rattle.check_fields.specs.declared.questions.Question.TheVariants.{Clashing}
 use Rattle.plan.specs.declared.field_sources.Role.TheVariants.{Joins}
 use Rattle.check_fields.specs.Fields.{input, inputs}
@@ -21,4 +20,3 @@ returns c =
     λ cs d h k. (rw c.own_input.ensures at (c.all_held.ensures cs cs h h)) ∙ as_called (input 0 (inputs cs) ++ input 1 (inputs cs)) Clashing (input (1 - own Joins c.args.p) (inputs cs))
     ∙ beside_own _ (inputs cs) (own_few c.args.p) k ∙ not_many Clashing _
     (c.held_in.ensures cs h) (omega arith) ∙ rule_by_role Joins _ d cs
-

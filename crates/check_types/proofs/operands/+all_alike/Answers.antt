@@ -1,10 +1,7 @@
 use mathlib.Core.Path.{◌∙◌}
 use native.Mathlib.Omega.{arith}
-use Prim.Native.Nat.{ℕ, ◌<◌}
 use Rattle.image.proofs.Walking.{ended}
-use Rattle.image.specs.Places.{left}
 use Rattle.image.proofs.Stepping.{step}
-use Rattle.image.proofs.Along.{within, whole}
 use Rattle.check_types.proofs.Demanding.{type_here, alike_none, alike_skip, alike_here}
 use Rattle.check_types.proofs.operands.+all_alike.Goals as goal
 
@@ -41,4 +38,3 @@ returns t c =
     λ f e h g. let w = step f h c.if-at-eq0.false c.from_record-part.ensures
     c.look-v.ensures in
     c.all_alike.ensures w.after e w.next g ∙ alike_skip w _ _ c.is_expression.ensures c.if-is_expression.false
-

@@ -1,9 +1,6 @@
 use mathlib.Core.Path.{◌∙◌}
 use native.Mathlib.Omega.{arith}
-use lib.ListN.{length-drop}
-use Prim.Native.Nat.{ℕ, ◌<◌}
-use Rattle.image.proofs.Walking.{turn, ended}
-use Rattle.image.specs.Places.{left}
+use Rattle.image.proofs.Walking.{ended}
 use Rattle.image.proofs.Stepping.{step}
 use Rattle.check_types.proofs.Demanding.{type_here, have_none, have_skip, have_not, have_more}
 use Rattle.check_types.proofs.operands.+all_have.Goals as goal
@@ -56,4 +53,3 @@ returns t c =
     λ f e h g. let w = step f h c.if-at-eq0.false
     c.from_record-part.ensures c.look-v.ensures in c.all_have-2.ensures
     w.after e w.next g ∙ have_skip w _ _ c.is_expression.ensures _ c.if-is_expression.false
-

@@ -1,9 +1,6 @@
 use mathlib.Core.Path.{◌∙◌}
 use native.Mathlib.Omega.{arith}
-use lib.ListN.{length-drop}
-use Prim.Native.Nat.{ℕ, ◌<◌}
-use Rattle.image.proofs.Walking.{turn, ended}
-use Rattle.image.specs.Places.{left}
+use Rattle.image.proofs.Walking.{ended}
 use Rattle.image.proofs.Stepping.{step}
 use Rattle.check_types.proofs.Demanding.{type_here, first_none, first_skip, first_here}
 use Rattle.check_types.proofs.operands.+first_type.Goals as goal
@@ -35,4 +32,3 @@ returns t c =
     λ f e h g. let w = step f h c.if-at-eq0.false
     c.from_record-part.ensures c.look-v.ensures in c.first_type.ensures
     w.after e w.next g ∙ first_skip w _ _ c.is_expression.ensures c.if-is_expression.false
-

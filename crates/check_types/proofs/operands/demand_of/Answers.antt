@@ -1,6 +1,5 @@
 use mathlib.Core.Path.{refl, ◌∙◌}
 use borrow.Author.Tests.{le-leb, lt-leb}
-use borrow.Author.Rules.{rules}
 use Rattle.plan.specs.Kinds.{what_of, among}
 use Rattle.check_types.proofs.Demanding.{demand_last}
 use Rattle.check_types.proofs.operands.demand_of.Goals as goal
@@ -57,4 +56,3 @@ returns c =
     ∙ demand_last _ _ _ c.if-kind-eq-BINARY_EXPR.false
     c.if-kind-eq-TEST.false c.if-kind-eq-AGGREGATE_ENTRY.false
     c.if-kind-eq-WINDOW_ENTRY.false c.if-kind-eq-BETWEEN.false c.if-kind-eq-IN_LIST.false c.if-kind-eq-PAIR.false
-

@@ -1,12 +1,8 @@
 use mathlib.Core.Path.{◌∙◌}
 use native.Mathlib.Omega.{arith}
-use lib.ListN.{length-drop}
-use Prim.Native.Nat.{ℕ, ◌<◌}
-use Rattle.image.proofs.Walking.{turn, ended}
-use Rattle.image.specs.Places.{left}
+use Rattle.image.proofs.Walking.{ended}
 use Rattle.image.proofs.Stepping.{step}
 use Rattle.check_types.proofs.ByPlacing.{all_none, all_not, all_more, all_skip}
-use borrow.Author.Tests.{not-true, not-false}
 use Rattle.check_types.proofs.places.+as_first.Goals as goal
 
 pub returns-then-at-eq0 : goal.returns-then-at-eq0
@@ -56,4 +52,3 @@ returns t c =
     λ f e h g. let w = step f h c.if-at-eq0.false
     c.from_record-part.ensures c.look-v.ensures in c.as_first-2.ensures
     w.after e w.next g ∙ all_skip w c.is_plan.ensures _ c.if-is_plan.false
-

@@ -4,7 +4,6 @@ use mathlib.Core.List.{[]}
 use Rattle.check_fields.specs.Seek.{type_found}
 use Rattle.check_fields.proofs.Seeking.{type_told}
 use Rattle.check_types.proofs.ByPlacing.{seek_place}
-use borrow.Author.Rules.{rules}
 use Rattle.check_types.proofs.places.place_type.Goals as goal
 
 pub returns-in-Parts : goal.returns-in-Parts
@@ -17,4 +16,3 @@ pub returns-in-FirstPlan : goal.returns-in-FirstPlan
 returns-in-FirstPlan c =
     λ f h. rw c.in-FirstPlan.is
     (c.type_found-in-FirstPlan.ensures ∙ ap type_found (c.seek_field.ensures f h) ∙ seek_place _ _)
-

@@ -1,9 +1,5 @@
-use mathlib.Core.Path.{◌≡◌, sym, ◌∙◌}
-use Prim.Native.Nat.{ℕ, ◌<◌, ◌-◌}
 use native.Mathlib.Omega.{arith}
-use Rattle.image.specs.Tree.{Forest, Linked}
-use Rattle.check_types.specs.ByPlace.{ty_at, schema_of}
-use Rattle.check_types.proofs.ByPlacing.{other_width, other_type, same_all, one_more}
+use Rattle.check_types.proofs.ByPlacing.{other_width, other_type, same_all}
 use Rattle.check_types.proofs.places.same_fields.Goals as goal
 
 pub returns-then-n-width : goal.returns-then-n-width
@@ -18,4 +14,3 @@ pub returns : goal.returns
 returns c =
     λ f e h g. same_all _ _ (c.width-n.ensures f h) (c.width.ensures e g)
     c.if-n-width.false (λ k l. c.loop-k.invariant f e h g k (omega arith))
-

@@ -1,10 +1,8 @@
 -- `types::places::same_fields` meets its contract. The loop's invariant: the types agree at every place passed.
-use mathlib.Core.Path.{◌≡◌, sym, ◌∙◌}
+use mathlib.Core.Path.{◌≡◌}
 use Prim.Native.Nat.{ℕ, ◌<◌, ◌-◌}
-use native.Mathlib.Omega.{arith}
 use Rattle.image.specs.Tree.{Forest, Linked}
 use Rattle.check_types.specs.ByPlace.{ty_at, schema_of}
-use Rattle.check_types.proofs.ByPlacing.{other_width, other_type, same_all, one_more}
 use Rattle.check_types.proofs.places.same_fields.Given as goal
 
 abbrev pub invariant-loop-k : goal.invariant-loop-k
@@ -13,4 +11,3 @@ invariant-loop-k l =
 
 abbrev pub decreases-loop-k : goal.decreases-loop-k
 decreases-loop-k l = l.n - l.k
-

@@ -1,8 +1,6 @@
 -- `places::united` meets its contract.
 use mathlib.Core.Path.{◌∙◌}
-use borrow.Author.Rules.{rules}
 use Rattle.image.proofs.Stepping.{step}
-use Rattle.image.proofs.Along.{within, whole}
 use Rattle.check_types.proofs.ByPlacing.{united_none, united_rest}
 use Rattle.check_types.proofs.places.united.Goals as goal
 
@@ -21,4 +19,3 @@ returns c =
     λ f h. let y = c.plan_at-first.ensures f h in
     let w = step y.forest y.linked c.if-first-eq0.false c.from_record.ensures c.look-v.ensures in
     c.as_first.ensures w.after f w.next h ∙ united_rest y w
-

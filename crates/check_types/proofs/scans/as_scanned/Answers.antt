@@ -1,15 +1,10 @@
-use mathlib.Core.Path.{◌≡◌, sym, ap, ◌∙◌}
-use mathlib.Core.Bool.{false}
+use mathlib.Core.Path.{sym, ap, ◌∙◌}
 use mathlib.Core.List.{[]}
-use Prim.Native.Nat.{ℕ, ◌+◌, ◌-◌, ◌*◌, ◌≤◌, ◌<◌}
 use native.Mathlib.Omega.{arith}
-use lib.ListN.{length, length-drop}
-use borrow.Author.Rules.{rules}
 use Rattle.acceptance.specs.Types.{same_types}
 use Rattle.check_fields.specs.Fields.{made}
 use Rattle.check_fields.specs.Rules.{types_in}
-use Rattle.check_types.proofs.ByPlacing.{one_more}
-use Rattle.check_types.proofs.Scanning.{scans_at, none_scans, lowest_scan, lowest_linked, scan_test, filled_size, no_fields}
+use Rattle.check_types.proofs.Scanning.{none_scans, lowest_scan, lowest_linked, scan_test, filled_size, no_fields}
 use Rattle.check_types.proofs.scans.as_scanned.Goals as goal
 
 pub same_fields-requires : goal.same_fields-requires
@@ -56,4 +51,3 @@ returns c =
     (sym (none_scans c.args.table _ u h
     (λ i l. c.loop-at.invariant.2 i
     (omega (arith, filled_size c.requires.0 u h, c.loop-at.invariant.1)))))
-

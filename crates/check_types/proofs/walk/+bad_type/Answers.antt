@@ -1,12 +1,7 @@
 use mathlib.Core.Path.{sym, ◌∙◌}
 use native.Mathlib.Omega.{arith}
-use lib.ListN.{length-drop}
-use Prim.Native.Nat.{ℕ, ◌<◌}
-use Rattle.image.proofs.Walking.{turn, ended}
-use Rattle.image.specs.Places.{left}
+use Rattle.image.proofs.Walking.{ended}
 use Rattle.image.proofs.Stepping.{step}
-use borrow.Author.Rules.{rules}
-use borrow.Author.Tests.{not-true, not-false}
 use Rattle.image.specs.Lowest.{alone}
 use Rattle.check_fields.specs.Rules.{type_ok, hand}
 use Rattle.check_fields.specs.Scopes.{scope_of}
@@ -211,4 +206,3 @@ returns-in-Nowhere-under t c =
     c.if-not-type_ok-2.false
     (sym c.in-Nowhere-under.is ∙ c.bad_type-under.ensures w.below w.below u w.first w.first
     z)
-

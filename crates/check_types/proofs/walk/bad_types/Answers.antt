@@ -1,7 +1,4 @@
 use mathlib.Core.Path.{◌∙◌}
-use native.Mathlib.Omega.{arith}
-use borrow.Author.Rules.{rules}
-use borrow.Author.Tests.{not-true, not-false}
 use Rattle.check_types.proofs.Scanning.{looked}
 use Rattle.check_types.proofs.Turning.{root_bad, root_good}
 use Rattle.check_types.proofs.walk.bad_types.Goals as goal
@@ -33,4 +30,3 @@ returns c =
     λ t a. let k = looked a c.look-v.ensures in c.bad_type.ensures t.below t.below t k.first
     k.first a ∙ root_good k c.view_of-own.ensures
     (c.type_ok.ensures t t t.below a k.first a) c.if-not-type_ok.false
-

@@ -1,7 +1,4 @@
 use mathlib.Core.Path.{◌∙◌}
-use native.Mathlib.Omega.{arith}
-use borrow.Author.Rules.{rules}
-use borrow.Author.Tests.{not-true, not-false}
 use Rattle.check_types.proofs.Scanning.{looked}
 use Rattle.check_types.proofs.Ruling.{rule_not, rule_scan, rule_union, rule_rest}
 use Rattle.check_types.proofs.walk.type_ok.Goals as goal
@@ -56,4 +53,3 @@ returns c =
     c.demand_of-d.ensures
     (c.meets.ensures t.below e k.first g)
     c.if-not-meets.false c.if-v-eq-TABLE_SCAN.false c.if-v-eq-UNION.false
-

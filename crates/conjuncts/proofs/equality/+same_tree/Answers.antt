@@ -1,13 +1,9 @@
 use mathlib.Core.Path.{◌≡◌, sym, ◌∙◌}
 use mathlib.Core.Bool.{true, false}
-use Prim.Native.Nat.{ℕ, ◌<◌}
 use native.Mathlib.Omega.{arith}
 use lib.ListN.{length-drop}
-use borrow.Author.Tests.{not-true, not-false}
-use Rattle.image.specs.Tree.{Tree, Forest}
-use Rattle.image.proofs.Walking.{Chain, chain, round, again, done}
-use Rattle.image.specs.Places.{left}
-use Rattle.conjuncts.specs.Equality.{same, same_any}
+use Rattle.image.proofs.Walking.{chain, round, again, done}
+use Rattle.conjuncts.specs.Equality.{same}
 use Rattle.conjuncts.proofs.Equals.{for_both}
 use Rattle.conjuncts.proofs.equality.+same_tree.Invariants.{Q}
 use Rattle.conjuncts.proofs.equality.+same_tree.Goals as goal
@@ -92,4 +88,3 @@ returns t c =
     let d = done _ k c.loop-i-test.false in
     let w = round _ d c.if-j-eq0-2.false in
     for_both (λ t u. _ ≡ same t u) k.stands d.stands (sym w.so_far)
-

@@ -1,16 +1,10 @@
 -- `equality::same_tree` meets its contract. The measure is the depth. The loop's invariant: the trees are the same if the children that are
 -- left of both are.
-use mathlib.Core.Path.{◌≡◌, sym, ◌∙◌}
-use mathlib.Core.Bool.{true, false}
-use Prim.Native.Nat.{ℕ, ◌<◌}
-use native.Mathlib.Omega.{arith}
-use lib.ListN.{length-drop}
-use borrow.Author.Tests.{not-true, not-false}
+use mathlib.Core.Path.{◌≡◌}
 use Rattle.image.specs.Tree.{Tree, Forest}
-use Rattle.image.proofs.Walking.{Chain, chain, round, again, done}
+use Rattle.image.proofs.Walking.{Chain}
 use Rattle.image.specs.Places.{left}
 use Rattle.conjuncts.specs.Equality.{same, same_any}
-use Rattle.conjuncts.proofs.Equals.{for_both}
 use Rattle.conjuncts.proofs.equality.+same_tree.Given as goal
 
 abbrev pub Q : Tree → Forest → Tree → Forest → Type 0
@@ -24,4 +18,3 @@ invariant-loop-i l = Chain (λ t rest. Chain (Q t rest) l.room l.b l.of l.j) l.d
 
 abbrev pub decreases-loop-i : goal.decreases-loop-i
 decreases-loop-i l = left l.a l.base l.i
-

@@ -1,6 +1,5 @@
 -- `equality::is_false_item` meets its contract.
 use mathlib.Core.Path.{sym}
-use native.Mathlib.Omega.{arith}
 use Rattle.conjuncts.proofs.Equals.{same_self, false_label}
 use Rattle.conjuncts.proofs.equality.is_false_item.Goals as goal
 
@@ -12,4 +11,3 @@ pub returns : goal.returns
 returns c =
     λ e h. rw (c.word_at-2.ensures.0, c.word_at.ensures.0, c.record_at-part.ensures)
     (false_label (h.some c.if-n-eq-FALSE_ITEM.false))
-

@@ -1,8 +1,6 @@
 -- `equality::same_item` meets its contract.
 use mathlib.Core.Path.{◌∙◌}
-use borrow.Author.Rules.{rules}
 use Rattle.plan.specs.Trees.{expr_tree}
-use Rattle.conjuncts.proofs.Operands.{readable_of}
 use Rattle.conjuncts.proofs.Equals.{same_turned, same_exprs}
 use Rattle.conjuncts.proofs.equality.same_item.Goals as goal
 
@@ -16,4 +14,3 @@ returns c =
     let y = k.some c.if-m-eq-FALSE_ITEM.false in
     c.same_tree.ensures (expr_tree a) (expr_tree b) (rw c.record_at.ensures x.here)
     (rw c.record_at-2.ensures y.here) ∙ same_exprs a b x.fits y.fits
-

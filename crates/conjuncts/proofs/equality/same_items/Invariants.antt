@@ -1,15 +1,10 @@
 -- `equality::same_items` meets its contract. The loop's invariant: the lists are equal if what is left of them is.
-use mathlib.Core.Path.{◌≡◌, sym, ap, ◌∙◌}
+use mathlib.Core.Path.{◌≡◌}
 use mathlib.Core.List.{List}
 use Prim.Native.Nat.{◌-◌, ◌≤◌}
-use native.Mathlib.Omega.{arith}
-use lib.ListN.{length, get_or, drop}
+use lib.ListN.{drop}
 use Rattle.plan.specs.Syntax.{Expr}
-use Rattle.rewrite.proofs.Exprs.{same_e_eq}
-use Rattle.conjuncts.specs.Items.{FALSE, Lists}
-use Rattle.conjuncts.proofs.Equals.{eq_same}
-use Rattle.conjuncts.proofs.LeftDeeps.{no_yes, told, untold}
-use Rattle.conjuncts.proofs.Listed.{lists_at, lists_length, lists_room, same_next, at_end}
+use Rattle.conjuncts.specs.Items.{Lists}
 use Rattle.conjuncts.proofs.equality.same_items.Given as goal
 
 abbrev pub invariant-loop-i : goal.invariant-loop-i
@@ -17,4 +12,3 @@ invariant-loop-i l = (l.i ≤ l.n) × ((xs ys : List Expr) → Lists l.s l.a xs 
 
 abbrev pub decreases-loop-i : goal.decreases-loop-i
 decreases-loop-i l = l.n - l.i
-

@@ -10,4 +10,3 @@ returns-then-n-lt-MAX_LIST c =
 pub returns : goal.returns
 returns c =
     λ xs h. not_added c.args.c c.args.x xs h (search rules) c.if-n-lt-MAX_LIST.false
-

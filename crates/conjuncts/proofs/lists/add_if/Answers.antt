@@ -1,6 +1,5 @@
 -- `lists::add_if` meets its contract.
 use mathlib.Core.List.{append-nil}
-use borrow.Author.Rules.{rules}
 use Rattle.plan.specs.Lists.{put}
 use Rattle.conjuncts.proofs.Listed.{lists_add}
 use Rattle.conjuncts.proofs.lists.add_if.Goals as goal
@@ -14,4 +13,3 @@ pub returns : goal.returns
 unfolding put
 returns c =
     λ s es e h k. rw (c.if-yes.false, append-nil es) h
-

@@ -1,5 +1,4 @@
 use mathlib.Core.Path.{sym, ◌∙◌}
-use Prim.Native.Nat.{ℕ, ◌<◌}
 use native.Mathlib.Omega.{arith}
 use lib.ListN.{length-drop}
 use Rattle.conjuncts.proofs.Operands.{and_parts}
@@ -73,4 +72,3 @@ returns-then-is_and t c =
 pub returns : goal.returns
 returns t c =
     λ e h. alone h (sym c.is_and.ensures ∙ c.if-is_and.false)
-

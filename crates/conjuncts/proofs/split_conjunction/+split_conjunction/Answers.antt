@@ -1,6 +1,5 @@
 use mathlib.Core.Path.{sym, ◌∙◌}
 use mathlib.Core.List.{append_assoc}
-use Prim.Native.Nat.{ℕ, ◌<◌}
 use native.Mathlib.Omega.{arith}
 use lib.ListN.{length-drop}
 use Rattle.conjuncts.proofs.Operands.{and_parts, and_standing, not_and, item_of}
@@ -70,4 +69,3 @@ pub returns : goal.returns
 returns t c =
     λ s e es q h k. rw (not_and q h (sym c.is_and.ensures ∙ c.if-is_and.false))
     (lists_add _ k (item_of h c.requires.base_nonzero) c.add.ensures)
-

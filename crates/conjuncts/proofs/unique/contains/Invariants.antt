@@ -1,16 +1,11 @@
 -- `unique::contains` meets its contract. The loop's invariant: whether an equal one is listed is whether one is in the rest.
-use mathlib.Core.Path.{◌≡◌, refl, sym, ◌∙◌}
-use mathlib.Core.Bool.{true, false}
+use mathlib.Core.Path.{◌≡◌}
 use mathlib.Core.List.{List}
 use Prim.Native.Nat.{◌-◌, ◌≤◌}
-use native.Mathlib.Omega.{arith}
 use lib.ListN.{drop}
 use Rattle.plan.specs.Syntax.{Expr}
-use Rattle.plan.specs.Lists.{any}
-use Rattle.rewrite.specs.Utils.{same_e}
 use Rattle.conjuncts.specs.Items.{Item, Lists}
 use Rattle.conjuncts.specs.Onto.{is_in}
-use Rattle.conjuncts.proofs.Listed.{lists_at, lists_length, lists_room, any_next, at_end}
 use Rattle.conjuncts.proofs.unique.contains.Given as goal
 
 abbrev pub invariant-loop-i : goal.invariant-loop-i
@@ -18,4 +13,3 @@ invariant-loop-i l = (l.i ≤ l.n) × ((es : List Expr) (e : Expr) → Lists l.s
 
 abbrev pub decreases-loop-i : goal.decreases-loop-i
 decreases-loop-i l = l.n - l.i
-

@@ -15,4 +15,3 @@ pub returns : goal.returns
 returns c =
     λ xs ys h k. rw (← onto_unique xs ys)
     (c.unique_onto.ensures _ ys (c.unique_onto-once.ensures _ xs (lists_none c.empty.ensures) h) k)
-

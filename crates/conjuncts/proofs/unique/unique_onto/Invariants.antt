@@ -1,16 +1,11 @@
 -- `unique::unique_onto` meets its contract. The loop's invariant: what is listed, with the rest appended, is all.
-use mathlib.Core.Path.{◌≡◌, refl, sym, ◌∙◌}
-use mathlib.Core.Bool.{not}
-use mathlib.Core.List.{List, [], ◌++◌}
+use mathlib.Core.Path.{◌≡◌}
+use mathlib.Core.List.{List}
 use Prim.Native.Nat.{ℕ, ◌-◌, ◌≤◌}
-use native.Mathlib.Omega.{arith}
-use lib.ListN.{get_or, drop}
+use lib.ListN.{drop}
 use Rattle.plan.specs.Syntax.{Expr}
-use Rattle.plan.specs.Lists.{put}
-use Rattle.conjuncts.specs.Items.{Conjuncts, FALSE, Lists}
-use Rattle.conjuncts.specs.Onto.{is_in, onto}
-use Rattle.conjuncts.proofs.Listed.{lists_at, lists_length, lists_room, at_end}
-use Rattle.conjuncts.proofs.Onto.{onto_next, onto_end}
+use Rattle.conjuncts.specs.Items.{Conjuncts, Lists}
+use Rattle.conjuncts.specs.Onto.{onto}
 use Rattle.conjuncts.proofs.unique.unique_onto.Given as goal
 
 pub record Done (s : List ℕ) (r : Conjuncts) (fs es : List Expr) (i : ℕ) : Type 0 where
@@ -23,4 +18,3 @@ invariant-loop-i l = (l.i ≤ l.n) × ((fs es : List Expr) → Lists l.s l.initi
 
 abbrev pub decreases-loop-i : goal.decreases-loop-i
 decreases-loop-i l = l.n - l.i
-

@@ -1,13 +1,9 @@
 use mathlib.Core.Path.{◌≡◌, sym, ◌∙◌}
-use Prim.Native.Nat.{ℕ, ◌<◌}
 use native.Mathlib.Omega.{arith}
-use mathlib.Core.Bool.{Bool, true, false}
+use mathlib.Core.Bool.{true, false}
 use lib.ListN.{length-drop}
-use Rattle.image.specs.Tree.{Tree, Forest}
-use Rattle.image.proofs.Walking.{Chain, chain, round, again, done, for_all}
-use Rattle.image.specs.Places.{left}
-use Rattle.conjuncts.specs.Functions.{marked, fn_any, fn_in}
-use Rattle.conjuncts.proofs.volatility.+has_function.Invariants.{P}
+use Rattle.image.proofs.Walking.{chain, round, again, done, for_all}
+use Rattle.conjuncts.specs.Functions.{marked, fn_in}
 use Rattle.conjuncts.proofs.volatility.+has_function.Goals as goal
 
 pub loop-at-init : goal.loop-at-init
@@ -52,4 +48,3 @@ returns t c =
     let k = c.loop-at.invariant in
     for_all (λ t. _ ≡ fn_in (marked c.args.volatile) t) k.stands
     (sym (done _ k c.loop-at-test.false))
-

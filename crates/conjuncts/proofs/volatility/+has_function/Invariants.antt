@@ -1,12 +1,9 @@
 -- `volatility::has_function` meets its contract. The measure is the depth. The loop's invariant: whether the tree holds a function
 -- is whether the children that are left do.
-use mathlib.Core.Path.{◌≡◌, sym, ◌∙◌}
-use Prim.Native.Nat.{ℕ, ◌<◌}
-use native.Mathlib.Omega.{arith}
-use mathlib.Core.Bool.{Bool, true, false}
-use lib.ListN.{length-drop}
+use mathlib.Core.Path.{◌≡◌}
+use mathlib.Core.Bool.{Bool}
 use Rattle.image.specs.Tree.{Tree, Forest}
-use Rattle.image.proofs.Walking.{Chain, chain, round, again, done, for_all}
+use Rattle.image.proofs.Walking.{Chain}
 use Rattle.image.specs.Places.{left}
 use Rattle.conjuncts.specs.Functions.{marked, fn_any, fn_in}
 use Rattle.conjuncts.proofs.volatility.+has_function.Given as goal
@@ -22,4 +19,3 @@ invariant-loop-at l = Chain (P l.volatile) l.depth l.part l.base l.at
 
 abbrev pub decreases-loop-at : goal.decreases-loop-at
 decreases-loop-at l = left l.part l.base l.at
-

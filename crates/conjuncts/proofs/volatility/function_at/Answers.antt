@@ -1,11 +1,10 @@
 -- `volatility::function_at` meets its contract.
 use mathlib.Core.Path.{◌∙◌}
-use native.Mathlib.Omega.{arith}
 use lib.ListN.{get_or}
 use Rattle.plan.specs.Trees.{expr_tree}
 use Rattle.rewrite.specs.Utils.{any_fn}
 use Rattle.conjuncts.specs.Items.{FALSE}
-use Rattle.conjuncts.proofs.Listed.{lists_at, lists_room}
+use Rattle.conjuncts.proofs.Listed.{lists_at}
 use Rattle.conjuncts.proofs.Operands.{readable_of}
 use Rattle.conjuncts.proofs.FunctionsIn.{fn_tree}
 use Rattle.conjuncts.proofs.volatility.function_at.Goals as goal
@@ -32,4 +31,3 @@ returns c =
     λ es h. let w = (lists_at h c.requires.known.most _ _ c.requires.i_lt_len c.item_at-n.ensures).some c.if-n-eq-FALSE_ITEM.false in
     c.has_function.ensures (expr_tree (get_or es c.args.i FALSE))
     (rw c.record_at.ensures w.here) ∙ fn_tree _ _
-

@@ -2,7 +2,6 @@
 use mathlib.Core.Path.{◌∙◌}
 use Rattle.plan.specs.Trees.{expr_tree}
 use Rattle.rewrite.specs.Utils.{any_fn}
-use Rattle.conjuncts.proofs.Operands.{readable_of}
 use Rattle.conjuncts.proofs.FunctionsIn.{fn_tree}
 use Rattle.conjuncts.proofs.volatility.is_volatile.Goals as goal
 
@@ -16,4 +15,3 @@ unfolding any_fn
 returns c =
     λ e h. let w = h.some c.if-n-eq-FALSE_ITEM.false in
     c.has_function.ensures (expr_tree e) (rw c.record_at.ensures w.here) ∙ fn_tree _ _
-

@@ -9,8 +9,11 @@ use Rattle.evaluate.proofs.cells.cell_at.Goals as goal
 
 pub returns-then-types-i : goal.returns-then-types-i
 returns-then-types-i c =
-    let e = c.null_of.ensures in record { right = right_null e; is = valued_null e (none_there _ c.args.types.now _ c.if-types-i.true)
-          (lent_short _ _ _ _ (first c.if-types-i.true)) }
+    let e = c.null_of.ensures in record {
+      right = right_null e;
+      is = valued_null e (none_there _ c.args.types.now _ c.if-types-i.true)
+          (lent_short _ _ _ _ (first c.if-types-i.true));
+    }
 
 pub returns-then-values-i : goal.returns-then-values-i
 returns-then-values-i c =
@@ -22,17 +25,22 @@ returns-then-marks-i-eq-NULL c =
     let e = c.null_of-then-marks-i-eq-NULL.ensures in
     let h = long_by c.args.i
     (length c.args.values.now)
-    (length c.args.marks.now) c.if-values-i.false in record { right = right_null e; is = valued_null e (search rules) (marked_null _ _ _ c.if-marks-i-eq-NULL.true
-          ∙ sym (lent_at (pos 0) _ _ _ _ c.if-types-i.false h.0 h.1)) }
+    (length c.args.marks.now) c.if-values-i.false in record {
+      right = right_null e;
+      is = valued_null e (search rules) (marked_null _ _ _ c.if-marks-i-eq-NULL.true
+          ∙ sym (lent_at (pos 0) _ _ _ _ c.if-types-i.false h.0 h.1));
+    }
 
 pub returns : goal.returns
 returns c =
     let h = long_by c.args.i
     (length c.args.values.now)
     (length c.args.marks.now)
-    c.if-values-i.false in record { right = c.cell_of.ensures.right; is = record {
+    c.if-values-i.false in record {
+      right = c.cell_of.ensures.right;
+      is = record {
         type = c.cell_of.ensures.is.type ∙ search rules;
         value = c.cell_of.ensures.is.value ∙ held _ (search rules) (unmarked _ _ _ c.if-marks-i-eq-NULL.false ∙ sym
             (lent_at (pos 0) _ _ _ _ c.if-types-i.false h.0 h.1));
-      } }
-
+      };
+    }

@@ -15,4 +15,3 @@ pub returns : goal.returns
 unfolding cell
 returns c =
     record { right = rw (ne_eqb _ _ c.if-ty-eq-BOOLEAN.false); is = record { type = refl; value = rw (ne_eqb _ _ c.if-ty-eq-BOOLEAN.false) (search rules) } }
-

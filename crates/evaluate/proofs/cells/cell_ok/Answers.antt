@@ -25,4 +25,3 @@ pub returns : goal.returns
 unfolding ◌&◌ cell_ok
 returns c =
     rw (c.if-mark-ne-HELD.false, ne_eqb _ _ c.if-types-i-eq-BOOLEAN.false)
-

@@ -1,12 +1,9 @@
-use mathlib.Core.Path.{◌≡◌, refl, sym, ◌∙◌}
-use Prim.Native.Nat.{◌≤◌, ◌-◌}
+use mathlib.Core.Path.{◌≡◌, sym, ◌∙◌}
 use mathlib.Core.Bool.{Bool, true, false}
 use Rattle.plan.specs.Lists.{◌&◌}
 use native.Mathlib.Omega.{arith}
-use lib.ListN.{length, drop}
-use Rattle.rewrite.specs.RowTest.{row_ok}
 use Rattle.evaluate.proofs.TruthLaws.{never}
-use Rattle.evaluate.proofs.Rows.{row_short, same_lengths, row_step, row_end}
+use Rattle.evaluate.proofs.Rows.{row_short, row_step, row_end}
 use Rattle.evaluate.proofs.cells.row_ok.Goals as goal
 
 -- a cell that is none ends it; one that is leaves the rest
@@ -52,4 +49,3 @@ returns c =
     let i = c.loop-i.invariant in sym
     (row_end c.args.types.now c.args.values.now
     c.args.marks.now c.loop-i.i (omega arith) i.1 i.2) ∙ i.3
-

@@ -1,13 +1,8 @@
 -- `cells::row_ok` meets its contract.
-use mathlib.Core.Path.{◌≡◌, refl, sym, ◌∙◌}
+use mathlib.Core.Path.{◌≡◌}
 use Prim.Native.Nat.{◌≤◌, ◌-◌}
-use mathlib.Core.Bool.{Bool, true, false, not}
-use Rattle.plan.specs.Lists.{◌&◌}
-use native.Mathlib.Omega.{arith}
 use lib.ListN.{length, drop}
 use Rattle.rewrite.specs.RowTest.{row_ok}
-use Rattle.evaluate.proofs.TruthLaws.{never}
-use Rattle.evaluate.proofs.Rows.{row_short, same_lengths, row_step, row_end}
 use Rattle.evaluate.proofs.cells.row_ok.Given as goal
 
 abbrev pub invariant-loop-i : goal.invariant-loop-i
@@ -17,4 +12,3 @@ invariant-loop-i l =
 
 abbrev pub decreases-loop-i : goal.decreases-loop-i
 decreases-loop-i l = length l.types - l.i
-

@@ -25,4 +25,3 @@ returns c =
     (two_compared (cmp_of a.p) a.a.case a.b.case c.is_null.ensures
     c.kind_of.ensures c.kind_of-2.ensures
     c.if-is_null-kind_of.false c.code_of.ensures c.code_of-2.ensures)
-

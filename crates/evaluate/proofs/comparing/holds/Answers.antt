@@ -1,5 +1,4 @@
 -- `comparing::holds` meets its contract.
-use borrow.Author.Rules.{rules}
 use borrow.Author.Tests.{ne_eqb}
 use Rattle.evaluate.proofs.TruthLaws.{same_word}
 use Rattle.evaluate.proofs.comparing.holds.Goals as goal
@@ -20,4 +19,3 @@ returns c =
       same_word _ _
           c.ranges.a c.ranges.b,
     )
-

@@ -3,7 +3,6 @@ use mathlib.Core.Path.{◌∙◌}
 use Rattle.plan.specs.Read.{nth}
 use Rattle.meaning.proofs.Cases.{null_case}
 use Rattle.evaluate.proofs.TruthLaws.{and_is, other_test}
-use borrow.Author.Rules.{rules}
 use Rattle.evaluate.proofs.comparing.tested.Goals as goal
 
 pub returns-then-p-eq-IS_NOT_NULL : goal.returns-then-p-eq-IS_NOT_NULL
@@ -50,4 +49,3 @@ returns c =
           c.if-p-eq-IS_TRUE.false c.if-p-eq-IS_FALSE.false
           c.if-p-eq-IS_UNKNOWN.false c.if-p-eq-IS_NOT_TRUE.false c.if-p-eq-IS_NOT_FALSE.false c.if-p-eq-IS_NOT_UNKNOWN.false,
     )
-

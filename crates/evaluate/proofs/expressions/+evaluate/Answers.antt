@@ -1,18 +1,17 @@
 use native.Mathlib.Omega.{arith}
-use borrow.Author.Rules.{rules}
 use mathlib.Core.Path.{sym, ◌∙◌}
-use lib.ListN.{length-drop}
-use Rattle.image.proofs.Walking.{Chain, chain, round, again, done, only}
-use Rattle.image.specs.Places.{left}
+use Rattle.image.proofs.Walking.{chain, round, again, done, only}
 use Rattle.plan.proofs.Rights.{right_literal}
-use Rattle.evaluate.proofs.Folding.{Done, seen_none, seen_next, seen_all, tree_column, tree_literal, tree_operator}
-use Prim.Native.Nat.{ℕ, ◌<◌}
+use Rattle.evaluate.proofs.Folding.{seen_none, seen_next, seen_all, tree_column, tree_literal, tree_operator}
 use Rattle.evaluate.proofs.expressions.+evaluate.Goals as goal
 
 pub returns-then-l-eq-COLUMN : goal.returns-then-l-eq-COLUMN
 returns-then-l-eq-COLUMN t c =
-    record { right = c.column.ensures.right; is = λ t ns h n le. tree_column _ _ t (c.label_at-l.ensures.0 ∙ h.head.label) _ c.if-l-eq-COLUMN.true
-          (c.column.ensures.is ns n le) }
+    record {
+      right = c.column.ensures.right;
+      is = λ t ns h n le. tree_column _ _ t (c.label_at-l.ensures.0 ∙ h.head.label) _ c.if-l-eq-COLUMN.true
+          (c.column.ensures.is ns n le);
+    }
 
 pub returns-in-Of : goal.returns-in-Of
 returns-in-Of t c =
@@ -52,11 +51,13 @@ loop-at-preserved t c =
 
 pub returns : goal.returns
 returns t c =
-    record { right = c.operate.ensures.right; is = λ t ns h n le. let k = c.loop-at.invariant in
+    record {
+      right = c.operate.ensures.right;
+      is = λ t ns h n le. let k = c.loop-at.invariant in
           let e = (done _ k c.loop-at-test.false).1 ns n le in rw (← only k.stands h)
           (tree_operator _ _ k.tree
           (c.label_at-l.ensures.0 ∙ k.stands.head.label) _
           c.if-l-eq-COLUMN.false
           (sym c.literal_of-literal.ensures ∙
-          c.in_default.is) (c.operate.ensures.is _ (seen_all e))) }
-
+          c.in_default.is) (c.operate.ensures.is _ (seen_all e)));
+    }

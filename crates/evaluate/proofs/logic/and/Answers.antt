@@ -1,7 +1,6 @@
 -- `logic::and` meets its contract.
 use Rattle.plan.specs.Lists.{◌&◌}
 use Rattle.evaluate.proofs.TruthLaws.{as_truth}
-use borrow.Author.Rules.{rules}
 use Rattle.evaluate.proofs.logic.and.Goals as goal
 
 pub returns-in-False : goal.returns-in-False
@@ -28,4 +27,3 @@ pub returns-in-Unknown-b : goal.returns-in-Unknown-b
 unfolding ◌&◌
 returns-in-Unknown-b c =
     rw (c.in-Unknown.is, c.in-Unknown-b.is)
-

@@ -2,7 +2,6 @@
 use mathlib.Core.Path.{◌∙◌}
 use Rattle.plan.specs.Values.{case_of}
 use Rattle.evaluate.proofs.Seeing.{as_or, as_and, as_cmp}
-use borrow.Author.Rules.{rules}
 use Rattle.evaluate.proofs.operands.binary.Goals as goal
 
 pub returns-then-p-eq-OR : goal.returns-then-p-eq-OR
@@ -21,4 +20,3 @@ returns c =
     c.and.ensures ∙ as_and _ (case_of c.args.a.case)
     (case_of c.args.b.case) c.truth_of-2.ensures c.truth_of-3.ensures
     c.if-p-eq-OR.false c.if-p.false
-

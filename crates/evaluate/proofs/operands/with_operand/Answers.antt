@@ -1,5 +1,4 @@
 -- `operands::with_operand` meets its contract.
-use borrow.Author.Rules.{rules}
 use Rattle.evaluate.proofs.Seeing.{seen_first, seen_second, seen_third, seen_more}
 use Rattle.evaluate.proofs.operands.with_operand.Goals as goal
 
@@ -13,11 +12,16 @@ returns-then-count-eq1 c =
 
 pub returns-then-count-eq2 : goal.returns-then-count-eq2
 returns-then-count-eq2 c =
-    record { right = record { first = c.requires.0.first; second = c.requires.0.second; third = c.requires.1 }; is = λ vs h. seen_third c.args.v c.equals.ensures c.is_null.ensures vs h
-          c.if-count-eq2.true }
+    record {
+      right = record { first = c.requires.0.first; second = c.requires.0.second; third = c.requires.1 };
+      is = λ vs h. seen_third c.args.v c.equals.ensures c.is_null.ensures vs h
+          c.if-count-eq2.true;
+    }
 
 pub returns : goal.returns
 returns c =
-    record { right = record { first = c.requires.0.first; second = c.requires.0.second; third = c.requires.0.third }; is = λ vs h. seen_more c.args.v c.equals.ensures c.is_null.ensures vs h
-          c.if-count-eq0.false c.if-count-eq1.false c.if-count-eq2.false }
-
+    record {
+      right = record { first = c.requires.0.first; second = c.requires.0.second; third = c.requires.0.third };
+      is = λ vs h. seen_more c.args.v c.equals.ensures c.is_null.ensures vs h
+          c.if-count-eq0.false c.if-count-eq1.false c.if-count-eq2.false;
+    }

@@ -1,10 +1,7 @@
-use mathlib.Core.Path.{sym, ◌∙◌}
-use Prim.Native.Nat.{ℕ, ◌+◌, ◌<◌}
 use native.Mathlib.Omega.{arith}
 use lib.ListN.{length-drop}
-use Rattle.image.proofs.Walking.{Chain, chain, round, again, done, for_all}
-use Rattle.image.specs.Places.{left}
-use Rattle.image.proofs.Room.{Left, put_start, left_next, left_end, wrote_past}
+use Rattle.image.proofs.Walking.{chain, round, again, done, for_all}
+use Rattle.image.proofs.Room.{put_start, left_next, left_end, wrote_past}
 use Rattle.image.proofs.copying.+copy_tree.Goals as goal
 
 pub returns-then-at-ge-MAX_RECORDS : goal.returns-then-at-ge-MAX_RECORDS
@@ -47,4 +44,3 @@ returns t c =
     let long = c.requires.out_len in
     let put = c.put_label-to.ensures in
     for_all _ k.stands (rw (← k.stands.head.label) (left_end long put (done _ k c.loop-from-test.false)))
-

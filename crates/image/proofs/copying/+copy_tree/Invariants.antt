@@ -1,12 +1,9 @@
 -- `copying::copy_tree` meets its contract. The measure is the depth.
 -- The loop's invariant: what is left of the children completes the output.
-use mathlib.Core.Path.{sym, ◌∙◌}
-use Prim.Native.Nat.{ℕ, ◌+◌, ◌<◌}
-use native.Mathlib.Omega.{arith}
-use lib.ListN.{length-drop}
-use Rattle.image.proofs.Walking.{Chain, chain, round, again, done, for_all}
+use Prim.Native.Nat.{◌+◌}
+use Rattle.image.proofs.Walking.{Chain}
 use Rattle.image.specs.Places.{left}
-use Rattle.image.proofs.Room.{Left, put_start, left_next, left_end, wrote_past}
+use Rattle.image.proofs.Room.{Left}
 use Rattle.image.proofs.copying.+copy_tree.Given as goal
 
 abbrev pub decreases-copy_tree : goal.decreases-copy_tree
@@ -18,4 +15,3 @@ invariant-loop-from l =
 
 abbrev pub decreases-loop-from : goal.decreases-loop-from
 decreases-loop-from l = left l.s l.base l.from
-

@@ -1,5 +1,4 @@
 -- `copying::put` meets its contract: a record is written where there is room, and past the end a store does nothing.
-use borrow.Author.Rules.{rules}
 use mathlib.Core.Path.{sym}
 use Prim.Native.Nat.{◌+◌, ◌*◌, ◌≤◌}
 use lib.ListN.{length}
@@ -19,4 +18,3 @@ returns c =
     let a = c.args in
     let h : length a.out.now ≤ 32 * a.at = omega arith in
     record { next = sym (cap_over (a.at + 1) (omega arith)); bytes = rw sets_past }
-

@@ -1,11 +1,9 @@
 use native.Mathlib.Omega.{arith}
 use lib.ListN.{length-drop}
 use Rattle.image.proofs.Walking.{turn}
-use Rattle.image.specs.Places.{left}
 use Rattle.image.proofs.Stepping.{step}
-use Rattle.image.proofs.Along.{within, whole, step_at}
-use Rattle.image.proofs.Ending.{ends_beside, ends_below, ends_here}
-use Prim.Native.Nat.{ℕ, ◌<◌}
+use Rattle.image.proofs.Along.{step_at}
+use Rattle.image.proofs.Ending.{ends_beside, ends_below}
 use Rattle.image.proofs.ends.+trees_end.Goals as goal
 
 pub trees_end-requires : goal.trees_end-requires
@@ -35,4 +33,3 @@ returns-then-v-ne0-2 t c =
     λ f h. let w = step f h c.requires.fact.0 c.from_record-part.ensures
     c.look-v.ensures in
     ends_below w c.if-v-ne0.false c.if-v-ne0-2.true (c.trees_end-then-v-ne0-2.ensures w.below w.first)
-

@@ -1,7 +1,6 @@
 -- `ends::tree_end` meets its contract.
-use native.Mathlib.Omega.{arith}
 use Rattle.image.proofs.Walking.{linked_first}
-use Rattle.image.proofs.Ending.{leaf_ends, tree_ends}
+use Rattle.image.proofs.Ending.{tree_ends}
 use Rattle.image.proofs.ends.tree_end.Goals as goal
 
 pub trees_end-requires : goal.trees_end-requires
@@ -12,4 +11,3 @@ pub returns : goal.returns
 returns c =
     λ t h. let e = c.word_at-first.ensures.0 in
     tree_ends h e c.if-first-eq0.false (c.trees_end.ensures t.below (rw e (linked_first _ _ _ h)))
-

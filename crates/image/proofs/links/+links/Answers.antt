@@ -1,6 +1,4 @@
-use Prim.Native.Nat.{ℕ, ◌-◌, ◌<◌}
 use native.Mathlib.Omega.{arith}
-use borrow.Author.Rules.{rules}
 use Rattle.image.proofs.Reading.{p_none, p_off, p_end, next_within, says_bad, says_next}
 use Rattle.image.proofs.links.+links.Goals as goal
 
@@ -40,4 +38,3 @@ returns-in-Next t c =
     (rw (← c.word_at.ensures.0) c.links-below.ensures)
     c.in-Next.is
     (rw (← c.word_at-in-Next.ensures.0) c.links.ensures)
-

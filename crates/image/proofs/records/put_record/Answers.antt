@@ -1,6 +1,5 @@
 -- `records::put_record` meets its contract: two runs of four words.
 use native.Mathlib.Nat.{add_assoc}
-use borrow.Author.Rules.{rules}
 use Rattle.image.specs.Flat.{bytes_of}
 use Rattle.image.proofs.Writing.{sets_append, le_length}
 use Rattle.image.proofs.records.put_record.Goals as goal
@@ -10,4 +9,3 @@ unfolding bytes_of
 returns c =
     rw (c.put_four-2.ensures, c.put_four.ensures)
     (simp (sets_append, le_length, add_assoc))
-

@@ -1,13 +1,5 @@
-use mathlib.Core.Path.{◌≡◌, refl, sym, ◌∙◌}
-use mathlib.Core.List.{List, ◌++◌}
-use Prim.Native.Nat.{ℕ}
-use native.Mathlib.Omega.{arith}
-use lib.ListN.{length}
-use Rattle.image.specs.Limits.{max_below}
-use Rattle.image.specs.Tree.{Tree, Deep}
-use Rattle.image.specs.Flat.{size_t, flat}
-use Rattle.image.specs.Records.{recs}
-use Rattle.image.proofs.Relinking.{Back, back_start, back_long, back_turn, back_end}
+use mathlib.Core.Path.{refl, ◌∙◌}
+use Rattle.image.proofs.Relinking.{back_start, back_turn, back_end}
 use Rattle.image.proofs.relink.relink.Goals as goal
 
 pub loop-i-init : goal.loop-i-init
@@ -23,8 +15,7 @@ link_one-requires c =
 
 pub loop-i-preserved : goal.loop-i-preserved
 loop-i-preserved c =
-    let k = c.loop-i.invariant in
-    (
+    let k = c.loop-i.invariant in (
       c.link_one.auto.out ∙ k.0,
       λ t rest deep e f. let u = back_turn t c.loop-i-test.true deep (k.1 t rest deep e f) in
           u.again _ _ c.link_one.ensures.out_after c.link_one.ensures.table_after,
@@ -33,4 +24,3 @@ loop-i-preserved c =
 pub returns : goal.returns
 returns c =
     λ t rest deep e f. back_end t c.loop-i-test.false deep (c.loop-i.invariant.1 t rest deep e f)
-

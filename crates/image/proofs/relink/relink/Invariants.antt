@@ -1,14 +1,13 @@
 -- `relink::relink` meets its contract. The loop's invariant: of any tree that was there, the records from i on are turned.
-use mathlib.Core.Path.{◌≡◌, refl, sym, ◌∙◌}
+use mathlib.Core.Path.{◌≡◌}
 use mathlib.Core.List.{List, ◌++◌}
 use Prim.Native.Nat.{ℕ}
-use native.Mathlib.Omega.{arith}
 use lib.ListN.{length}
 use Rattle.image.specs.Limits.{max_below}
 use Rattle.image.specs.Tree.{Tree, Deep}
 use Rattle.image.specs.Flat.{size_t, flat}
 use Rattle.image.specs.Records.{recs}
-use Rattle.image.proofs.Relinking.{Back, back_start, back_long, back_turn, back_end}
+use Rattle.image.proofs.Relinking.{Back}
 use Rattle.image.proofs.relink.relink.Given as goal
 
 abbrev pub invariant-loop-i : goal.invariant-loop-i
@@ -18,4 +17,3 @@ invariant-loop-i l =
 
 abbrev pub decreases-loop-i : goal.decreases-loop-i
 decreases-loop-i l = l.i
-

@@ -1,6 +1,5 @@
 -- `words::put_four` meets its contract: four runs of stores, each from where the last ended.
 use native.Mathlib.Nat.{add_assoc}
-use borrow.Author.Rules.{rules}
 use Rattle.image.proofs.Writing.{sets_append, le_length}
 use Rattle.image.proofs.words.put_four.Goals as goal
 
@@ -12,4 +11,3 @@ returns c =
       c.put_word-2.ensures,
       c.put_word.ensures,
     ) (simp (sets_append, le_length, add_assoc))
-

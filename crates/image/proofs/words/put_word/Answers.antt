@@ -1,8 +1,5 @@
 -- `words::put_word` meets its contract: four stores are one run.
-use borrow.Author.Rules.{rules}
-use native.Mathlib.Omega.{arith}
 use native.Mathlib.Numerals.{add-one, add-two, add-three}
-use lib.ListN.{length-set}
 use Rattle.image.specs.Word.{le}
 use Rattle.image.proofs.words.put_word.Goals as goal
 
@@ -10,4 +7,3 @@ pub returns : goal.returns
 unfolding le
 returns c =
     simp (add-one, add-two, add-three)
-

@@ -7,4 +7,3 @@ pub returns : goal.returns
 unfolding word
 returns c =
     search rules
-

@@ -1,11 +1,5 @@
-use mathlib.Core.Path.{◌≡◌, refl, ◌∙◌}
-use Prim.Native.Nat.{◌-◌}
+use mathlib.Core.Path.{◌∙◌}
 use native.Mathlib.Omega.{arith}
-use lib.ListN.{length-drop}
-use borrow.Author.Rules.{rules}
-use Rattle.plan.specs.Syntax.{Plan}
-use Rattle.acceptance.specs.Accepted.{Accepted}
-use Rattle.rewrite.specs.PassByRecords.{plan_from}
 use Rattle.pass.proofs.Steps.{records_are, passes_by, stops_here, searched, no_more}
 use Rattle.pass.proofs.visits.next_plan.Goals as goal
 
@@ -24,4 +18,3 @@ loop-i-preserved c =
 pub returns : goal.returns
 returns c =
     λ q a. searched (c.loop-i.invariant q a) (no_more q (omega (arith, records_are a, c.loop-i-test.false)) (records_are a))
-

@@ -1,7 +1,6 @@
 -- `visits::visit` meets its contract.
 use native.Mathlib.Omega.{arith}
 use lib.ListN.{length-take}
-use borrow.Author.Rules.{rules}
 use Rattle.pass.proofs.Steps.{came_to, found_next, room_there, unwritten}
 use Rattle.pass.proofs.visits.visit.Goals as goal
 
@@ -34,4 +33,3 @@ returns c =
       λ q h. t.1 q (came_to h c.requires.next_lt_records.0 c.requires.next_lt_records.1 c.rewrite-r.ensures.outcomes),
       λ q f h e a. t.2 (unwritten h c.rewrite-r.ensures.changes e a),
     )
-

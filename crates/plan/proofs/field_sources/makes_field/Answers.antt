@@ -23,4 +23,3 @@ pub returns : goal.returns
 unfolding what_of among
 returns c =
     makes_last _ c.if-kind-eq-FIELD.false c.if-kind-eq-ENTRY.false c.if-kind-eq-AGGREGATE_ENTRY.false
-

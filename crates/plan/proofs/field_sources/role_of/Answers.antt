@@ -1,7 +1,6 @@
 -- `field_sources::role_of` meets its contract.
 use mathlib.Core.Path.{refl, sym, ◌∙◌}
-use borrow.Author.Rules.{rules}
-use mathlib.Core.Bool.{true, false}
+use mathlib.Core.Bool.{true}
 use Rattle.plan.specs.Kinds.{what_of, among}
 use Rattle.plan.proofs.FieldSources.{role_last}
 use Rattle.plan.proofs.field_sources.role_of.Goals as goal
@@ -42,4 +41,3 @@ returns-then-is_plan c =
     role_last _ c.if-kind-eq-TABLE_SCAN.false c.if-kind-eq-PROJECTION.false
     c.if-kind-eq-AGGREGATE.false c.if-kind-eq-JOIN.false c.if-kind-eq-SUBQUERY_ALIAS.false
     c.if-kind-eq-WINDOW.false true (sym c.is_plan.ensures ∙ c.if-is_plan.true)
-

@@ -1,12 +1,7 @@
-use mathlib.Core.Path.{refl, ap, ◌∙◌}
-use native.Mathlib.Omega.{arith}
-use borrow.Author.Rules.{rules}
-use Prim.Native.Nat.{ℕ}
-use Rattle.image.specs.Places.{left}
-use Rattle.image.proofs.Along.{Along, within, whole, along_start, along_step, along_end, here, here_in}
+use mathlib.Core.Path.{ap, ◌∙◌}
+use Rattle.image.proofs.Along.{along_step, along_end}
 use lib.ListN.{drop}
-use Rattle.plan.specs.Inputs.{plans_in}
-use Rattle.plan.proofs.Inputting.{Plans, plan_none, skip_part, skip_plan, begins}
+use Rattle.plan.proofs.Inputting.{plan_none, skip_part, skip_plan}
 use Rattle.plan.proofs.inputs.plan_at.Goals as goal
 
 pub loop-here-preserved-else-left-eq0 : goal.loop-here-preserved-else-left-eq0
@@ -24,4 +19,3 @@ loop-here-preserved c =
 pub returns : goal.returns
 returns c =
     λ f h. plan_none _ c.loop-here.left (along_end c.loop-here.invariant c.loop-here-test.false f h)
-

@@ -5,4 +5,3 @@ use Rattle.plan.proofs.kinds.is_expression.Goals as goal
 pub returns : goal.returns
 returns c =
     sym (expr_kind _)
-

@@ -5,4 +5,3 @@ use Rattle.plan.proofs.kinds.is_part.Goals as goal
 pub returns : goal.returns
 returns c =
     sym (part_kind _)
-

@@ -5,4 +5,3 @@ use Rattle.plan.proofs.kinds.is_plan.Goals as goal
 pub returns : goal.returns
 returns c =
     sym (plan_kind _)
-

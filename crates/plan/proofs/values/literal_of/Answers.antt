@@ -18,14 +18,13 @@ pub returns-then-kind-eq-NULL_LITERAL : goal.returns-then-kind-eq-NULL_LITERAL
 unfolding literal_of
 returns-then-kind-eq-NULL_LITERAL c =
     rw (
-  c.null_of.ensures,
-  ne_eqb _ _ c.if-kind-eq-INTEGER_LITERAL.false,
-  ne_eqb _ _ c.if-kind-eq-BOOLEAN_LITERAL.false,
-  eq-eqb _ _ c.if-kind-eq-NULL_LITERAL.true,
-) (search rules)
+      c.null_of.ensures,
+      ne_eqb _ _ c.if-kind-eq-INTEGER_LITERAL.false,
+      ne_eqb _ _ c.if-kind-eq-BOOLEAN_LITERAL.false,
+      eq-eqb _ _ c.if-kind-eq-NULL_LITERAL.true,
+    ) (search rules)
 
 pub returns : goal.returns
 unfolding literal_of
 returns c =
     rw (ne_eqb _ _ c.if-kind-eq-INTEGER_LITERAL.false, ne_eqb _ _ c.if-kind-eq-BOOLEAN_LITERAL.false, ne_eqb _ _ c.if-kind-eq-NULL_LITERAL.false) (search rules)
-

@@ -8,7 +8,6 @@ use mir.Syntax.{w64}
 use mir.Val.{to_z, of_z, SFits}
 use mir.ValLaws.{to_z-of_z}
 use borrow.Author.Tests.{lt-ltb, le-ltb}
-use borrow.Author.Rules.{rules}
 use Rattle.plan.specs.Read.{signed}
 use Rattle.plan.proofs.values.signed.Goals as goal
 
@@ -38,4 +37,3 @@ returns-then-hi-lt2147483648 c =
 pub returns : goal.returns
 returns c =
     low _ _ c.requires.0 c.if-hi-lt2147483648.false
-

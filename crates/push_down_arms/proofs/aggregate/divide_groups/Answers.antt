@@ -1,5 +1,4 @@
 use mathlib.Core.Path.{refl, sym, ◌∙◌}
-use borrow.Author.Rules.{rules}
 use Rattle.image.specs.Limits.{max_depth}
 use Rattle.plan.specs.Syntax.{aggregate}
 use Rattle.plan.specs.Trees.{plan_tree}
@@ -22,4 +21,3 @@ returns c =
     λ e gs ags q h. let i = c.has_groups.ensures (plan_tree (aggregate gs ags q))
     (rw c.requires.stretch h.placed.standing.here) in
     divides_none gs ags q h.shaped (sym i ∙ c.if-has_groups.false) refl c.empty.ensures
-

@@ -1,10 +1,8 @@
 use mathlib.Core.Path.{◌≡◌, refl, sym, ◌∙◌}
 use mathlib.Core.Bool.{true, false}
 use native.Mathlib.Omega.{arith}
-use borrow.Author.Tests.{not-true, not-false}
 use lib.ListN.{length-drop}
-use Rattle.image.proofs.Walking.{Chain, chain, round, again, done, for_all}
-use Rattle.image.specs.Places.{left}
+use Rattle.image.proofs.Walking.{chain, round, again, done, for_all}
 use Rattle.plan.specs.Syntax.{nm}
 use Rattle.push_down_arms.specs.Movable.{lets, lets_all}
 use Rattle.push_down_arms.proofs.Moves.{lets_stop, lets_step}
@@ -62,4 +60,3 @@ returns c =
     let k = c.loop-at.invariant in
     let g = c.args in
     for_all (λ t. true ≡ lets_all (nm g.q g.n) t.below) k.stands (sym (done _ k c.loop-at-test.false))
-

@@ -1,10 +1,8 @@
 use mathlib.Core.Path.{◌≡◌, sym, ◌∙◌}
 use mathlib.Core.Bool.{true, false}
-use Prim.Native.Nat.{ℕ}
 use native.Mathlib.Omega.{arith}
 use lib.ListN.{length-drop}
-use Rattle.image.proofs.Walking.{Chain, round, again, done, for_all}
-use Rattle.image.specs.Places.{left}
+use Rattle.image.proofs.Walking.{round, again, done, for_all}
 use Rattle.plan.specs.Syntax.{nm}
 use Rattle.push_down_arms.specs.Movable.{is_named, named_in, partition_in}
 use Rattle.push_down_base.proofs.FirstChild.{first_turn, none_below}
@@ -66,4 +64,3 @@ pub returns : goal.returns
 unfolding partition_in named_in
 returns c =
     let k = c.loop-at.invariant.1 in for_all (λ t. false ≡ partition_in (nm c.args.q c.args.n) t.below) k.stands (sym (done _ k c.loop-at-test.false))
-

@@ -1,9 +1,8 @@
 use mathlib.Core.Path.{ap}
 use native.Mathlib.Omega.{arith}
-use borrow.Author.Rules.{rules}
 use lib.ListN.{length-drop}
 use Rattle.push_down_arms.specs.Movable.{leaf_first}
-use Rattle.push_down_base.proofs.FirstChild.{first_turn, none_below}
+use Rattle.push_down_base.proofs.FirstChild.{first_turn}
 use Rattle.push_down_arms.proofs.contain.is_fixed.Goals as goal
 
 pub from_record-requires : goal.from_record-requires
@@ -27,4 +26,3 @@ returns c =
       ← u.here.head.label,
       ← c.from_record.ensures,
     ) c.is_leafward.ensures
-

@@ -1,6 +1,5 @@
 use mathlib.Core.Path.{◌≡◌, sym, ap, ◌∙◌}
 use mathlib.Core.Bool.{true, false, not}
-use borrow.Author.Rules.{rules}
 use Rattle.plan.specs.Syntax.{nm}
 use Rattle.writing.specs.Replaced.{is_entry}
 use Rattle.push_down_base.proofs.FirstChild.{kind_at}
@@ -27,4 +26,3 @@ returns c =
     let e : is_entry t.label g.q g.n ≡ false = ap (λ l. is_entry l g.q g.n) (sym h.head.label)
     ∙ (sym c.is_entry.ensures ∙ c.if-is_entry.false) in
     sym (lets_other (nm g.q g.n) t (λ z. c.if-word_at-eq-WINDOW_ENTRY.false (k ∙ z)) false e)
-

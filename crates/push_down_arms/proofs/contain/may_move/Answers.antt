@@ -1,5 +1,4 @@
 use mathlib.Core.Path.{sym, ◌∙◌}
-use borrow.Author.Rules.{rules}
 use Rattle.push_down_base.proofs.FirstChild.{kind_at}
 use Rattle.push_down_arms.proofs.Moves.{move_group, move_other, some_linked}
 use Rattle.push_down_arms.proofs.contain.may_move.Goals as goal
@@ -13,4 +12,3 @@ pub returns : goal.returns
 returns c =
     λ t h. c.all_let_pass.ensures t h
     ∙ sym (move_other _ t (λ z. c.if-word_at-eq-AGGREGATE.false (kind_at h c.word_at.ensures.0 ∙ z)))
-

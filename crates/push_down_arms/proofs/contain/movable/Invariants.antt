@@ -1,16 +1,12 @@
 -- `contain::movable` meets its contract. The loop's invariant: the set is that of the fields passed.
-use mathlib.Core.Path.{◌≡◌, ap, ◌∙◌}
 use mathlib.Core.List.{List}
-use Prim.Native.Nat.{◌-◌, ◌≤◌, ◌<◌}
-use native.Mathlib.Omega.{arith}
-use lib.ListN.{length, take}
+use Prim.Native.Nat.{◌-◌, ◌≤◌}
+use lib.ListN.{take}
 use Rattle.image.specs.Tree.{Tree, At}
-use Rattle.plan.specs.Syntax.{Name, nm}
+use Rattle.plan.specs.Syntax.{Name}
 use Rattle.utils.specs.Fields.{Names}
-use Rattle.utils.specs.Masks.{name_at, Masks}
-use Rattle.utils.proofs.Named.{names_count}
+use Rattle.utils.specs.Masks.{Masks}
 use Rattle.push_down_arms.specs.Movable.{may_move}
-use Rattle.push_down_base.proofs.Masking.{masks_start, masks_step, masks_end}
 use Rattle.push_down_arms.proofs.contain.movable.Given as goal
 
 abbrev pub invariant-loop-i : goal.invariant-loop-i
@@ -19,4 +15,3 @@ invariant-loop-i l =
 
 abbrev pub decreases-loop-i : goal.decreases-loop-i
 decreases-loop-i l = l.len - l.i
-

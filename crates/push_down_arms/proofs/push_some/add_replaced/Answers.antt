@@ -1,10 +1,8 @@
-use native.Mathlib.Omega.{arith}
-use borrow.Author.Rules.{rules}
 use Rattle.image.specs.Limits.{max_depth}
 use Rattle.rewrite.specs.Utils.{replace_cols, split_conjunction}
 use Rattle.writing.specs.Maps.{map_of}
 use Rattle.writing.proofs.Pushing.{plan_readable}
-use Rattle.push_down_arms.proofs.Counting.{false_parts, value_leads, value_single, value_standing, value_past, counts_one, counts_more}
+use Rattle.push_down_arms.proofs.Counting.{false_parts, value_leads, value_single, value_standing, counts_one, counts_more}
 use Rattle.push_down_arms.proofs.push_some.add_replaced.Goals as goal
 
 pub returns-then-n-eq0 : goal.returns-then-n-eq0
@@ -37,4 +35,3 @@ returns c =
     c.value_for-value.ensures in
     let v = value_standing e p h l c.requires.s_len_bound w.fits c.if-value-eq0.false in
     counts_more (split_conjunction (replace_cols (map_of p) e)) m (c.split_at.ensures (replace_cols (map_of p) e) m.exprs v m.lists)
-

@@ -1,14 +1,11 @@
 use mathlib.Core.List.{[]}
-use borrow.Author.Rules.{rules}
 use Rattle.plan.specs.Schema.{has, schema}
 use Rattle.plan.specs.Trees.{plan_tree}
 use Rattle.rewrite.specs.Utils.{split_conjunction}
 use Rattle.rewrite.proofs.Project.{split_cols}
 use Rattle.utils.proofs.Named.{names_fit}
-use Rattle.writing.proofs.Pushing.{plan_readable}
 use Rattle.push_down_arms.specs.Movable.{may_move}
 use Rattle.push_down_arms.proofs.Divisions.{fields_few, divides_of}
-use Rattle.utils.proofs.Appending.{standing_plan}
 use Rattle.push_down_arms.proofs.push_some.divide.Goals as goal
 
 pub movable-side-requires-clause-len_le_max_fields : goal.movable-side-requires-clause-len_le_max_fields
@@ -42,4 +39,3 @@ returns c =
     let o = split_cols (has (schema q)) e h.scope in
     divides_of h.shaped t (c.select_side.ensures (split_conjunction e) (schema q) t h.shaped.listed f o m)
     (c.select_side-2.ensures (split_conjunction e) (schema q) t h.shaped.listed f o m)
-

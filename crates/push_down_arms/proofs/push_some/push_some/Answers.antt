@@ -2,7 +2,6 @@
 use mathlib.Core.Path.{refl, sym, ◌∙◌}
 use native.Mathlib.Omega.{arith}
 use mathlib.Core.List.{map}
-use borrow.Author.Rules.{rules}
 use borrow.Author.Tests.{ltb-true, ltb-false}
 use Rattle.image.specs.Limits.{max_list, max_depth}
 use Rattle.plan.specs.Trees.{plan_tree}
@@ -34,21 +33,21 @@ write_over-next-requires-clause-writable c =
     let h = o.placed.standing in
     let y = c.last_child-y.ensures (plan_tree q) (rw c.requires.stretch h.here) ∙ o.takes.last in
     let w = c.changed.ensures _ (map_of q) o.move k.moved in (
-          record {
-            mapping = map_of q;
-            maps = rw c.requires.stretch (plan_maps h);
-            expr = conjunction o.stay;
-            perhaps = kept_perhaps k (map_of q);
-            most = k.kept_most;
-          },
-          record {
-            mapping = map_of q;
-            maps = rw c.requires.stretch (plan_maps h);
-            expr = conjunction (map (replace_cols (map_of q)) o.move);
-            perhaps = moved_perhaps k (map_of q) w;
-            most = moved_small k (map_of q) w;
-          },
-        )
+      record {
+        mapping = map_of q;
+        maps = rw c.requires.stretch (plan_maps h);
+        expr = conjunction o.stay;
+        perhaps = kept_perhaps k (map_of q);
+        most = k.kept_most;
+      },
+      record {
+        mapping = map_of q;
+        maps = rw c.requires.stretch (plan_maps h);
+        expr = conjunction (map (replace_cols (map_of q)) o.move);
+        perhaps = moved_perhaps k (map_of q) w;
+        most = moved_small k (map_of q) w;
+      },
+    )
 
 pub write_over-next-requires-clause-x_le_y : goal.write_over-next-requires-clause-x_le_y
 write_over-next-requires-clause-x_le_y c =
@@ -73,4 +72,3 @@ returns c =
     (conjunction (map (replace_cols (map_of (f q))) ds)) (kept_perhaps k (map_of (f q))) (moved_perhaps k (map_of (f q)) w) f q t.own t.frame y
     h.standing
     (rw y t.input)))
-

@@ -1,4 +1,3 @@
-use native.Mathlib.Omega.{arith}
 use native.Mathlib.Nat.{le_trans, le_of_eq}
 use mathlib.Core.Path.{refl}
 use Rattle.plan.specs.Syntax.{col}
@@ -18,4 +17,3 @@ returns-then-p-eq0 c =
 pub returns : goal.returns
 returns c =
     (c.requires.shaped.most, λ s σ e h. changed_written σ e _ h c.if-p-eq0.false refl)
-

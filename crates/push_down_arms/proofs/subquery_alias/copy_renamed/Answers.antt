@@ -1,13 +1,11 @@
 use native.Mathlib.Omega.{arith}
-use borrow.Author.Rules.{rules}
 use Rattle.plan.specs.Syntax.{Name, Expr, col}
 use Rattle.plan.specs.Schema.{schema}
 use Rattle.rewrite.specs.Utils.{replace_cols}
 use Rattle.rewrite.specs.PushDownFilter.{ren, renamed}
 use Rattle.utils.proofs.Named.{names_fit}
-use Rattle.writing.proofs.Pushing.{maps_readable, plan_readable}
+use Rattle.writing.proofs.Pushing.{maps_readable}
 use Rattle.push_down_arms.proofs.Renames.{whole_left}
-use Rattle.utils.proofs.Appending.{standing_plan}
 use Rattle.push_down_arms.proofs.subquery_alias.copy_renamed.Goals as goal
 
 pub write_renames-requires : goal.write_renames-requires
@@ -45,4 +43,3 @@ returns c =
     let m = c.write_renames.ensures ns (schema q) h.names to h.wide in
     let σ : Name → Expr = λ x. col (ren ns (schema q) x) in
     c.make_filter.ensures σ m (replace_cols σ e) (whole_left (h.changed σ)) q (rw i h.standing.here)
-

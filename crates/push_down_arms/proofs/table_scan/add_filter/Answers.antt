@@ -1,7 +1,6 @@
 -- `table_scan::add_filter` meets its contract: no expression's record has the kind of a field.
 use mathlib.Core.Path.{sym, ap, ◌∙◌}
 use native.Mathlib.Omega.{arith}
-use borrow.Author.Rules.{rules}
 use borrow.Author.Tests.{eqb-false}
 use Rattle.image.specs.Tree.{Label}
 use Rattle.plan.proofs.Written.{no_part_e}
@@ -22,4 +21,3 @@ returns c =
       field = λ k. absurd (c.if-word_at-eq-FIELD.false (c.word_at.ensures.0 ∙ k));
       filter = λ e l i. lists_add _ h i c.add.ensures;
     }
-

@@ -1,15 +1,11 @@
 -- `table_scan::add_volatile` meets its contract. The loop's invariant is `Kept`.
 use mathlib.Core.List.{List}
 use Prim.Native.Nat.{◌-◌, ◌≤◌}
-use native.Mathlib.Omega.{arith}
-use lib.ListN.{get_or}
 use Rattle.plan.specs.Syntax.{Expr}
 use Rattle.rewrite.specs.Utils.{is_volatile_expr}
-use Rattle.conjuncts.specs.Items.{FALSE, Lists}
-use Rattle.conjuncts.proofs.Listed.{lists_at, lists_length, lists_room}
-use Rattle.conjuncts.proofs.Kept.{Kept, kept_start, kept_next, kept_end}
+use Rattle.conjuncts.specs.Items.{Lists}
+use Rattle.conjuncts.proofs.Kept.{Kept}
 use Rattle.push_down_arms.specs.Scans.{told}
-use Rattle.push_down_arms.proofs.Supported.{told_is}
 use Rattle.push_down_arms.proofs.table_scan.add_volatile.Given as goal
 
 abbrev pub invariant-loop-i : goal.invariant-loop-i
@@ -18,4 +14,3 @@ invariant-loop-i l =
 
 abbrev pub decreases-loop-i : goal.decreases-loop-i
 decreases-loop-i l = l.n - l.i
-

@@ -1,15 +1,10 @@
-use mathlib.Core.Path.{◌≡◌}
-use mathlib.Core.List.{List}
-use Prim.Native.Nat.{ℕ, ◌-◌, ◌≤◌, ◌+◌}
+use Prim.Native.Nat.{◌+◌}
 use native.Mathlib.Omega.{arith}
-use lib.ListN.{length, length-drop}
-use Rattle.plan.specs.Syntax.{Expr, Field, scan}
+use lib.ListN.{length-drop}
 use Rattle.plan.specs.Trees.{each, label_e, kids_e}
 use Rattle.image.specs.Tree.{none}
-use Rattle.push_down_base.specs.Arms.{Placed}
-use Rattle.push_down_arms.proofs.Supported.{Passed, scan_fields, scan_few, field_room, passed_start, passed_next, passed_end}
+use Rattle.push_down_arms.proofs.Supported.{scan_fields, scan_few, field_room, passed_start, passed_next, passed_end}
 use Rattle.conjuncts.proofs.Operands.{part_of}
-use Rattle.conjuncts.specs.Standing.{Stretch}
 use Rattle.push_down_arms.proofs.table_scan.marked_fields.Goals as goal
 
 pub loop-i-init : goal.loop-i-init
@@ -42,22 +37,20 @@ mark-set-requires c =
     omega (arith, scan_few p.placed, p.count, c.loop-i-test.true)
 
 pub loop-i-preserved : goal.loop-i-preserved
-loop-i-preserved c =
-    (
-      omega arith,
-      λ s t fs es j h e. let i = c.loop-i.i in
-          let x = c.args.x in
-          passed_next h i c.mark-set.ensures (omega (arith, c.loop-i-test.true))
-          (rw (
-            c.word_at.ensures.0,
-            c.from_record-field.ensures,
-            part_of s
-                c.args.part.now x (x + 1 + i) j (omega arith),
-          ))
-          (c.loop-i.invariant.1 s t fs es j h e),
-    )
+loop-i-preserved c = (
+  omega arith,
+  λ s t fs es j h e. let i = c.loop-i.i in
+      let x = c.args.x in
+      passed_next h i c.mark-set.ensures (omega (arith, c.loop-i-test.true))
+      (rw (
+        c.word_at.ensures.0,
+        c.from_record-field.ensures,
+        part_of s
+            c.args.part.now x (x + 1 + i) j (omega arith),
+      ))
+      (c.loop-i.invariant.1 s t fs es j h e),
+)
 
 pub returns : goal.returns
 returns c =
     λ s t fs es j h e. passed_end h c.loop-i.i (omega (arith, c.loop-i-test.false)) (c.loop-i.invariant.1 s t fs es j h e)
-

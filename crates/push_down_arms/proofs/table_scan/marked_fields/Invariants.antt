@@ -1,15 +1,11 @@
 -- `table_scan::marked_fields` meets its contract. The loop's invariant: the set of the marked fields among those passed.
 use mathlib.Core.Path.{◌≡◌}
 use mathlib.Core.List.{List}
-use Prim.Native.Nat.{ℕ, ◌-◌, ◌≤◌, ◌+◌}
-use native.Mathlib.Omega.{arith}
-use lib.ListN.{length, length-drop}
+use Prim.Native.Nat.{ℕ, ◌-◌, ◌≤◌}
+use lib.ListN.{length}
 use Rattle.plan.specs.Syntax.{Expr, Field, scan}
-use Rattle.plan.specs.Trees.{each, label_e, kids_e}
-use Rattle.image.specs.Tree.{none}
 use Rattle.push_down_base.specs.Arms.{Placed}
-use Rattle.push_down_arms.proofs.Supported.{Passed, scan_fields, scan_few, field_room, passed_start, passed_next, passed_end}
-use Rattle.conjuncts.proofs.Operands.{part_of}
+use Rattle.push_down_arms.proofs.Supported.{Passed}
 use Rattle.conjuncts.specs.Standing.{Stretch}
 use Rattle.push_down_arms.proofs.table_scan.marked_fields.Given as goal
 
@@ -20,4 +16,3 @@ invariant-loop-i l =
 
 abbrev pub decreases-loop-i : goal.decreases-loop-i
 decreases-loop-i l = l.k - l.i
-

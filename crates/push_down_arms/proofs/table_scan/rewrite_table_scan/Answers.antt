@@ -1,8 +1,6 @@
 -- `table_scan::rewrite_table_scan` meets its contract.
 use mathlib.Core.Path.{refl, sym, ◌∙◌}
-use native.Mathlib.Omega.{arith}
 use native.Mathlib.Nat.{le_trans, le_of_eq}
-use borrow.Author.Rules.{rules}
 use Rattle.conjuncts.proofs.Listed.{known_of, lists_length}
 use Rattle.push_down_base.proofs.Answering.{answers}
 use Rattle.push_down_arms.proofs.ScanShares.{some_scan, taken_few, left_few, own_few, left_plain, scan_kept, scan_pushed, pushed_fits, pushed_over}
@@ -52,4 +50,3 @@ returns c =
     (answers refl (pushed_fits t fs _ (left_plain h) (left_few h)
     (le_trans (le_of_eq (lists_length l c.if-filters-gt-MAX_LIST.false)) c.if-filters-gt-MAX_LIST.false))
     (c.write_filtered-next.ensures t fs es _ _ h.placed z.count z.leaves l))
-

@@ -1,16 +1,10 @@
-use mathlib.Core.List.{List}
-use Prim.Native.Nat.{ℕ, ◌*◌}
+use Prim.Native.Nat.{◌*◌}
 use native.Mathlib.Omega.{arith}
-use borrow.Author.Rules.{rules}
 use lib.ListN.{length-drop, length}
-use Rattle.image.specs.Limits.{max_depth}
-use Rattle.image.proofs.Walking.{Chain, chain, round, again, done}
-use Rattle.image.specs.Places.{left}
-use Rattle.plan.specs.Syntax.{Expr, Field, scan}
+use Rattle.image.proofs.Walking.{chain, round, again, done}
+use Rattle.plan.specs.Syntax.{scan}
 use Rattle.plan.specs.Trees.{plan_tree}
-use Rattle.push_down_base.specs.Arms.{Placed}
-use Rattle.push_down_arms.proofs.Scans.{Filters, filters_start, filters_next, filters_end}
-use Rattle.conjuncts.specs.Standing.{Stretch}
+use Rattle.push_down_arms.proofs.Scans.{filters_start, filters_next, filters_end}
 use Rattle.push_down_arms.proofs.Unions.{readable_deep}
 use mathlib.Core.Path.{ap}
 use Rattle.push_down_arms.proofs.table_scan.scan_filters.Goals as goal
@@ -75,4 +69,3 @@ loop-at-preserved c =
 pub returns : goal.returns
 returns c =
     λ s t fs es i h. filters_end (done _ (c.loop-at.invariant s t fs es i h) c.loop-at-test.false)
-

@@ -1,11 +1,9 @@
 -- `table_scan::share_of` meets its contract.
-use borrow.Author.Rules.{rules}
 use Rattle.plan.specs.Schema.{schema}
 use Rattle.plan.specs.Syntax.{scan}
 use Rattle.rewrite.specs.PushDownFilter.{marked}
 use Rattle.conjuncts.proofs.Listed.{lists_none, known_of}
 use Rattle.push_down_arms.proofs.ScanShares.{fields_most, fields_count, some_scan, lasting_over, lasting_few}
-use Rattle.utils.proofs.Appending.{standing_plan}
 use Rattle.push_down_arms.proofs.table_scan.share_of.Goals as goal
 
 pub marked_fields-marked-requires : goal.marked_fields-marked-requires
@@ -45,4 +43,3 @@ returns c =
       takes = c.select_supported-taken.ensures _ (schema (scan t fs es)) (λ a. marked fs a) l n (lasting_over h) m;
       leaves = c.add_volatile-left.ensures _ _ r h.shaped.listed;
     }
-

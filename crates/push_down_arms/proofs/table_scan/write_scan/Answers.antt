@@ -1,9 +1,7 @@
 -- `table_scan::write_scan` meets its contract.
 use native.Mathlib.Omega.{arith}
-use borrow.Author.Rules.{rules}
 use Rattle.plan.specs.Syntax.{scan}
 use Rattle.plan.specs.Trees.{plan_tree}
-use Rattle.writing.proofs.Pushing.{plan_readable}
 use Rattle.push_down_arms.proofs.Supported.{scan_few}
 use Rattle.push_down_arms.proofs.Scans.{scan_wrote, wrote_long, wrote_few}
 use Rattle.push_down_arms.proofs.table_scan.write_scan.Goals as goal
@@ -23,4 +21,3 @@ returns c =
     λ t fs es ys h k l. let w = c.copy_some-first.ensures (plan_tree (scan t fs es))
     (rw c.requires.stretch h.standing.here) in
     scan_wrote _ _ t fs es ys c.requires.buffer_at.1 k w (c.copy_items.ensures ys l)
-

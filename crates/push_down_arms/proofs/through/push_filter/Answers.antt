@@ -2,7 +2,6 @@
 use mathlib.Core.Path.{refl, ◌∙◌}
 use mathlib.Core.Option.{none, some}
 use native.Mathlib.Omega.{arith}
-use borrow.Author.Rules.{rules}
 use Rattle.image.specs.Limits.{max_depth}
 use Rattle.plan.specs.Trees.{plan_tree}
 use Rattle.writing.specs.Maps.{map_of}
@@ -24,21 +23,21 @@ write_over-next-requires-clause-writable c =
     let q = t.above t.plan in
     let k = h.placed.standing in
     let y = c.last_child-y.ensures (plan_tree q) (rw c.requires.stretch k.here) ∙ t.takes.last in (
-          record {
-            mapping = map_of q;
-            maps = rw c.requires.stretch (plan_maps k);
-            expr = none;
-            perhaps = gone refl c.empty.ensures.1;
-            most = omega (arith, c.empty.ensures.1);
-          },
-          record {
-            mapping = map_of q;
-            maps = rw c.requires.stretch (plan_maps k);
-            expr = some t.expr;
-            perhaps = shaped_perhaps (map_of q) h.shaped;
-            most = h.shaped.most;
-          },
-        )
+      record {
+        mapping = map_of q;
+        maps = rw c.requires.stretch (plan_maps k);
+        expr = none;
+        perhaps = gone refl c.empty.ensures.1;
+        most = omega (arith, c.empty.ensures.1);
+      },
+      record {
+        mapping = map_of q;
+        maps = rw c.requires.stretch (plan_maps k);
+        expr = some t.expr;
+        perhaps = shaped_perhaps (map_of q) h.shaped;
+        most = h.shaped.most;
+      },
+    )
 
 pub write_over-next-requires-clause-x_le_y : goal.write_over-next-requires-clause-x_le_y
 write_over-next-requires-clause-x_le_y c =
@@ -57,4 +56,3 @@ returns c =
     (c.write_over-next.ensures (map_of (f q)) (rw i (plan_maps k)) none (some e)
     (gone refl c.empty.ensures.1)
     (shaped_perhaps (map_of (f q)) h.shaped) f q t.own t.frame y k (rw y t.input))
-

@@ -1,7 +1,5 @@
 use mathlib.Core.Path.{◌≡◌, sym, ap, ◌∙◌}
 use mathlib.Core.Bool.{true, false}
-use native.Mathlib.Omega.{arith}
-use borrow.Author.Rules.{rules}
 use Rattle.plan.specs.Trees.{label_p}
 use Rattle.push_down_arms.specs.Through.{takes_none}
 use Rattle.push_down_arms.proofs.Passing.{stays, passes, rests_as}
@@ -30,4 +28,3 @@ returns c =
     (sym c.takes_none.ensures ∙ c.if-takes_none.false)) in
     let k = passes e q h.placed.short h.placed.standing i t in
     rw k.rewritten (c.push_filter.ensures e k.input k.above (rests_as k.is h) k.takes)
-

@@ -1,19 +1,15 @@
-use mathlib.Core.Path.{◌≡◌, refl, sym, ◌∙◌}
-use Prim.Native.Nat.{◌+◌}
+use mathlib.Core.Path.{refl}
 use native.Mathlib.Omega.{arith}
 use borrow.Author.Rules.{rules}
-use lib.ListN.{length, length-drop}
-use Rattle.image.specs.Limits.{max_depth}
-use Rattle.image.proofs.Walking.{Chain, chain, round, again, done}
-use Rattle.image.specs.Places.{left}
-use Rattle.plan.specs.Syntax.{Expr, Plans, union}
+use lib.ListN.{length-drop}
+use Rattle.image.proofs.Walking.{chain, round, again, done}
+use Rattle.plan.specs.Syntax.{union}
 use Rattle.plan.specs.Schema.{schema}
 use Rattle.rewrite.specs.PushDownFilter.{rewrite_filter}
 use Rattle.plan.specs.Trees.{plan_tree}
 use Rattle.push_down_base.proofs.Answering.{answers}
-use Rattle.push_down_arms.proofs.Unions.{Inputs, Spread, spread_of, all_inputs, first, renames_first, more, none_more, union_lists}
-use Rattle.push_down_arms.proofs.Unions.{union_wrote, SomeSpread, readable_deep}
-use Rattle.utils.proofs.Appending.{standing_plan}
+use Rattle.push_down_arms.proofs.Unions.{spread_of, all_inputs, first, renames_first, more, none_more, union_lists}
+use Rattle.push_down_arms.proofs.Unions.{union_wrote, readable_deep}
 use Rattle.writing.proofs.Stretches.{input_at}
 use Rattle.push_down_arms.proofs.union.rewrite_union.Goals as goal
 
@@ -81,19 +77,18 @@ loop-y-smaller c =
 
 pub loop-y-preserved : goal.loop-y-preserved
 unfolding rewrite_filter
-loop-y-preserved c =
-    (
-      search rules,
-      c.loop-y.invariant.1,
-      λ e ps h. let k = c.loop-y.invariant.2 e ps h in
-          let u = round _ k c.loop-y-test.true in
-          let f = first _ _ _ u.so_far in
-          let w = c.copy_renamed-next.ensures e f.plan (schema (union ps))
-          (renames_first h f c.requires.stretch u.turn.past u.turn.here
-          (readable_deep u.turn.here u.readable)) in
-          rw (c.word_at-y-in-loop-y.ensures.0, c.from_record-input.ensures) (again _ k u
-          (more f w)),
-    )
+loop-y-preserved c = (
+  search rules,
+  c.loop-y.invariant.1,
+  λ e ps h. let k = c.loop-y.invariant.2 e ps h in
+      let u = round _ k c.loop-y-test.true in
+      let f = first _ _ _ u.so_far in
+      let w = c.copy_renamed-next.ensures e f.plan (schema (union ps))
+      (renames_first h f c.requires.stretch u.turn.past u.turn.here
+      (readable_deep u.turn.here u.readable)) in
+      rw (c.word_at-y-in-loop-y.ensures.0, c.from_record-input.ensures) (again _ k u
+      (more f w)),
+)
 
 pub returns : goal.returns
 unfolding rewrite_filter
@@ -106,4 +101,3 @@ returns c =
     (union_wrote e ps c.requires.arm_over.2 c.put_label-next.ensures (rw c.requires.stretch
     h.placed.standing.here.head.label)
     (none_more (done _ (c.loop-y.invariant.2 e ps w) c.loop-y-test.false)))
-

@@ -1,10 +1,9 @@
-use mathlib.Core.Path.{◌≡◌, sym, ◌∙◌}
-use Prim.Native.Nat.{ℕ, ◌+◌, ◌-◌, ◌<◌}
+use mathlib.Core.Path.{◌≡◌}
+use Prim.Native.Nat.{◌-◌}
 use native.Mathlib.Omega.{arith}
 use lib.ListN.{length-drop}
-use Rattle.image.proofs.Walking.{Chain, chain, round, again, done, for_all}
-use Rattle.image.specs.Places.{left}
-use Rattle.push_down_base.proofs.WrittenRuns.{Rest, rest_all, rest_next, rest_end, wrote_none, wrote_one}
+use Rattle.image.proofs.Walking.{chain, round, again, done, for_all}
+use Rattle.push_down_base.proofs.WrittenRuns.{rest_all, rest_next, rest_end, wrote_none, wrote_one}
 use Rattle.push_down_arms.proofs.with_filters.+copy_some.Goals as goal
 
 pub returns-then-end-base : goal.returns-then-end-base
@@ -20,8 +19,7 @@ loop-from-init t c =
 pub copy_some-to-requires : goal.copy_some-to-requires
 copy_some-to-requires t c =
     let k = c.loop-from.invariant in
-    let u = round _ k c.loop-from-test.true in
-    (
+    let u = round _ k c.loop-from-test.true in (
       omega (arith, k.some, c.decreases),
       (
         rw c.from_record-child.ensures u.readable,
@@ -56,4 +54,3 @@ returns t c =
     for_all _ k.stands (rest_end _ _ k.tree c.requires.buffer_to.1
     (omega (arith, c.if-end-base.false)) (rw (← k.stands.head.label) put)
     (done _ k c.loop-from-test.false))
-

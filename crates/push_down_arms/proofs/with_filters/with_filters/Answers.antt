@@ -1,8 +1,5 @@
 use mathlib.Core.Path.{sym, ◌∙◌}
-use borrow.Author.Rules.{rules}
-use Rattle.writing.proofs.Pushing.{maps_readable}
 use Rattle.push_down_base.proofs.Perhapsing.{none_left, some_left, predicated}
-use native.Mathlib.Omega.{arith}
 use Rattle.plan.specs.Trees.{plan_tree}
 use Rattle.push_down_arms.proofs.with_filters.with_filters.Goals as goal
 
@@ -21,4 +18,3 @@ returns c =
     λ σ m o h q k. let l = some_left h
     (sym c.is_gone.ensures ∙ c.if-is_gone.false) in
     rw l.is (c.make_filter.ensures σ m l.expr l.predicate q k)
-

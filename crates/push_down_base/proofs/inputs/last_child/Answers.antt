@@ -1,10 +1,5 @@
-use mathlib.Core.Path.{◌≡◌}
-use Prim.Native.Nat.{ℕ, ◌+◌}
-use native.Mathlib.Omega.{arith}
-use lib.ListN.{length-drop}
-use Rattle.image.proofs.Walking.{Chain, chain, round, again, done, for_all}
-use Rattle.image.specs.Places.{left}
-use Rattle.push_down_base.specs.Inputs.{last_of}
+use Prim.Native.Nat.{◌+◌}
+use Rattle.image.proofs.Walking.{chain, round, again, done, for_all}
 use Rattle.push_down_base.proofs.LastChild.{last_link, last_more}
 use Rattle.push_down_base.proofs.inputs.last_child.Goals as goal
 
@@ -26,4 +21,3 @@ loop-at-preserved c =
 pub returns : goal.returns
 returns c =
     let k = c.loop-at.invariant.1 in for_all _ k.stands (done _ k c.loop-at-test.false)
-

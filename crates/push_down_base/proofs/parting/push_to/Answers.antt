@@ -1,4 +1,3 @@
-use borrow.Author.Rules.{rules}
 use Rattle.plan.specs.Schema.{has}
 use Rattle.push_down_base.proofs.Selecting.{push_open, push_shut}
 use Rattle.push_down_base.proofs.Scoping.{reads_keep, reads_none}
@@ -12,4 +11,3 @@ returns-then-preserved c =
 pub returns : goal.returns
 returns c =
     λ es ns names h k m. rw (push_shut _ names es c.if-preserved.false) (reads_none c.empty.ensures)
-

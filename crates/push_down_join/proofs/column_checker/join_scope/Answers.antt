@@ -1,7 +1,6 @@
 use mathlib.Core.Path.{sym}
 use mathlib.Core.List.{[], ◌++◌}
 use native.Mathlib.Omega.{arith}
-use borrow.Author.Rules.{rules}
 use lib.ListN.{length-append, length-map}
 use Rattle.image.specs.Limits.{max_depth}
 use Rattle.plan.specs.Schema.{schema}
@@ -13,7 +12,7 @@ use Rattle.push_down_join.specs.Partners.{partner_in, or_self}
 use Rattle.utils.proofs.Appending.{standing_plan}
 use Rattle.push_down_join.proofs.JoinScope.{join_short, join_single, keys_read, swap_has}
 use Rattle.push_down_join.proofs.ScopeSets.{partner_records}
-use Rattle.writing.proofs.Stretches.{input_within, input_at, input_here}
+use Rattle.writing.proofs.Stretches.{input_at, input_here}
 use Rattle.push_down_join.proofs.column_checker.join_scope.Goals as goal
 
 pub schema_columns-fields-requires : goal.schema_columns-fields-requires
@@ -30,8 +29,11 @@ swap_keys-swapped-requires c =
     c.no_fields.ensures in
     let both = c.schema_columns-fields.ensures p.rhs (schema p.lhs) (input_here j.second j.stretch j.after
     c.from_record-2.ensures)
-    first in record { by_index = (max_depth, rw j.stretch (plan_readable j.standing)); len_le_max_fields = names_fit both (join_short p.kind p.lhs p.rhs p.keys
-          p.condition j.rules) }
+    first in record {
+      by_index = (max_depth, rw j.stretch (plan_readable j.standing));
+      len_le_max_fields = names_fit both (join_short p.kind p.lhs p.rhs p.keys
+          p.condition j.rules);
+    }
 
 pub scope_of-requires : goal.scope_of-requires
 scope_of-requires c =
@@ -63,4 +65,3 @@ returns c =
     c.scope_of.ensures (schema l) (schema r) on (kids_p (join k l r on f)) both (sym (names_count first (names_fit first (omega (arith, short, n)))))
     (join_single k l r on f j.rules) w (λ x. partner_records x k l r on f)
     (λ x held. swap_has (schema l) (schema r) x held on (keys_read k l r on f j.rules))
-

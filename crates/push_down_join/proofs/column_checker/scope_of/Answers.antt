@@ -34,4 +34,3 @@ returns c =
       rightward = masks_same (λ i lt. other_side l r n (swap on (name_at ns i)) (q (name_at ns i) (has_at ns i lt)))
           (c.all_but-2.ensures ns _ (sym count) leftward);
     }
-

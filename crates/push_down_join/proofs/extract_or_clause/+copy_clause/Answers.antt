@@ -1,13 +1,10 @@
 use mathlib.Core.Path.{sym, ◌∙◌}
 use native.Mathlib.Omega.{arith}
 use lib.ListN.{length-drop}
-use borrow.Author.Rules.{rules}
-use borrow.Author.Tests.{not-true, not-false}
 use Rattle.image.proofs.Room.{put_start, wrote_past, wrote_two}
 use Rattle.image.specs.Tree.{none}
 use Rattle.plan.specs.Trees.{expr_tree}
-use Rattle.push_down_join.proofs.Extracting.{readable_expr, parts_of, halves, op_is, other_whole, only_last, only_first, both_of, wrote_clause}
-use Prim.Native.Nat.{ℕ, ◌<◌}
+use Rattle.push_down_join.proofs.Extracting.{parts_of, halves, op_is, other_whole, only_last, only_first, both_of, wrote_clause}
 use Rattle.push_down_join.proofs.extract_or_clause.+copy_clause.Goals as goal
 
 pub returns-then-at-ge-MAX_RECORDS : goal.returns-then-at-ge-MAX_RECORDS
@@ -216,4 +213,3 @@ returns t c =
     c.requires.out_len
     c.put_label-next.ensures a b) (h.head.label ∙ x.label)
     x.is
-

@@ -1,11 +1,9 @@
 use mathlib.Core.Path.{sym, ◌∙◌}
 use native.Mathlib.Omega.{arith}
 use lib.ListN.{length-drop}
-use borrow.Author.Rules.{rules}
 use Rattle.plan.specs.Schema.{has}
-use Rattle.push_down_join.proofs.Extracting.{readable_expr, parts_of, halves, op_is, sides_and, sides_or, held_left, held_right}
+use Rattle.push_down_join.proofs.Extracting.{parts_of, halves, op_is, sides_and, sides_or, held_left, held_right}
 use Rattle.push_down_join.proofs.Extracting.{other_made, other_nothing, and_made, or_nothing_left, or_nothing_right, or_made}
-use Prim.Native.Nat.{ℕ, ◌<◌}
 use Rattle.push_down_join.proofs.extract_or_clause.+extract_or_clause.Goals as goal
 
 pub returns-then-has_all_column_refs : goal.returns-then-has_all_column_refs
@@ -141,4 +139,3 @@ returns t c =
     or_made d u (c.extract_or_clause.ensures u.lhs ns d u.at_left g (held_left u (has ns) held) k)
     c.in-Made.is
     (c.extract_or_clause-2.ensures u.rhs ns d u.at_right g (held_right u (has ns) held) k) c.in-Made-extract_or_clause.is
-

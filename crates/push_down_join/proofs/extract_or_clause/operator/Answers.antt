@@ -1,5 +1,4 @@
 -- `extract_or_clause::operator` meets its contract.
-use borrow.Author.Rules.{rules}
 use Rattle.push_down_join.proofs.Extracting.{operator_no, operator_low, operator_high}
 use Rattle.push_down_join.proofs.extract_or_clause.operator.Goals as goal
 
@@ -16,4 +15,3 @@ pub returns : goal.returns
 returns c =
     operator_high _ _ c.word_at.ensures.0 _ c.word_at-p.ensures.0
     c.if-word_at-ne-BINARY_EXPR.false c.if-p-le-OR.false
-

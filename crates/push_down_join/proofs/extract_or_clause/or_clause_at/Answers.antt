@@ -1,8 +1,7 @@
 -- `extract_or_clause::or_clause_at` meets its contract.
 use mathlib.Core.Path.{ap, ◌∙◌}
-use native.Mathlib.Omega.{arith}
 use Rattle.push_down_join.specs.Clauses.{clause_of}
-use Rattle.push_down_join.proofs.Extracting.{standing_readable, op_is, or_top, no_or_top, or_false}
+use Rattle.push_down_join.proofs.Extracting.{op_is, or_top, no_or_top, or_false}
 use Rattle.push_down_join.proofs.extract_or_clause.or_clause_at.Goals as goal
 
 pub returns-then-n-eq0 : goal.returns-then-n-eq0
@@ -21,4 +20,3 @@ returns c =
     λ e ns d h g held m. no_or_top d e (op_is {base = c.args.n} e
     c.operator.ensures (rw c.record_at-part.ensures (h.some c.if-n-eq0.false).here))
     c.if-operator-eq-OR.false
-

@@ -1,5 +1,4 @@
-use borrow.Author.Rules.{rules}
-use Rattle.push_down_base.proofs.Scoping.{known_reads, reads_keep, reads_none}
+use Rattle.push_down_base.proofs.Scoping.{reads_keep, reads_none}
 use Rattle.push_down_join.proofs.SideLists.{keyed_inner, keyed_other}
 use Rattle.push_down_join.proofs.infer_join_predicates.infer_join_predicates.Goals as goal
 
@@ -11,4 +10,3 @@ returns-then-inner c =
 pub returns : goal.returns
 returns c =
     λ l r on es k h. rw (keyed_other _ on es c.if-inner.false) (reads_none c.empty.ensures)
-

@@ -1,5 +1,4 @@
 -- `infer_join_predicates::is_nothing` meets its contract.
-use borrow.Author.Rules.{rules}
 use Rattle.push_down_join.proofs.Partnering.{told_some, told_none, something, not_any}
 use Rattle.push_down_join.proofs.infer_join_predicates.is_nothing.Goals as goal
 
@@ -10,4 +9,3 @@ returns-in-Is c =
 pub returns-in-Nothing : goal.returns-in-Nothing
 returns-in-Nothing c =
     λ o h. not_any (told_none h c.in-Nothing.is)
-

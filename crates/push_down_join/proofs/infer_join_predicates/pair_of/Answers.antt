@@ -1,5 +1,4 @@
 -- `infer_join_predicates::pair_of` meets its contract.
-use borrow.Author.Rules.{rules}
 use Rattle.push_down_join.proofs.Partnering.{told_as, untold, pair_left, pair_right, pair_is}
 use Rattle.push_down_join.proofs.infer_join_predicates.pair_of.Goals as goal
 
@@ -31,4 +30,3 @@ returns c =
       c.if-aq-q.false,
       c.if-bq-q.false,
     ) untold
-

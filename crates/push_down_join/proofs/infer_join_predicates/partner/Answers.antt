@@ -1,11 +1,9 @@
-use mathlib.Core.Path.{◌≡◌, refl, sym, ap, ◌∙◌}
+use mathlib.Core.Path.{refl, sym, ap, ◌∙◌}
 use mathlib.Core.Bool.{not}
-use Prim.Native.Nat.{ℕ, ◌-◌}
+use Prim.Native.Nat.{◌-◌}
 use native.Mathlib.Omega.{arith}
-use borrow.Author.Rules.{rules}
 use lib.ListN.{length-drop}
-use Rattle.image.proofs.Walking.{Chain, chain, round, again, done, for_all}
-use Rattle.image.specs.Places.{left}
+use Rattle.image.proofs.Walking.{chain, round, again, done, for_all}
 use Rattle.plan.specs.Syntax.{nm}
 use Rattle.push_down_join.specs.Partners.{Told, partner_in}
 use Rattle.push_down_join.specs.declared.infer_join_predicates.Column.TheVariants.{Nothing}
@@ -65,4 +63,3 @@ returns c =
     let k = c.loop-at.invariant.1 in
     let g = c.args in
     for_all (λ t. Told Nothing (partner_in (nm g.q g.n) t.below)) k.stands (rw (done _ k c.loop-at-test.false) untold)
-

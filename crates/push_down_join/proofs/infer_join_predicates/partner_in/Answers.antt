@@ -1,6 +1,5 @@
 use mathlib.Core.Path.{sym, ◌∙◌}
 use native.Mathlib.Omega.{arith}
-use borrow.Author.Rules.{rules}
 use lib.ListN.{length-drop}
 use Rattle.push_down_join.specs.Partners.{Told, column_of}
 use Rattle.push_down_join.proofs.Partnering.{untold, key_none, key_is, pair_empty, pair_one, pair_two}
@@ -75,4 +74,3 @@ returns c =
           c.if-word_at-ne-PAIR.false),
       pair_two _ u v,
     ) (c.pair_of.ensures _ _ a b)
-

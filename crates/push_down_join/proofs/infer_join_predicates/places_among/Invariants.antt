@@ -1,15 +1,11 @@
 -- `infer_join_predicates::places_among` meets its contract. The loop's invariant: the set is that of the names passed.
-use mathlib.Core.Path.{◌≡◌, ap, ◌∙◌}
 use mathlib.Core.List.{List}
-use Prim.Native.Nat.{◌-◌, ◌≤◌, ◌<◌}
-use native.Mathlib.Omega.{arith}
+use Prim.Native.Nat.{◌-◌, ◌≤◌}
 use lib.Dec.{ltb}
-use lib.ListN.{length, take}
-use Rattle.plan.specs.Syntax.{Name, nm}
+use lib.ListN.{take}
+use Rattle.plan.specs.Syntax.{Name}
 use Rattle.utils.specs.Fields.{Names, place_in}
-use Rattle.utils.specs.Masks.{name_at, Masks}
-use Rattle.utils.proofs.Named.{names_count}
-use Rattle.push_down_base.proofs.Masking.{masks_start, masks_step, masks_end}
+use Rattle.utils.specs.Masks.{Masks}
 use Rattle.push_down_join.proofs.infer_join_predicates.places_among.Given as goal
 
 abbrev pub invariant-loop-i : goal.invariant-loop-i
@@ -18,4 +14,3 @@ invariant-loop-i l =
 
 abbrev pub decreases-loop-i : goal.decreases-loop-i
 decreases-loop-i l = l.len - l.i
-

@@ -38,4 +38,3 @@ returns c =
     λ s k l r on f e h. let g = c.last_child-y.ensures in
     last_bare (last_found e h g)
     (rw (← stretch_at s e (last_after e h g) c.from_record.ensures, ← c.word_at.ensures.0) c.if-word_at-lt-FIRST_PLAN.false)
-

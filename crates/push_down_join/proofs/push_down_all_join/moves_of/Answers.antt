@@ -1,6 +1,5 @@
 use mathlib.Core.List.{◌++◌}
 use native.Mathlib.Omega.{arith}
-use borrow.Author.Rules.{rules}
 use Rattle.plan.specs.Schema.{has}
 use Rattle.plan.proofs.Lists.{All-append}
 use Rattle.rewrite.specs.PushDownFilter.{join_conditions, left_push, right_push}
@@ -14,17 +13,17 @@ pub side_push-left_push-requires-clause-wholes : goal.side_push-left_push-requir
 side_push-left_push-requires-clause-wholes c =
     let p = c.requires.asked.0 in
     let g = c.requires.asked.1 in (
-        wholes (c.parts_of-above.ensures p.lefts p.rights p.keys p.exprs p.scopes p.reads).left,
-        wholes (c.parts_of-own.ensures g.lefts g.rights g.keys g.exprs g.scopes g.reads).left,
-      )
+      wholes (c.parts_of-above.ensures p.lefts p.rights p.keys p.exprs p.scopes p.reads).left,
+      wholes (c.parts_of-own.ensures g.lefts g.rights g.keys g.exprs g.scopes g.reads).left,
+    )
 
 pub side_push-right_push-requires-clause-wholes : goal.side_push-right_push-requires-clause-wholes
 side_push-right_push-requires-clause-wholes c =
     let p = c.requires.asked.0 in
     let g = c.requires.asked.1 in (
-        wholes (c.parts_of-above.ensures p.lefts p.rights p.keys p.exprs p.scopes p.reads).right,
-        wholes (c.parts_of-own.ensures g.lefts g.rights g.keys g.exprs g.scopes g.reads).right,
-      )
+      wholes (c.parts_of-above.ensures p.lefts p.rights p.keys p.exprs p.scopes p.reads).right,
+      wholes (c.parts_of-own.ensures g.lefts g.rights g.keys g.exprs g.scopes g.reads).right,
+    )
 
 pub append-requires : goal.append-requires
 append-requires c =
@@ -60,4 +59,3 @@ returns c =
       flag = moves_flag _ _ _ (join_conditions k l r on P G) (left_push k l r on P G) (right_push k l r on P G) (lists_count joined.lists)
           (sides_count left) (sides_count right);
     }
-

@@ -1,4 +1,3 @@
-use borrow.Author.Rules.{rules}
 use Rattle.push_down_base.proofs.Scoping.{known_reads, reads_keep}
 use Rattle.push_down_join.proofs.push_down_all_join.parts_of.Goals as goal
 
@@ -16,20 +15,20 @@ select_side-keyed_stay-requires-clause-known c =
 pub select_side-requires-clause-known : goal.select_side-requires-clause-known
 select_side-requires-clause-known c =
     let p = c.requires in known_reads (c.infer_join_predicates-keyed.ensures p.lefts p.rights p.keys p.exprs p.scopes
-          p.reads)
+    p.reads)
 
 pub push_to-requires-2-clause-known : goal.push_to-requires-2-clause-known
 push_to-requires-2-clause-known c =
     let p = c.requires in
     let k = p.scopes in known_reads (c.push_not-stay.ensures p.exprs _ p.lefts p.reads k.names
-          k.left)
+    k.left)
 
 pub select_side-requires-2-clause-known : goal.select_side-requires-2-clause-known
 select_side-requires-2-clause-known c =
     let p = c.requires in
     let k = p.scopes in
     let i = c.infer_join_predicates-keyed.ensures p.lefts p.rights p.keys p.exprs k p.reads in known_reads (reads_keep _ i (c.select_side-keyed_stay.ensures _ _ _ i.lists k.names i.over
-          k.leftward))
+    k.leftward))
 
 pub returns : goal.returns
 returns c =
@@ -53,4 +52,3 @@ returns c =
       };
       rest = rest;
     }
-

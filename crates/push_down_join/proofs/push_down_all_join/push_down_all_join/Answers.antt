@@ -1,7 +1,6 @@
 use mathlib.Core.Path.{refl, sym, ◌∙◌}
 use mathlib.Core.List.{◌++◌, map}
 use native.Mathlib.Omega.{arith}
-use borrow.Author.Rules.{rules}
 use lib.ListN.{length-map}
 use Rattle.plan.specs.Schema.{schema}
 use Rattle.plan.specs.Syntax.{Name, Expr, col}
@@ -10,7 +9,7 @@ use Rattle.push_down_join.specs.Scopes.{swap}
 use Rattle.push_down_base.proofs.Answering.{answers}
 use Rattle.plan.proofs.Bools.{no_yes}
 use Rattle.push_down_join.proofs.JoinCounts.{fits_each, fits_few, few_fits, inputs_few}
-use Rattle.push_down_join.proofs.JoinWritten.{join_here, join_part, join_at, asked, kind_is, carries}
+use Rattle.push_down_join.proofs.JoinWritten.{join_at, asked, kind_is, carries}
 use Rattle.push_down_join.proofs.SideLists.{renames_swap}
 use Rattle.push_down_join.proofs.push_down_all_join.push_down_all_join.Goals as goal
 
@@ -75,16 +74,16 @@ write_kept-next-requires-clause-carried c =
     let m = c.write_renames.ensures ns (map (swap q.keys) ns) sc.names sc.to (sym (length-map ns
     (swap q.keys))) in
     let few = fits_each _ _ _ (sym c.fits.ensures ∙ c.if-not-fits.false) in record {
-          kind = q.kind;
-          lhs = q.lhs;
-          rhs = q.rhs;
-          keys = q.keys;
-          condition = q.condition;
-          above = q.above;
-          own = q.own;
-          mapping = σ;
-          carries = carries h z m sc v few;
-        }
+      kind = q.kind;
+      lhs = q.lhs;
+      rhs = q.rhs;
+      keys = q.keys;
+      condition = q.condition;
+      above = q.above;
+      own = q.own;
+      mapping = σ;
+      carries = carries h z m sc v few;
+    }
 
 pub returns : goal.returns
 unfolding push_down_all_join
@@ -105,4 +104,3 @@ returns c =
     let below = inputs_few k l r on f h.lists in
     answers v.flag (fits_few k l r on v p w below.0 below.1 few.0 few.1 few.2)
     (c.write_kept-next.ensures k l r on f P G σ (carries h z m sc v few))
-

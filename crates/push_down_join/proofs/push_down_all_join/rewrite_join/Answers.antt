@@ -1,4 +1,3 @@
-use borrow.Author.Rules.{rules}
 use Rattle.rewrite.specs.Utils.{split_conjunction}
 use Rattle.rewrite.specs.PushDownFilter.{rewrite_filter}
 use Rattle.push_down_join.proofs.JoinsUnder.{over_reads, over_under}
@@ -15,4 +14,3 @@ unfolding rewrite_filter
 returns c =
     λ e k l r on f h. c.push_down_join.ensures k l r on f (split_conjunction e) h.placed (over_reads h)
     (split_plain e)
-

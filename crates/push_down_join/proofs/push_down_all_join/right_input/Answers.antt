@@ -1,6 +1,6 @@
 use native.Mathlib.Omega.{arith}
 use Rattle.push_down_join.proofs.JoinParts.{right_at}
-use Rattle.writing.proofs.Stretches.{input_within, input_at}
+use Rattle.writing.proofs.Stretches.{input_at}
 use Rattle.push_down_base.proofs.Steps.{left_input}
 use Rattle.push_down_join.proofs.push_down_all_join.right_input.Goals as goal
 
@@ -15,4 +15,3 @@ pub returns : goal.returns
 returns c =
     λ s k l r on f e h. right_at h.short h.standing
     (rw (← input_at (left_input h.short h.standing) e (omega arith) c.from_record.ensures) c.word_at.ensures.0)
-

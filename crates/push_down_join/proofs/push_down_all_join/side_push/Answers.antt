@@ -1,5 +1,4 @@
 use native.Mathlib.Omega.{arith}
-use borrow.Author.Rules.{rules}
 use Rattle.rewrite.specs.Utils.{replace_cols}
 use Rattle.conjuncts.proofs.Listed.{lists_none}
 use Rattle.push_down_join.proofs.Siding.{smalls_of, sides_none, sides_plain, sides_swapped, side_order}
@@ -30,4 +29,3 @@ returns c =
     let all = sides_plain keyed q.moved.lists c.append-all.ensures in
     let clauses = c.extract_or_clauses_for_join-clauses.ensures σ ns t _ u all p.rest.lists k p.rest.over m in
     rw (← side_order (replace_cols σ) t a i u b j v) (c.extract_or_clauses_for_join.ensures σ ns t _ v clauses q.rest.lists k q.rest.over m)
-

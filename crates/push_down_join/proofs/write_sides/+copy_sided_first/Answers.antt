@@ -1,5 +1,4 @@
-use mathlib.Core.Path.{◌∙◌}
-use Prim.Native.Nat.{ℕ, ◌-◌, ◌<◌}
+use Prim.Native.Nat.{◌-◌}
 use native.Mathlib.Omega.{arith}
 use lib.ListN.{get_or, take}
 use Rattle.rewrite.specs.Utils.{conjoin}
@@ -7,7 +6,7 @@ use mathlib.Core.List.{◌∷◌}
 use Rattle.conjuncts.specs.Items.{FALSE}
 use Rattle.writing.proofs.Written.{wrote_and}
 use Rattle.writing.proofs.Pushing.{conjoin_one, conjoin_more}
-use Rattle.push_down_join.proofs.SideItems.{sides_length, sides_room, sides_at, one_sided_of}
+use Rattle.push_down_join.proofs.SideItems.{sides_length, sides_at, one_sided_of}
 use Rattle.push_down_join.proofs.write_sides.+copy_sided_first.Goals as goal
 
 pub returns-then-last-eq0 : goal.returns-then-last-eq0
@@ -20,7 +19,7 @@ returns-then-last-eq0 t c =
 pub copy_sided-requires-2-clause-one_sided : goal.copy_sided-requires-2-clause-one_sided
 copy_sided-requires-2-clause-one_sided t c =
     one_sided_of c.requires.some_sided _ _ (omega (arith, c.requires.k_nonzero))
-          c.item_at-item.ensures
+    c.item_at-item.ensures
 
 pub returns : goal.returns
 returns t c =
@@ -34,4 +33,3 @@ returns t c =
     (c.copy_sided-2.ensures σ g.maps ns d g.names g.masks (get_or (e ∷ es) k FALSE)
     (sides_at h c.requires.some_sided.most k _ (omega (arith, c.requires.k_nonzero))
     c.item_at-item.ensures)))
-

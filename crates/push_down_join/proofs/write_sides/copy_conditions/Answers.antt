@@ -1,5 +1,4 @@
 use native.Mathlib.Omega.{arith}
-use borrow.Author.Rules.{rules}
 use Rattle.conjuncts.proofs.Listed.{lists_length}
 use Rattle.writing.proofs.Pushing.{pushes_of}
 use Rattle.plan.specs.Syntax.{col}
@@ -18,4 +17,3 @@ pub returns : goal.returns
 returns c =
     λ σ m es h. conditions_some es (λ z. omega (arith, lists_length h c.requires.known.most, c.if-c-eq0.false))
     (λ e rest same. c.copy_joined.ensures σ m e rest (pushes_of (rw same at h)))
-

@@ -1,5 +1,4 @@
 use mathlib.Core.Path.{ap, sym, ◌∙◌}
-use borrow.Author.Rules.{rules}
 use borrow.Author.Tests.{eq-eqb, ne_eqb}
 use lib.Dec.{eqb}
 use Rattle.image.specs.Tree.{Label}
@@ -21,4 +20,3 @@ returns c =
     let v = c.word_at.ensures.0 in
     wrote_unless (eqb t.label.kind 50) (recs _ t) (ne_eqb t.label.kind 50 (λ z. c.if-word_at-eq-PAIR.false (v ∙ (k ∙ z))))
     c.requires.buffer_to.2
-

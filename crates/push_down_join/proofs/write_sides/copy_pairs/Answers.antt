@@ -1,9 +1,7 @@
-use mathlib.Core.Path.{sym, ◌∙◌}
 use native.Mathlib.Omega.{arith}
 use lib.ListN.{length-drop}
-use Rattle.image.proofs.Walking.{Chain, chain, round, again, done, for_all}
-use Rattle.image.specs.Places.{left}
-use Rattle.push_down_join.proofs.JoinParts.{PairsLeft, pairs_all, pairs_next, pairs_end}
+use Rattle.image.proofs.Walking.{chain, round, again, done, for_all}
+use Rattle.push_down_join.proofs.JoinParts.{pairs_all, pairs_next, pairs_end}
 use Rattle.push_down_join.proofs.write_sides.copy_pairs.Goals as goal
 
 pub loop-from-init : goal.loop-from-init
@@ -39,4 +37,3 @@ loop-from-preserved c =
 pub returns : goal.returns
 returns c =
     let k = c.loop-from.invariant in for_all _ k.stands (pairs_end (done _ k c.loop-from-test.false))
-

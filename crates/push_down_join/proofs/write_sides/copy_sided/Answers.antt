@@ -1,5 +1,3 @@
-use native.Mathlib.Omega.{arith}
-use borrow.Author.Rules.{rules}
 use Rattle.push_down_join.proofs.Siding.{clause_standing}
 use Rattle.push_down_join.proofs.write_sides.copy_sided.Goals as goal
 
@@ -15,4 +13,3 @@ pub returns : goal.returns
 returns c =
     λ σ m ns t f k e h. let q = h.clause c.if-n-lt-CLAUSE.false in
     c.copy_or_clause.ensures q.from e ns t (clause_standing q) f q.reads k q.is
-

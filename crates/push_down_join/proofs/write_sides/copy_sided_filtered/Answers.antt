@@ -1,7 +1,5 @@
 -- `write_sides::copy_sided_filtered` meets its contract.
-use mathlib.Core.Path.{◌∙◌}
 use native.Mathlib.Omega.{arith}
-use borrow.Author.Rules.{rules}
 use Rattle.plan.specs.Trees.{plan_tree}
 use Rattle.writing.proofs.Written.{wrote_filtered}
 use Rattle.writing.proofs.Pushing.{filters_none}
@@ -29,4 +27,3 @@ returns c =
     c.put_kind-predicate.ensures
     (λ e rest same. c.copy_sided_joined-below.ensures σ ns d g e rest (rw same at h))
     (c.copy_tree-2.ensures (plan_tree p) k)
-

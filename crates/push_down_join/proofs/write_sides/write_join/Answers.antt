@@ -1,10 +1,8 @@
 use mathlib.Core.Path.{◌∙◌}
 use native.Mathlib.Omega.{arith}
-use borrow.Author.Rules.{rules}
 use Rattle.image.proofs.Room.{cap_le}
-use Rattle.writing.proofs.Pushing.{maps_readable, plan_readable}
-use Rattle.writing.proofs.Stretches.{own_here, input_within, input_here, input_readable}
-use Rattle.push_down_join.proofs.JoinWritten.{left_side, right_side, left_some, right_some, conditions_known, join_wrote}
+use Rattle.writing.proofs.Stretches.{own_here, input_here}
+use Rattle.push_down_join.proofs.JoinWritten.{left_side, right_side, join_wrote}
 use Rattle.push_down_join.proofs.write_sides.write_join.Goals as goal
 
 pub copy_pairs-filter-requires-clause-buffer_to : goal.copy_pairs-filter-requires-clause-buffer_to
@@ -42,4 +40,3 @@ returns c =
     c.from_record-rhs.ensures))
     (c.copy_pairs-filter.ensures _ (own_here h.standing c.requires.stretch))
     (c.copy_conditions.ensures σ h.maps _ h.moved.conditions)
-

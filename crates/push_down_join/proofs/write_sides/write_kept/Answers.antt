@@ -1,10 +1,8 @@
-use mathlib.Core.Path.{◌∙◌}
 use native.Mathlib.Omega.{arith}
-use borrow.Author.Rules.{rules}
 use Rattle.plan.specs.Schema.{schema}
 use Rattle.rewrite.specs.PushDownFilter.{keep_predicates}
 use Rattle.conjuncts.proofs.Listed.{lists_length}
-use Rattle.writing.proofs.Pushing.{maps_readable, pushes_of, filters_none}
+use Rattle.writing.proofs.Pushing.{pushes_of, filters_none}
 use Rattle.writing.proofs.Written.{wrote_filtered}
 use Rattle.push_down_join.specs.JoinPlans.{join_over}
 use Rattle.push_down_join.proofs.JoinWritten.{kept_some}
@@ -34,4 +32,3 @@ returns c =
     c.put_kind-predicate.ensures
     (λ e rest same. c.copy_joined-input.ensures σ h.maps e rest (pushes_of (rw same at kept.lists)))
     (c.write_join-2.ensures k l r on f P G σ h)
-

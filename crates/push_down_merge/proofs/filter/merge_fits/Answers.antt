@@ -1,7 +1,6 @@
 -- `filter::merge_fits` meets its contract: what is written is the plan after the merge, and its records, its depth and its lists are tested.
 use mathlib.Core.Path.{sym, ◌∙◌}
 use native.Mathlib.Omega.{arith}
-use borrow.Author.Rules.{rules}
 use Rattle.plan.specs.Syntax.{filter}
 use Rattle.plan.specs.Trees.{plan_tree}
 use Rattle.plan.specs.Measure.{size_p}
@@ -11,7 +10,7 @@ use Rattle.writing.proofs.Stretches.{own_here, own_readable}
 use Rattle.answers.proofs.Whole.{wrote_small}
 use Rattle.answers.proofs.Splice.{spliced}
 use Rattle.answers.proofs.Fitting.{fits_over, begun_count}
-use Rattle.push_down_merge.proofs.Tested.{made_predicate, few_records, all_records, sized, stands_inside, end_within, level_small}
+use Rattle.push_down_merge.proofs.Tested.{made_predicate, few_records, all_records, stands_inside, end_within, level_small}
 use Rattle.push_down_merge.proofs.Tested.{too_long, few_lists, fits_is}
 use Rattle.push_down_merge.proofs.filter.merge_fits.Goals as goal
 
@@ -31,12 +30,12 @@ make_filter-end-requires-clause-predicated c =
     let i = c.requires.mergeable.inside in
     let readable = own_readable c.requires.mergeable.standing c.requires.stretch in
     let b = c.write_before-spot.ensures c.requires.mergeable.whole c.requires.mergeable.spot i.root i.there (stands_inside i) in record {
-        mapping = map_of c.requires.mergeable.plan;
-        expr = c.requires.mergeable.expr;
-        predicate = made_predicate _ c.requires.mergeable.made;
-        most =
-            c.if-list-gt-MAX_LIST.false;
-      }
+      mapping = map_of c.requires.mergeable.plan;
+      expr = c.requires.mergeable.expr;
+      predicate = made_predicate _ c.requires.mergeable.made;
+      most =
+          c.if-list-gt-MAX_LIST.false;
+    }
 
 pub make_filter-end-requires-clause-buffer : goal.make_filter-end-requires-clause-buffer
 unfolding size_p
@@ -52,16 +51,19 @@ write_records-records-requires c =
     let b = c.write_before-spot.ensures c.requires.mergeable.whole
     c.requires.mergeable.spot i.root i.there (stands_inside i) in
     let w = c.make_filter-end.ensures (map_of c.requires.mergeable.plan) (rw c.requires.stretch (plan_maps c.requires.mergeable.standing)) c.requires.mergeable.expr
-    (made_predicate _ c.requires.mergeable.made) c.requires.mergeable.plan (own_here c.requires.mergeable.standing c.requires.stretch) in record { n_le_max_records = (
+    (made_predicate _ c.requires.mergeable.made) c.requires.mergeable.plan (own_here c.requires.mergeable.standing c.requires.stretch) in record {
+      n_le_max_records = (
         omega (arith, b.records, few_records i),
         omega (arith, b.records, all_records i),
         c.write_before-spot.auto.levels ∙ c.requires.scratch.1,
-      ); from_le_n = (
+      );
+      from_le_n = (
         omega (arith, b.records, b.end, end_within i),
         wrote_small w,
         c.make_filter-end.auto.out ∙
             (c.write_before-spot.auto.out ∙ c.requires.scratch.0),
-      ) }
+      );
+    }
 
 pub returns-then-records-gt-MAX_RECORDS : goal.returns-then-records-gt-MAX_RECORDS
 unfolding size_p
@@ -87,4 +89,3 @@ returns c =
     let few = c.if-records-gt-MAX_RECORDS.false in
     c.is_shallow.ensures (plan_tree (f.back (filter e q))) g.rest (begun_count g few) (g.bytes few) ∙ fits_is (f.back (filter e q)) g few
     (few_lists h m q l c.if-list-gt-MAX_LIST.false)
-

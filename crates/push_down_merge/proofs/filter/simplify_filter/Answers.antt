@@ -1,5 +1,3 @@
-use mathlib.Core.Path.{refl}
-use borrow.Author.Rules.{rules}
 use Rattle.push_down_merge.proofs.Merges.{simplified_known, simplified_new, simplified_old}
 use Rattle.push_down_merge.proofs.filter.simplify_filter.Goals as goal
 
@@ -10,12 +8,11 @@ reorder_predicates-new-requires c =
 pub returns-then-old-list-clause-remains : goal.returns-then-old-list-clause-remains
 returns-then-old-list-clause-remains c =
     λ e h. let k = c.reorder_predicates-new.ensures _
-          (c.simplify_predicates-simplified.ensures _ h.listed) in simplified_new h k.0 k.1
-          c.if-old-list.true
+    (c.simplify_predicates-simplified.ensures _ h.listed) in simplified_new h k.0 k.1
+    c.if-old-list.true
 
 pub returns-clause-remains : goal.returns-clause-remains
 returns-clause-remains c =
     λ e h. let k = c.reorder_predicates-new.ensures _
-          (c.simplify_predicates-simplified.ensures _ h.listed) in simplified_old h k.0 k.1
-          c.if-old-list.false
-
+    (c.simplify_predicates-simplified.ensures _ h.listed) in simplified_old h k.0 k.1
+    c.if-old-list.false

@@ -1,14 +1,10 @@
 use mathlib.Core.Path.{refl, sym, ◌∙◌}
-use Prim.Native.Nat.{ℕ, ◌+◌, ◌<◌}
 use native.Mathlib.Omega.{arith}
-use borrow.Author.Rules.{rules}
-use Rattle.plan.proofs.Bools.{told, untold}
 use Rattle.conjuncts.proofs.Listed.{lists_none, known_of}
 use Rattle.push_down_base.proofs.Steps.{filter_predicate}
 use Rattle.writing.proofs.Stretches.{input_within, input_at}
 use Rattle.push_down_merge.proofs.OneMerge.{own_few, one_merge, merge_rests}
 use Rattle.push_down_stays.proofs.Dispatches.{read_kind}
-use Rattle.push_down_rewrite.specs.Filters.{plans_below}
 use Rattle.push_down_rewrite.proofs.Again.{at_rest, left_gone, left_other, rests_over, with_left, again, merge_unfit}
 use Rattle.push_down_rewrite.proofs.Falling.{plans_fall}
 use Rattle.push_down_rewrite.proofs.filter.+merge_filter_rewrite_filter.Goals as goal
@@ -30,7 +26,7 @@ pub merge_filter-merge-merged-requires-clause-known : goal.merge_filter-merge-me
 merge_filter-merge-merged-requires-clause-known t c =
     let p = c.requires.on_filter in
     let h = p.rests.placed in known_of (c.split_at.ensures p.lower _ (filter_predicate h.short h.standing) (lists_none c.empty.ensures))
-          (own_few p.lower p.plan h.lists)
+    (own_few p.lower p.plan h.lists)
 
 pub merge_filter-merge_fits-requires-clause-stretch : goal.merge_filter-merge_fits-requires-clause-stretch
 merge_filter-merge_fits-requires-clause-stretch t c =
@@ -51,14 +47,14 @@ merge_filter-merge_fits-requires-clause-mergeable t c =
     let l = c.split_at.ensures p.lower _ (filter_predicate h.short h.standing) (lists_none c.empty.ensures) in
     let m = one_merge k (λ n i. c.merge-merged.ensures p.expr p.lower n k.shaped l i)
     y.standing in record {
-          whole = p.whole;
-          spot = p.spot;
-          inside = p.inside;
-          expr = m.expr;
-          made = m.made;
-          plan = p.plan;
-          standing = m.input.standing;
-        }
+      whole = p.whole;
+      spot = p.spot;
+      inside = p.inside;
+      expr = m.expr;
+      made = m.made;
+      plan = p.plan;
+      standing = m.input.standing;
+    }
 
 pub merge_filter-returns-then-not-merge_fits : goal.merge_filter-returns-then-not-merge_fits
 merge_filter-returns-then-not-merge_fits t c =
@@ -110,13 +106,13 @@ pub rewrite_filter-resume_in_place-requires-clause-left_inside : goal.rewrite_fi
 rewrite_filter-resume_in_place-requires-clause-left_inside t c =
     let p = c.requires.on_plan in
     let k = c.simplify_filter-left.ensures.remains p.expr p.rests.shaped in record {
-          whole = p.whole;
-          spot = p.spot;
-          inside = p.inside;
-          option = _;
-          plan = p.plan;
-          left = left_gone p.rests k (sym c.is_gone.ensures ∙ c.if-is_gone.true);
-        }
+      whole = p.whole;
+      spot = p.spot;
+      inside = p.inside;
+      option = _;
+      plan = p.plan;
+      left = left_gone p.rests k (sym c.is_gone.ensures ∙ c.if-is_gone.true);
+    }
 
 pub rewrite_filter-returns-then-is_gone : goal.rewrite_filter-returns-then-is_gone
 rewrite_filter-returns-then-is_gone t c =
@@ -161,14 +157,14 @@ pub rewrite_filter-resume_in_place-requires-2-clause-left_inside : goal.rewrite_
 rewrite_filter-resume_in_place-requires-2-clause-left_inside t c =
     let p = c.requires.on_plan in
     let n = read_kind c.requires.stretch c.word_at.ensures.0 p.rests.placed.standing in record {
-          whole = p.whole;
-          spot = p.spot;
-          inside = p.inside;
-          option = _;
-          plan = p.plan;
-          left = left_other p.rests (c.simplify_filter-left.ensures.remains p.expr p.rests.shaped) n
-              c.if-word_at-eq-FILTER.false;
-        }
+      whole = p.whole;
+      spot = p.spot;
+      inside = p.inside;
+      option = _;
+      plan = p.plan;
+      left = left_other p.rests (c.simplify_filter-left.ensures.remains p.expr p.rests.shaped) n
+          c.if-word_at-eq-FILTER.false;
+    }
 
 pub rewrite_filter-returns : goal.rewrite_filter-returns
 rewrite_filter-returns t c =
@@ -176,4 +172,3 @@ rewrite_filter-returns t c =
     c.word_at.ensures.0 h.placed.standing in
     let l = left_other h (c.simplify_filter-left.ensures.remains e h.shaped) n c.if-word_at-eq-FILTER.false in
     at_rest e l (c.resume_in_place-2.ensures w f i _ q l)
-

@@ -1,10 +1,9 @@
 -- `filter::resume_in_place` meets its contract.
 use mathlib.Core.Path.{◌∙◌}
 use native.Mathlib.Omega.{arith}
-use borrow.Author.Rules.{rules}
 use Rattle.plan.specs.Measure.{size_p}
 use Rattle.rewrite.specs.PushDownFilter.{resume, rewrite_filter}
-use Rattle.push_down_merge.proofs.Tested.{few_records, sized, stands_inside, end_within, level_small}
+use Rattle.push_down_merge.proofs.Tested.{few_records, stands_inside, end_within, level_small}
 use Rattle.push_down_rewrite.proofs.filter.resume_in_place.Goals as goal
 
 pub write_before-spot-requires-clause-there_p : goal.write_before-spot-requires-clause-there_p
@@ -25,18 +24,18 @@ finish-requires-clause-replaced c =
     let i = c.requires.left_inside.inside in
     let q = c.requires.left_inside.plan in
     let long = c.write_before-spot.auto.out ∙ c.requires.scratch_map.1 in record {
-        node = _;
-        whole = c.requires.left_inside.whole;
-        place = c.requires.left_inside.spot;
-        answer = resume c.requires.left_inside.option (λ e. rewrite_filter e q) q;
-        replaces = record {
-          inside = i;
-          before = _;
-          long = long;
-          begun = c.write_before-spot.ensures c.requires.left_inside.whole c.requires.left_inside.spot i.root i.there (stands_inside i);
-          answers = c.resume-new.ensures c.requires.left_inside.option q c.requires.left_inside.left;
-        };
-      }
+      node = _;
+      whole = c.requires.left_inside.whole;
+      place = c.requires.left_inside.spot;
+      answer = resume c.requires.left_inside.option (λ e. rewrite_filter e q) q;
+      replaces = record {
+        inside = i;
+        before = _;
+        long = long;
+        begun = c.write_before-spot.ensures c.requires.left_inside.whole c.requires.left_inside.spot i.root i.there (stands_inside i);
+        answers = c.resume-new.ensures c.requires.left_inside.option q c.requires.left_inside.left;
+      };
+    }
 
 pub returns : goal.returns
 unfolding size_p
@@ -50,4 +49,3 @@ returns c =
       begun = c.write_before-spot.ensures w f h.root h.there (stands_inside h);
       answers = c.resume-new.ensures o q l;
     })
-

@@ -1,9 +1,7 @@
 -- `input::resume` meets its contract.
 use mathlib.Core.Path.{refl, sym, ◌∙◌}
-use native.Mathlib.Omega.{arith}
-use borrow.Author.Rules.{rules}
 use Rattle.plan.specs.Trees.{plan_tree}
-use Rattle.writing.proofs.Stretches.{own_here, own_readable}
+use Rattle.writing.proofs.Stretches.{own_here}
 use Rattle.push_down_base.proofs.Answering.{answers}
 use Rattle.push_down_merge.proofs.OneMerge.{leaves_none}
 use Rattle.push_down_rewrite.proofs.Again.{left_on}
@@ -25,4 +23,3 @@ returns c =
     λ o q h. let l = left_on h (sym c.is_gone.ensures
     ∙ c.if-is_gone.false) in
     rw l.is (c.rewrite_input.ensures l.expr q l.rests l.other)
-

@@ -1,7 +1,5 @@
 -- `input::rewrite_input` meets its contract: the number of a plan tells its arm.
 use mathlib.Core.Path.{◌∙◌}
-use native.Mathlib.Omega.{arith}
-use borrow.Author.Rules.{rules}
 use Rattle.push_down_stays.proofs.KindOf.{when_through}
 use Rattle.push_down_stays.proofs.Dispatches.{read_kind, over_scan, over_project, over_join, over_alias, over_union, over_aggregate, over_window}
 use Rattle.push_down_stays.proofs.Dispatches.{by_scan, by_project, by_join, by_alias, by_union, by_aggregate, by_window}
@@ -30,7 +28,7 @@ returns-then-kind-eq-PROJECTION c =
 pub rewrite_join-requires-clause-over_join : goal.rewrite_join-requires-clause-over_join
 rewrite_join-requires-clause-over_join c =
     let r = c.requires.on_input in over_join r (read_kind c.requires.stretch c.word_at-kind.ensures.0 r.rests.placed.standing)
-            c.if-kind-eq-JOIN.true
+    c.if-kind-eq-JOIN.true
 
 pub returns-then-kind-eq-JOIN : goal.returns-then-kind-eq-JOIN
 returns-then-kind-eq-JOIN c =
@@ -41,7 +39,7 @@ returns-then-kind-eq-JOIN c =
 pub rewrite_subquery_alias-requires-clause-over_alias : goal.rewrite_subquery_alias-requires-clause-over_alias
 rewrite_subquery_alias-requires-clause-over_alias c =
     let r = c.requires.on_input in over_alias r (read_kind c.requires.stretch c.word_at-kind.ensures.0 r.rests.placed.standing)
-            c.if-kind-eq-SUBQUERY_ALIAS.true
+    c.if-kind-eq-SUBQUERY_ALIAS.true
 
 pub returns-then-kind-eq-SUBQUERY_ALIAS : goal.returns-then-kind-eq-SUBQUERY_ALIAS
 returns-then-kind-eq-SUBQUERY_ALIAS c =
@@ -53,7 +51,7 @@ returns-then-kind-eq-SUBQUERY_ALIAS c =
 pub rewrite_union-requires-clause-over_union : goal.rewrite_union-requires-clause-over_union
 rewrite_union-requires-clause-over_union c =
     let r = c.requires.on_input in over_union r (read_kind c.requires.stretch c.word_at-kind.ensures.0
-            r.rests.placed.standing) c.if-kind-eq-UNION.true
+    r.rests.placed.standing) c.if-kind-eq-UNION.true
 
 pub returns-then-kind-eq-UNION : goal.returns-then-kind-eq-UNION
 returns-then-kind-eq-UNION c =
@@ -65,7 +63,7 @@ returns-then-kind-eq-UNION c =
 pub rewrite_aggregate-requires-clause-over_aggregate : goal.rewrite_aggregate-requires-clause-over_aggregate
 rewrite_aggregate-requires-clause-over_aggregate c =
     let r = c.requires.on_input in over_aggregate r (read_kind c.requires.stretch c.word_at-kind.ensures.0
-            r.rests.placed.standing) c.if-kind-eq-AGGREGATE.true
+    r.rests.placed.standing) c.if-kind-eq-AGGREGATE.true
 
 pub returns-then-kind-eq-AGGREGATE : goal.returns-then-kind-eq-AGGREGATE
 returns-then-kind-eq-AGGREGATE c =
@@ -75,7 +73,7 @@ returns-then-kind-eq-AGGREGATE c =
 pub rewrite_window-requires-clause-over_window : goal.rewrite_window-requires-clause-over_window
 rewrite_window-requires-clause-over_window c =
     let r = c.requires.on_input in over_window r (read_kind c.requires.stretch c.word_at-kind.ensures.0
-            r.rests.placed.standing) c.if-kind-eq-WINDOW.true
+    r.rests.placed.standing) c.if-kind-eq-WINDOW.true
 
 pub returns-then-kind-eq-WINDOW : goal.returns-then-kind-eq-WINDOW
 returns-then-kind-eq-WINDOW c =
@@ -88,14 +86,14 @@ rewrite_through-requires-clause-over_through c =
     let r = c.requires.on_input in
     let y = read_kind c.requires.stretch c.word_at-kind.ensures.0
     r.rests.placed.standing in record {
-          expr = r.expr;
-          plan = r.plan;
-          rests = r.rests;
-          is = when_through r.plan r.other (λ e. c.if-kind-eq-TABLE_SCAN.false (y ∙ e))
-              (λ e. c.if-kind-eq-PROJECTION.false (y ∙ e))
-              (λ e. c.if-kind-eq-JOIN.false (y ∙ e)) (λ e. c.if-kind-eq-SUBQUERY_ALIAS.false (y ∙ e))
-              (λ e. c.if-kind-eq-UNION.false (y ∙ e)) (λ e. c.if-kind-eq-AGGREGATE.false (y ∙ e)) (λ e. c.if-kind-eq-WINDOW.false (y ∙ e));
-        }
+      expr = r.expr;
+      plan = r.plan;
+      rests = r.rests;
+      is = when_through r.plan r.other (λ e. c.if-kind-eq-TABLE_SCAN.false (y ∙ e))
+          (λ e. c.if-kind-eq-PROJECTION.false (y ∙ e))
+          (λ e. c.if-kind-eq-JOIN.false (y ∙ e)) (λ e. c.if-kind-eq-SUBQUERY_ALIAS.false (y ∙ e))
+          (λ e. c.if-kind-eq-UNION.false (y ∙ e)) (λ e. c.if-kind-eq-AGGREGATE.false (y ∙ e)) (λ e. c.if-kind-eq-WINDOW.false (y ∙ e));
+    }
 
 pub returns : goal.returns
 returns c =
@@ -108,4 +106,3 @@ returns c =
     (λ z. c.if-kind-eq-SUBQUERY_ALIAS.false (y ∙ z))
     (λ z. c.if-kind-eq-UNION.false (y ∙ z)) (λ z. c.if-kind-eq-AGGREGATE.false (y
     ∙ z)) (λ z. c.if-kind-eq-WINDOW.false (y ∙ z)))
-

@@ -1,12 +1,10 @@
 -- `node::finish` meets its contract: what is written is the whole with the answer, and its records, its depth and its lists are tested.
 use mathlib.Core.Path.{refl, sym, ◌∙◌}
 use native.Mathlib.Omega.{arith}
-use borrow.Author.Rules.{rules}
 use Rattle.plan.specs.Trees.{plan_tree}
 use Rattle.plan.specs.Measure.{size_p}
 use Rattle.answers.proofs.Fitting.{begun_count, flattened, answered}
 use Rattle.push_down_merge.proofs.Tested.{few_records, all_records, end_within}
-use Rattle.plan.proofs.Bools.{told, untold}
 use Rattle.push_down_rewrite.proofs.Finishes.{unfit, at_once, next_small, too_many, begun, depth_decides}
 use Rattle.push_down_rewrite.proofs.node.finish.Goals as goal
 
@@ -15,11 +13,14 @@ unfolding size_p
 write_records-records-requires c =
     let r = c.requires.replaced.replaces in
     let b = r.begun in
-    let i = r.inside in record { n_le_max_records = (
+    let i = r.inside in record {
+      n_le_max_records = (
         omega (arith, b.records, few_records i),
         omega (arith, b.records, all_records i),
         c.requires.scratch.1,
-      ); from_le_n = (omega (arith, b.records, b.end, end_within i), next_small r, c.requires.scratch.0) }
+      );
+      from_le_n = (omega (arith, b.records, b.end, end_within i), next_small r, c.requires.scratch.0);
+    }
 
 pub returns-then-records-gt-MAX_RECORDS : goal.returns-then-records-gt-MAX_RECORDS
 unfolding size_p
@@ -64,4 +65,3 @@ returns c =
       written = λ y. refl;
       image = λ y. record { count = begun_count b few; bytes = answered b few deep c.relink.ensures };
     }
-

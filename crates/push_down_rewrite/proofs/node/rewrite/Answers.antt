@@ -1,7 +1,5 @@
 -- `node::rewrite` meets its contract.
 use mathlib.Core.Path.{refl}
-use borrow.Author.Rules.{rules}
-use Rattle.plan.proofs.Bools.{no_yes}
 use Rattle.push_down_rewrite.proofs.Outcoming.{stays_outcomes, changed}
 use Rattle.push_down_rewrite.proofs.node.rewrite.Goals as goal
 
@@ -12,6 +10,5 @@ returns-then-stays-clause-outcomes c =
 pub returns-clause-changes : goal.returns-clause-changes
 returns-clause-changes c =
     λ w f h y. changed h
-          (c.stays.ensures w f h)
-          c.if-stays.false
-
+    (c.stays.ensures w f h)
+    c.if-stays.false

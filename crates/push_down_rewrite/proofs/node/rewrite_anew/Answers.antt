@@ -1,7 +1,6 @@
 -- `node::rewrite_anew` meets its contract.
 use mathlib.Core.Path.{refl, sym, ◌∙◌}
 use native.Mathlib.Omega.{arith}
-use borrow.Author.Rules.{rules}
 use Rattle.push_down_base.proofs.Steps.{filter_predicate}
 use Rattle.push_down_merge.proofs.OneMerge.{own_few}
 use Rattle.push_down_merge.proofs.Tested.{stands_inside}
@@ -68,7 +67,7 @@ rewrite_filter-requires-clause-stretch c =
     let k = c.predicate_at-p.ensures e (filter_predicate i.short h.standing) (own_few e q h.lists) in
     let g = c.filter_input-x.ensures _ e q
     c.record_at-part.ensures i.short h.standing in input_at g.standing c.record_at-part.ensures g.after
-          c.from_record.ensures
+    c.from_record.ensures
 
 pub rewrite_filter-requires-clause-on_plan : goal.rewrite_filter-requires-clause-on_plan
 rewrite_filter-requires-clause-on_plan c =
@@ -83,13 +82,13 @@ rewrite_filter-requires-clause-on_plan c =
     let k = c.predicate_at-p.ensures e (filter_predicate i.short h.standing) (own_few e q h.lists) in
     let g = c.filter_input-x.ensures _ e q
     c.record_at-part.ensures i.short h.standing in record {
-          whole = f.whole;
-          spot = f.spot;
-          inside = i;
-          expr = e;
-          plan = q;
-          rests = rests_written e q h k g.standing;
-        }
+      whole = f.whole;
+      spot = f.spot;
+      inside = i;
+      expr = e;
+      plan = q;
+      rests = rests_written e q h k g.standing;
+    }
 
 pub returns-then-kind-eq-FILTER : goal.returns-then-kind-eq-FILTER
 returns-then-kind-eq-FILTER c =
@@ -111,19 +110,18 @@ rewrite_join_node-requires-clause-join_inside c =
     let f = c.requires.found in
     let a = a_join f.spot.plan
     (sym (read_kind c.record_at-part.ensures c.word_at-kind.ensures.0 (stands_inside f.inside)) ∙ c.if-kind-eq-JOIN.true) in record {
-          whole = f.whole;
-          spot = f.spot;
-          inside = f.inside;
-          kind = a.kind;
-          lhs = a.lhs;
-          rhs = a.rhs;
-          keys = a.keys;
-          condition = a.condition;
-          is = a.is;
-        }
+      whole = f.whole;
+      spot = f.spot;
+      inside = f.inside;
+      kind = a.kind;
+      lhs = a.lhs;
+      rhs = a.rhs;
+      keys = a.keys;
+      condition = a.condition;
+      is = a.is;
+    }
 
 pub returns : goal.returns
 returns c =
     λ w f h. let k = read_kind c.record_at-part.ensures c.word_at-kind.ensures.0 (stands_inside h) in
     stays_outcomes h (other_stays f.plan (λ e. c.if-kind-eq-FILTER.false (k ∙ e)) (λ e. c.if-kind-eq-JOIN.false (k ∙ e))) refl refl refl refl
-

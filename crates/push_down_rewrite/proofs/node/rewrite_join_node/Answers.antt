@@ -2,13 +2,12 @@
 use mathlib.Core.Path.{◌∙◌}
 use mathlib.Core.List.{[]}
 use native.Mathlib.Omega.{arith}
-use borrow.Author.Rules.{rules}
 use Rattle.plan.specs.Measure.{size_p}
 use Rattle.rewrite.specs.PushDownFilter.{push_down_join}
 use Rattle.plan.specs.Lists.{anil}
 use Rattle.push_down_base.proofs.Scoping.{reads_none}
 use Rattle.push_down_join.proofs.JoinsUnder.{none_under}
-use Rattle.push_down_merge.proofs.Tested.{few_records, sized, stands_inside, end_within, level_small}
+use Rattle.push_down_merge.proofs.Tested.{few_records, stands_inside, end_within, level_small}
 use Rattle.push_down_stays.proofs.Nodes.{the_join, placed_inside}
 use Rattle.push_down_rewrite.proofs.Outcoming.{join_outcomes}
 use Rattle.push_down_rewrite.proofs.node.rewrite_join_node.Goals as goal
@@ -34,11 +33,11 @@ push_down_join-new-requires-clause-arm_over c =
     let i = j.inside in
     let b = c.write_before-spot.ensures j.whole j.spot i.root i.there
     (stands_inside i) in (
-          c.requires.scratch_map.0,
-          omega (arith, level_small i b.level),
-          c.write_before-spot.auto.out ∙ c.requires.scratch_map.1,
-          omega (arith, end_within i, few_records i),
-        )
+      c.requires.scratch_map.0,
+      omega (arith, level_small i b.level),
+      c.write_before-spot.auto.out ∙ c.requires.scratch_map.1,
+      omega (arith, end_within i, few_records i),
+    )
 
 pub finish-requires-clause-replaced : goal.finish-requires-clause-replaced
 unfolding size_p
@@ -47,19 +46,19 @@ finish-requires-clause-replaced c =
     let i = j.inside in
     let b = c.write_before-spot.ensures j.whole j.spot i.root i.there (stands_inside i) in
     let long = c.write_before-spot.auto.out ∙ c.requires.scratch_map.1 in record {
-        node = _;
-        whole = j.whole;
-        place = j.spot;
-        answer = push_down_join j.kind j.lhs j.rhs j.keys j.condition [];
-        replaces = record {
-          inside = i;
-          before = _;
-          long = long;
-          begun = b;
-          answers = c.push_down_join-new.ensures j.kind j.lhs j.rhs j.keys j.condition []
-              (placed_inside i j.is) (reads_none c.empty.ensures) anil;
-        };
-      }
+      node = _;
+      whole = j.whole;
+      place = j.spot;
+      answer = push_down_join j.kind j.lhs j.rhs j.keys j.condition [];
+      replaces = record {
+        inside = i;
+        before = _;
+        long = long;
+        begun = b;
+        answers = c.push_down_join-new.ensures j.kind j.lhs j.rhs j.keys j.condition []
+            (placed_inside i j.is) (reads_none c.empty.ensures) anil;
+      };
+    }
 
 pub returns : goal.returns
 unfolding size_p
@@ -78,4 +77,3 @@ returns c =
           (placed_inside h a.is) (reads_none
           c.empty.ensures) anil;
     }))
-

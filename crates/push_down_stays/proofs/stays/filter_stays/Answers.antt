@@ -2,7 +2,6 @@
 use mathlib.Core.Path.{sym, ap, ◌∙◌}
 use native.Mathlib.Omega.{arith}
 use mathlib.Core.List.{[]}
-use borrow.Author.Rules.{rules}
 use Rattle.conjuncts.proofs.Listed.{lists_none}
 use Rattle.push_down_merge.proofs.OneMerge.{own_few}
 use Rattle.push_down_merge.proofs.Merges.{shaped_written}
@@ -10,7 +9,6 @@ use Rattle.push_down_merge.proofs.Tested.{stands_inside}
 use Rattle.push_down_base.proofs.Steps.{filter_predicate}
 use Rattle.writing.proofs.Stretches.{input_within, input_at}
 use Rattle.push_down_stays.specs.Staying.{may_stay}
-use Rattle.plan.proofs.Bools.{told, untold}
 use Rattle.push_down_stays.proofs.Nodes.{the_filter, placed_inside}
 use Rattle.push_down_stays.proofs.Stayings.{kept_as, may_stay_other, filter_goes, filter_moves, filter_simple, rests_written}
 use Rattle.push_down_stays.proofs.stays.filter_stays.Goals as goal
@@ -64,7 +62,9 @@ over_stays-requires c =
     st.standing.here.head.label in
     let pred = filter_predicate p.inside.short at in
     let k = shaped_written (omega arith) pred (c.split_at.ensures p.expr [] pred (lists_none c.empty.ensures))
-    (own_few _ _ (placed_inside p.inside p.is).lists) in record { stretch = input_at st.standing c.requires.stretch st.after c.from_record-input.ensures; on_input = (
+    (own_few _ _ (placed_inside p.inside p.is).lists) in record {
+      stretch = input_at st.standing c.requires.stretch st.after c.from_record-input.ensures;
+      on_input = (
         record {
           expr = p.expr;
           plan = p.plan;
@@ -72,7 +72,8 @@ over_stays-requires c =
           other = may_stay_other p.plan (sym m ∙ c.if-not-may_stay.false);
         },
         λ z. omega arith,
-      ) }
+      );
+    }
 
 pub is_simple-requires : goal.is_simple-requires
 is_simple-requires c =
@@ -118,4 +119,3 @@ returns c =
     let o = may_stay_other a.plan (sym m ∙ c.if-not-may_stay.false) in
     let r = rests_written a.expr a.plan (placed_inside h a.is) k st.standing in
     rw a.is (filter_moves a.expr a.plan o (kept_as c.if-over_stays.false (c.over_stays.ensures a.expr a.plan r o)))
-

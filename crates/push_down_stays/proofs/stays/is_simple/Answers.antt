@@ -1,6 +1,5 @@
 -- `stays::is_simple` meets its contract.
 use mathlib.Core.Path.{sym, ◌∙◌}
-use borrow.Author.Rules.{rules}
 use Rattle.rewrite.specs.Utils.{split_conjunction}
 use Rattle.push_down_merge.proofs.Merges.{shaped_known}
 use Rattle.push_down_merge.proofs.OneMerge.{leaves_none, leaves_some}
@@ -39,4 +38,3 @@ returns c =
     c.is_gone.ensures ∙ c.if-is_gone.false) in
     let s = c.same_items.ensures (split_conjunction g.expr) (split_conjunction e) g.shaped.listed h.listed in
     simple_other h g.is g.shaped (s.no c.if-same_items.false)
-

@@ -1,7 +1,6 @@
 -- `stays::join_stays` meets its contract.
 use mathlib.Core.Path.{◌∙◌}
 use mathlib.Core.List.{[]}
-use borrow.Author.Rules.{rules}
 use Rattle.rewrite.specs.Utils.{split_conjunction?}
 use Rattle.conjuncts.proofs.Listed.{lists_length}
 use Rattle.push_down_base.proofs.Scoping.{reads_none}
@@ -16,17 +15,17 @@ returns-then-g-eq0 c =
 pub nothing_moves-requires-clause-join_between : goal.nothing_moves-requires-clause-join_between
 nothing_moves-requires-clause-join_between c =
     let p = c.requires.join_here in record {
-        kind = p.kind;
-        lhs = p.lhs;
-        rhs = p.rhs;
-        keys = p.keys;
-        condition = p.condition;
-        placed = p.placed;
-        above = [];
-        reads = reads_none c.empty.ensures;
-        own = split_conjunction? p.condition;
-        reads_own = c.own_filter-g.ensures p.kind p.lhs p.rhs p.keys p.condition p.placed;
-      }
+      kind = p.kind;
+      lhs = p.lhs;
+      rhs = p.rhs;
+      keys = p.keys;
+      condition = p.condition;
+      placed = p.placed;
+      above = [];
+      reads = reads_none c.empty.ensures;
+      own = split_conjunction? p.condition;
+      reads_own = c.own_filter-g.ensures p.kind p.lhs p.rhs p.keys p.condition p.placed;
+    }
 
 pub returns-then-own_left_deep : goal.returns-then-own_left_deep
 returns-then-own_left_deep c =
@@ -37,4 +36,3 @@ returns-then-own_left_deep c =
 pub returns : goal.returns
 returns c =
     λ k l r on f h. join_shallow k l r on f (says_as c.if-own_left_deep.false (c.own_left_deep.ensures k l r on f h))
-

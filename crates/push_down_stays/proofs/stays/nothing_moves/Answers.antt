@@ -2,12 +2,11 @@
 use mathlib.Core.Path.{ap, ◌∙◌}
 use mathlib.Core.Bool.{not}
 use mathlib.Core.List.{◌++◌, map}
-use native.Mathlib.Omega.{arith}
 use Rattle.plan.specs.Schema.{schema}
 use Rattle.plan.specs.Syntax.{Name, Expr, col}
 use Rattle.rewrite.specs.PushDownFilter.{ren, nothing_moves}
 use Rattle.push_down_join.specs.Scopes.{swap}
-use Rattle.push_down_join.proofs.JoinWritten.{join_here, join_part, join_at, asked, kind_is}
+use Rattle.push_down_join.proofs.JoinWritten.{join_at, asked, kind_is}
 use Rattle.push_down_join.proofs.SideLists.{renames_swap}
 use Rattle.push_down_stays.proofs.Stayings.{not_not}
 use Rattle.push_down_stays.proofs.stays.nothing_moves.Goals as goal
@@ -36,4 +35,3 @@ returns c =
     let σ : Name → Expr = λ x. col (ren (s ++ t) (map (swap on) (s ++ t)) x) in
     let v = c.moves_of-v.ensures k s t on P G σ e sc q g (renames_swap (s ++ t) on) in
     ap not v.flag ∙ not_not (nothing_moves k s t on P G)
-

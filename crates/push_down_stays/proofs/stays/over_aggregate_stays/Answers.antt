@@ -14,4 +14,3 @@ pub returns : goal.returns
 returns c =
     λ e gs ags q h. let d = c.divide_groups-d.ensures e gs ags q h in
     aggregate_moves e gs ags q (λ z. c.if-moved-eq0.false (sym (lists_length d.moved d.moved_most) ∙ z))
-

@@ -9,4 +9,3 @@ pub returns : goal.returns
 returns c =
     λ e es q h. let d = c.divide-d.ensures e (project es q) h in
     project_kept? e es q (sym (lists_length d.moved d.moved_most))
-

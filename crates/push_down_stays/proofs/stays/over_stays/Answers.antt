@@ -1,6 +1,5 @@
 -- `stays::over_stays` meets its contract: the number of a plan tells its arm.
 use mathlib.Core.Path.{sym, ap, ◌∙◌}
-use native.Mathlib.Omega.{arith}
 use Rattle.push_down_arms.specs.Through.{takes_none}
 use Rattle.push_down_stays.proofs.Dispatches.{read_kind, over_scan, over_project, over_join, over_aggregate, over_window}
 use Rattle.push_down_stays.proofs.KindOf.{when_scan, when_project, when_join, when_aggregate, when_window}
@@ -10,7 +9,7 @@ use Rattle.push_down_stays.proofs.stays.over_stays.Goals as goal
 pub over_scan_stays-requires-clause-over_scan : goal.over_scan_stays-requires-clause-over_scan
 over_scan_stays-requires-clause-over_scan c =
     let r = c.requires.on_input.0 in over_scan r (read_kind c.requires.stretch
-          c.word_at-kind.ensures.0 r.rests.placed.standing) c.if-kind-eq-TABLE_SCAN.true
+    c.word_at-kind.ensures.0 r.rests.placed.standing) c.if-kind-eq-TABLE_SCAN.true
 
 pub returns-then-kind-eq-TABLE_SCAN : goal.returns-then-kind-eq-TABLE_SCAN
 returns-then-kind-eq-TABLE_SCAN c =
@@ -21,7 +20,7 @@ returns-then-kind-eq-TABLE_SCAN c =
 pub over_projection_stays-requires-clause-over_projection : goal.over_projection_stays-requires-clause-over_projection
 over_projection_stays-requires-clause-over_projection c =
     let r = c.requires.on_input.0 in over_project r (read_kind c.requires.stretch c.word_at-kind.ensures.0
-          r.rests.placed.standing) c.if-kind-eq-PROJECTION.true
+    r.rests.placed.standing) c.if-kind-eq-PROJECTION.true
 
 pub returns-then-kind-eq-PROJECTION : goal.returns-then-kind-eq-PROJECTION
 returns-then-kind-eq-PROJECTION c =
@@ -32,10 +31,10 @@ returns-then-kind-eq-PROJECTION c =
 pub over_join_stays-requires-clause-over_join : goal.over_join_stays-requires-clause-over_join
 over_join_stays-requires-clause-over_join c =
     let r = c.requires.on_input.0 in (
-        over_join r (read_kind c.requires.stretch c.word_at-kind.ensures.0
-            r.rests.placed.standing) c.if-kind-eq-JOIN.true,
-        c.requires.on_input.1,
-      )
+      over_join r (read_kind c.requires.stretch c.word_at-kind.ensures.0
+          r.rests.placed.standing) c.if-kind-eq-JOIN.true,
+      c.requires.on_input.1,
+    )
 
 pub returns-then-kind-eq-JOIN : goal.returns-then-kind-eq-JOIN
 returns-then-kind-eq-JOIN c =
@@ -46,11 +45,11 @@ returns-then-kind-eq-JOIN c =
 pub over_aggregate_stays-requires-clause-over_aggregate : goal.over_aggregate_stays-requires-clause-over_aggregate
 over_aggregate_stays-requires-clause-over_aggregate c =
     let r = c.requires.on_input.0 in (
-        over_aggregate r (read_kind c.requires.stretch
-            c.word_at-kind.ensures.0 r.rests.placed.standing)
-            c.if-kind-eq-AGGREGATE.true,
-        c.requires.on_input.1,
-      )
+      over_aggregate r (read_kind c.requires.stretch
+          c.word_at-kind.ensures.0 r.rests.placed.standing)
+          c.if-kind-eq-AGGREGATE.true,
+      c.requires.on_input.1,
+    )
 
 pub returns-then-kind-eq-AGGREGATE : goal.returns-then-kind-eq-AGGREGATE
 returns-then-kind-eq-AGGREGATE c =
@@ -61,11 +60,11 @@ returns-then-kind-eq-AGGREGATE c =
 pub over_window_stays-requires-clause-over_window : goal.over_window_stays-requires-clause-over_window
 over_window_stays-requires-clause-over_window c =
     let r = c.requires.on_input.0 in (
-        over_window r (read_kind c.requires.stretch
-            c.word_at-kind.ensures.0 r.rests.placed.standing)
-            c.if-kind-eq-WINDOW.true,
-        c.requires.on_input.1,
-      )
+      over_window r (read_kind c.requires.stretch
+          c.word_at-kind.ensures.0 r.rests.placed.standing)
+          c.if-kind-eq-WINDOW.true,
+      c.requires.on_input.1,
+    )
 
 pub returns-then-kind-eq-WINDOW : goal.returns-then-kind-eq-WINDOW
 returns-then-kind-eq-WINDOW c =
@@ -83,4 +82,3 @@ returns c =
     (λ z. c.if-kind-eq-WINDOW.false (y ∙ z))
     ((rw c.requires.stretch at c.takes_none.ensures) ∙ ap takes_none
     h.placed.standing.here.head.label)
-

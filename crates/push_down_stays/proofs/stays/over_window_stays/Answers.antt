@@ -15,4 +15,3 @@ pub returns : goal.returns
 returns c =
     λ e ws q h. let d = c.divide-d.ensures e (window ws q) h in
     window_moves e ws q (λ z. c.if-moved-eq0.false (sym (lists_length d.moved d.moved_most) ∙ z))
-

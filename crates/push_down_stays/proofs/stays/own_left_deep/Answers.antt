@@ -1,6 +1,5 @@
 -- `stays::own_left_deep` meets its contract.
 use Rattle.push_down_join.proofs.JoinParts.{own_there}
-use Rattle.push_down_join.proofs.JoinWritten.{join_part}
 use Rattle.push_down_stays.proofs.Stayings.{own_deep, own_bare}
 use Rattle.push_down_stays.proofs.stays.own_left_deep.Goals as goal
 
@@ -18,4 +17,3 @@ pub returns : goal.returns
 returns c =
     λ k l r on f h. own_deep (c.filter_of-y.ensures _ k l r on f c.requires.stretch h)
     c.if-y-eq0.false c.left_deep_at.ensures
-

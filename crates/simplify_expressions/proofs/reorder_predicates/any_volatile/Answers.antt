@@ -1,13 +1,8 @@
-use mathlib.Core.Path.{◌≡◌, refl, sym, ◌∙◌}
+use mathlib.Core.Path.{sym, ◌∙◌}
 use mathlib.Core.Bool.{true, false}
-use mathlib.Core.List.{List}
-use Prim.Native.Nat.{◌-◌, ◌≤◌}
 use native.Mathlib.Omega.{arith}
-use lib.ListN.{drop}
-use Rattle.plan.specs.Syntax.{Expr}
 use Rattle.plan.specs.Lists.{any}
 use Rattle.rewrite.specs.Utils.{is_volatile_expr}
-use Rattle.conjuncts.specs.Items.{Lists}
 use Rattle.conjuncts.proofs.Listed.{lists_length, any_next, at_end}
 use Rattle.simplify_expressions.proofs.reorder_predicates.any_volatile.Goals as goal
 
@@ -21,19 +16,17 @@ returns-then-function_at c =
 
 pub loop-i-preserved : goal.loop-i-preserved
 unfolding any
-loop-i-preserved c =
-    (
-      omega arith,
-      λ es h. let p = c.requires in
-          c.loop-i.invariant.1 es h
-          ∙ any_next is_volatile_expr es c.loop-i.i
-          (omega (arith, lists_length h p.most, c.loop-i-test.true)) false
-          (sym (c.function_at.ensures es h) ∙ c.if-function_at.false),
-    )
+loop-i-preserved c = (
+  omega arith,
+  λ es h. let p = c.requires in
+      c.loop-i.invariant.1 es h
+      ∙ any_next is_volatile_expr es c.loop-i.i
+      (omega (arith, lists_length h p.most, c.loop-i-test.true)) false
+      (sym (c.function_at.ensures es h) ∙ c.if-function_at.false),
+)
 
 pub returns : goal.returns
 unfolding any
 returns c =
     λ es h. let p = c.requires in
     sym (c.loop-i.invariant.1 es h ∙ rw (at_end es c.loop-i.i (omega (arith, lists_length h p.most, c.loop-i-test.false))))
-

@@ -1,12 +1,6 @@
-use mathlib.Core.Path.{◌≡◌, sym, ◌∙◌}
-use mathlib.Core.List.{List}
-use Prim.Native.Nat.{◌-◌, ◌≤◌}
+use mathlib.Core.Path.{sym, ◌∙◌}
 use native.Mathlib.Omega.{arith}
-use lib.ListN.{drop}
-use Rattle.plan.specs.Syntax.{Expr}
-use Rattle.rewrite.specs.ReorderPredicates.{needs_reorder}
-use Rattle.conjuncts.specs.Items.{Lists}
-use Rattle.simplify_expressions.proofs.Order.{after_cost, after_first, after_next}
+use Rattle.simplify_expressions.proofs.Order.{after_first, after_next}
 use Rattle.simplify_expressions.proofs.Sides.{and_is}
 use Rattle.conjuncts.proofs.Listed.{lists_length, at_end}
 use Rattle.simplify_expressions.proofs.reorder_predicates.needs_reorder.Goals as goal
@@ -23,18 +17,16 @@ returns-then-costly-now c =
     (c.function_at-now.ensures es h) ∙ rw (and_is, c.if-costly-now.true)))
 
 pub loop-i-preserved : goal.loop-i-preserved
-loop-i-preserved c =
-    (
-      omega arith,
-      λ es h. let p = c.requires in
-          c.loop-i.invariant.1 es h
-          ∙ (after_next es c.loop-i.i
-          (omega (arith, lists_length h p.most, c.loop-i-test.true)) _ _ (c.function_at-now.ensures es h)
-          ∙ rw (and_is, c.if-costly-now.false)),
-    )
+loop-i-preserved c = (
+  omega arith,
+  λ es h. let p = c.requires in
+      c.loop-i.invariant.1 es h
+      ∙ (after_next es c.loop-i.i
+      (omega (arith, lists_length h p.most, c.loop-i-test.true)) _ _ (c.function_at-now.ensures es h)
+      ∙ rw (and_is, c.if-costly-now.false)),
+)
 
 pub returns : goal.returns
 returns c =
     λ es h. let p = c.requires in
     sym (c.loop-i.invariant.1 es h ∙ rw (at_end es c.loop-i.i (omega (arith, lists_length h p.most, c.loop-i-test.false))))
-

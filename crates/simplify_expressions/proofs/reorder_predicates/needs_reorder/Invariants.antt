@@ -1,16 +1,13 @@
 -- `reorder_predicates::needs_reorder` meets its contract.
 -- The loop's invariant: what is left to say of the rest, and of whether the one before it is expensive.
-use mathlib.Core.Path.{◌≡◌, sym, ◌∙◌}
+use mathlib.Core.Path.{◌≡◌}
 use mathlib.Core.List.{List}
 use Prim.Native.Nat.{◌-◌, ◌≤◌}
-use native.Mathlib.Omega.{arith}
 use lib.ListN.{drop}
 use Rattle.plan.specs.Syntax.{Expr}
 use Rattle.rewrite.specs.ReorderPredicates.{needs_reorder}
 use Rattle.conjuncts.specs.Items.{Lists}
-use Rattle.simplify_expressions.proofs.Order.{after_cost, after_first, after_next}
-use Rattle.simplify_expressions.proofs.Sides.{and_is}
-use Rattle.conjuncts.proofs.Listed.{lists_length, at_end}
+use Rattle.simplify_expressions.proofs.Order.{after_cost}
 use Rattle.simplify_expressions.proofs.reorder_predicates.needs_reorder.Given as goal
 
 abbrev pub invariant-loop-i : goal.invariant-loop-i
@@ -18,4 +15,3 @@ invariant-loop-i l = (l.i ≤ l.n) × ((es : List Expr) → Lists l.s l.c es →
 
 abbrev pub decreases-loop-i : goal.decreases-loop-i
 decreases-loop-i l = l.n - l.i
-

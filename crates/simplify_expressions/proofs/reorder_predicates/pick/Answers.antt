@@ -1,11 +1,6 @@
-use mathlib.Core.List.{List}
-use Prim.Native.Nat.{◌-◌, ◌≤◌}
 use native.Mathlib.Omega.{arith}
-use Rattle.plan.specs.Syntax.{Expr}
-use Rattle.conjuncts.specs.Items.{Lists}
-use Rattle.conjuncts.proofs.Listed.{lists_at, lists_length, lists_room}
-use Rattle.conjuncts.proofs.Kept.{Kept, kept_start, kept_next, kept_end}
-use Rattle.simplify_expressions.specs.Cost.{of_cost}
+use Rattle.conjuncts.proofs.Listed.{lists_at, lists_length}
+use Rattle.conjuncts.proofs.Kept.{kept_next, kept_end}
 use Rattle.simplify_expressions.proofs.Order.{cost_is}
 use Rattle.simplify_expressions.proofs.reorder_predicates.pick.Goals as goal
 
@@ -15,19 +10,17 @@ add_if-r-requires c =
     (lists_at p.lists p.most _ _ c.loop-i-test.true c.item_at-x.ensures).small
 
 pub loop-i-preserved : goal.loop-i-preserved
-loop-i-preserved c =
-    (
-      omega arith,
-      λ es fs h k. let p = c.requires in
-          let i = c.loop-i.i in
-          kept_next _ es i (c.loop-i.invariant.1 es fs h k)
-          (omega (arith, lists_length h p.most, c.loop-i-test.true)) _
-          (cost_is c.args.costly _ _ (c.function_at.ensures es h))
-          (lists_at h p.most i _ c.loop-i-test.true c.item_at-x.ensures) c.add_if-r.ensures,
-    )
+loop-i-preserved c = (
+  omega arith,
+  λ es fs h k. let p = c.requires in
+      let i = c.loop-i.i in
+      kept_next _ es i (c.loop-i.invariant.1 es fs h k)
+      (omega (arith, lists_length h p.most, c.loop-i-test.true)) _
+      (cost_is c.args.costly _ _ (c.function_at.ensures es h))
+      (lists_at h p.most i _ c.loop-i-test.true c.item_at-x.ensures) c.add_if-r.ensures,
+)
 
 pub returns : goal.returns
 returns c =
     λ es fs h k. kept_end _ es c.loop-i.i (c.loop-i.invariant.1 es fs h k)
     (omega (arith, lists_length h c.requires.most, c.loop-i-test.false))
-

@@ -1,13 +1,10 @@
 -- `reorder_predicates::pick` meets its contract. The loop's invariant is `Kept`.
 use mathlib.Core.List.{List}
 use Prim.Native.Nat.{◌-◌, ◌≤◌}
-use native.Mathlib.Omega.{arith}
 use Rattle.plan.specs.Syntax.{Expr}
 use Rattle.conjuncts.specs.Items.{Lists}
-use Rattle.conjuncts.proofs.Listed.{lists_at, lists_length, lists_room}
-use Rattle.conjuncts.proofs.Kept.{Kept, kept_start, kept_next, kept_end}
+use Rattle.conjuncts.proofs.Kept.{Kept}
 use Rattle.simplify_expressions.specs.Cost.{of_cost}
-use Rattle.simplify_expressions.proofs.Order.{cost_is}
 use Rattle.simplify_expressions.proofs.reorder_predicates.pick.Given as goal
 
 abbrev pub invariant-loop-i : goal.invariant-loop-i
@@ -15,4 +12,3 @@ invariant-loop-i l = (l.i ≤ l.n) × ((es fs : List Expr) → Lists l.s l.c es 
 
 abbrev pub decreases-loop-i : goal.decreases-loop-i
 decreases-loop-i l = l.n - l.i
-

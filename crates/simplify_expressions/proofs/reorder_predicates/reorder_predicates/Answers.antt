@@ -1,7 +1,7 @@
 -- `reorder_predicates::reorder_predicates` meets its contract.
 use mathlib.Core.Path.{refl}
 use Rattle.plan.specs.Lists.{choose}
-use Rattle.rewrite.specs.ReorderPredicates.{needs_reorder, reorder_predicates}
+use Rattle.rewrite.specs.ReorderPredicates.{reorder_predicates}
 use Rattle.conjuncts.proofs.Listed.{lists_none}
 use Rattle.simplify_expressions.proofs.reorder_predicates.reorder_predicates.Goals as goal
 
@@ -30,4 +30,3 @@ returns c =
       ← c.needs_reorder.ensures es h,
       c.if-needs_reorder.false,
     ) (h, refl)
-

@@ -1,17 +1,14 @@
 -- `simplify_predicates::all_agree` meets its contract. The loop's invariant: the answer so far is that for the list from i on.
-use mathlib.Core.Path.{◌≡◌, ap, ◌∙◌}
+use mathlib.Core.Path.{◌≡◌}
 use mathlib.Core.List.{List, map}
 use Prim.Native.Nat.{◌≤◌}
-use native.Mathlib.Omega.{arith}
 use lib.ListN.{get_or, drop}
 use Rattle.plan.specs.Syntax.{Expr}
 use Rattle.plan.specs.Lists.{all}
 use Rattle.meaning.specs.Meaning.{same_v}
-use Rattle.rewrite.specs.SimplifyPredicates.{Side, val}
+use Rattle.rewrite.specs.SimplifyPredicates.{val}
 use Rattle.conjuncts.specs.Items.{FALSE, Lists}
-use Rattle.conjuncts.proofs.Listed.{lists_length, at_end}
-use Rattle.simplify_expressions.specs.Seen.{side_in, side_of}
-use Rattle.simplify_expressions.proofs.Sides.{agree_next}
+use Rattle.simplify_expressions.specs.Seen.{side_in}
 use Rattle.simplify_expressions.proofs.simplify_predicates.all_agree.Given as goal
 
 abbrev pub invariant-loop-i : goal.invariant-loop-i
@@ -21,4 +18,3 @@ invariant-loop-i l =
 
 abbrev pub decreases-loop-i : goal.decreases-loop-i
 decreases-loop-i l = l.i
-

@@ -1,15 +1,8 @@
-use mathlib.Core.Path.{◌≡◌, ◌∙◌}
-use mathlib.Core.List.{List, map}
-use Prim.Native.Nat.{◌≤◌}
+use mathlib.Core.Path.{◌∙◌}
 use native.Mathlib.Omega.{arith}
-use lib.ListN.{drop}
-use Rattle.plan.specs.Syntax.{Expr}
 use Rattle.plan.specs.Lists.{all}
-use Rattle.rewrite.specs.SimplifyPredicates.{of_kind}
-use Rattle.conjuncts.specs.Items.{Lists}
 use Rattle.conjuncts.proofs.Listed.{lists_length, at_end}
 use Rattle.meaning.proofs.Cases.{null_case, kind_case}
-use Rattle.simplify_expressions.specs.Seen.{side_in}
 use Rattle.simplify_expressions.proofs.Sides.{of_kind_next}
 use Rattle.simplify_expressions.proofs.simplify_predicates.all_of_kind.Goals as goal
 
@@ -20,22 +13,20 @@ loop-i-init c =
 
 pub loop-i-preserved : goal.loop-i-preserved
 unfolding all
-loop-i-preserved c =
-    (
-      omega arith,
-      λ es h. of_kind_next es c.loop-i.i c.loop-i-test.true
-          (omega (
-            arith,
-            lists_length h c.requires.most,
-            c.loop-i.invariant.0,
-          )) _ (c.side_at-d.ensures.is es h) _ (c.is_null.ensures ∙ null_case
-          c.side_at-d.result.value.case) _
-          (c.kind_of.ensures ∙ kind_case c.side_at-d.result.value.case) _ _
-          (c.loop-i.invariant.1 es h),
-    )
+loop-i-preserved c = (
+  omega arith,
+  λ es h. of_kind_next es c.loop-i.i c.loop-i-test.true
+      (omega (
+        arith,
+        lists_length h c.requires.most,
+        c.loop-i.invariant.0,
+      )) _ (c.side_at-d.ensures.is es h) _ (c.is_null.ensures ∙ null_case
+      c.side_at-d.result.value.case) _
+      (c.kind_of.ensures ∙ kind_case c.side_at-d.result.value.case) _ _
+      (c.loop-i.invariant.1 es h),
+)
 
 pub returns : goal.returns
 unfolding all
 returns c =
     λ es h. c.loop-i.invariant.1 es h ∙ rw c.loop-i-test.false
-

@@ -1,5 +1,4 @@
 -- `simplify_predicates::belongs` meets its contract.
-use borrow.Author.Rules.{rules}
 use Rattle.simplify_expressions.proofs.Classed.{same_class, no_class}
 use Rattle.simplify_expressions.proofs.simplify_predicates.belongs.Goals as goal
 
@@ -10,4 +9,3 @@ returns-in_default c =
 pub returns : goal.returns
 returns c =
     same_class _ _ _ c.in-Of.is c.is_of.ensures
-

@@ -22,4 +22,3 @@ pub returns : goal.returns
 unfolding make
 returns c =
     rw (ne_eqb _ _ c.if-op-eq-EQ.false, ne_eqb _ _ c.if-op-eq-NOT_EQ.false, c.if-op-flipped.false)
-

@@ -1,8 +1,7 @@
 -- `simplify_predicates::compared_at` meets its contract.
-use native.Mathlib.Omega.{arith}
 use lib.ListN.{get_or}
 use Rattle.conjuncts.specs.Items.{FALSE}
-use Rattle.conjuncts.proofs.Listed.{lists_at, lists_room}
+use Rattle.conjuncts.proofs.Listed.{lists_at}
 use Rattle.rewrite.specs.SimplifyPredicates.{view}
 use Rattle.simplify_expressions.proofs.simplify_predicates.compared_at.Goals as goal
 
@@ -33,4 +32,3 @@ returns c =
     λ es h. let w = (lists_at h c.requires.known.most _ _ c.requires.i_lt_len c.item_at-n.ensures).some c.if-n-eq-FALSE_ITEM.false in
     c.compared_in.ensures (get_or es c.args.i FALSE)
     (rw c.record_at.ensures w.here) w.fits
-

@@ -1,5 +1,4 @@
 -- `simplify_predicates::compared_in` meets its contract.
-use borrow.Author.Rules.{rules}
 use mathlib.Core.Path.{sym, ap, ◌∙◌}
 use native.Mathlib.Omega.{arith}
 use lib.ListN.{length-drop}
@@ -82,4 +81,3 @@ returns c =
       c.word_at-op.ensures.0,
       ap (λ (l : Label). l.p) h.head.label,
     ) (u.come f)
-

@@ -11,4 +11,3 @@ pub returns : goal.returns
 unfolding choose
 returns c =
     rw c.if-b.false
-

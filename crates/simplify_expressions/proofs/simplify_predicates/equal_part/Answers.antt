@@ -1,14 +1,12 @@
 -- `simplify_predicates::equal_part` meets its contract.
 use mathlib.Core.Path.{sym, ◌∙◌}
-use mathlib.Core.List.{append-nil}
 use Prim.Native.Nat.{◌-◌}
 use native.Mathlib.Omega.{arith}
-use borrow.Author.Rules.{rules}
 use lib.ListN.{get_or}
 use Rattle.plan.specs.Lists.{put}
 use Rattle.conjuncts.specs.Items.{FALSE}
-use Rattle.conjuncts.proofs.Listed.{lists_at, lists_length, lists_room, item_false}
-use Rattle.simplify_expressions.proofs.Simplified.{eq_none, eq_last, eq_false}
+use Rattle.conjuncts.proofs.Listed.{lists_at, lists_length, item_false}
+use Rattle.simplify_expressions.proofs.Simplified.{eq_last, eq_false}
 use Rattle.simplify_expressions.proofs.simplify_predicates.equal_part.Goals as goal
 
 pub add_if-requires : goal.add_if-requires
@@ -34,4 +32,3 @@ returns c =
     rw (eq_false x es (omega (arith, lists_length h p.most, c.if-n-eq0.false)) (sym c.if-all_agree.false
     ∙ c.all_agree.ensures es h))
     (c.add_if-2.ensures _ fs FALSE k item_false)
-

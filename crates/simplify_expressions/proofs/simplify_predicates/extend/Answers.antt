@@ -1,13 +1,9 @@
 use mathlib.Core.Path.{refl}
 use mathlib.Core.Bool.{true}
-use mathlib.Core.List.{List}
-use Prim.Native.Nat.{ℕ, ◌-◌, ◌≤◌}
 use native.Mathlib.Omega.{arith}
-use Rattle.plan.specs.Syntax.{Expr}
 use Rattle.plan.proofs.Lists.{keep_all}
-use Rattle.conjuncts.specs.Items.{Lists}
-use Rattle.conjuncts.proofs.Listed.{lists_at, lists_length, lists_room}
-use Rattle.conjuncts.proofs.Kept.{Kept, kept_start, kept_next, kept_end}
+use Rattle.conjuncts.proofs.Listed.{lists_at, lists_length}
+use Rattle.conjuncts.proofs.Kept.{kept_next, kept_end}
 use Rattle.simplify_expressions.proofs.simplify_predicates.extend.Goals as goal
 
 pub add_if-r-requires : goal.add_if-r-requires
@@ -16,19 +12,17 @@ add_if-r-requires c =
     (lists_at p.lists p.most _ _ c.loop-i-test.true c.item_at-x.ensures).small
 
 pub loop-i-preserved : goal.loop-i-preserved
-loop-i-preserved c =
-    (
-      omega arith,
-      λ s es fs h k. let p = c.requires.1 in
-          let i = c.loop-i.i in
-          kept_next _ es i (c.loop-i.invariant.1 s es fs h k)
-          (omega (arith, lists_length h p.most, c.loop-i-test.true)) true refl
-          (lists_at h p.most i _ c.loop-i-test.true c.item_at-x.ensures) c.add_if-r.ensures,
-    )
+loop-i-preserved c = (
+  omega arith,
+  λ s es fs h k. let p = c.requires.1 in
+      let i = c.loop-i.i in
+      kept_next _ es i (c.loop-i.invariant.1 s es fs h k)
+      (omega (arith, lists_length h p.most, c.loop-i-test.true)) true refl
+      (lists_at h p.most i _ c.loop-i-test.true c.item_at-x.ensures) c.add_if-r.ensures,
+)
 
 pub returns : goal.returns
 returns c =
     λ s es fs h k. let all = kept_end _ es c.loop-i.i (c.loop-i.invariant.1 s es fs h k)
     (omega (arith, lists_length h c.requires.1.most, c.loop-i-test.false)) in
     rw (keep_all es) at all
-

@@ -1,14 +1,10 @@
 -- `simplify_predicates::extend` meets its contract. The loop's invariant is `Kept`: all are.
-use mathlib.Core.Path.{refl}
 use mathlib.Core.Bool.{true}
 use mathlib.Core.List.{List}
 use Prim.Native.Nat.{ℕ, ◌-◌, ◌≤◌}
-use native.Mathlib.Omega.{arith}
 use Rattle.plan.specs.Syntax.{Expr}
-use Rattle.plan.proofs.Lists.{keep_all}
 use Rattle.conjuncts.specs.Items.{Lists}
-use Rattle.conjuncts.proofs.Listed.{lists_at, lists_length, lists_room}
-use Rattle.conjuncts.proofs.Kept.{Kept, kept_start, kept_next, kept_end}
+use Rattle.conjuncts.proofs.Kept.{Kept}
 use Rattle.simplify_expressions.proofs.simplify_predicates.extend.Given as goal
 
 abbrev pub invariant-loop-i : goal.invariant-loop-i
@@ -16,4 +12,3 @@ invariant-loop-i l = (l.i ≤ l.n) × ((s : List ℕ) (es fs : List Expr) → Li
 
 abbrev pub decreases-loop-i : goal.decreases-loop-i
 decreases-loop-i l = l.n - l.i
-

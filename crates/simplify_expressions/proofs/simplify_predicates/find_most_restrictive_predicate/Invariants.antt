@@ -1,16 +1,13 @@
 -- `simplify_predicates::find_most_restrictive_predicate` meets its contract.
 -- The loop's invariant: the most restrictive of all is that of the best so far and the rest.
-use mathlib.Core.Path.{◌≡◌, refl, sym, ◌∙◌}
+use mathlib.Core.Path.{◌≡◌}
 use mathlib.Core.List.{List, map}
-use Prim.Native.Nat.{◌+◌, ◌-◌, ◌≤◌, ◌<◌}
-use native.Mathlib.Omega.{arith}
+use Prim.Native.Nat.{◌-◌, ◌≤◌, ◌<◌}
 use lib.ListN.{get_or, drop}
 use Rattle.plan.specs.Syntax.{Expr}
 use Rattle.conjuncts.specs.Items.{FALSE, Lists}
-use Rattle.conjuncts.proofs.Listed.{lists_length, at_end}
 use Rattle.rewrite.specs.SimplifyPredicates.{find_most_restrictive_predicate}
 use Rattle.simplify_expressions.specs.Seen.{side_in, past_of}
-use Rattle.simplify_expressions.proofs.Sides.{best_next, better_at, find_with, choose_less}
 use Rattle.simplify_expressions.proofs.simplify_predicates.find_most_restrictive_predicate.Given as goal
 
 abbrev pub invariant-loop-i : goal.invariant-loop-i
@@ -21,4 +18,3 @@ invariant-loop-i l =
 
 abbrev pub decreases-loop-i : goal.decreases-loop-i
 decreases-loop-i l = l.n - l.i
-

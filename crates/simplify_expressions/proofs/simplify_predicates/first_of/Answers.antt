@@ -1,7 +1,5 @@
 -- `simplify_predicates::first_of` meets its contract.
 use mathlib.Core.Path.{sym, ◌∙◌}
-use borrow.Author.Rules.{rules}
-use borrow.Author.Tests.{not-true, not-false}
 use Rattle.simplify_expressions.proofs.Classed.{lesser_none, lesser_out, lesser_held, lesser_new}
 use Rattle.simplify_expressions.proofs.simplify_predicates.first_of.Goals as goal
 
@@ -24,4 +22,3 @@ returns c =
     lesser_new _ _ c.in-Of.is
     (sym c.comes_after.ensures ∙ c.if-not-comes_after.false)
     (sym c.comes_before.ensures ∙ c.if-comes_before.false)
-

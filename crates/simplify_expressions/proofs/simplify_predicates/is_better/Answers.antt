@@ -35,4 +35,3 @@ returns c =
       and_is,
       and_is,
     ) (search rules)
-

@@ -1,5 +1,4 @@
 -- `simplify_predicates::matched` meets its contract.
-use borrow.Author.Rules.{rules}
 use mathlib.Core.Path.{sym, ◌∙◌}
 use Rattle.simplify_expressions.proofs.Comparing.{two_columns, column_literal, column_neither, literal_column, two_literals}
 use Rattle.simplify_expressions.proofs.Comparing.{literal_neither, neither}
@@ -36,4 +35,3 @@ returns-in-Neither-b-2 c =
 pub returns-in-Neither : goal.returns-in-Neither
 returns-in-Neither c =
     sym (neither _ _ c.in-Neither.is)
-

@@ -1,13 +1,11 @@
 -- `simplify_predicates::most_restrictive` meets its contract.
 use mathlib.Core.Path.{sym, ◌∙◌}
-use mathlib.Core.List.{append-nil}
 use native.Mathlib.Omega.{arith}
 use lib.ListN.{get_or}
-use borrow.Author.Rules.{rules}
 use Rattle.plan.specs.Lists.{put}
 use Rattle.conjuncts.specs.Items.{FALSE}
-use Rattle.conjuncts.proofs.Listed.{lists_at, lists_length, lists_room}
-use Rattle.simplify_expressions.proofs.Sides.{restrict_none, restrict_one, restrict_all}
+use Rattle.conjuncts.proofs.Listed.{lists_at, lists_length}
+use Rattle.simplify_expressions.proofs.Sides.{restrict_one, restrict_all}
 use Rattle.simplify_expressions.proofs.simplify_predicates.most_restrictive.Goals as goal
 
 pub add_if-requires : goal.add_if-requires
@@ -34,4 +32,3 @@ returns c =
     rw (restrict_all _ spell es (omega (arith, lists_length h p.most, c.if-c-eq0.false)) sp
     (rw (← c.first_kind.ensures es h) (sym c.if-all_of_kind.false ∙ c.all_of_kind.ensures es h)))
     (c.extend.ensures _ es fs h k)
-

@@ -5,4 +5,3 @@ use Rattle.simplify_expressions.proofs.simplify_predicates.name_under.Goals as g
 pub returns : goal.returns
 returns c =
     rw and_is
-

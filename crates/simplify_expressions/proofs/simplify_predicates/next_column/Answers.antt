@@ -1,12 +1,7 @@
-use mathlib.Core.Path.{◌≡◌, ap, ◌∙◌}
-use mathlib.Core.List.{List}
-use Prim.Native.Nat.{◌≤◌}
+use mathlib.Core.Path.{ap, ◌∙◌}
 use native.Mathlib.Omega.{arith}
-use lib.ListN.{drop}
-use Rattle.plan.specs.Syntax.{Expr}
-use Rattle.conjuncts.specs.Items.{Lists}
 use Rattle.conjuncts.proofs.Listed.{lists_length, at_end}
-use Rattle.simplify_expressions.specs.Classes.{key_of, lesser, least}
+use Rattle.simplify_expressions.specs.Classes.{lesser, least}
 use Rattle.simplify_expressions.proofs.Classed.{least_next}
 use Rattle.simplify_expressions.proofs.simplify_predicates.next_column.Goals as goal
 
@@ -17,21 +12,19 @@ loop-i-init c =
 
 pub loop-i-preserved : goal.loop-i-preserved
 unfolding least
-loop-i-preserved c =
-    (
-      omega arith,
-      λ es h. c.first_of-best.ensures
-          ∙ (ap (lesser _ _) (c.loop-i.invariant.1 es h)
-          ∙ least_next _ es c.loop-i.i c.loop-i-test.true
-          (omega (
-            arith,
-            lists_length h c.requires.most,
-            c.loop-i.invariant.0,
-          )) _ (c.compared_at.ensures es h)),
-    )
+loop-i-preserved c = (
+  omega arith,
+  λ es h. c.first_of-best.ensures
+      ∙ (ap (lesser _ _) (c.loop-i.invariant.1 es h)
+      ∙ least_next _ es c.loop-i.i c.loop-i-test.true
+      (omega (
+        arith,
+        lists_length h c.requires.most,
+        c.loop-i.invariant.0,
+      )) _ (c.compared_at.ensures es h)),
+)
 
 pub returns : goal.returns
 unfolding least
 returns c =
     λ es h. c.loop-i.invariant.1 es h ∙ rw c.loop-i-test.false
-

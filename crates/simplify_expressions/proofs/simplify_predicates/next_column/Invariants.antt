@@ -1,14 +1,11 @@
 -- `simplify_predicates::next_column` meets its contract. The loop's invariant: the best so far is the first of the list from i on.
-use mathlib.Core.Path.{◌≡◌, ap, ◌∙◌}
+use mathlib.Core.Path.{◌≡◌}
 use mathlib.Core.List.{List}
 use Prim.Native.Nat.{◌≤◌}
-use native.Mathlib.Omega.{arith}
 use lib.ListN.{drop}
 use Rattle.plan.specs.Syntax.{Expr}
 use Rattle.conjuncts.specs.Items.{Lists}
-use Rattle.conjuncts.proofs.Listed.{lists_length, at_end}
-use Rattle.simplify_expressions.specs.Classes.{key_of, lesser, least}
-use Rattle.simplify_expressions.proofs.Classed.{least_next}
+use Rattle.simplify_expressions.specs.Classes.{key_of, least}
 use Rattle.simplify_expressions.proofs.simplify_predicates.next_column.Given as goal
 
 abbrev pub invariant-loop-i : goal.invariant-loop-i
@@ -16,4 +13,3 @@ invariant-loop-i l = (l.i ≤ l.c.len) × ((es : List Expr) → Lists l.s l.c es
 
 abbrev pub decreases-loop-i : goal.decreases-loop-i
 decreases-loop-i l = l.i
-

@@ -1,5 +1,4 @@
 -- `simplify_predicates::other_predicates` meets its contract.
-use borrow.Author.Rules.{rules}
 use Rattle.conjuncts.proofs.Listed.{lists_none}
 use Rattle.simplify_expressions.proofs.Classed.{others_are}
 use Rattle.simplify_expressions.proofs.simplify_predicates.other_predicates.Goals as goal
@@ -7,4 +6,3 @@ use Rattle.simplify_expressions.proofs.simplify_predicates.other_predicates.Goal
 pub returns : goal.returns
 returns c =
     λ es h. rw (← others_are es) (c.select_class.ensures es _ h (lists_none c.empty.ensures))
-

@@ -15,4 +15,3 @@ returns c =
       and_is,
       and_is,
     ) (search rules)
-

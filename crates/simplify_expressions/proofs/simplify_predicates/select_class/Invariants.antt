@@ -1,12 +1,9 @@
 -- `simplify_predicates::select_class` meets its contract. The loop's invariant is `Kept`.
-use mathlib.Core.Path.{sym}
 use mathlib.Core.List.{List}
 use Prim.Native.Nat.{◌-◌, ◌≤◌}
-use native.Mathlib.Omega.{arith}
 use Rattle.plan.specs.Syntax.{Expr}
 use Rattle.conjuncts.specs.Items.{Lists}
-use Rattle.conjuncts.proofs.Listed.{lists_at, lists_length, lists_room}
-use Rattle.conjuncts.proofs.Kept.{Kept, kept_start, kept_next, kept_end}
+use Rattle.conjuncts.proofs.Kept.{Kept}
 use Rattle.simplify_expressions.specs.Classes.{of_class}
 use Rattle.simplify_expressions.proofs.simplify_predicates.select_class.Given as goal
 
@@ -15,4 +12,3 @@ invariant-loop-i l = (l.i ≤ l.count) × ((es fs : List Expr) → Lists l.s l.c
 
 abbrev pub decreases-loop-i : goal.decreases-loop-i
 decreases-loop-i l = l.count - l.i
-

@@ -1,6 +1,5 @@
 -- `simplify_predicates::simplify_column_predicates` meets its contract.
 use native.Mathlib.Omega.{arith}
-use borrow.Author.Rules.{rules}
 use Rattle.plan.specs.Syntax.{nm}
 use Rattle.rewrite.specs.SimplifyPredicates.{up_expr, down_expr}
 use Rattle.conjuncts.proofs.Listed.{lists_none, lists_length}
@@ -50,4 +49,3 @@ returns c =
     (lists_none c.empty.ensures)) k (eqs_spelled q n es))
     (ups_spelled q n es))
     (downs_spelled q n es))
-

@@ -1,14 +1,10 @@
 use mathlib.Core.Path.{◌≡◌}
-use mathlib.Core.List.{List}
 use mathlib.Core.Option.{some}
 use native.Mathlib.Omega.{arith}
-use borrow.Author.Rules.{rules}
-use Rattle.plan.specs.Syntax.{Expr}
-use Rattle.conjuncts.specs.Items.{Lists}
 use Rattle.conjuncts.proofs.Listed.{lists_length}
 use Rattle.simplify_expressions.specs.Classes.{key_of}
 use Rattle.simplify_expressions.specs.Seen.{named}
-use Rattle.simplify_expressions.proofs.Simplified.{one_simplified, Going, going_start, going_next, going_end, going_zero}
+use Rattle.simplify_expressions.proofs.Simplified.{one_simplified, going_start, going_next, going_end, going_zero}
 use Rattle.simplify_expressions.proofs.simplify_predicates.simplify_predicates.Goals as goal
 
 pub returns-then-c-le1 : goal.returns-then-c-le1
@@ -34,4 +30,3 @@ loop-left-preserved c =
 pub returns : goal.returns
 returns c =
     λ es h. going_zero es (c.loop-left.invariant es h) c.loop-left-test.false
-

@@ -1,16 +1,10 @@
 -- `simplify_predicates::simplify_predicates` meets its contract.
 -- The loop's invariant: what is listed, and then the columns that are left, is all.
-use mathlib.Core.Path.{◌≡◌}
 use mathlib.Core.List.{List}
-use mathlib.Core.Option.{some}
-use native.Mathlib.Omega.{arith}
-use borrow.Author.Rules.{rules}
 use Rattle.plan.specs.Syntax.{Expr}
 use Rattle.conjuncts.specs.Items.{Lists}
-use Rattle.conjuncts.proofs.Listed.{lists_length}
 use Rattle.simplify_expressions.specs.Classes.{key_of}
-use Rattle.simplify_expressions.specs.Seen.{named}
-use Rattle.simplify_expressions.proofs.Simplified.{one_simplified, Going, going_start, going_next, going_end, going_zero}
+use Rattle.simplify_expressions.proofs.Simplified.{Going}
 use Rattle.simplify_expressions.proofs.simplify_predicates.simplify_predicates.Given as goal
 
 abbrev pub invariant-loop-left : goal.invariant-loop-left
@@ -18,4 +12,3 @@ invariant-loop-left l = (es : List Expr) → Lists l.s l.c es → Going l.s l.r 
 
 abbrev pub decreases-loop-left : goal.decreases-loop-left
 decreases-loop-left l = l.left
-

@@ -1,19 +1,13 @@
 use mathlib.Core.Path.{◌≡◌, ap, sym, ◌∙◌}
 use mathlib.Core.Bool.{true}
-use mathlib.Core.List.{List}
-use Prim.Native.Nat.{ℕ, ◌<◌}
 use native.Mathlib.Omega.{arith}
-use lib.ListN.{length-drop}
 use borrow.Author.Tests.{eq-eqb, ne_eqb}
 use Rattle.image.specs.Tree.{Label}
-use Rattle.image.proofs.Walking.{Chain, chain, round, again, done, for_all}
-use Rattle.image.specs.Places.{left}
+use Rattle.image.proofs.Walking.{chain, round, again, done, for_all}
 use Rattle.plan.specs.Schema.{has}
-use Rattle.plan.specs.Syntax.{Name}
 use Rattle.utils.specs.Masks.{Answers}
-use Rattle.utils.specs.Fields.{Names}
 use Rattle.utils.specs.Referring.{on_tree}
-use Rattle.utils.proofs.Answering.{answers_one, So, so_start, so_held, so_next, so_end, so_column, column_held}
+use Rattle.utils.proofs.Answering.{answers_one, so_start, so_held, so_next, so_end, so_column, column_held}
 use Rattle.utils.proofs.has_all_column_refs.+columns.Goals as goal
 
 pub returns-then-word_at-eq-COLUMN : goal.returns-then-word_at-eq-COLUMN
@@ -54,4 +48,3 @@ returns t c =
     λ t ns h g held. let k = c.loop-at.invariant in
     for_all (λ t. on_tree (has ns) t ≡ true → Answers c.loop-at.set ns (λ d. on_tree d t)) k.stands
     (λ held. so_end ns k.tree (done _ k c.loop-at-test.false ns g held)) t h held
-

@@ -1,6 +1,5 @@
 -- `has_all_column_refs::add_column` meets its contract: a name that the schema has is at its place, below 64.
 use native.Mathlib.Omega.{arith}
-use borrow.Author.Rules.{rules}
 use Rattle.utils.proofs.Answering.{place_small}
 use Rattle.utils.proofs.has_all_column_refs.add_column.Goals as goal
 
@@ -13,4 +12,3 @@ returns c =
       c.place_in-i.ensures ns h,
       c.if-i-lt-MAX_FIELDS.false,
     ))
-

@@ -9,4 +9,3 @@ pub returns : goal.returns
 returns c =
     λ e ns t h g held k. let s = c.columns.ensures (expr_tree e) ns h g (tree_columns (has ns) e ∙ held) in
     c.is_within.ensures ∙ (s.says _ t k ∙ tree_columns t e)
-

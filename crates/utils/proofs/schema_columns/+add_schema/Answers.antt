@@ -1,6 +1,6 @@
 use mathlib.Core.Path.{sym, ◌∙◌}
 use mathlib.Core.List.{append-nil}
-use Prim.Native.Nat.{ℕ, ◌-◌, ◌<◌}
+use Prim.Native.Nat.{◌-◌}
 use native.Mathlib.Omega.{arith}
 use Rattle.image.specs.Limits.{max_depth}
 use Rattle.plan.specs.Schema.{schema}
@@ -55,14 +55,13 @@ add_schema-r-requires t c =
     )
 
 pub add_parts-requires-then-extends : goal.add_parts-requires-then-extends
-add_parts-requires-then-extends t c =
-    (
-      (
-        _,
-        readable_plan c.requires.0,
-      ),
-      c.requires.1,
-    )
+add_parts-requires-then-extends t c = (
+  (
+    _,
+    readable_plan c.requires.0,
+  ),
+  c.requires.1,
+)
 
 pub returns-then-extends : goal.returns-then-extends
 returns-then-extends t c =
@@ -115,4 +114,3 @@ returns t c =
     ) at (c.add_schema-r.ensures i.input ns (rw c.from_record-input.ensures i.stands.here) g) in ends_first p _ e
     c.role_of-role.ensures c.args.set c.args.q ns i.input n i.rest (sym c.extends.ensures ∙ c.if-extends.false) (sym
     c.gives_both.ensures ∙ c.if-gives_both.false)
-

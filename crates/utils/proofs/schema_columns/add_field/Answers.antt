@@ -10,4 +10,3 @@ returns-then-i-lt-MAX_FIELDS c =
 pub returns : goal.returns
 returns c =
     λ ns h. let a = c.args in not_added a.f a.q a.n ns h (search rules) (search rules) c.if-i-lt-MAX_FIELDS.false
-

@@ -1,7 +1,6 @@
 -- `schema_columns::add_part` meets its contract.
 use mathlib.Core.Path.{sym, ◌∙◌}
 use mathlib.Core.List.{append-nil}
-use borrow.Author.Rules.{rules}
 use Rattle.utils.proofs.Making.{part_set, part_kept, part_none}
 use Rattle.utils.proofs.schema_columns.add_part.Goals as goal
 
@@ -34,4 +33,3 @@ returns c =
           (sym c.makes_field.ensures ∙ c.if-makes_field.false),
       append-nil,
     ) h
-

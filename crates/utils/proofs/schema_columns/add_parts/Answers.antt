@@ -1,13 +1,8 @@
-use mathlib.Core.List.{List, ◌++◌}
-use Prim.Native.Nat.{ℕ}
-use native.Mathlib.Omega.{arith}
-use lib.ListN.{length-drop}
-use Rattle.image.proofs.Walking.{Chain, chain, round, again, done, for_all}
-use Rattle.image.specs.Places.{left}
-use Rattle.plan.specs.Syntax.{Name}
+use mathlib.Core.List.{◌++◌}
+use Rattle.image.proofs.Walking.{chain, round, again, done, for_all}
 use Rattle.utils.specs.Fields.{Names}
 use Rattle.utils.specs.Inputs.{called, made}
-use Rattle.utils.proofs.Making.{Sum, sum_start, sum_next, sum_end}
+use Rattle.utils.proofs.Making.{sum_start, sum_next, sum_end}
 use Rattle.utils.proofs.schema_columns.add_parts.Goals as goal
 
 pub loop-at-init : goal.loop-at-init
@@ -34,4 +29,3 @@ returns c =
     c.args.q (made t.below))) k.stands
     (sum_end c.args.set c.args.q
     (done _ k c.loop-at-test.false ns g)) t h
-

@@ -1,14 +1,12 @@
 -- `schema_columns::add_parts` meets its contract. The loop's invariant: what was appended, and what the children that are left make, is all.
 use mathlib.Core.List.{List, ◌++◌}
 use Prim.Native.Nat.{ℕ}
-use native.Mathlib.Omega.{arith}
-use lib.ListN.{length-drop}
-use Rattle.image.proofs.Walking.{Chain, chain, round, again, done, for_all}
+use Rattle.image.proofs.Walking.{Chain}
 use Rattle.image.specs.Places.{left}
 use Rattle.plan.specs.Syntax.{Name}
 use Rattle.utils.specs.Fields.{Names}
 use Rattle.utils.specs.Inputs.{called, made}
-use Rattle.utils.proofs.Making.{Sum, sum_start, sum_next, sum_end}
+use Rattle.utils.proofs.Making.{Sum}
 use Rattle.utils.proofs.schema_columns.add_parts.Given as goal
 
 abbrev pub invariant-loop-at : goal.invariant-loop-at
@@ -19,4 +17,3 @@ invariant-loop-at l =
 
 abbrev pub decreases-loop-at : goal.decreases-loop-at
 decreases-loop-at l = left l.part l.base l.at
-

@@ -5,4 +5,3 @@ use Rattle.utils.proofs.schema_columns.no_fields.Goals as goal
 pub returns : goal.returns
 returns c =
     names_none _ _
-

@@ -1,12 +1,10 @@
 -- `schema_columns::place_in` meets its contract. The loop's invariant: the place is as far behind i as it is in what is left of the names.
-use mathlib.Core.Path.{◌≡◌, sym, ◌∙◌}
+use mathlib.Core.Path.{◌≡◌}
 use mathlib.Core.List.{List}
 use Prim.Native.Nat.{◌+◌, ◌-◌, ◌≤◌}
-use native.Mathlib.Omega.{arith}
 use lib.ListN.{drop}
 use Rattle.plan.specs.Syntax.{Name, nm}
 use Rattle.utils.specs.Fields.{Names, place_in}
-use Rattle.utils.proofs.Named.{names_count, field_is, place_here, place_next, place_end}
 use Rattle.utils.proofs.schema_columns.place_in.Given as goal
 
 abbrev pub invariant-loop-i : goal.invariant-loop-i
@@ -14,4 +12,3 @@ invariant-loop-i l = (l.i ≤ l.len) × ((ns : List Name) → Names l.f ns → p
 
 abbrev pub decreases-loop-i : goal.decreases-loop-i
 decreases-loop-i l = l.len - l.i
-

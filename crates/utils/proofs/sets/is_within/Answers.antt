@@ -7,4 +7,3 @@ use Rattle.utils.proofs.sets.is_within.Goals as goal
 pub returns : goal.returns
 returns c =
     within_count max_fields c.args.set c.args.side (search rules)
-

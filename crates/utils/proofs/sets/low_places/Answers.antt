@@ -1,10 +1,9 @@
 -- `sets::low_places` meets its contract: a number of k ones.
 use mathlib.Core.Path.{◌≡◌, ◌∙◌}
-use borrow.Author.Rules.{rules}
 use Prim.Native.Nat.{ℕ, ◌*◌, ◌%◌, ◌^◌, ◌<◌}
 use native.Mathlib.Nat.{one-mul}
 use native.Mathlib.Omega.{arith}
-use lib.Pow.{shl_exact, pow_pos}
+use lib.Pow.{shl_exact}
 use Rattle.image.specs.Limits.{max_fields}
 use Rattle.utils.proofs.Members.{member_low}
 use Rattle.utils.proofs.sets.low_places.Goals as goal
@@ -20,4 +19,3 @@ returns-then-k-eq-MAX_FIELDS c =
 pub returns : goal.returns
 returns c =
     λ j. rw (shifted c.args.k (omega (arith, c.if-k-eq-MAX_FIELDS.false))) (member_low c.args.k j)
-

@@ -1,5 +1,4 @@
 -- `sets::with` meets its contract: one digit is set besides.
-use borrow.Author.Rules.{rules}
 use Prim.Native.Nat.{◌^◌}
 use lib.Pow.{shl_exact}
 use native.Mathlib.Nat.{one-mul}
@@ -16,4 +15,3 @@ returns c =
           c.args.set j,
       member_one,
     )
-

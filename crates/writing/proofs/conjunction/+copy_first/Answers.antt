@@ -1,12 +1,11 @@
-use mathlib.Core.Path.{◌∙◌}
-use Prim.Native.Nat.{ℕ, ◌-◌, ◌<◌}
+use Prim.Native.Nat.{◌-◌}
 use native.Mathlib.Omega.{arith}
 use lib.ListN.{get_or, take}
 use Rattle.rewrite.specs.Utils.{conjoin}
 use mathlib.Core.List.{◌∷◌}
 use Rattle.conjuncts.specs.Items.{FALSE}
 use Rattle.writing.proofs.Written.{wrote_and}
-use Rattle.writing.proofs.Pushing.{pushes_length, pushes_room, pushes_at, one_of, conjoin_one, conjoin_more}
+use Rattle.writing.proofs.Pushing.{pushes_length, pushes_at, one_of, conjoin_one, conjoin_more}
 use Rattle.writing.proofs.conjunction.+copy_first.Goals as goal
 
 pub returns-then-last-eq0 : goal.returns-then-last-eq0
@@ -19,7 +18,7 @@ returns-then-last-eq0 t c =
 pub copy_item-requires-2-clause-one : goal.copy_item-requires-2-clause-one
 copy_item-requires-2-clause-one t c =
     one_of c.requires.some _ _ (omega (arith, c.requires.k_nonzero))
-          c.item_at-item.ensures
+    c.item_at-item.ensures
 
 pub returns : goal.returns
 returns t c =
@@ -33,4 +32,3 @@ returns t c =
     (c.copy_item-2.ensures σ g (get_or (e ∷ es) k FALSE)
     (pushes_at h c.requires.some.most k _ (omega (arith, c.requires.k_nonzero))
     c.item_at-item.ensures)))
-

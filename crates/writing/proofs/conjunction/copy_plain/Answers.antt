@@ -1,8 +1,5 @@
 -- `conjunction::copy_plain` meets its contract.
-use native.Mathlib.Omega.{arith}
-use borrow.Author.Rules.{rules}
 use Rattle.writing.proofs.Written.{wrote_false}
-use Rattle.writing.proofs.Pushing.{standing_readable}
 use Rattle.writing.proofs.conjunction.copy_plain.Goals as goal
 
 pub returns-then-n-eq0 : goal.returns-then-n-eq0
@@ -14,4 +11,3 @@ pub returns : goal.returns
 returns c =
     λ e h. c.copy_tree.ensures _
     (rw c.record_at-part.ensures (h.some c.if-n-eq0.false).here)
-

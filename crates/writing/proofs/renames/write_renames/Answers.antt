@@ -1,8 +1,5 @@
-use mathlib.Core.Path.{◌∙◌}
-use Prim.Native.Nat.{◌-◌}
 use native.Mathlib.Omega.{arith}
-use borrow.Author.Rules.{rules}
-use Rattle.writing.proofs.Renaming.{Renames, renames_start, renames_next, renames_end, written, renames_map}
+use Rattle.writing.proofs.Renaming.{renames_next, renames_end, written, renames_map}
 use Rattle.writing.proofs.renames.write_renames.Goals as goal
 
 pub loop-i-preserved : goal.loop-i-preserved
@@ -17,4 +14,3 @@ returns c =
     renames_map (written c.args.from c.args.to _ _ _ _ _ p.0 p.1 c.link_to.ensures
     c.put_record.ensures (renames_end k (omega arith)) (λ j lt. k.small j (omega arith)))
     p.0 s t a b e
-

@@ -1,12 +1,9 @@
-use mathlib.Core.Path.{sym, ◌∙◌}
-use Prim.Native.Nat.{ℕ, ◌+◌, ◌<◌}
 use native.Mathlib.Omega.{arith}
 use lib.ListN.{length-drop}
-use Rattle.image.specs.Tree.{Tree, At, label_at}
-use Rattle.image.proofs.Walking.{Chain, chain, round, again, done, for_all}
-use Rattle.image.specs.Places.{left}
-use Rattle.image.proofs.Room.{Left, put_start, left_next, left_end, wrote_past}
-use Rattle.writing.specs.Replaced.{replaced, replaced_any}
+use Rattle.image.specs.Tree.{label_at}
+use Rattle.image.proofs.Walking.{chain, round, again, done, for_all}
+use Rattle.image.proofs.Room.{put_start, left_next, left_end, wrote_past}
+use Rattle.writing.specs.Replaced.{replaced}
 use Rattle.writing.proofs.Entries.{value, no_value}
 use Rattle.writing.proofs.replace_cols_by_name.+replace_cols_by_name.Goals as goal
 
@@ -88,4 +85,3 @@ returns t c =
     for_all _ k.stands (rw (← k.stands.head.label, z)
     (left_end c.requires.out_len
     c.put_label-to.ensures (done _ k c.loop-from-test.false e he)))
-

@@ -1,9 +1,5 @@
-use mathlib.Core.Path.{◌≡◌, refl, ◌∙◌}
-use Prim.Native.Nat.{ℕ}
-use native.Mathlib.Omega.{arith}
-use lib.ListN.{length-drop}
-use Rattle.image.proofs.Walking.{Chain, chain, round, again, done, for_all}
-use Rattle.image.specs.Places.{left}
+use mathlib.Core.Path.{refl, ◌∙◌}
+use Rattle.image.proofs.Walking.{chain, round, again, done, for_all}
 use Rattle.writing.specs.Replaced.{Leads, lookup}
 use Rattle.writing.proofs.Entries.{below_child}
 use Rattle.writing.proofs.replace_cols_by_name.find.Goals as goal
@@ -46,4 +42,3 @@ pub returns : goal.returns
 returns c =
     let k = c.loop-at.invariant.1 in
     for_all (λ t. Leads (lookup t.below _ _) _ _ _) k.stands (rw (done _ k c.loop-at-test.false) (record { linked = refl }))
-
