@@ -1,4 +1,7 @@
 // The numbers of a line of text: runs of digits, some with a minus before them. What else stands in a line only parts them.
+use reading::read_full;
+use std::io;
+use std::io::Read;
 
 const NEWLINE: u8 = 10;
 
@@ -115,14 +118,12 @@ fn step(numbers: &mut [u64], scan: Scan, byte: u8) -> Scan {
 }
 
 // More of the input, where the chunk is used up.
-fn filled(chunk: &mut [u8], unread: Unread) -> Unread {
+fn filled<R: Read>(input: &mut R, chunk: &mut [u8], unread: Unread) -> io::Result<Unread> {
     if unread.at < unread.end {
-        return unread;
+        return Ok(unread);
     }
-    Unread {
-        at: 0,
-        end: io::read_full(0, chunk),
-    }
+    let end = read_full(input, chunk)?;
+    Ok(Unread { at: 0, end })
 }
 
 // The first unread byte; at the end of the input a line ends.
@@ -148,8 +149,13 @@ fn after_byte(unread: Unread) -> Unread {
 }
 
 // The next line; its numbers are stored from the first on, as many as there is room for.
-pub fn read_line(chunk: &mut [u8], before: Unread, numbers: &mut [u64]) -> Line {
-    let mut unread = filled(chunk, before);
+pub fn read_line<R: Read>(
+    input: &mut R,
+    chunk: &mut [u8],
+    before: Unread,
+    numbers: &mut [u64],
+) -> io::Result<Line> {
+    let mut unread = filled(input, chunk, before)?;
     let first = byte_of(chunk, unread);
     let is_end = unread.end == 0;
     let mut scan = Scan {
@@ -159,22 +165,20 @@ pub fn read_line(chunk: &mut [u8], before: Unread, numbers: &mut [u64]) -> Line 
         mark: NEWLINE,
         count: 0,
     };
-    let mut i = 0usize;
-    while i < MAX_LINE {
-        unread = filled(chunk, unread);
+    for _ in 0..MAX_LINE {
+        unread = filled(input, chunk, unread)?;
         let byte = byte_of(chunk, unread);
         unread = after_byte(unread);
         scan = step(numbers, scan, byte);
-        i += 1;
         if byte == NEWLINE {
-            i = MAX_LINE;
+            break;
         }
     }
-    Line {
+    Ok(Line {
         first,
         mark: scan.mark,
         count: scan.count,
         unread,
         is_end,
-    }
+    })
 }

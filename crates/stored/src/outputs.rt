@@ -7,51 +7,30 @@ const UNWRITTEN: u8 = 165;
 // Writes words, four bytes each, while there is room; how many bytes were written.
 pub fn write_words(words: &[u64], bytes: &mut [u8]) -> usize {
     let mut at = 0usize;
-    let mut i = 0usize;
-    while i < words.len() {
+    for word in words {
         if bytes.len() - at < 4 {
             return at;
         }
-        put_word(bytes, at, (words[i] % 4294967296) as usize);
+        put_word(bytes, at, (*word % 4294967296) as usize);
         at += 4;
-        i += 1;
     }
     at
 }
 
 // Makes every byte one that no call leaves.
 pub fn spoil(output: &mut [u8]) {
-    let mut i = 0usize;
-    while i < output.len() {
-        output[i] = UNWRITTEN;
-        i += 1;
+    for byte in output.iter_mut() {
+        *byte = UNWRITTEN;
     }
 }
 
 // Whether both are as long and the same at each place.
 fn same(a: &[u8], b: &[u8]) -> bool {
-    if a.len() != b.len() {
-        return false;
-    }
-    let mut i = 0usize;
-    while i < a.len() {
-        if a[i] != b[i] {
-            return false;
-        }
-        i += 1;
-    }
-    true
+    a == b
 }
 
 fn is_zero(s: &[u8]) -> bool {
-    let mut i = 0usize;
-    while i < s.len() {
-        if s[i] != 0 {
-            return false;
-        }
-        i += 1;
-    }
-    true
+    s.iter().all(|byte| *byte == 0)
 }
 
 // Whether the output is the answer, then zeros.
