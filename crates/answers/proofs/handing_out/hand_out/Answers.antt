@@ -1,0 +1,10 @@
+-- `handing_out::hand_out` meets its contract.
+use borrow.Author.Rules.{rules}
+use mathlib.Core.Path.{◌∙◌}
+use Rattle.answers.proofs.Filling.{filled_is}
+use Rattle.answers.proofs.handing_out.hand_out.Goals as goal
+
+pub returns : goal.returns
+returns c =
+    search rules
+

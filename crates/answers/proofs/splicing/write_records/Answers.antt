@@ -1,0 +1,29 @@
+use mathlib.Core.Path.{◌≡◌, refl, sym, ◌∙◌}
+use Prim.Native.Nat.{◌-◌, ◌≤◌}
+use native.Mathlib.Omega.{arith}
+use borrow.Author.Rules.{rules}
+use lib.ListN.{length, length-drop}
+use Rattle.image.specs.Limits.{work_bytes, max_records, no_room}
+use Rattle.image.specs.Tree.{Tree, At}
+use Rattle.image.specs.Flat.{size_t}
+use Rattle.image.proofs.Room.{cap_le}
+use Rattle.answers.specs.Splicing.{Levels}
+use Rattle.answers.proofs.Whole.{Run, run_next, run_end}
+use Rattle.answers.proofs.splicing.write_records.Goals as goal
+
+pub loop-i-preserved : goal.loop-i-preserved
+loop-i-preserved c =
+    let k = c.loop-i.invariant in
+    let put = c.put_label-to.ensures in (
+      c.put_label-to.auto.out ∙ k.0,
+      rw put.next (cap_le _),
+      λ t h f e l.
+          run_next h f e c.loop-i-test.true k.0 l
+          c.wide.ensures.0 (rw c.record_at-part.ensures at put)
+          (k.2 t h f e l),
+    )
+
+pub returns : goal.returns
+returns c =
+    c.loop-i.invariant.0 ∙ sym c.requires.from_le_n.2
+

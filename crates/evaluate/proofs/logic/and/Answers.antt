@@ -1,0 +1,31 @@
+-- `logic::and` meets its contract.
+use Rattle.plan.specs.Lists.{◌&◌}
+use Rattle.evaluate.proofs.TruthLaws.{as_truth}
+use borrow.Author.Rules.{rules}
+use Rattle.evaluate.proofs.logic.and.Goals as goal
+
+pub returns-in-False : goal.returns-in-False
+unfolding ◌&◌
+returns-in-False c =
+    rw c.in-False.is
+
+pub returns-in-True : goal.returns-in-True
+unfolding ◌&◌
+returns-in-True c =
+    rw (c.in-True.is, as_truth)
+
+pub returns-in-False-b : goal.returns-in-False-b
+unfolding ◌&◌
+returns-in-False-b c =
+    rw (c.in-Unknown.is, c.in-False-b.is)
+
+pub returns-in-True-b : goal.returns-in-True-b
+unfolding ◌&◌
+returns-in-True-b c =
+    rw (c.in-Unknown.is, c.in-True-b.is)
+
+pub returns-in-Unknown-b : goal.returns-in-Unknown-b
+unfolding ◌&◌
+returns-in-Unknown-b c =
+    rw (c.in-Unknown.is, c.in-Unknown-b.is)
+

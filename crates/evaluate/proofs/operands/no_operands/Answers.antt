@@ -1,0 +1,11 @@
+-- `operands::no_operands` meets its contract.
+use mathlib.Core.Path.{refl}
+use Rattle.plan.specs.Lists.{any}
+use borrow.Author.Rules.{rules}
+use Rattle.evaluate.proofs.operands.no_operands.Goals as goal
+
+pub returns : goal.returns
+unfolding any
+returns c =
+    rw c.null_of-none.ensures (record { right = record { first = refl; second = refl; third = refl }; is = record { count = refl; first = refl; second = refl; third = refl; equal = refl; null = refl } })
+
