@@ -3,12 +3,14 @@
 #![tactic(auto)]
 
 use listing::{TEXT_BYTES, list};
+use reading::read_full;
+use std::io;
 
-fn main() {
+fn main(rt: HostRuntime) -> io::Result<()> {
     // A record more than an image may have: a longer input is refused as too long.
     let mut image = [0u8; 65568];
     let mut text = [0u8; TEXT_BYTES];
-    let n = io::read_full(0, &mut image);
+    let n = read_full(&mut rt.stdin(), &mut image)?;
     let end = list(&image[..n], &mut text);
-    io::write_all(1, &text[..end]);
+    rt.write_all(&text[..end])
 }
