@@ -6,5 +6,6 @@ use Rattle.answers.proofs.handing_out.hand_out.Goals as goal
 
 pub returns : goal.returns
 returns c =
-    search rules
+    c.clear_from.ensures
+    ∙ rw c.copy_bytes.auto.to (filled_is _ _ _ _ c.requires.0 c.copy_bytes.ensures)
 

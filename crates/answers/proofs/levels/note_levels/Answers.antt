@@ -24,15 +24,32 @@ overflow_add-levels c =
 
 pub bounds-levels-first : goal.bounds-levels-first
 bounds-levels-first c =
-    omega arith
+    let z = c.requires.sized in
+    let v = c.loop-i.invariant in
+    let all = c.tree_end-n.ensures z.tree z.at ∙ zero-add (size_t z.tree) in
+    let k = known z.at all v.1 v.0 c.loop-i-test.true in
+    omega (arith, leads_small k.first (omega arith), c.word_at-first.ensures.0)
 
 pub bounds-levels-next : goal.bounds-levels-next
 bounds-levels-next c =
-    omega arith
+    let z = c.requires.sized in
+    let v = c.loop-i.invariant in
+    let all = c.tree_end-n.ensures z.tree z.at ∙ zero-add (size_t z.tree) in
+    let k = known z.at all v.1 v.0 c.loop-i-test.true in
+    simp length-set (omega (arith, leads_small k.next (omega arith), c.word_at-next.ensures.0))
 
 pub loop-i-preserved : goal.loop-i-preserved
 loop-i-preserved c =
-    omega arith
+    let v = c.loop-i.invariant in (
+      omega arith,
+      v.1,
+      simp length-set v.2,
+      λ t h e.
+          let lt = c.loop-i-test.true in
+          let d = noted_here h e (v.3 t h e) _ v.0 lt (omega arith) in
+          rw (c.word_at-first.ensures.0, c.word_at-next.ensures.0)
+          (noted_next (known h e v.1 v.0 lt) (v.3 t h e) v.0 lt (omega arith) (ap (λ (j : ℕ). j + 1) d) d),
+    )
 
 pub returns : goal.returns
 returns c =

@@ -25,5 +25,5 @@ loop-i-preserved c =
 
 pub returns : goal.returns
 returns c =
-    c.loop-i.invariant.0 ∙ sym c.requires.from_le_n.2
+    λ t h f e l. let k = c.loop-i.invariant in run_end e (omega arith) k.1 (k.2 t h f e l)
 

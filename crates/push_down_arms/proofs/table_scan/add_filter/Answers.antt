@@ -1,0 +1,25 @@
+-- `table_scan::add_filter` meets its contract: no expression's record has the kind of a field.
+use mathlib.Core.Path.{sym, ap, ◌∙◌}
+use native.Mathlib.Omega.{arith}
+use borrow.Author.Rules.{rules}
+use borrow.Author.Tests.{eqb-false}
+use Rattle.image.specs.Tree.{Label}
+use Rattle.plan.proofs.Written.{no_part_e}
+use Rattle.conjuncts.proofs.Listed.{lists_add}
+use Rattle.push_down_arms.proofs.table_scan.add_filter.Goals as goal
+
+pub returns-then-word_at-eq-FIELD : goal.returns-then-word_at-eq-FIELD
+returns-then-word_at-eq-FIELD c =
+    λ s ds h. record {
+      field = λ k. h;
+      filter = λ e l i. absurd (eqb-false _ 48 (no_part_e e 48 (omega arith))
+          (sym (c.word_at.ensures.0 ∙ ap (λ (k : Label). k.kind) l) ∙ c.if-word_at-eq-FIELD.true));
+    }
+
+pub returns : goal.returns
+returns c =
+    λ s ds h. record {
+      field = λ k. absurd (c.if-word_at-eq-FIELD.false (c.word_at.ensures.0 ∙ k));
+      filter = λ e l i. lists_add _ h i c.add.ensures;
+    }
+

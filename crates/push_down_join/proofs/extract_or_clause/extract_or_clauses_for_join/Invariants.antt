@@ -1,0 +1,28 @@
+-- `extract_or_clause::extract_or_clauses_for_join` meets its contract. The loop's invariant: the clauses of the conjuncts passed are appended.
+use mathlib.Core.Path.{◌≡◌}
+use mathlib.Core.Bool.{Bool, true}
+use mathlib.Core.List.{List}
+use Prim.Native.Nat.{◌-◌, ◌≤◌, ◌<◌}
+use native.Mathlib.Omega.{arith}
+use lib.ListN.{length, get_or}
+use Rattle.plan.specs.Columns.{on_cols}
+use Rattle.plan.specs.Schema.{has}
+use Rattle.plan.specs.Syntax.{Name, Expr}
+use Rattle.plan.specs.Lists.{All}
+use Rattle.conjuncts.specs.Items.{FALSE, Lists}
+use Rattle.conjuncts.proofs.Listed.{lists_at, lists_length, lists_room}
+use Rattle.utils.specs.Fields.{Names}
+use Rattle.utils.specs.Masks.{Masks}
+use Rattle.push_down_join.specs.Sides.{Sides}
+use Rattle.push_down_base.proofs.Selecting.{all_at}
+use Rattle.push_down_join.proofs.Siding.{Clauses, clauses_start, clauses_step, clauses_end}
+use Rattle.push_down_join.proofs.extract_or_clause.extract_or_clauses_for_join.Given as goal
+
+abbrev pub invariant-loop-i : goal.invariant-loop-i
+invariant-loop-i l =
+    (l.i ≤ l.n) × ((σ : Name → Expr) (ns : List Name) (t : Name → Bool) (es fs : List Expr) → Sides l.s σ ns t l.initial.r es → Lists l.s l.c fs → Names l.fields ns
+    → All (λ e. on_cols (has ns) e ≡ true) fs → Masks l.side ns t → Clauses l.s σ ns t l.r es fs l.i)
+
+abbrev pub decreases-loop-i : goal.decreases-loop-i
+decreases-loop-i l = l.n - l.i
+

@@ -1,0 +1,14 @@
+use borrow.Author.Rules.{rules}
+use Rattle.push_down_base.proofs.Scoping.{known_reads, reads_keep, reads_none}
+use Rattle.push_down_join.proofs.SideLists.{keyed_inner, keyed_other}
+use Rattle.push_down_join.proofs.infer_join_predicates.infer_join_predicates.Goals as goal
+
+pub returns-then-inner : goal.returns-then-inner
+returns-then-inner c =
+    λ l r on es k h. rw (keyed_inner _ on es c.if-inner.true)
+    (reads_keep _ h (c.select_side.ensures es _ _ h.lists k.names h.over k.alone))
+
+pub returns : goal.returns
+returns c =
+    λ l r on es k h. rw (keyed_other _ on es c.if-inner.false) (reads_none c.empty.ensures)
+

@@ -1,0 +1,108 @@
+use mathlib.Core.Path.{refl, sym, ◌∙◌}
+use mathlib.Core.List.{◌++◌, map}
+use native.Mathlib.Omega.{arith}
+use borrow.Author.Rules.{rules}
+use lib.ListN.{length-map}
+use Rattle.plan.specs.Schema.{schema}
+use Rattle.plan.specs.Syntax.{Name, Expr, col}
+use Rattle.rewrite.specs.PushDownFilter.{ren, push_down_all_join}
+use Rattle.push_down_join.specs.Scopes.{swap}
+use Rattle.push_down_base.proofs.Answering.{answers}
+use Rattle.plan.proofs.Bools.{no_yes}
+use Rattle.push_down_join.proofs.JoinCounts.{fits_each, fits_few, few_fits, inputs_few}
+use Rattle.push_down_join.proofs.JoinWritten.{join_here, join_part, join_at, asked, kind_is, carries}
+use Rattle.push_down_join.proofs.SideLists.{renames_swap}
+use Rattle.push_down_join.proofs.push_down_all_join.push_down_all_join.Goals as goal
+
+pub join_scope-sc-requires : goal.join_scope-sc-requires
+unfolding push_down_all_join
+join_scope-sc-requires c =
+    let q = c.requires.join_between in
+    let z = c.right_input-z.ensures _ q.kind q.lhs q.rhs q.keys q.condition c.requires.stretch q.placed in
+    record { kind = q.kind; lhs = q.lhs; rhs = q.rhs; keys = q.keys; condition = q.condition; join_at = join_at c.requires.stretch q.placed z }
+
+pub moves_of-v-requires-clause-asked : goal.moves_of-v-requires-clause-asked
+unfolding push_down_all_join
+moves_of-v-requires-clause-asked c =
+    let q = c.requires.join_between in
+    let h = q.placed in
+    let z = c.right_input-z.ensures _ q.kind q.lhs q.rhs q.keys q.condition c.requires.stretch h in
+    let sc = c.join_scope-sc.ensures q.kind q.lhs q.rhs q.keys q.condition (join_at c.requires.stretch h z) in
+    (asked sc q.reads, asked sc q.reads_own)
+
+pub returns-then-not-fits : goal.returns-then-not-fits
+unfolding push_down_all_join
+returns-then-not-fits c =
+    λ k l r on f P G h q g p w. let i = c.requires.stretch in
+    let z = c.right_input-z.ensures _ k l r on f i h in
+    let sc = c.join_scope-sc.ensures k l r on f (join_at i h z) in
+    let e = kind_is h.standing i c.word_at-kind.ensures.0 in
+    let ns = schema l ++ schema r in
+    let σ : Name → Expr = λ x. col (ren ns (map (swap on) ns) x) in
+    let v = c.moves_of-v.ensures k (schema l) (schema r) on P G σ e sc q g (renames_swap ns on) in
+    record {
+      flag = v.flag;
+      fits = λ small. no_yes (sym c.if-not-fits.true ∙ (c.fits.ensures ∙ few_fits k l r on v p w small));
+      over = λ many. (refl, refl);
+    }
+
+pub write_renames-requires : goal.write_renames-requires
+unfolding push_down_all_join
+write_renames-requires c =
+    let q = c.requires.join_between in
+    let z = c.right_input-z.ensures _ q.kind q.lhs q.rhs q.keys
+    q.condition c.requires.stretch q.placed in
+    let sc = c.join_scope-sc.ensures q.kind q.lhs q.rhs q.keys
+    q.condition (join_at c.requires.stretch q.placed z) in
+    (sc.most, omega (arith, sc.most, c.requires.arm_over.0))
+
+pub write_kept-next-requires-clause-carried : goal.write_kept-next-requires-clause-carried
+unfolding push_down_all_join
+write_kept-next-requires-clause-carried c =
+    let q = c.requires.join_between in
+    let h = q.placed in
+    let z = c.right_input-z.ensures _
+    q.kind q.lhs q.rhs q.keys q.condition c.requires.stretch h in
+    let sc = c.join_scope-sc.ensures q.kind
+    q.lhs q.rhs q.keys q.condition (join_at c.requires.stretch h z) in
+    let e = kind_is h.standing c.requires.stretch
+    c.word_at-kind.ensures.0 in
+    let ns = schema q.lhs ++ schema q.rhs in
+    let σ : Name → Expr = λ x. col (ren ns (map (swap q.keys) ns) x) in
+    let v = c.moves_of-v.ensures q.kind (schema q.lhs)
+    (schema q.rhs) q.keys q.above q.own σ e sc q.reads q.reads_own
+    (renames_swap ns q.keys) in
+    let m = c.write_renames.ensures ns (map (swap q.keys) ns) sc.names sc.to (sym (length-map ns
+    (swap q.keys))) in
+    let few = fits_each _ _ _ (sym c.fits.ensures ∙ c.if-not-fits.false) in record {
+          kind = q.kind;
+          lhs = q.lhs;
+          rhs = q.rhs;
+          keys = q.keys;
+          condition = q.condition;
+          above = q.above;
+          own = q.own;
+          mapping = σ;
+          carries = carries h z m sc v few;
+        }
+
+pub returns : goal.returns
+unfolding push_down_all_join
+returns c =
+    λ k l r on f P G h q g p w. let i = c.requires.stretch in
+    let z = c.right_input-z.ensures _ k l r on f i h in
+    let sc = c.join_scope-sc.ensures k l r on f (join_at i h z) in
+    let e = kind_is h.standing i
+    c.word_at-kind.ensures.0 in
+    let ns = schema l ++ schema r in
+    let σ : Name → Expr = λ x. col (ren ns (map (swap on) ns) x) in
+    let v = c.moves_of-v.ensures k
+    (schema l) (schema r) on P G σ e sc q g (renames_swap ns on) in
+    let m = c.write_renames.ensures ns (map (swap on) ns) sc.names sc.to (sym
+    (length-map ns (swap on))) in
+    let few = fits_each _ _ _ (sym
+    c.fits.ensures ∙ c.if-not-fits.false) in
+    let below = inputs_few k l r on f h.lists in
+    answers v.flag (fits_few k l r on v p w below.0 below.1 few.0 few.1 few.2)
+    (c.write_kept-next.ensures k l r on f P G σ (carries h z m sc v few))
+
