@@ -1,4 +1,7 @@
 // Bytes written from the words of a line, and outputs compared with them.
+ghost use Rattle.std.specs.Prelude.{◌≡◌, ◌≢◌, ◌↔◌, IsFalse, IsTrue, length, replicate};
+ghost use Rattle.stored.specs.Outputs.{IsAnswer, IsZero};
+
 use image::words::put_word;
 
 // What an output holds before a call: a byte that the call does not write shows.
@@ -18,23 +21,29 @@ pub fn write_words(words: &[u64], bytes: &mut [u8]) -> usize {
 }
 
 // Makes every byte one that no call leaves.
-pub fn spoil(output: &mut [u8]) {
-    for byte in output.iter_mut() {
-        *byte = UNWRITTEN;
-    }
+pub fn spoil(output: &mut [u8])
+    ensures { output.new ≡ replicate (length output.old) 165 }
+{
+    output.fill(UNWRITTEN);
 }
 
 // Whether both are as long and the same at each place.
-fn same(a: &[u8], b: &[u8]) -> bool {
+fn same(a: &[u8], b: &[u8]) -> bool
+    ensures { IsTrue result ↔ a.now ≡ b.now }
+{
     a == b
 }
 
-fn is_zero(s: &[u8]) -> bool {
+fn is_zero(s: &[u8]) -> bool
+    ensures { IsTrue result ↔ IsZero s.now }
+{
     s.iter().all(|byte| *byte == 0)
 }
 
 // Whether the output is the answer, then zeros.
-fn is_answer(output: &[u8], answer: &[u8]) -> bool {
+fn is_answer(output: &[u8], answer: &[u8]) -> bool
+    ensures { IsTrue result ↔ IsAnswer output.now answer.now }
+{
     let len = answer.len();
     if output.len() < len {
         return false;
@@ -43,7 +52,11 @@ fn is_answer(output: &[u8], answer: &[u8]) -> bool {
 }
 
 // Whether the output is what a line stores: zeros for a refusal; else the image itself or the answer spelt last, then zeros.
-pub fn is_stored(output: &[u8], number: u64, is_spelt: bool, image: &[u8], spelt: &[u8]) -> bool {
+pub fn is_stored(output: &[u8], number: u64, is_spelt: bool, image: &[u8], spelt: &[u8]) -> bool
+    ensures refused { number ≢ 0 → IsTrue result ↔ IsZero output.now }
+    ensures spelt { number ≡ 0 → IsTrue is_spelt → IsTrue result ↔ IsAnswer output.now spelt.now }
+    ensures kept { number ≡ 0 → IsFalse is_spelt → IsTrue result ↔ IsAnswer output.now image.now }
+{
     if number != 0 {
         return is_zero(output);
     }
