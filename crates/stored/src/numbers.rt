@@ -1,4 +1,6 @@
 // The numbers of a line of text: runs of digits, some with a minus before them. What else stands in a line only parts them.
+ghost use Rattle.std.specs.Prelude.{◌≡◌, ◌+◌, ◌-◌, ◌*◌, ◌^◌, ◌<◌, ◌≤◌, IsFalse, IsTrue};
+
 use reading::read_full;
 use std::io;
 use std::io::Read;
@@ -48,7 +50,9 @@ struct Scan {
 }
 
 // What a digit stands for.
-fn digit_of(byte: u8) -> u64 {
+fn digit_of(byte: u8) -> u64
+    ensures { byte ≤ 57 → result ≡ byte - 48 }
+{
     if byte < ZERO {
         return 0;
     }
@@ -56,7 +60,9 @@ fn digit_of(byte: u8) -> u64 {
 }
 
 // The number with a digit more. One above 2^64 - 1 stays as it was: the list has none.
-fn grown(value: u64, digit: u64) -> u64 {
+fn grown(value: u64, digit: u64) -> u64
+    ensures { digit < 10 → 10 * value + digit < 2 ^ 64 → result ≡ 10 * value + digit }
+{
     if value < TENTH {
         return value * 10 + digit % 10;
     }
@@ -67,7 +73,11 @@ fn grown(value: u64, digit: u64) -> u64 {
 }
 
 // The number as 64 bits; below 0 it is what is missing to 2^64.
-fn with_sign(value: u64, negative: bool) -> u64 {
+fn with_sign(value: u64, negative: bool) -> u64
+    ensures plus { IsFalse negative → result ≡ value }
+    ensures minus { IsTrue negative → 0 < value → result ≡ 2 ^ 64 - value }
+    ensures zero { value ≡ 0 → result ≡ 0 }
+{
     if negative {
         if 0 < value {
             return 18446744073709551615 - (value - 1);
