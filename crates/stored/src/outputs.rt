@@ -1,6 +1,6 @@
 // Bytes written from the words of a line, and outputs compared with them.
-ghost use Rattle.std.specs.Prelude.{◌≡◌, ◌≢◌, ◌↔◌, IsFalse, IsTrue, length, replicate};
-ghost use Rattle.stored.specs.Outputs.{IsAnswer, IsZero};
+ghost use Rattle.std.specs.Prelude.{◌≡◌, ◌≢◌, ◌*◌, ◌/◌, ◌≤◌, ◌↔◌, IsFalse, IsTrue, length, replicate, take};
+ghost use Rattle.stored.specs.Outputs.{IsAnswer, IsZero, words_bytes};
 
 use image::words::put_word;
 
@@ -8,7 +8,11 @@ use image::words::put_word;
 const UNWRITTEN: u8 = 165;
 
 // Writes words, four bytes each, while there is room; how many bytes were written.
-pub fn write_words(words: &[u64], bytes: &mut [u8]) -> usize {
+pub fn write_words(words: &[u64], bytes: &mut [u8]) -> usize
+    ensures within { result ≤ length bytes.new }
+    ensures written { take result bytes.new ≡ words_bytes (take (result / 4) words.now) }
+    ensures all { 4 * length words.now ≤ length bytes.old → result ≡ 4 * length words.now }
+{
     let mut at = 0usize;
     for word in words {
         if bytes.len() - at < 4 {
