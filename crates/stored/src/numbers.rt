@@ -1,5 +1,5 @@
 // The numbers of a line of text: runs of digits, some with a minus before them. What else stands in a line only parts them.
-ghost use Rattle.std.specs.Prelude.{◌≡◌, ◌+◌, ◌-◌, ◌*◌, ◌^◌, ◌<◌, ◌≤◌, IsFalse, IsTrue};
+ghost use Rattle.std.specs.Prelude.{◌≡◌, ◌+◌, ◌-◌, ◌*◌, ◌^◌, ◌<◌, ◌≤◌, IfOk, IsFalse, IsTrue, length};
 
 use reading::read_full;
 use std::io;
@@ -87,7 +87,9 @@ fn with_sign(value: u64, negative: bool) -> u64
 }
 
 // Stores the number in hand, if there is one and room for it.
-fn close(numbers: &mut [u64], scan: Scan) -> usize {
+fn close(numbers: &mut [u64], scan: Scan) -> usize
+    ensures { scan.count ≤ length numbers.old → result ≤ length numbers.new }
+{
     let at = scan.count;
     if scan.digits {
         if at < numbers.len() {
@@ -107,7 +109,9 @@ fn mark_after(mark: u8, byte: u8) -> u8 {
 }
 
 // Reads a byte more of the line.
-fn step(numbers: &mut [u64], scan: Scan, byte: u8) -> Scan {
+fn step(numbers: &mut [u64], scan: Scan, byte: u8) -> Scan
+    ensures { scan.count ≤ length numbers.old → result.count ≤ length numbers.new }
+{
     if (ZERO <= byte) & (byte <= NINE) {
         return Scan {
             value: grown(scan.value, digit_of(byte)),
@@ -164,7 +168,9 @@ pub fn read_line<R: Read>(
     chunk: &mut [u8],
     before: Unread,
     numbers: &mut [u64],
-) -> io::Result<Line> {
+) -> io::Result<Line>
+    ensures { IfOk result (λ line. line.count ≤ length numbers.new) }
+{
     let mut unread = filled(input, chunk, before)?;
     let first = byte_of(chunk, unread);
     let is_end = unread.end == 0;
