@@ -31,10 +31,10 @@ help:
 	@echo 'make install    the header, the library, its .pc file and the licence; PREFIX ($(PREFIX)), INCLUDEDIR, LIBDIR, DOCDIR, DESTDIR'
 	@echo 'make uninstall  removes them again, with the same words'
 	@echo 'make dist       $(PACKED).tar.gz: the same, with a README, the pages, the example and SHA256SUMS'
-	@echo 'version $(VERSION); $(LIBRARY) is made by ./run or rt staticlib push_down_filter'
+	@echo 'version $(VERSION); $(LIBRARY) is made by ./run'
 
 $(LIBRARY):
-	@echo '$@ is not there: ./run or rt staticlib push_down_filter makes it' >&2; exit 1
+	@echo '$@ is not there: ./run makes it' >&2; exit 1
 
 install: $(LIBRARY)
 	$(INSTALL) -d '$(DESTDIR)$(INCLUDEDIR)' '$(DESTDIR)$(LIBDIR)/pkgconfig' '$(DESTDIR)$(DOCDIR)'

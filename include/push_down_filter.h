@@ -1,7 +1,7 @@
 /*
  * Filter push-down over plans that travel as images: check an image, rewrite a plan at a node, pass over the whole plan, try a
- * Filter on a row. Link with libpush_down_filter.a, which `rt staticlib push_down_filter` makes in target/staticlib. Of other
- * libraries it needs memcpy, memmove and memset of the C library alone. C99 or later, or C++.
+ * Filter on a row. Link with libpush_down_filter.a, which `./run` makes in target/staticlib. Of other libraries it needs memcpy,
+ * memmove and memset of the C library alone. C99 or later, or C++.
  *
  * An image is 1 to 2,048 records of 32 bytes: eight little-endian 32-bit words kind, p, q, r, lo, hi, first, next. Any bytes may be
  * given: what is no image of a plan is refused with a number and a record.

@@ -5,7 +5,7 @@ set -u
 cd "$(dirname "$0")/.." || exit 1
 fail() { echo "c: $1" >&2; exit 1; }
 library=target/staticlib/libpush_down_filter.a
-[ -f $library ] || fail "$library is not there: ./run or rt staticlib push_down_filter makes it"
+[ -f $library ] || fail "$library is not there: ./run makes it"
 place=$(mktemp -d) || exit 1
 trap 'rm -rf "$place"' EXIT
 warnings="-Wall -Wextra -Wpedantic -Wshadow -Wconversion -Werror"

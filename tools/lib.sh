@@ -1,5 +1,7 @@
 # What ./run and ./test share; sourced, from the root of the repository.
 
+library=target/staticlib/libpush_down_filter.a
+
 fail() { echo "$1" >&2; exit 1; }
 
 # The tools that a command needs.
@@ -18,67 +20,27 @@ alone() {
     flock -n 9 || fail "another ./run or ./test is at work here"
 }
 
-# rt waits for a whole batch of proofs before it begins the next, so that four at a time leave less of two cores idle than two. One
-# takes up to 2.3 GB.
-batches() {
-    local free
-    free=$(awk '/^MemAvailable/ { print int($2 / 1048576) }' /proc/meminfo)
-    [ -n "${RT_JOBS:-}" ] || [ "${free:-0}" -lt 10 ] || export RT_JOBS=4
-}
-
-# Starts a command in a group of its own, so that it can be ended with all that it started; its number is in `started`.
-start() {
+# Runs a command to its end, as one that is ended with all that it started when this script is. (A signal is not heard before what is in the
+# foreground ends.)
+started=
+follow() {
     set -m
     "$@" &
     started=$!
     set +m
+    wait "$started"
+}
+end() { [ -z "$started" ] || kill -- "-$started" 2>/dev/null; }
+
+# What rt says of each crate and edit, a line each, and its errors; all that it says goes to the file.
+told() { # FILE
+    tee "$1" | sed -nu -e 's/^\(rt: must-fail .*: refused\), .*/\1/' -e '/^rt: chose/d' -e 's/^rt: //p' \
+        -e 's/^crate \([a-z_]*\): .*/\1 checked/p' -e '/: error/p'
 }
 
-# Ends what was started.
-end() {
-    local group
-    for group in "$@"; do kill -- "-$group" 2>/dev/null; done
-}
-
-# What rt says of each crate and each edit as soon as it is done, until the process ends. (rt itself tells them by batches.)
-finished_ones() { # PROCESS
-    local begun=$1 file told=' ' again=yes
-    while [ "$again" = yes ]; do
-        kill -0 "$begun" 2>/dev/null && sleep 1 || again=no
-        for file in target/log/*.out target/must-fail/*/*.out; do
-            case $told in *" $file "*) continue ;; esac
-            [ "$file" -nt "$since" ] && grep -q '^rt: ' "$file" || continue
-            told="$told$file "
-            cat "$file"
-        done
-    done
-}
-
-# Reads what rt says and tells it in a line: the crate or the edit, how many of how many, how long it took; and what an error says.
-progress() { # CRATES EDITS
-    local line name took proved=0 refused=0 errors=0
-    while IFS= read -r line; do
-        name=${line#rt: }
-        took=$(grep -o '[0-9]* s)$' <<<"$line")
-        case $line in
-        'rt: '*' proved (unchanged'*) proved=$((proved + 1)) ;;
-        'rt: '*' proved ('*) printf 'proved  %3d of %d  %s (%s\n' $((++proved)) "$1" "${name%% *}" "$took" ;;
-        'rt: must-fail '*': refused'*)
-            name=${name#must-fail }
-            printf 'refused %3d of %d  %s (%s\n' $((++refused)) "$2" "${name%%:*}" "$took"
-            ;;
-        'rt: '*NOT* | 'rt: '*FAILED* | 'rt: '*BAD* | 'rt: '*' ran '*) echo "$name" ;;
-        *': error'*) [ $((errors++)) -ge 10 ] || echo "${line:0:400}" ;;
-        esac
-    done
-}
-
-# Whether the static library is of what was proved last.
-is_built() {
-    cmp -s target/stamp/push_down_filter target/staticlib/made-of && [ -f target/staticlib/libpush_down_filter.a ]
-}
-
-# Builds it if not: rt staticlib proves the topmost crate once more.
+# Proves what changed since it was proved last, builds the static library and puts it where C and Rust look for it.
 build_library() {
-    is_built || { rt staticlib push_down_filter && cp target/stamp/push_down_filter target/staticlib/made-of; }
+    local made=crates/push_down_filter_c/out/libpush_down_filter_c.a
+    (cd crates/push_down_filter_c && rt lib) || return
+    cmp -s $made $library || { mkdir -p "$(dirname $library)" && cp $made $library; }
 }

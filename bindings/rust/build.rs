@@ -20,7 +20,7 @@ fn main() {
     println!("cargo:rustc-link-lib=static=push_down_filter");
 }
 
-/// Where the library stands: the folder that the environment names, else the one in which `rt staticlib` makes it.
+/// Where the library stands: the folder that the environment names, else the one where `./run` puts it.
 fn folder() -> PathBuf {
     let here = PathBuf::from(env::var_os("CARGO_MANIFEST_DIR").unwrap_or_default());
     let named = env::var_os(FOLDER).filter(|folder| !folder.is_empty());

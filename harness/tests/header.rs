@@ -1,6 +1,7 @@
 //! include/push_down_filter.h says the numbers of the sources: every constant that a source has for callers stands in the header, every
 //! constant of the header stands in a source, and they are equal; so are those of the Rust crate, which the harness uses. The
-//! version is one throughout.
+//! version is one throughout. The functions that the header declares are those that the sources export, under the contracts of the
+//! library.
 
 use std::collections::{BTreeMap, BTreeSet};
 use std::fs;
@@ -14,7 +15,8 @@ const KINDS: &str = "crates/plan/src/kinds.rt";
 const WORDS: &str = "crates/plan/src/words.rt";
 const LIMITS: &str = "crates/image/src/limits.rt";
 const RECORDS: &str = "crates/image/src/records.rt";
-const VERSION: &str = "crates/push_down_filter/src/lib.rt";
+const LIBRARY: &str = "crates/push_down_filter/src/lib.rt";
+const EXPORTS: &str = "crates/push_down_filter_c/src/lib.rt";
 
 /// The header's prefix, the source, and the names that follow the prefix; `a=b` where the source says a and the header b.
 const SAID: [(&str, &str, &str); 12] = [
@@ -270,12 +272,12 @@ fn the_header_says_the_numbers_of_the_harness() {
 #[test]
 fn the_version_is_one() {
     let header = read("include/push_down_filter.h");
-    let of_code = of_source(VERSION);
+    let of_code = of_source(LIBRARY);
     let version = ["MAJOR", "MINOR", "PATCH"].map(|part| {
         let name = format!("#define {PREFIX}VERSION_{part} ");
         let line = header.lines().find_map(|line| line.strip_prefix(&name));
         let number: u64 = line.unwrap_or_else(|| panic!("no {name}")).parse().expect("a number");
-        assert_eq!(of_code[part], Some(number), "{part} of {VERSION}");
+        assert_eq!(of_code[part], Some(number), "{part} of {LIBRARY}");
         assert!(number < 1000, "{part} is {number}, and has three digits in the number of the version");
         number
     });
@@ -287,4 +289,28 @@ fn the_version_is_one() {
     let cargo = read("bindings/rust/Cargo.toml");
     let said = cargo.lines().find(|line| line.starts_with("version"));
     assert_eq!(said, Some(bindings.as_str()), "bindings/rust/Cargo.toml");
+}
+
+/// The functions of a source that begin so: their names, and the whole head of each, clauses too, however its lines are broken.
+fn heads(path: &str, begin: &str) -> BTreeMap<String, String> {
+    let head = |rest: &str| {
+        let words: Vec<&str> = rest.split("\n{").next().unwrap().split_whitespace().collect();
+        let line = words.join(" ").replace("( ", "(").replace(", )", ")");
+        (line.split('(').next().unwrap().to_string(), line)
+    };
+    read(path).split(begin).skip(1).map(head).collect()
+}
+
+#[test]
+fn the_exports_are_those_of_the_library_and_of_the_header() {
+    let exports = heads(EXPORTS, "\n#[unsafe(no_mangle)]\npub extern \"C\" fn ");
+    assert_eq!(exports, heads(LIBRARY, "\npub fn "));
+    let header = without_comments(&read("include/push_down_filter.h"));
+    let named = header.split(|c: char| !c.is_alphanumeric() && !"_(".contains(c));
+    let declared: BTreeSet<&str> = named.filter_map(|word| word.split_once('(')).map(|(name, _)| name).collect();
+    let declared = declared.into_iter().filter(|name| name.starts_with("push_down_filter_"));
+    assert!(
+        declared.eq(exports.keys().map(String::as_str)),
+        "the header declares other functions than {EXPORTS} exports"
+    );
 }

@@ -24,7 +24,7 @@ fn root() -> PathBuf {
 fn walk(folder: &Path, from: &str, tree: &mut Vec<String>) {
     for entry in fs::read_dir(folder).unwrap().map(Result::unwrap) {
         let name = entry.file_name().into_string().unwrap();
-        if name == "target" || name.starts_with('.') {
+        if name == "target" || name == "out" || name.starts_with('.') {
             continue;
         }
         let path = format!("{from}{name}");

@@ -1,4 +1,4 @@
-// What C and Rust call: functions on byte slices and numbers.
+// What C and Rust call, as Rattle calls it: functions on byte slices and numbers. crates/push_down_filter_c exports them.
 #![tactic(auto)]
 
 ghost use Rattle.std.specs.Prelude.{◌≡◌, length};
@@ -22,8 +22,7 @@ const PATCH: u32 = 0;
 const VERSION: u32 = 1000000 * MAJOR + 1000 * MINOR + PATCH;
 
 // The version of the library that a caller linked.
-#[unsafe(no_mangle)]
-pub extern "C" fn push_down_filter_version() -> u32
+pub fn push_down_filter_version() -> u32
     ensures { result ≡ version }
 {
     VERSION
@@ -38,8 +37,7 @@ pub struct Verdict {
 }
 
 // The tests 1 to 7 on any bytes.
-#[unsafe(no_mangle)]
-pub extern "C" fn push_down_filter_check(image: &[u8]) -> Verdict
+pub fn push_down_filter_check(image: &[u8]) -> Verdict
     ensures { verdict_is result ≡ Check.check image.now }
 {
     let answer = check(image);
@@ -62,8 +60,7 @@ pub struct Rewritten {
 
 // PushDownFilter::rewrite of the plan at record `node`; the answer's image goes to `out`, zeros after it, or zeros alone where it is
 // refused.
-#[unsafe(no_mangle)]
-pub extern "C" fn push_down_filter_rewrite(image: &[u8], node: u32, out: &mut [u8]) -> Rewritten
+pub fn push_down_filter_rewrite(image: &[u8], node: u32, out: &mut [u8]) -> Rewritten
     ensures { rewritten_is result out.new ≡ rewrite_bytes image.now node (length out.old) }
 {
     let answer = rewrite_bytes(image, node, out);
@@ -91,8 +88,7 @@ pub struct Passed {
 
 // A pass from the root on, of at most `budget` visits; the image that it leaves goes to `out`, zeros after it, or zeros alone where it is
 // refused.
-#[unsafe(no_mangle)]
-pub extern "C" fn push_down_filter_pass(image: &[u8], budget: u64, out: &mut [u8]) -> Passed
+pub fn push_down_filter_pass(image: &[u8], budget: u64, out: &mut [u8]) -> Passed
     ensures { passed_is result out.new ≡ pass_bytes image.now budget (length out.old) }
 {
     let answer = pass_bytes(image, budget, out);
@@ -118,13 +114,7 @@ pub struct Tested {
 }
 
 // The predicate of the Filter at record `node`, on the row of the values, of which those with the mark 1 are NULL.
-#[unsafe(no_mangle)]
-pub extern "C" fn push_down_filter_row_test(
-    image: &[u8],
-    node: u32,
-    values: &[i64],
-    marks: &[u8],
-) -> Tested
+pub fn push_down_filter_row_test(image: &[u8], node: u32, values: &[i64], marks: &[u8]) -> Tested
     ensures { tested_is result ≡ row_test_bytes image.now node values.now marks.now }
 {
     let answer = row_test(image, node, values, marks);
