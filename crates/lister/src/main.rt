@@ -2,13 +2,29 @@
 // the refusal.
 #![tactic(auto)]
 
-use listing::{TEXT_BYTES, list};
+ghost use Rattle.std.specs.Prelude.{IfSome, OnOk};
+ghost use Rattle.std.specs.Io.KnownBytes.{Appends};
+ghost use Rattle.listing.specs.Listing.{listing};
 
-fn main() {
+use listing::{TEXT_BYTES, list};
+use reading::read_full;
+use std::io;
+use std::io::{Read, Write};
+
+// Reads the input and writes its text. Where the input's bytes are known, and what the output holds, the text of all of these is written
+// behind it.
+pub fn list_input<R: Read, W: Write>(input: &mut R, output: &mut W) -> io::Result<()>
+    ensures { OnOk result (IfSome (R.remaining input.old)
+        (λ s. Appends (W.contents output.old) (W.contents output.new) (listing s))) }
+{
     // A record more than an image may have: a longer input is refused as too long.
     let mut image = [0u8; 65568];
     let mut text = [0u8; TEXT_BYTES];
-    let n = io::read_full(0, &mut image);
+    let n = read_full(input, &mut image)?;
     let end = list(&image[..n], &mut text);
-    io::write_all(1, &text[..end]);
+    output.write_all(&text[..end])
+}
+
+fn main(rt: HostRuntime) -> io::Result<()> {
+    list_input(&mut rt.stdin(), &mut rt.stdout())
 }

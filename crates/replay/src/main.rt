@@ -6,6 +6,8 @@
 ghost use Rattle.std.specs.Prelude.{◌≡◌, length};
 
 use replaying::lines::{CHECK, IMAGE, Kept, PASS, REWRITE, TEST, UNKNOWN, run_line};
+use std::io;
+use std::io::Read;
 use stored::numbers::{Unread, read_line};
 
 // How many lines are read at most.
@@ -34,73 +36,80 @@ fn counted(tally: &[u64], at: usize) -> u64 {
 }
 
 // Counts a line, and names it if it differs and not many did before it.
-fn count(tally: &mut [u64], sort: usize, agrees: bool, line: usize) {
+fn count(
+    rt: &impl Print,
+    tally: &mut [u64],
+    sort: usize,
+    agrees: bool,
+    line: usize,
+) -> io::Result<()> {
     count_one(tally, sort);
     if agrees {
-        return;
+        return Ok(());
     }
     count_one(tally, DIFFER + sort % DIFFER);
     count_one(tally, ALL);
     if counted(tally, ALL) <= MAX_NAMED {
-        io::write_all(1, b"line ");
-        io::print_decimal(1, line as u64);
-        io::write_all(1, b" differs\n");
+        println!(rt; "line {line} differs")?;
     }
+    Ok(())
 }
 
 // Runs the lines from the first on.
-fn replay(
+fn replay<R: Read>(
+    rt: &impl Print,
+    input: &mut R,
     chunk: &mut [u8],
     numbers: &mut [u64],
     image: &mut [u8],
     spelt: &mut [u8],
     output: &mut [u8],
     tally: &mut [u64],
-) {
+) -> io::Result<()> {
     let mut kept = Kept { image: 0, spelt: 0 };
     let mut unread = Unread { at: 0, end: 0 };
-    let mut line = 0usize;
-    while line < MAX_LINES {
-        line += 1;
-        let read = read_line(chunk, unread, numbers);
+    for line in 1..=MAX_LINES {
+        let read = read_line(input, chunk, unread, numbers)?;
         if read.is_end {
-            return;
+            return Ok(());
         }
         unread = read.unread;
         let ran = run_line(read, numbers, kept, image, spelt, output);
         kept = ran.kept;
-        count(tally, ran.sort, ran.agrees, line);
+        count(rt, tally, ran.sort, ran.agrees, line)?;
     }
+    Ok(())
 }
 
 // Prints how many lines of a sort there were and how many of them differ.
-fn print_sort(tally: &[u64], sort: usize, name: &[u8]) {
-    io::print_decimal(1, counted(tally, sort));
-    io::write_all(1, name);
-    io::print_decimal(1, counted(tally, DIFFER + sort % DIFFER));
-    io::write_all(1, b" differ\n");
+fn print_sort(rt: &impl Print, tally: &[u64], sort: usize, name: &str) -> io::Result<()> {
+    let all = counted(tally, sort);
+    let differ = counted(tally, DIFFER + sort % DIFFER);
+    println!(rt; "{all} {name}, {differ} differ")
 }
 
-fn print_tally(tally: &[u64]) {
-    print_sort(tally, IMAGE, b" images, ");
-    print_sort(tally, CHECK, b" checks, ");
-    print_sort(tally, REWRITE, b" rewrites, ");
-    print_sort(tally, PASS, b" passes, ");
-    print_sort(tally, TEST, b" row tests, ");
-    print_sort(tally, UNKNOWN, b" other lines, ");
+fn print_tally(rt: &impl Print, tally: &[u64]) -> io::Result<()> {
+    print_sort(rt, tally, IMAGE, "images")?;
+    print_sort(rt, tally, CHECK, "checks")?;
+    print_sort(rt, tally, REWRITE, "rewrites")?;
+    print_sort(rt, tally, PASS, "passes")?;
+    print_sort(rt, tally, TEST, "row tests")?;
+    print_sort(rt, tally, UNKNOWN, "other lines")
 }
 
 // Replays the input in space that is lent, and prints what there was.
-fn replay_and_print(
+fn replay_and_print<R: Read>(
+    rt: &impl Print,
+    input: &mut R,
     chunk: &mut [u8],
     numbers: &mut [u64],
     image: &mut [u8],
     spelt: &mut [u8],
     output: &mut [u8],
-) {
+) -> io::Result<()> {
     let mut tally = [0u64; 15];
-    replay(chunk, numbers, image, spelt, output, &mut tally);
-    print_tally(&tally);
+    replay(rt, input, chunk, numbers, image, spelt, output, &mut tally)?;
+    print_tally(rt, &tally)
 }
 
 // Space for an image, which may be a record too long, or an output. A caller knows of it the length alone.
@@ -117,17 +126,19 @@ fn space_of_numbers() -> [u64; 16500]
     [0; 16500]
 }
 
-fn main() {
+fn main(rt: HostRuntime) -> io::Result<()> {
     let mut chunk = space();
     let mut numbers = space_of_numbers();
     let mut image = space();
     let mut spelt = space();
     let mut output = space();
     replay_and_print(
+        &rt,
+        &mut rt.stdin(),
         &mut chunk,
         &mut numbers,
         &mut image,
         &mut spelt,
         &mut output,
-    );
+    )
 }

@@ -105,24 +105,14 @@ fn value_of_bits(bits: u64) -> i64 {
 }
 
 fn put_values(numbers: &[u64], values: &mut [i64]) {
-    let mut i = 0usize;
-    while i < numbers.len() {
-        if values.len() <= i {
-            return;
-        }
-        values[i] = value_of_bits(numbers[i]);
-        i += 1;
+    for (value, bits) in values.iter_mut().zip(numbers) {
+        *value = value_of_bits(*bits);
     }
 }
 
 fn put_marks(numbers: &[u64], marks: &mut [u8]) {
-    let mut i = 0usize;
-    while i < numbers.len() {
-        if marks.len() <= i {
-            return;
-        }
-        marks[i] = (numbers[i] % 256) as u8;
-        i += 1;
+    for (mark, number) in marks.iter_mut().zip(numbers) {
+        *mark = (*number % 256) as u8;
     }
 }
 

@@ -1,4 +1,9 @@
 // The numbers of a line of text: runs of digits, some with a minus before them. What else stands in a line only parts them.
+ghost use Rattle.std.specs.Prelude.{◌≡◌, ◌+◌, ◌-◌, ◌*◌, ◌^◌, ◌<◌, ◌≤◌, IfOk, IsFalse, IsTrue, length};
+
+use reading::read_full;
+use std::io;
+use std::io::Read;
 
 const NEWLINE: u8 = 10;
 
@@ -45,7 +50,9 @@ struct Scan {
 }
 
 // What a digit stands for.
-fn digit_of(byte: u8) -> u64 {
+fn digit_of(byte: u8) -> u64
+    ensures { byte ≤ 57 → result ≡ byte - 48 }
+{
     if byte < ZERO {
         return 0;
     }
@@ -53,7 +60,9 @@ fn digit_of(byte: u8) -> u64 {
 }
 
 // The number with a digit more. One above 2^64 - 1 stays as it was: the list has none.
-fn grown(value: u64, digit: u64) -> u64 {
+fn grown(value: u64, digit: u64) -> u64
+    ensures { digit < 10 → 10 * value + digit < 2 ^ 64 → result ≡ 10 * value + digit }
+{
     if value < TENTH {
         return value * 10 + digit % 10;
     }
@@ -64,7 +73,11 @@ fn grown(value: u64, digit: u64) -> u64 {
 }
 
 // The number as 64 bits; below 0 it is what is missing to 2^64.
-fn with_sign(value: u64, negative: bool) -> u64 {
+fn with_sign(value: u64, negative: bool) -> u64
+    ensures plus { IsFalse negative → result ≡ value }
+    ensures minus { IsTrue negative → 0 < value → result ≡ 2 ^ 64 - value }
+    ensures zero { value ≡ 0 → result ≡ 0 }
+{
     if negative {
         if 0 < value {
             return 18446744073709551615 - (value - 1);
@@ -74,7 +87,9 @@ fn with_sign(value: u64, negative: bool) -> u64 {
 }
 
 // Stores the number in hand, if there is one and room for it.
-fn close(numbers: &mut [u64], scan: Scan) -> usize {
+fn close(numbers: &mut [u64], scan: Scan) -> usize
+    ensures { scan.count ≤ length numbers.old → result ≤ length numbers.new }
+{
     let at = scan.count;
     if scan.digits {
         if at < numbers.len() {
@@ -94,7 +109,9 @@ fn mark_after(mark: u8, byte: u8) -> u8 {
 }
 
 // Reads a byte more of the line.
-fn step(numbers: &mut [u64], scan: Scan, byte: u8) -> Scan {
+fn step(numbers: &mut [u64], scan: Scan, byte: u8) -> Scan
+    ensures { scan.count ≤ length numbers.old → result.count ≤ length numbers.new }
+{
     if (ZERO <= byte) & (byte <= NINE) {
         return Scan {
             value: grown(scan.value, digit_of(byte)),
@@ -115,14 +132,12 @@ fn step(numbers: &mut [u64], scan: Scan, byte: u8) -> Scan {
 }
 
 // More of the input, where the chunk is used up.
-fn filled(chunk: &mut [u8], unread: Unread) -> Unread {
+fn filled<R: Read>(input: &mut R, chunk: &mut [u8], unread: Unread) -> io::Result<Unread> {
     if unread.at < unread.end {
-        return unread;
+        return Ok(unread);
     }
-    Unread {
-        at: 0,
-        end: io::read_full(0, chunk),
-    }
+    let end = read_full(input, chunk)?;
+    Ok(Unread { at: 0, end })
 }
 
 // The first unread byte; at the end of the input a line ends.
@@ -148,8 +163,15 @@ fn after_byte(unread: Unread) -> Unread {
 }
 
 // The next line; its numbers are stored from the first on, as many as there is room for.
-pub fn read_line(chunk: &mut [u8], before: Unread, numbers: &mut [u64]) -> Line {
-    let mut unread = filled(chunk, before);
+pub fn read_line<R: Read>(
+    input: &mut R,
+    chunk: &mut [u8],
+    before: Unread,
+    numbers: &mut [u64],
+) -> io::Result<Line>
+    ensures { IfOk result (λ line. line.count ≤ length numbers.new) }
+{
+    let mut unread = filled(input, chunk, before)?;
     let first = byte_of(chunk, unread);
     let is_end = unread.end == 0;
     let mut scan = Scan {
@@ -159,22 +181,20 @@ pub fn read_line(chunk: &mut [u8], before: Unread, numbers: &mut [u64]) -> Line 
         mark: NEWLINE,
         count: 0,
     };
-    let mut i = 0usize;
-    while i < MAX_LINE {
-        unread = filled(chunk, unread);
+    for _ in 0..MAX_LINE {
+        unread = filled(input, chunk, unread)?;
         let byte = byte_of(chunk, unread);
         unread = after_byte(unread);
         scan = step(numbers, scan, byte);
-        i += 1;
         if byte == NEWLINE {
-            i = MAX_LINE;
+            break;
         }
     }
-    Line {
+    Ok(Line {
         first,
         mark: scan.mark,
         count: scan.count,
         unread,
         is_end,
-    }
+    })
 }

@@ -1,61 +1,53 @@
 // Bytes written from the words of a line, and outputs compared with them.
+ghost use Rattle.std.specs.Prelude.{◌≡◌, ◌≢◌, ◌*◌, ◌/◌, ◌≤◌, ◌↔◌, IsFalse, IsTrue, length, replicate, take};
+ghost use Rattle.stored.specs.Outputs.{IsAnswer, IsZero, words_bytes};
+
 use image::words::put_word;
 
 // What an output holds before a call: a byte that the call does not write shows.
 const UNWRITTEN: u8 = 165;
 
 // Writes words, four bytes each, while there is room; how many bytes were written.
-pub fn write_words(words: &[u64], bytes: &mut [u8]) -> usize {
+pub fn write_words(words: &[u64], bytes: &mut [u8]) -> usize
+    ensures within { result ≤ length bytes.new }
+    ensures written { take result bytes.new ≡ words_bytes (take (result / 4) words.now) }
+    ensures all { 4 * length words.now ≤ length bytes.old → result ≡ 4 * length words.now }
+{
     let mut at = 0usize;
-    let mut i = 0usize;
-    while i < words.len() {
+    for word in words {
         if bytes.len() - at < 4 {
             return at;
         }
-        put_word(bytes, at, (words[i] % 4294967296) as usize);
+        put_word(bytes, at, (*word % 4294967296) as usize);
         at += 4;
-        i += 1;
     }
     at
 }
 
 // Makes every byte one that no call leaves.
-pub fn spoil(output: &mut [u8]) {
-    let mut i = 0usize;
-    while i < output.len() {
-        output[i] = UNWRITTEN;
-        i += 1;
-    }
+pub fn spoil(output: &mut [u8])
+    ensures { output.new ≡ replicate (length output.old) 165 }
+{
+    output.fill(UNWRITTEN);
 }
 
 // Whether both are as long and the same at each place.
-fn same(a: &[u8], b: &[u8]) -> bool {
-    if a.len() != b.len() {
-        return false;
-    }
-    let mut i = 0usize;
-    while i < a.len() {
-        if a[i] != b[i] {
-            return false;
-        }
-        i += 1;
-    }
-    true
+fn same(a: &[u8], b: &[u8]) -> bool
+    ensures { IsTrue result ↔ a.now ≡ b.now }
+{
+    a == b
 }
 
-fn is_zero(s: &[u8]) -> bool {
-    let mut i = 0usize;
-    while i < s.len() {
-        if s[i] != 0 {
-            return false;
-        }
-        i += 1;
-    }
-    true
+fn is_zero(s: &[u8]) -> bool
+    ensures { IsTrue result ↔ IsZero s.now }
+{
+    s.iter().all(|byte| *byte == 0)
 }
 
 // Whether the output is the answer, then zeros.
-fn is_answer(output: &[u8], answer: &[u8]) -> bool {
+fn is_answer(output: &[u8], answer: &[u8]) -> bool
+    ensures { IsTrue result ↔ IsAnswer output.now answer.now }
+{
     let len = answer.len();
     if output.len() < len {
         return false;
@@ -64,7 +56,11 @@ fn is_answer(output: &[u8], answer: &[u8]) -> bool {
 }
 
 // Whether the output is what a line stores: zeros for a refusal; else the image itself or the answer spelt last, then zeros.
-pub fn is_stored(output: &[u8], number: u64, is_spelt: bool, image: &[u8], spelt: &[u8]) -> bool {
+pub fn is_stored(output: &[u8], number: u64, is_spelt: bool, image: &[u8], spelt: &[u8]) -> bool
+    ensures refused { number ≢ 0 → IsTrue result ↔ IsZero output.now }
+    ensures spelt { number ≡ 0 → IsTrue is_spelt → IsTrue result ↔ IsAnswer output.now spelt.now }
+    ensures kept { number ≡ 0 → IsFalse is_spelt → IsTrue result ↔ IsAnswer output.now image.now }
+{
     if number != 0 {
         return is_zero(output);
     }
