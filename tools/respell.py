@@ -3,11 +3,11 @@
 
 usage: respell.py [--check] [ROOT]     in the repository, once, after port.py
 
-A name of specs/ or proofs/ that has a dash or a capital inside, as plan-at or planAt, becomes plan_at. A type, which begins with a capital,
-keeps it and loses its dash, as Within-lists; a lemma on a type keeps the dash behind the type, as All-first_occurrences. Functions of src/,
-strings, inputs, outputs and names that Rattle makes stay. Where two names would fall together in a file, the one with a dash gets _lem: each
-such name is printed as 'kept:'. The table of all names goes to tools/respelled.tsv; the same table is applied to the must-fail edits and,
-between backticks, to the pages.
+A name of specs/ or proofs/ that has a dash or a capital inside, as plan-at or planAt, becomes plan_at. A type, which begins with a
+capital, keeps it and loses its dash, as Within-lists; a lemma on a type keeps the dash behind the type, as All-first_occurrences; a
+middle dot goes, as in Transformed·yes. Functions of src/, strings, inputs, outputs and names that Rattle makes stay. Where two names
+would fall together in a file, the one with a dash gets _lem: each such name is printed as 'kept:'. The table of all names goes to
+tools/respelled.tsv; the same table is applied to the must-fail edits and, between backticks, to the pages.
 """
 import collections
 import os
@@ -52,6 +52,8 @@ def snake(part):
 
 
 def respelled(name):
+    if "·" in name:
+        return "_".join(p[0].lower() + p[1:] for p in name.split("·"))
     if name.startswith("+") or not re.search(r"[A-Za-z]", name):
         return name
     parts = name.split("-")

@@ -12,7 +12,7 @@ use Rattle.plan.specs.Syntax.{aggregate, window, Plans, pnil, pcons}
 use Rattle.plan.specs.Schema.{schema, schema_first, sides, requalify, has}
 use Rattle.plan.specs.Trees.{label_p}
 use Rattle.rewrite.specs.Utils.{replace_cols, split_conjunction, split_conjunction?, conjoin, conjunction, with_filters, unique, is_empty}
-use Rattle.rewrite.specs.PushDownFilter.{Transformed·yes, Transformed·no, pick, stay, move, pushable, supported_filters}
+use Rattle.rewrite.specs.PushDownFilter.{transformed_yes, transformed_no, pick, stay, move, pushable, supported_filters}
 use Rattle.rewrite.specs.PushDownFilter.{unsupported_filters, volatile_filters, renamed, filter_each, left_preserved, right_preserved}
 use Rattle.rewrite.specs.PushDownFilter.{on_left_preserved, on_right_preserved, is_inner, push_to, push_not, if_list, unpushed}
 use Rattle.rewrite.specs.PushDownFilter.{keep_predicates, join_conditions, on_filter_join_conditions, inferred_join_predicates, left_push}
@@ -153,8 +153,8 @@ module _ (T : Tests) (c : Closed T) where
       g = split_good T e h
 
       go : (b : Bool)
-          → Passes T (choose b (Transformed·no (filter e (scan t fs es)))
-          (Transformed·yes (with_filters (unsupported_filters fs e ++ volatile_filters e) (scan t fs (unique (es ++ supported_filters fs e)))))).plan
+          → Passes T (choose b (transformed_no (filter e (scan t fs es)))
+          (transformed_yes (with_filters (unsupported_filters fs e ++ volatile_filters e) (scan t fs (unique (es ++ supported_filters fs e)))))).plan
       go true = filter_kept e (scan t fs es) h o
       go false = with_filters_kept _ (All-append (All-keep _ (All-keep _ g)) (All-keep _ g))
           (and_intro (and_l _ _ o) (and_intro (and_l _ _ (and_r _ _ o))
@@ -168,8 +168,8 @@ module _ (T : Tests) (c : Closed T) where
       g = split_good T e h
 
       go : (b : Bool)
-          → Passes T (choose b (Transformed·no (filter e (project es p)))
-          (Transformed·yes (with_filters (stay (pushable es) e)
+          → Passes T (choose b (transformed_no (filter e (project es p)))
+          (transformed_yes (with_filters (stay (pushable es) e)
           (project es (with_filters (map (replace_cols (pick es)) (move (pushable es) e)) p))))).plan
       go true = filter_kept e (project es p) h o
       go false =

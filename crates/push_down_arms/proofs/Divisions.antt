@@ -24,7 +24,7 @@ use Rattle.acceptance.specs.Names.{sound}
 use Rattle.acceptance.proofs.NamesRule.{rule_sound}
 use Rattle.rewrite.specs.Limits.{list_p}
 use Rattle.rewrite.specs.Utils.{replace_cols, replace_cols_all, split_conjunction, with_filters, is_empty}
-use Rattle.rewrite.specs.PushDownFilter.{Transformed, Transformed·no, Transformed·yes, pushable, stay, move, in_groups, in_partitions}
+use Rattle.rewrite.specs.PushDownFilter.{Transformed, transformed_no, transformed_yes, pushable, stay, move, in_groups, in_partitions}
 use Rattle.rewrite.specs.PushDownFilter.{rewrite_filter, rewrite_projection}
 use Rattle.rewrite.specs.PushDownFilter.{rewrite_aggregate, rewrite_window}
 use Rattle.conjuncts.specs.Items.{Conjuncts, listed, Lists}
@@ -224,7 +224,7 @@ is_some [] h = absurd (h refl)
 is_some (x ∷ xs) h = refl
 
 -- the flag is raised where something moves
-raised : (b : Bool) (t : Transformed) (p : Plan) → b ≡ false → choose b t (Transformed·yes p) ≡ record { plan = p; transformed = not b }
+raised : (b : Bool) (t : Transformed) (p : Plan) → b ≡ false → choose b t (transformed_yes p) ≡ record { plan = p; transformed = not b }
 unfolding choose
 raised true t p e = cc
 raised false t p e = refl
@@ -238,7 +238,7 @@ module _ (e : Expr) (es : List Entry) (q : Plan) where
 
   -- nothing moves
   pub project_kept : length (move (on_cols (may_move (plan_tree (project es q)))) e) ≡ 0
-      → rewrite_filter e (project es q) ≡ Transformed·no (filter e (project es q))
+      → rewrite_filter e (project es q) ≡ transformed_no (filter e (project es q))
   unfolding rewrite_filter rewrite_projection choose
   project_kept z = rw (is_none (move (pushable es) e) (count_is ∙ z))
 

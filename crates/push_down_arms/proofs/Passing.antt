@@ -11,7 +11,7 @@ use Rattle.plan.specs.Syntax.{Expr, Plan, scan, filter, project, join, alias, un
 use Rattle.plan.specs.Measure.{sizes}
 use Rattle.plan.specs.Trees.{label_p, key_kids}
 use Rattle.rewrite.specs.Limits.{list_p}
-use Rattle.rewrite.specs.PushDownFilter.{Transformed·no, Transformed·yes, rewrite_filter}
+use Rattle.rewrite.specs.PushDownFilter.{transformed_no, transformed_yes, rewrite_filter}
 use Rattle.conjuncts.specs.Standing.{StandingP}
 use Rattle.push_down_base.specs.Predicates.{Predicate}
 use Rattle.push_down_base.specs.Arms.{Rests, Takes}
@@ -21,7 +21,7 @@ use Rattle.push_down_base.proofs.LastChild.{sort_last, distinct_last, repartitio
 use Rattle.push_down_base.proofs.Steps.{sort_input, distinct_input, repartition_input}
 
 -- it takes none: both stay as they are
-pub stays : (e : Expr) (q : Plan) → through q ≡ true → takes_none (label_p q) ≡ true → rewrite_filter e q ≡ Transformed·no (filter e q)
+pub stays : (e : Expr) (q : Plan) → through q ≡ true → takes_none (label_p q) ≡ true → rewrite_filter e q ≡ transformed_no (filter e q)
 unfolding label_p rewrite_filter
 stays e (limit n k p) h t = refl
 stays e (sort (some n) ks p) h t = refl
@@ -47,7 +47,7 @@ pub record Passes (s : List ℕ) (x : ℕ) (e : Expr) (q : Plan) : Type 0 where
   pub input : Plan
   pub is : q ≡ above input
   pub takes : Takes s x above input
-  pub rewritten : rewrite_filter e q ≡ Transformed·yes (above (filter e input))
+  pub rewritten : rewrite_filter e q ≡ transformed_yes (above (filter e input))
 
 absurd_of : {A : Type 0} → true ≡ false → A
 absurd_of e = let z : ◌≡◌ {A = ℕ} 0 1 = cc in absurd (omega arith)

@@ -19,7 +19,7 @@ use Rattle.plan.specs.Syntax.{Expr, Field, Plan, scan, filter}
 use Rattle.plan.proofs.Lists.{All-append, All-keep}
 use Rattle.rewrite.specs.Utils.{split_conjunction, conjoin, with_filters, unique, is_volatile_expr, is_empty}
 use Rattle.rewrite.specs.Limits.{list_p}
-use Rattle.rewrite.specs.PushDownFilter.{Transformed, Transformed·no, Transformed·yes, supports_pushdown, supported_filters, unsupported_filters}
+use Rattle.rewrite.specs.PushDownFilter.{Transformed, transformed_no, transformed_yes, supports_pushdown, supported_filters, unsupported_filters}
 use Rattle.rewrite.specs.PushDownFilter.{volatile_filters, non_volatile_filters, rewrite_scan, rewrite_filter}
 use Rattle.rewrite.proofs.Project.{split_cols}
 use Rattle.conjuncts.specs.Items.{Conjuncts, Lists}
@@ -60,7 +60,7 @@ too_many l many small = omega (arith, (known_of l small).most)
 -- the answer where something is taken
 abbrev pub pushed_down : Expr → ℕ → List Field → List Expr → Transformed
 pushed_down e t fs es =
-    Transformed·yes (with_filters (unsupported_filters fs e ++ volatile_filters e) (scan t fs (unique (es ++ supported_filters fs e))))
+    transformed_yes (with_filters (unsupported_filters fs e ++ volatile_filters e) (scan t fs (unique (es ++ supported_filters fs e))))
 
 empty_none : (xs : List Expr) → length xs ≡ 0 → is_empty xs ≡ true
 empty_none [] h = refl
@@ -102,14 +102,14 @@ module _ {s : List ℕ} {x : ℕ} {p : Predicate} {e : Expr} {t : ℕ} {fs : Lis
       (All-keep (λ a. is_volatile_expr a) (split_plain e))
 
   -- nothing is taken
-  pub scan_kept : length (supported_filters fs e) ≡ 0 → rewrite_filter e (scan t fs es) ≡ Transformed·no (filter e (scan t fs es))
+  pub scan_kept : length (supported_filters fs e) ≡ 0 → rewrite_filter e (scan t fs es) ≡ transformed_no (filter e (scan t fs es))
   unfolding rewrite_filter rewrite_scan choose
-  scan_kept z = ap (λ b. choose b (Transformed·no (filter e (scan t fs es))) (pushed_down e t fs es)) (empty_none (supported_filters fs e) z)
+  scan_kept z = ap (λ b. choose b (transformed_no (filter e (scan t fs es))) (pushed_down e t fs es)) (empty_none (supported_filters fs e) z)
 
   -- something is
   pub scan_pushed : (length (supported_filters fs e) ≡ 0 → ⊥) → rewrite_filter e (scan t fs es) ≡ pushed_down e t fs es
   unfolding rewrite_filter rewrite_scan choose
-  scan_pushed nz = ap (λ b. choose b (Transformed·no (filter e (scan t fs es))) (pushed_down e t fs es)) (empty_some (supported_filters fs e) nz)
+  scan_pushed nz = ap (λ b. choose b (transformed_no (filter e (scan t fs es))) (pushed_down e t fs es)) (empty_some (supported_filters fs e) nz)
 
 -- ---- the lists of the answer
 
@@ -132,7 +132,7 @@ scan_lists t fs (x ∷ xs) ys = le-max_right (length (split_conjunction (conjoin
 
 -- too many filters: nothing is written
 pub pushed_over : {s out : List ℕ} {at level : ℕ} {r : Written} {c : Conjuncts} (t : ℕ) (fs : List Field) (xs ys : List Expr) → r.next ≡ no_room
-    → r.flag ≡ true → Lists s c ys → max_list < c.len → Answers out out at level r (Transformed·yes (over_scan t fs xs ys))
+    → r.flag ≡ true → Lists s c ys → max_list < c.len → Answers out out at level r (transformed_yes (over_scan t fs xs ys))
 pushed_over t fs xs ys n f l many = record {
   flag = f;
   fits = λ small. absurd (too_many l many (le_trans (scan_lists t fs xs ys) small));

@@ -4,7 +4,7 @@
 ghost use Rattle.std.specs.Prelude.{◌≡◌, true, ◌≤◌, length};
 ghost use Rattle.image.specs.Tree.{label_at};
 ghost use Rattle.plan.specs.Syntax.{Expr, Plan, filter};
-ghost use Rattle.rewrite.specs.PushDownFilter.{Transformed·no, Transformed·yes, rewrite_filter};
+ghost use Rattle.rewrite.specs.PushDownFilter.{transformed_no, transformed_yes, rewrite_filter};
 ghost use Rattle.conjuncts.specs.Standing.{Stretch};
 ghost use Rattle.push_down_base.specs.Arms.{Answers, Arm, Resting, Rests, Taken, Takes};
 ghost use Rattle.push_down_arms.specs.Through.{OverThrough, takes_none, through};
@@ -34,7 +34,7 @@ pub fn keep_filter(
     requires resting { Resting s.now x p }
     requires arm { Arm out.old at level }
     ensures { (e : Expr) (q : Plan) → Rests s.now x p e q →
-        Answers out.old out.new at level result (Transformed·no (filter e q)) }
+        Answers out.old out.new at level result (transformed_no (filter e q)) }
 {
     let list = p.list;
     let next = make_filter(
@@ -57,7 +57,7 @@ pub fn push_filter(
     requires taken { Taken s.now x p }
     requires arm { Arm out.old at level }
     ensures { (e : Expr) (q : Plan) (f : Plan → Plan) → Rests s.now x p e (f q) → Takes s.now x f q →
-        Answers out.old out.new at level result (Transformed·yes (f (filter e q))) }
+        Answers out.old out.new at level result (transformed_yes (f (filter e q))) }
 {
     let y = last_child(part, x);
     let nothing = Predicate {

@@ -22,7 +22,7 @@ use Rattle.plan.proofs.Measure.{size_filter}
 use Rattle.rewrite.specs.Utils.{split_conjunction, split_conjunction?, conjoin, conjunction, with_filters, unique, is_volatile_expr, is_empty}
 use Rattle.rewrite.specs.SimplifyPredicates.{simplify_predicates}
 use Rattle.rewrite.specs.ReorderPredicates.{Reordered, reorder_predicates}
-use Rattle.rewrite.specs.PushDownFilter.{Transformed, Transformed·yes, Transformed·no, resume, merged, simplify_filter, simplify_merged}
+use Rattle.rewrite.specs.PushDownFilter.{Transformed, transformed_yes, transformed_no, resume, merged, simplify_filter, simplify_merged}
 use Rattle.rewrite.specs.PushDownFilter.{rewrite_filter, rewrite}
 use Rattle.rewrite.specs.PushDownFilter.{is_inner, push_not, if_list, left_push, right_push, keep_predicates, join_conditions}
 use Rattle.rewrite.specs.PushDownFilter.{on_filter_join_conditions, unpushed, nothing_moves, push_down_all_join, push_down_join}
@@ -125,8 +125,8 @@ module _ {e x : Expr} (w : Simpler e x) where
       above = unsupported_filters fs x ++ volatile_filters x
 
       go : (b : Bool) → is_empty (supported_filters fs x) ≡ b
-          → (choose b (Transformed·no (filter x (scan t fs es)))
-          (Transformed·yes (with_filters above (scan t fs (unique (es ++ supported_filters fs x)))))).plan ≡ filter e (scan t fs es)
+          → (choose b (transformed_no (filter x (scan t fs es)))
+          (transformed_yes (with_filters above (scan t fs (unique (es ++ supported_filters fs x)))))).plan ≡ filter e (scan t fs es)
           → (x ≡ e) × (supported_filters fs x ≡ [])
       go true n k = (cc, none_in (supported_filters fs x) n)
       go false n k =
@@ -256,7 +256,7 @@ once : (us : List Expr) (q : Plan) {r : Plan} {a b : Expr} → is_filter q ≡ f
 once us q o h = no_yes (sym o ∙ ap is_filter (over_list us o h).same)
 
 once_or : (t : Bool) (q u : Plan) {r : Plan} (x : Expr) {a b : Expr} (us : List Expr) → is_filter q ≡ false → is_filter u ≡ false
-    → (choose t (Transformed·no (filter x q)) (Transformed·yes (with_filters us u))).plan ≡ filter a (filter b r) → ⊥
+    → (choose t (transformed_no (filter x q)) (transformed_yes (with_filters us u))).plan ≡ filter a (filter b r) → ⊥
 unfolding choose
 once_or true q u {r} x {a} {b} us o n h = let i : q ≡ filter b r = cc in no_yes (sym o ∙ ap is_filter i)
 once_or false q u x us o n h = once us u n h

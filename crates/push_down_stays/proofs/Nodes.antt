@@ -10,7 +10,7 @@ use Rattle.plan.specs.Syntax.{Expr, Kind, Pair, Plan}
 use Rattle.plan.specs.Syntax.{scan, filter, project, join, alias, union, distinct, sort, repartition, limit, aggregate, window}
 use Rattle.plan.specs.Trees.{label_p}
 use Rattle.plan.proofs.Bools.{no_yes}
-use Rattle.rewrite.specs.PushDownFilter.{Transformed·no, rewrite, merges}
+use Rattle.rewrite.specs.PushDownFilter.{transformed_no, rewrite, merges}
 use Rattle.rewrite.specs.RewriteAt.{Focus}
 use Rattle.push_down_base.specs.Arms.{Placed}
 use Rattle.push_down_merge.specs.Merging.{Inside, FilterInside}
@@ -63,7 +63,7 @@ placed_inside {s} {node} {w} {c} h e = subst (Placed s node) e (record {
 })
 
 -- a plan that is neither
-unchanged : (p : Plan) → ((label_p p).kind ≡ 33 → ⊥) → ((label_p p).kind ≡ 35 → ⊥) → (rewrite p ≡ Transformed·no p) × (merges p ≡ [])
+unchanged : (p : Plan) → ((label_p p).kind ≡ 33 → ⊥) → ((label_p p).kind ≡ 35 → ⊥) → (rewrite p ≡ transformed_no p) × (merges p ≡ [])
 unfolding rewrite merges label_p
 unchanged (scan t fs es) f j = (refl, refl)
 unchanged (filter e p) f j = absurd (f refl)

@@ -17,7 +17,7 @@ use Rattle.plan.specs.Trees.{label_p, plan_tree}
 use Rattle.plan.proofs.Lists.{and_l}
 use Rattle.acceptance.specs.NamesRule.{reads, rule, ok}
 use Rattle.rewrite.specs.Utils.{split_conjunction, split_conjunction?, conjunction, with_filters}
-use Rattle.rewrite.specs.PushDownFilter.{Transformed, Transformed·no, supported_filters, in_groups, stay, move, nothing_moves, push_down_join}
+use Rattle.rewrite.specs.PushDownFilter.{Transformed, transformed_no, supported_filters, in_groups, stay, move, nothing_moves, push_down_join}
 use Rattle.rewrite.specs.PushDownFilter.{simplify_filter, rewrite_filter, rewrite, merges}
 use Rattle.rewrite.proofs.Staying.{none_of, all_left, filtered, join_stays, bare_join_stays, filter_join_stays}
 use Rattle.rewrite.proofs.Exprs.{same_e_eq}
@@ -84,7 +84,7 @@ not_not false = refl
 
 -- ---- Joins
 
-pub kept_so : {t : Transformed} {p : Plan} → t ≡ Transformed·no p → Kept true t p
+pub kept_so : {t : Transformed} {p : Plan} → t ≡ transformed_no p → Kept true t p
 kept_so h = record { yes = λ y. h; no = λ n. no_yes (sym n) }
 
 pub kept_not : {t : Transformed} {p : Plan} → (t.plan ≡ p → ⊥) → Kept false t p
@@ -138,11 +138,11 @@ project_kept? {n} e es q i = record {
 
 -- nothing moves, and what stays is joined anew
 pushed_none : (f : Plan → Plan) (q : Plan) {e : Expr} (push : Expr → Bool) → LeftDeep e → length (move push e) ≡ 0
-    → pushed f q (stay push e) (move push e) ≡ Transformed·no (filter e (f q))
+    → pushed f q (stay push e) (move push e) ≡ transformed_no (filter e (f q))
 unfolding with_filters
 pushed_none f q {e} push deep z =
     let m = none_of (move push e) z in
-    rw (all_left push (split_conjunction e) m, m) (ap Transformed·no (filtered (split_conjunction e) (f q) deep))
+    rw (all_left push (split_conjunction e) m, m) (ap transformed_no (filtered (split_conjunction e) (f q) deep))
 
 module _ (e : Expr) (gs : List Entry) (ags : List AggEntry) (q : Plan) where
   pub aggregate_kept : {b : Bool} → length (move (in_groups gs) e) ≡ 0 → Says b (LeftDeep e)

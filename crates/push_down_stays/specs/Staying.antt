@@ -4,12 +4,12 @@ use Rattle.image.specs.Tree.{Label}
 use Rattle.plan.specs.Kinds.{number_p, TableScan, Projection, Aggregate, Window, Join}
 use Rattle.plan.specs.Syntax.{Plan, inner}
 use Rattle.plan.specs.Trees.{join_number}
-use Rattle.rewrite.specs.PushDownFilter.{Transformed, Transformed·no, rewrite, merges}
+use Rattle.rewrite.specs.PushDownFilter.{Transformed, transformed_no, rewrite, merges}
 use Rattle.push_down_arms.specs.Through.{takes_none}
 
 -- b says whether what became of p is p; then no flag is raised
 pub record Kept (b : Bool) (t : Transformed) (p : Plan) : Type 0 where
-  pub yes : b ≡ true → t ≡ Transformed·no p
+  pub yes : b ≡ true → t ≡ transformed_no p
   pub no : b ≡ false → t.plan ≡ p → ⊥
 
 -- b says whether the plan p stays as it is; then no Filters are merged

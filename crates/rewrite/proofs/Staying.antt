@@ -12,7 +12,7 @@ use Rattle.plan.specs.Syntax.{Name, Expr, Pair, Kind, inner, left, right, full, 
 use Rattle.plan.specs.Syntax.{Plan, filter, join}
 use Rattle.plan.proofs.Lists.{and_l, and_r}
 use Rattle.rewrite.specs.Utils.{split_conjunction, split_conjunction?, conjunction, with_filters, is_empty}
-use Rattle.rewrite.specs.PushDownFilter.{Transformed·no, left_preserved, right_preserved, on_left_preserved, on_right_preserved}
+use Rattle.rewrite.specs.PushDownFilter.{transformed_no, left_preserved, right_preserved, on_left_preserved, on_right_preserved}
 use Rattle.rewrite.specs.PushDownFilter.{is_inner, push_to, push_not, rest, if_list, unpushed, on_filter_join_conditions, keep_predicates}
 use Rattle.rewrite.specs.PushDownFilter.{join_conditions, inferred_join_predicates, left_push, right_push, nothing_moves, push_down_all_join}
 use Rattle.rewrite.specs.PushDownFilter.{push_down_join}
@@ -92,13 +92,13 @@ module _ (k : Kind) (s t : List Name) (on : List Pair) (P G : List Expr) (h : no
 -- the join over such lists
 over_none : (k : Kind) (l r : Plan) (on : List Pair) (K L R C O P G : List Expr) (b : Bool) → K ≡ P → L ≡ [] → R ≡ [] → C ≡ [] → O ≡ G → b ≡ true
     → record { plan = with_filters K (join k (with_filters L l) (with_filters R r) on (conjunction (C ++ O))); transformed = not b }
-    ≡ Transformed·no (with_filters P (join k l r on (conjunction G)))
+    ≡ transformed_no (with_filters P (join k l r on (conjunction G)))
 unfolding with_filters
 over_none k l r on K L R C O P G b kept lefts rights conditions own unmoved = rw (kept, lefts, rights, conditions, own, unmoved)
 
 -- nothing moves: the predicates are joined again above the join, and its own filter in it
 pub join_unmoved : (k : Kind) (l r : Plan) (on : List Pair) (P G : List Expr) → nothing_moves k (schema l) (schema r) on P G ≡ true
-    → push_down_all_join k l r on P G ≡ Transformed·no (with_filters P (join k l r on (conjunction G)))
+    → push_down_all_join k l r on P G ≡ transformed_no (with_filters P (join k l r on (conjunction G)))
 unfolding push_down_all_join
 join_unmoved k l r on P G h =
     let s = schema l in
@@ -110,19 +110,19 @@ join_unmoved k l r on P G h =
 module _ (k : Kind) (l r : Plan) (on : List Pair) (f : Option Expr) (own : conjunction (split_conjunction? f) ≡ f) where
   -- a Join
   pub join_stays : nothing_moves k (schema l) (schema r) on [] (split_conjunction? f) ≡ true
-      → push_down_join k l r on f [] ≡ Transformed·no (join k l r on f)
+      → push_down_join k l r on f [] ≡ transformed_no (join k l r on f)
   unfolding with_filters
-  join_stays h = join_unmoved k l r on [] (split_conjunction? f) h ∙ ap (λ o. Transformed·no (join k l r on o)) own
+  join_stays h = join_unmoved k l r on [] (split_conjunction? f) h ∙ ap (λ o. transformed_no (join k l r on o)) own
 
   -- a Filter over it
   pub filter_join_stays : (e : Expr) → conjunction (split_conjunction e) ≡ some e
       → nothing_moves k (schema l) (schema r) on (split_conjunction e) (split_conjunction? f) ≡ true
-      → rewrite_filter e (join k l r on f) ≡ Transformed·no (filter e (join k l r on f))
+      → rewrite_filter e (join k l r on f) ≡ transformed_no (filter e (join k l r on f))
   unfolding rewrite_filter
   filter_join_stays e deep h =
       join_unmoved k l r on (split_conjunction e) (split_conjunction? f) h
-      ∙ ap (λ o. Transformed·no (with_filters (split_conjunction e) (join k l r on o))) own
-      ∙ ap Transformed·no (filtered (split_conjunction e) (join k l r on f) deep)
+      ∙ ap (λ o. transformed_no (with_filters (split_conjunction e) (join k l r on o))) own
+      ∙ ap transformed_no (filtered (split_conjunction e) (join k l r on f) deep)
 
 -- a Join without a filter of its own
 bare_unmoved : (k : Kind) (s t : List Name) (on : List Pair) → nothing_moves k s t on [] [] ≡ true
@@ -136,6 +136,6 @@ bare_unmoved right_semi s t on = refl
 bare_unmoved left_anti s t on = refl
 bare_unmoved right_anti s t on = refl
 
-pub bare_join_stays : (k : Kind) (l r : Plan) (on : List Pair) → push_down_join k l r on none [] ≡ Transformed·no (join k l r on none)
+pub bare_join_stays : (k : Kind) (l r : Plan) (on : List Pair) → push_down_join k l r on none [] ≡ transformed_no (join k l r on none)
 unfolding conjunction split_conjunction?
 bare_join_stays k l r on = join_stays k l r on none refl (bare_unmoved k (schema l) (schema r) on)

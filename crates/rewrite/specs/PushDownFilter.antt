@@ -21,12 +21,12 @@ pub record Transformed : Type 0 where
   pub transformed : Bool
 
 -- Transformed::yes: the flag is raised
-abbrev pub Transformed·yes : Plan → Transformed
-Transformed·yes p = record { plan = p; transformed = true }
+abbrev pub transformed_yes : Plan → Transformed
+transformed_yes p = record { plan = p; transformed = true }
 
 -- Transformed::no
-abbrev pub Transformed·no : Plan → Transformed
-Transformed·no p = record { plan = p; transformed = false }
+abbrev pub transformed_no : Plan → Transformed
+transformed_no p = record { plan = p; transformed = false }
 
 -- ---- lr_is_preserved, on_lr_is_preserved
 
@@ -291,8 +291,8 @@ move push e = keep push (split_conjunction e)
 unfoldable pub rewrite_projection : Expr → List Entry → Plan → Transformed
 rewrite_projection e es p =
     choose (is_empty (move (pushable es) e))
-    (Transformed·no (filter e (project es p)))
-    (Transformed·yes (with_filters (stay (pushable es) e)
+    (transformed_no (filter e (project es p)))
+    (transformed_yes (with_filters (stay (pushable es) e)
     (project es (with_filters (map (replace_cols (pick es)) (move (pushable es) e)) p))))
 
 -- ---- the other arms of the match on the Filter's input
@@ -326,8 +326,8 @@ unsupported_filters fs e = keep (λ x. not (supports_pushdown fs x)) (non_volati
 unfoldable pub rewrite_scan : Expr → ℕ → List Field → List Expr → Transformed
 rewrite_scan e t fs es =
     choose (is_empty (supported_filters fs e))
-    (Transformed·no (filter e (scan t fs es)))
-    (Transformed·yes (with_filters (unsupported_filters fs e ++ volatile_filters e) (scan t fs (unique (es ++ supported_filters fs e)))))
+    (transformed_no (filter e (scan t fs es)))
+    (transformed_yes (with_filters (unsupported_filters fs e ++ volatile_filters e) (scan t fs (unique (es ++ supported_filters fs e)))))
 
 -- D4: without group entries nothing moves, a column-free predicate included
 abbrev pub in_groups : List Entry → Expr → Bool
@@ -386,7 +386,7 @@ simplify_merged (some e) = simplify_filter e
 
 -- what is done with the predicate that is left; the input alone where none is
 abbrev pub resume : Option Expr → (Expr → Transformed) → Plan → Transformed
-resume none f p = Transformed·yes p
+resume none f p = transformed_yes p
 resume (some e) f p = f e
 
 -- what a Filter with this predicate, which is simplified already, over this plan becomes
@@ -395,30 +395,30 @@ rewrite_filter e (scan t fs es) = rewrite_scan e t fs es
 rewrite_filter e (filter b p) = resume (simplify_merged (conjunction (merged e b))) (λ x. rewrite_filter x p) p
 rewrite_filter e (project es p) = rewrite_projection e es p
 rewrite_filter e (join k l r on f) = push_down_join k l r on f (split_conjunction e)
-rewrite_filter e (alias q p) = Transformed·yes (alias q (filter (renamed (map (requalify q) (schema p)) (schema p) e) p))
-rewrite_filter e (union ps) = Transformed·yes (union (filter_each (schema_first ps) e ps))
-rewrite_filter e (distinct p) = Transformed·yes (distinct (filter e p))
-rewrite_filter e (sort none ks p) = Transformed·yes (sort none ks (filter e p))
-rewrite_filter e (sort (some n) ks p) = Transformed·no (filter e (sort (some n) ks p))
-rewrite_filter e (repartition p) = Transformed·yes (repartition (filter e p))
-rewrite_filter e (limit n k p) = Transformed·no (filter e (limit n k p))
+rewrite_filter e (alias q p) = transformed_yes (alias q (filter (renamed (map (requalify q) (schema p)) (schema p) e) p))
+rewrite_filter e (union ps) = transformed_yes (union (filter_each (schema_first ps) e ps))
+rewrite_filter e (distinct p) = transformed_yes (distinct (filter e p))
+rewrite_filter e (sort none ks p) = transformed_yes (sort none ks (filter e p))
+rewrite_filter e (sort (some n) ks p) = transformed_no (filter e (sort (some n) ks p))
+rewrite_filter e (repartition p) = transformed_yes (repartition (filter e p))
+rewrite_filter e (limit n k p) = transformed_no (filter e (limit n k p))
 rewrite_filter e (aggregate gs ags p) = rewrite_aggregate e gs ags p
 rewrite_filter e (window ws p) = rewrite_window e ws p
 
 -- PushDownFilter::rewrite of one node: a Filter by its input, a Join by its own filter, no other
 unfoldable pub rewrite : Plan → Transformed
-rewrite (scan t fs es) = Transformed·no (scan t fs es)
+rewrite (scan t fs es) = transformed_no (scan t fs es)
 rewrite (filter e p) = resume (simplify_filter e) (λ x. rewrite_filter x p) p
-rewrite (project es p) = Transformed·no (project es p)
+rewrite (project es p) = transformed_no (project es p)
 rewrite (join k l r on f) = push_down_join k l r on f []
-rewrite (alias q p) = Transformed·no (alias q p)
-rewrite (union ps) = Transformed·no (union ps)
-rewrite (distinct p) = Transformed·no (distinct p)
-rewrite (sort f ks p) = Transformed·no (sort f ks p)
-rewrite (repartition p) = Transformed·no (repartition p)
-rewrite (limit n k p) = Transformed·no (limit n k p)
-rewrite (aggregate gs ags p) = Transformed·no (aggregate gs ags p)
-rewrite (window ws p) = Transformed·no (window ws p)
+rewrite (alias q p) = transformed_no (alias q p)
+rewrite (union ps) = transformed_no (union ps)
+rewrite (distinct p) = transformed_no (distinct p)
+rewrite (sort f ks p) = transformed_no (sort f ks p)
+rewrite (repartition p) = transformed_no (repartition p)
+rewrite (limit n k p) = transformed_no (limit n k p)
+rewrite (aggregate gs ags p) = transformed_no (aggregate gs ags p)
+rewrite (window ws p) = transformed_no (window ws p)
 
 -- ---- the plan as it stands after each merge of Filters, for test 11
 
