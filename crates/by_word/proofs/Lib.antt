@@ -1,0 +1,5 @@
+pub mod Starting
+pub mod Equals
+pub mod Lists
+pub mod Agreeing
+pub mod Printing

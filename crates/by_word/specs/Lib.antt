@@ -1,0 +1,3 @@
+pub mod Standing
+pub mod Fingerprints
+pub mod Equality

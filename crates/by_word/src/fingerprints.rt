@@ -1,0 +1,102 @@
+// Fingerprints: a number for each expression, the same for equal ones, so that most that differ are told apart by one comparison.
+ghost use Rattle.std.specs.Prelude.{◌≡◌, ◌<◌, ◌≤◌, length};
+ghost use Rattle.image.specs.Limits.{work_bytes};
+ghost use Rattle.image.specs.Tree.{At, Fits32, label_at};
+ghost use Rattle.image.specs.Word.{word};
+ghost use Rattle.plan.specs.Syntax.{Expr};
+ghost use Rattle.plan.specs.Trees.{expr_tree};
+ghost use Rattle.by_word.specs.Fingerprints.{fingerprint, leads, mixed, shape};
+ghost use Rattle.conjuncts.specs.Items.{Item, Present};
+ghost use Rattle.by_word.specs.Standing.{Starts};
+
+use conjuncts::items::FALSE_ITEM;
+use image::ends::tree_end;
+use image::records::{FIRST_LINK, Label, NEXT_LINK, label_at, record_at};
+use image::words::word_at;
+use plan::kinds::BOOLEAN_LITERAL;
+
+// A fingerprint with one record more.
+fn mixed(h: usize, l: Label, shape: usize) -> usize
+    requires { (h < 4294967296) × Fits32 l × (shape < 4) }
+    ensures { (result ≡ mixed h l shape) × (result < 4294967296) }
+{
+    (16777619 * h
+        + shape
+        + 101 * l.kind
+        + 10007 * l.p
+        + 100003 * l.q
+        + 1000003 * l.r
+        + 10000019 * l.lo
+        + 100000007 * l.hi)
+        % 4294967296
+}
+
+// Whether a link leads somewhere: 1 or 0.
+fn leads(link: usize) -> usize
+    ensures { (result ≡ leads link) × (result < 2) }
+{
+    if link != 0 {
+        return 1;
+    }
+    0
+}
+
+// The shape of a record with these links: whether it has a child, and whether a sibling follows.
+fn shape(first: usize, next: usize) -> usize
+    ensures { (result ≡ shape first next) × (result < 4) }
+{
+    if next != 0 {
+        return leads(first) + 2;
+    }
+    leads(first)
+}
+
+// A fingerprint with the record at the start of `part`, any but a top.
+fn mixed_at(h: usize, part: &[u8]) -> usize
+    requires { (h < 4294967296) × (32 ≤ length part.now) }
+    ensures { (result ≡ mixed h (label_at part.now) (shape (word part.now 24) (word part.now 28)))
+        × (result < 4294967296) }
+{
+    let label = label_at(part);
+    mixed(
+        h,
+        label,
+        shape(word_at(part, FIRST_LINK), word_at(part, NEXT_LINK)),
+    )
+}
+
+// The fingerprint of the expression at the start of `part`, which begins at record `base`.
+fn fingerprint_of(part: &[u8], base: usize) -> usize
+    requires { Starts part.now base }
+    ensures { (e : Expr) → At (expr_tree e) part.now base → result ≡ fingerprint e }
+{
+    let size = tree_end(part, base) - base;
+    // The next of the top leads out of the expression.
+    let mut h = mixed(0, label_at(part), shape(word_at(part, FIRST_LINK), 0));
+    let mut i = 1;
+    while i < size {
+        h = mixed_at(h, record_at(part, i));
+        i += 1;
+    }
+    h
+}
+
+// The fingerprint of the item n.
+pub fn fingerprint(s: &[u8], n: usize) -> usize
+    requires present { Present s.now n }
+    requires s_len_bound { length s.now ≤ work_bytes }
+    ensures { (e : Expr) → Item s.now n e → result ≡ fingerprint e }
+{
+    if n == FALSE_ITEM {
+        let label = Label {
+            kind: BOOLEAN_LITERAL,
+            p: 0,
+            q: 0,
+            r: 0,
+            lo: 0,
+            hi: 0,
+        };
+        return mixed(0, label, 0);
+    }
+    fingerprint_of(record_at(s, n), n)
+}

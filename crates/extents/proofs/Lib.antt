@@ -1,0 +1,3 @@
+pub mod Extents
+pub mod Deepened
+pub mod Sized

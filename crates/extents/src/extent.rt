@@ -1,0 +1,89 @@
+// How large a merged predicate is: its records and its levels, read off its conjuncts. Nothing is written for it.
+ghost use Rattle.std.specs.Prelude.{◌≡◌, ◌∷◌, List, ◌<◌, ◌≤◌, max, length};
+ghost use Rattle.image.specs.Limits.{work_bytes};
+ghost use Rattle.image.specs.Tree.{At, Readable, Tree};
+ghost use Rattle.plan.specs.Syntax.{Expr};
+ghost use Rattle.plan.specs.Trees.{expr_tree};
+ghost use Rattle.rewrite.specs.Utils.{conjoin};
+ghost use Rattle.conjuncts.specs.Items.{Item, Known, Lists, Present};
+ghost use Rattle.extents.specs.Extents.{Bounded, Measures};
+
+use conjuncts::items::FALSE_ITEM;
+use conjuncts::lists::{Conjuncts, item_at};
+use image::limits::MAX_DEPTH;
+use image::records::{FIRST_LINK, NEXT_LINK, from_record, record_at};
+use image::words::word_at;
+
+// How many records a tree has, and how many levels.
+#[derive(Clone, Copy)]
+pub struct Extent {
+    pub records: usize,
+    pub depth: usize,
+}
+
+// The larger of two numbers.
+fn larger(a: usize, b: usize) -> usize
+    ensures { result ≡ max a b }
+{
+    if a < b {
+        return b;
+    }
+    a
+}
+
+// The extent of the tree at the start of `part`, which begins at record `base`: a tree no deeper than `depth`.
+pub fn tree_extent(part: &[u8], base: usize, depth: usize) -> Extent
+    requires { Readable depth part.now base }
+    ensures { (t : Tree) → At t part.now base → Measures result t }
+{
+    let mut records = 1;
+    let mut below = 0;
+    let mut at = word_at(part, FIRST_LINK);
+    while at != 0 {
+        let child = from_record(part, base, at);
+        let e = tree_extent(child, at, depth - 1);
+        records += e.records;
+        below = larger(below, e.depth);
+        at = word_at(child, NEXT_LINK);
+    }
+    Extent {
+        records,
+        depth: below + 1,
+    }
+}
+
+// The extent of what the item n stands for.
+fn item_extent(s: &[u8], n: usize) -> Extent
+    requires { Present s.now n }
+    ensures { (e : Expr) → Item s.now n e → Measures result (expr_tree e) }
+{
+    if n == FALSE_ITEM {
+        return Extent {
+            records: 1,
+            depth: 1,
+        };
+    }
+    tree_extent(record_at(s, n), n, MAX_DEPTH)
+}
+
+// The extent of the items of a list, joined left-deep.
+pub fn conjunction_extent(s: &[u8], c: Conjuncts) -> Extent
+    requires known { Known s.now c }
+    requires len_nonzero { 0 < c.len }
+    requires s_len_bound { length s.now ≤ work_bytes }
+    ensures measures { (e : Expr) (es : List Expr) → Lists s.now c (e ∷ es) → Measures result (expr_tree (conjoin e es)) }
+    ensures bounded { Bounded result }
+{
+    let n = c.len;
+    let mut r = item_extent(s, item_at(c, 0));
+    let mut i = 1;
+    while i < n {
+        let e = item_extent(s, item_at(c, i));
+        r = Extent {
+            records: 1 + r.records + e.records,
+            depth: 1 + larger(r.depth, e.depth),
+        };
+        i += 1;
+    }
+    r
+}
