@@ -96,7 +96,7 @@ def own_names(root):
                 types.add(m[3])
                 continue
             m = DEFINED.match(code)
-            if m and len(m[1]) <= 6:
+            if m and len(m[1]) <= 12:
                 for n in m[3].split():
                     if n in KEYWORDS or n.startswith(("(", "[", "λ")) or not re.match(r"[A-Za-z₀-₉_'?!+*∷≡-]+", n):
                         break

@@ -339,11 +339,13 @@ mutual
       behind s b m n d {k = size_p r}
       (λ j t. later_at s m n d (later_at (drop (32 * m) s) (size_p r) (n - m) j
       (region parts _ _ (no_plan_join on g) rest (n - m - size_p r)
-      (in_parts (size_p l) (size_p r) (sizes pair_kids on) (size (filter_kids g)) (size_join k l r on g) (size_each pair_label pair_kids on (filter_kids g)) d j t))))
+      (in_parts (size_p l) (size_p r) (sizes pair_kids on) (size (filter_kids g)) (size_join k l r on g)
+      (size_each pair_label pair_kids on (filter_kids g)) d j t))))
       (λ q. join k l q on g) (located r _ _ (n - m) (sound_right k l r on g o) (in_front_lem r parts _ _ right)))
       (λ u. let d : 1 ≤ n = omega (arith, eqb-false n 0 e) in
       behind s b 1 n d {k = size_p l} (λ j t. absurd (omega (arith, leb-false m n u)))
-      (λ q. join k q r on g) (located l (drop 32 s) (b + 1) (n - 1) (sound_left k l r on g o) (in_front_lem l (node (label_p r) (kids_p r) parts) _ _ h.below))))
+      (λ q. join k q r on g) (located l (drop 32 s) (b + 1) (n - 1) (sound_left k l r on g o) (in_front_lem l (node (label_p r)
+      (kids_p r) parts) _ _ h.below))))
   located (alias q p) s b n o h =
       straight (alias q p) p s b n (size_p (alias q p)) o h (omega (arith, size_alias q p)) (alias q)
       (located p _ _ (n - 1) (sound_alias p q o) (in_front_lem p T.none _ _ h.below))

@@ -2,7 +2,7 @@
 --     seek-++, seek_name, seek_passed                 of two schemas; what the first place and the last one tell
 --     made_done, made_pass, made_skip, made_found     a record more among the parts
 --     plan_fields, missing                            the plan with a place
---     of_parts, of_input, of-second, of-more, of_one  the fields of a plan by its role
+--     of_parts, of_input, of_second, of_more, of_one  the fields of a plan by its role
 -- Assumes nothing.
 use mathlib.Core.Path.{◌≡◌, refl, sym, ap, subst, ◌∙◌}
 use mathlib.Core.Bool.{Bool, true, false, cond, ◌&&◌, ◌||◌}
@@ -245,7 +245,8 @@ module _ (kind : ℕ) (f : Forest) {a b : ℕ} {x y : Sought} (e : x ≡ Named a
   named_none z = (let n : parts_over kind (inputs f) ≡ [] = rw z in rw (e, n) at g)
 
   -- over the input's
-  pub named_some : (kind ≡ K.number_p K.TableScan → ⊥) → {t : ℕ} {u : Sought} → t ≡ type_found u → u ≡ seek (hits Exact a b) 0 (input 0 (inputs f)) → Known t ≡ y
+  pub named_some : (kind ≡ K.number_p K.TableScan → ⊥) → {t : ℕ} {u : Sought} → t ≡ type_found u → u ≡ seek (hits Exact a b) 0 (input 0 (inputs f))
+      → Known t ≡ y
   named_some z {t} p q =
       let n : parts_over kind (inputs f) ≡ input 0 (inputs f) = rw (ne_eqb kind (K.number_p K.TableScan) z) in
       let i : t ≡ type_in (input 0 (inputs f)) (nm a b) =
@@ -304,12 +305,12 @@ module _ (asks : Question) (q n k : ℕ) where
 
       -- it has it not: the other input, the parts, or none
       module _ {j : ℕ} (e : Left j ≡ asked) where
-        pub of-second : gives_both r v.p ≡ true → seek (hits asks q n) j (input 1 ins) ≡ seek (hits asks q n) k (input 0 (inputs f))
-        of-second g = rw g at (ap (λ (t : Sought). onward t after) e ∙ of_role)
+        pub of_second : gives_both r v.p ≡ true → seek (hits asks q n) j (input 1 ins) ≡ seek (hits asks q n) k (input 0 (inputs f))
+        of_second g = rw g at (ap (λ (t : Sought). onward t after) e ∙ of_role)
 
-        pub of-more : gives_both r v.p ≡ false → extends r ≡ true
+        pub of_more : gives_both r v.p ≡ false → extends r ≡ true
             → seek (hits asks q n) j parts_of ≡ seek (hits asks q n) k (input 0 (inputs f))
-        of-more g d = rw (g, d) at (ap (λ (t : Sought). onward t after) e ∙ of_role)
+        of_more g d = rw (g, d) at (ap (λ (t : Sought). onward t after) e ∙ of_role)
 
       -- nothing stands behind the input's
       pub of_one : gives_both r v.p ≡ false → extends r ≡ false → asked ≡ seek (hits asks q n) k (input 0 (inputs f))

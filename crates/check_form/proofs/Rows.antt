@@ -12,7 +12,8 @@ use borrow.Author.Tests.{eqb-true, le-leb, lt-leb}
 use Rattle.image.specs.Tree.{Label, label_at}
 use Rattle.image.specs.Lowest.{nothing, found, or_else, unless}
 use Rattle.plan.specs.Lists.{◌&◌}
-use Rattle.plan.specs.Kinds.{What, expr, plan, part, unknown, what_of, among, expr_w, plan_w, part_w, number_e, number_p, number_q, Column, TableScan, Sort, FieldPart}
+use Rattle.plan.specs.Kinds.{What, expr, plan, part, unknown, what_of, among, expr_w}
+use Rattle.plan.specs.Kinds.{plan_w, part_w, number_e, number_p, number_q, Column, TableScan, Sort, FieldPart}
 use Rattle.plan.specs.Words.{WordRow, ◌to◌, in_range, row_fits, words_by, words_ok}
 use Rattle.acceptance.specs.Check.{bad_words}
 use Rattle.check_form.specs.Rows.{range_of, decoded, row_by}

@@ -70,7 +70,8 @@ part_of s part base x e h =
 
 -- an expression inside one that stands, at a later record of its part
 inside : {s part : List ℕ} {base x : ℕ} (a : Expr) → part ≡ drop (32 * base) s → 32 * base ≤ length s → 32 * base + length part ≤ work_bytes
-    → base ≤ x → 32 * (x - base) + 32 ≤ length part → At (expr_tree a) (drop (32 * (x - base)) part) x → Deep (kids_e a) (max_depth - 1) → FitsE a → Standing s x a
+    → base ≤ x → 32 * (x - base) + 32 ≤ length part → At (expr_tree a) (drop (32 * (x - base)) part) x → Deep (kids_e a) (max_depth - 1) → FitsE a
+    → Standing s x a
 inside {s} {part} {base} {x} a e w room past fit h deep f =
     let n : length part ≡ length s - 32 * base = ap length e ∙ length-drop (32 * base) s in
     record {

@@ -240,7 +240,8 @@ module _ {img : List ℕ} {σ : Name → Expr} {v : Moves} (k : Kind) (l r : Pla
       (le_trans (le_of_eq (sym (conditions_count _ (conditions_plain k (schema l) (schema r) on p g)))) cs))
 
 -- the inputs of a join have no longer list
-pub inputs_few : (k : Kind) (l r : Plan) (on : List Pair) (f : Option Expr) → list_p (join k l r on f) ≤ max_list → (list_p l ≤ max_list) × (list_p r ≤ max_list)
+pub inputs_few : (k : Kind) (l r : Plan) (on : List Pair) (f : Option Expr) → list_p (join k l r on f) ≤ max_list
+    → (list_p l ≤ max_list) × (list_p r ≤ max_list)
 unfolding list_p
 inputs_few k l r on f h =
     let both = le_trans (le-max_right _ (larger (list_p l) (list_p r))) h in

@@ -52,7 +52,8 @@ module _ {s : List ℕ} {x : ℕ} {p : Predicate} (r : OnInput s x p) {n : ℕ} 
 
   pub over_alias : n ≡ 36 → OverAlias s x p
   over_alias i =
-      when_alias (λ q. Rests s x p r.expr q → OverAlias s x p) (λ i q h. record { expr = r.expr; qualifier = i; plan = q; rests = h }) r.plan (sym is ∙ i) r.rests
+      when_alias (λ q. Rests s x p r.expr q → OverAlias s x p) (λ i q h. record { expr = r.expr; qualifier = i; plan = q; rests = h }) r.plan (sym is
+      ∙ i) r.rests
 
   pub over_union : n ≡ 37 → OverUnion s x p
   over_union i =
@@ -71,7 +72,8 @@ module _ {s : List ℕ} {x : ℕ} {p : Predicate} (r : OnInput s x p) {n : ℕ} 
 
   pub over_window : n ≡ 43 → OverWindow s x p
   over_window i =
-      when_window (λ q. Rests s x p r.expr q → OverWindow s x p) (λ ws q h. record { expr = r.expr; entries = ws; plan = q; rests = h }) r.plan (sym is ∙ i) r.rests
+      when_window (λ q. Rests s x p r.expr q → OverWindow s x p)
+      (λ ws q h. record { expr = r.expr; entries = ws; plan = q; rests = h }) r.plan (sym is ∙ i) r.rests
 
 -- what it answers
 module _ {s before after : List ℕ} {x at level : ℕ} {p : Predicate} {r : Written} {n : ℕ} where

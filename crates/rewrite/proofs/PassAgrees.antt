@@ -153,7 +153,8 @@ module _ (d level : ℕ)
       let e : n + 1 + size_p l + size_p r ≡ n + i = omega arith in
       let e' : n + (i + (size_p t - i)) ≡ n + size_p t = omega arith in
       ap (λ x. plan_from x (C t)) e
-      ∙ gap C h t (size_p t - i) i (omega arith) (λ m s u. right_end m (size_p l) t (λ x. join k l x on g) r (focus_in (λ q. join k q r on g) (focus (m - 1) l)) (omega arith) (omega arith))
+      ∙ gap C h t (size_p t - i) i (omega arith) (λ m s u. right_end m (size_p l) t (λ x. join k l x on g) r (focus_in (λ q. join k q r on g)
+      (focus (m - 1) l)) (omega arith) (omega arith))
       ∙ ap (λ x. plan_from x (C t)) e'
 
   right_input : (k : Kind) (on : List Pair) (g : Option Expr) (l r : Plan) (b v c : ℕ) → within_limits (C (join k l r on g)) ≡ true

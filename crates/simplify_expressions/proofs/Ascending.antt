@@ -106,11 +106,11 @@ enter_head last i (g ∷ gs) h = go (same g.key i.key) refl (name_under i.key g.
 
     later : name_under g.key i.key ≡ true → (b : Bool) → head_key (rest last (enter i gs)) ≡ lesser last (some i) (head_key (rest last gs))
         → head_key (put b g (rest last (enter i gs))) ≡ lesser last (some i) (head_key (put b g (rest last gs)))
-    later u true m = rw u (same-either (after last i.key))
+    later u true m = rw u (same_either (after last i.key))
       where
-        same-either : (b : Bool) → some g.key ≡ choose b (some g.key) (some g.key)
-        same-either true = refl
-        same-either false = refl
+        same_either : (b : Bool) → some g.key ≡ choose b (some g.key) (some g.key)
+        same_either true = refl
+        same_either false = refl
     later u false m = m
 
     go : (b : Bool) → same g.key i.key ≡ b → (c : Bool) → name_under i.key g.key ≡ c

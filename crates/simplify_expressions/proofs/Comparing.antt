@@ -172,7 +172,8 @@ operands_of s base c x y h =
           u.right.head.label ∙ come_to c x y f;
     }
 
-pub operands : {s : List ℕ} {base : ℕ} (e : Expr) → At (expr_tree e) s base → word s 0 ≡ number_e Kinds.Binary → op_number (cmp eq) ≤ word s 4 → Operands s base e
+pub operands : {s : List ℕ} {base : ℕ} (e : Expr) → At (expr_tree e) s base → word s 0 ≡ number_e Kinds.Binary → op_number (cmp eq) ≤ word s 4
+    → Operands s base e
 operands {s} {base} e h k p =
     let u : Binary e = binary e (rw (← h.head.label) k) (rw (← h.head.label) p) in
     subst (λ (f : Expr). Operands s base f) (sym u.is)

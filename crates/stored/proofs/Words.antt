@@ -1,5 +1,6 @@
 -- Words written one behind another.
-use Rattle.std.proofs.Common.{◌≡◌, ℕ, ◌+◌, ◌%◌, ◌^◌, ◌≤◌, ◌<◌, List, [], ◌∷◌, ◌++◌, arith, refl, sym, ap, ◌∙◌, length, take, drop, get_or, append_assoc, append-nil, length-take-le, take_at}
+use Rattle.std.proofs.Common.{◌≡◌, ℕ, ◌+◌, ◌%◌, ◌^◌, ◌≤◌, ◌<◌, List, [], ◌∷◌, ◌++◌, arith}
+use Rattle.std.proofs.Common.{refl, sym, ap, ◌∙◌, length, take, drop, get_or, append_assoc, append-nil, length-take-le, take_at}
 use native.Mathlib.Numerals.{add-one}
 use lib.ListN.{length-append}
 use lib.Seq.{sets, sets-eq, take-suc}

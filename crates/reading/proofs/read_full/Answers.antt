@@ -20,5 +20,6 @@ loop-at-preserved g c =
     record {
       same_length = search rules;
       within = search rules;
-      read = subst (Consumes _ _) (take_more c.loop-at.at _ c.in_ok-n.n c.loop-at.space c.read.new.buf old.within read.bound.0) (Consumes-trans _ _ _ _ _ old.read read.bytes.0);
+      read = subst (Consumes _ _) (take_more c.loop-at.at _ c.in_ok-n.n c.loop-at.space c.read.new.buf old.within read.bound.0)
+          (Consumes-trans _ _ _ _ _ old.read read.bytes.0);
     }

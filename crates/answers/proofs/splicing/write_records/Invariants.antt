@@ -11,7 +11,8 @@ use Rattle.answers.proofs.splicing.write_records.Given as goal
 
 abbrev pub invariant-loop-i : goal.invariant-loop-i
 invariant-loop-i l =
-    (length l.out ≡ work_bytes) × (l.to ≤ no_room) × ((t : Tree) → At t l.s 0 → size_t t ≤ max_records → l.n ≤ size_t t → Levels l.levels t → Run t l.n l.from l.initial.out l.at l.i l.out l.to)
+    (length l.out ≡ work_bytes) × (l.to ≤ no_room) × ((t : Tree) → At t l.s 0 → size_t t ≤ max_records → l.n ≤ size_t t → Levels l.levels t
+    → Run t l.n l.from l.initial.out l.at l.i l.out l.to)
 
 abbrev pub decreases-loop-i : goal.decreases-loop-i
 decreases-loop-i l = l.n - l.i

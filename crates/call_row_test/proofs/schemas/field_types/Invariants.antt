@@ -10,7 +10,8 @@ use Rattle.call_row_test.proofs.schemas.field_types.Given as goal
 
 abbrev pub invariant-loop-k : goal.invariant-loop-k
 invariant-loop-k l =
-    (l.k ≤ l.n) × (length l.types ≡ max_fields) × ((f : Forest) → Linked f l.s l.base l.at → (m : ℕ) → m < l.k → get_or l.types m 0 ≡ ty_at m (input 0 (inputs f)))
+    (l.k ≤ l.n) × (length l.types ≡ max_fields) × ((f : Forest) → Linked f l.s l.base l.at → (m : ℕ) → m < l.k
+    → get_or l.types m 0 ≡ ty_at m (input 0 (inputs f)))
 
 abbrev pub decreases-loop-k : goal.decreases-loop-k
 decreases-loop-k l = l.n - l.k

@@ -9,14 +9,16 @@ loop-here-init c =
 
 pub plan_at-here-requires-in-loop-here : goal.plan_at-here-requires-in-loop-here
 plan_at-here-requires-in-loop-here c =
-    let y = c.loop-here.invariant c.requires.forest c.requires.linked in let w = step y.forest y.linked c.loop-here-test.true c.from_record.ensures c.look-v.ensures in record {
+    let y = c.loop-here.invariant c.requires.forest c.requires.linked in
+    let w = step y.forest y.linked c.loop-here-test.true c.from_record.ensures c.look-v.ensures in record {
       forest = w.below;
       linked = within_first w c.from_record.ensures;
     }
 
 pub loop-here-smaller : goal.loop-here-smaller
 loop-here-smaller c =
-    let y = c.loop-here.invariant c.requires.forest c.requires.linked in let w = step y.forest y.linked c.loop-here-test.true c.from_record.ensures c.look-v.ensures in omega (
+    let y = c.loop-here.invariant c.requires.forest c.requires.linked in
+    let w = step y.forest y.linked c.loop-here-test.true c.from_record.ensures c.look-v.ensures in omega (
       arith,
       (c.plan_at-here-in-loop-here.ensures w.below (within_first w c.from_record.ensures)).less,
       less_first w c.from_record.ensures y.linked c.loop-here-test.true,
@@ -25,4 +27,7 @@ loop-here-smaller c =
 pub loop-here-preserved : goal.loop-here-preserved
 loop-here-preserved c =
     λ f h. let y = c.loop-here.invariant f h in let w = step
-    y.forest y.linked c.loop-here-test.true c.from_record.ensures c.look-v.ensures in makes_step y w c.role_of-role.ensures c.creates.ensures c.extends.ensures c.gives_both.ensures c.if-creates-extends.false c.question-asked.ensures c.own_input.ensures (c.plan_at-here-in-loop-here.ensures w.below (within_first w c.from_record.ensures)) (less_first w c.from_record.ensures y.linked c.loop-here-test.true)
+    y.forest y.linked c.loop-here-test.true c.from_record.ensures c.look-v.ensures in
+    makes_step y w c.role_of-role.ensures c.creates.ensures c.extends.ensures c.gives_both.ensures c.if-creates-extends.false
+    c.question-asked.ensures c.own_input.ensures (c.plan_at-here-in-loop-here.ensures w.below (within_first w c.from_record.ensures))
+    (less_first w c.from_record.ensures y.linked c.loop-here-test.true)

@@ -21,12 +21,14 @@ all_made-requires t c =
 
 pub returns-then-creates : goal.returns-then-creates
 returns-then-creates t c =
-    λ e f g h. let y = c.plan_at-here.ensures f h in let w = step y.forest y.linked c.if-here-eq0.false c.from_record-part.ensures c.look-v.ensures in c.all_made.ensures e w.below _ g w.first ∙ ap (all_of _) (held_parts w y.begins
+    λ e f g h. let y = c.plan_at-here.ensures f h in let w = step y.forest y.linked c.if-here-eq0.false c.from_record-part.ensures c.look-v.ensures in
+    c.all_made.ensures e w.below _ g w.first ∙ ap (all_of _) (held_parts w y.begins
     c.role_of-role.ensures (sym c.creates.ensures ∙ c.if-creates.true) ∙ plan_fields y)
 
 pub all_held-requires : goal.all_held-requires
 all_held-requires t c =
-    let y = c.plan_at-here.ensures c.requires.1.forest c.requires.1.linked in let w = step y.forest y.linked c.if-here-eq0.false c.from_record-part.ensures c.look-v.ensures in (
+    let y = c.plan_at-here.ensures c.requires.1.forest c.requires.1.linked in
+    let w = step y.forest y.linked c.if-here-eq0.false c.from_record-part.ensures c.look-v.ensures in (
       omega (arith, w.down, y.less),
       (
         c.requires.0,
@@ -37,11 +39,15 @@ all_held-requires t c =
 pub returns-then-renames : goal.returns-then-renames
 returns-then-renames t c =
     λ e f g h. let y = c.plan_at-here.ensures f h in let w =
-    step y.forest y.linked c.if-here-eq0.false c.from_record-part.ensures c.look-v.ensures in (rw c.qualifier.ensures at (c.all_held.ensures e w.below g w.first)) ∙ held_renamed w y.begins c.role_of-role.ensures (own_of c.args.w.view e) c.args.w.asks c.args.renamed c.args.to (sym c.renames.ensures ∙ c.if-renames.true) ∙ ap (all_of _) (plan_fields y)
+    step y.forest y.linked c.if-here-eq0.false c.from_record-part.ensures c.look-v.ensures in
+    (rw c.qualifier.ensures at (c.all_held.ensures e w.below g w.first))
+    ∙ held_renamed w y.begins c.role_of-role.ensures (own_of c.args.w.view e) c.args.w.asks c.args.renamed c.args.to (sym c.renames.ensures
+    ∙ c.if-renames.true) ∙ ap (all_of _) (plan_fields y)
 
 pub all_held-requires-2 : goal.all_held-requires-2
 all_held-requires-2 t c =
-    let y = c.plan_at-here.ensures c.requires.1.forest c.requires.1.linked in let w = step y.forest y.linked c.if-here-eq0.false c.from_record-part.ensures c.look-v.ensures in (
+    let y = c.plan_at-here.ensures c.requires.1.forest c.requires.1.linked in
+    let w = step y.forest y.linked c.if-here-eq0.false c.from_record-part.ensures c.look-v.ensures in (
       omega (arith, w.down, y.less),
       (
         c.requires.0,
@@ -74,11 +80,14 @@ all_held-requires-then-gives_both t c =
 pub returns-then-gives_both : goal.returns-then-gives_both
 returns-then-gives_both t c =
     λ e f g h. let y = c.plan_at-here.ensures f h in let w = step y.forest y.linked c.if-here-eq0.false c.from_record-part.ensures c.look-v.ensures in
-    c.all_held-then-gives_both.ensures e w.below g w.first ∙ held_both w y.begins c.role_of-role.ensures _ (sym c.creates.ensures ∙ c.if-creates.false) (sym c.renames.ensures ∙ c.if-renames.false) (sym (rw c.own_input.ensures at (c.all_held-2.ensures e w.below g w.first)) ∙ c.if-not-all_held.false) (sym c.gives_both.ensures ∙ c.if-gives_both.true) ∙ ap (all_of _) (plan_fields y)
+    c.all_held-then-gives_both.ensures e w.below g w.first ∙ held_both w y.begins c.role_of-role.ensures _ (sym c.creates.ensures
+    ∙ c.if-creates.false) (sym c.renames.ensures ∙ c.if-renames.false) (sym (rw c.own_input.ensures at (c.all_held-2.ensures e w.below g w.first))
+    ∙ c.if-not-all_held.false) (sym c.gives_both.ensures ∙ c.if-gives_both.true) ∙ ap (all_of _) (plan_fields y)
 
 pub all_made-requires-then-extends : goal.all_made-requires-then-extends
 all_made-requires-then-extends t c =
-    let y = c.plan_at-here.ensures c.requires.1.forest c.requires.1.linked in let w = step y.forest y.linked c.if-here-eq0.false c.from_record-part.ensures c.look-v.ensures in (
+    let y = c.plan_at-here.ensures c.requires.1.forest c.requires.1.linked in
+    let w = step y.forest y.linked c.if-here-eq0.false c.from_record-part.ensures c.look-v.ensures in (
       c.requires.0,
       record {
         forest = w.below;
@@ -88,10 +97,15 @@ all_made-requires-then-extends t c =
 
 pub returns-then-extends : goal.returns-then-extends
 returns-then-extends t c =
-    λ e f g h. let y = c.plan_at-here.ensures f h in let w = step y.forest y.linked c.if-here-eq0.false c.from_record-part.ensures c.look-v.ensures in c.all_made-then-extends.ensures e w.below _ g w.first ∙ held_more w y.begins c.role_of-role.ensures _ (sym c.creates.ensures ∙ c.if-creates.false) (sym c.renames.ensures ∙ c.if-renames.false) (sym (rw c.own_input.ensures at (c.all_held-2.ensures e w.below g w.first)) ∙ c.if-not-all_held.false) (sym c.gives_both.ensures ∙ c.if-gives_both.false) (sym c.extends.ensures ∙ c.if-extends.true) ∙ ap
+    λ e f g h. let y = c.plan_at-here.ensures f h in let w = step y.forest y.linked c.if-here-eq0.false c.from_record-part.ensures c.look-v.ensures in
+    c.all_made-then-extends.ensures e w.below _ g w.first ∙ held_more w y.begins c.role_of-role.ensures _ (sym c.creates.ensures
+    ∙ c.if-creates.false) (sym c.renames.ensures ∙ c.if-renames.false) (sym (rw c.own_input.ensures at (c.all_held-2.ensures e w.below g w.first))
+    ∙ c.if-not-all_held.false) (sym c.gives_both.ensures ∙ c.if-gives_both.false) (sym c.extends.ensures ∙ c.if-extends.true) ∙ ap
     (all_of _) (plan_fields y)
 
 pub returns : goal.returns
 returns t c =
-    λ e f g h. let y = c.plan_at-here.ensures f h in let w = step y.forest y.linked c.if-here-eq0.false c.from_record-part.ensures c.look-v.ensures in held_first w y.begins c.role_of-role.ensures _ (sym c.creates.ensures ∙ c.if-creates.false) (sym c.renames.ensures ∙ c.if-renames.false) (sym (rw c.own_input.ensures at (c.all_held-2.ensures e w.below g w.first)) ∙ c.if-not-all_held.false) (sym c.gives_both.ensures ∙
+    λ e f g h. let y = c.plan_at-here.ensures f h in let w = step y.forest y.linked c.if-here-eq0.false c.from_record-part.ensures
+    c.look-v.ensures in held_first w y.begins c.role_of-role.ensures _ (sym c.creates.ensures ∙ c.if-creates.false) (sym c.renames.ensures
+    ∙ c.if-renames.false) (sym (rw c.own_input.ensures at (c.all_held-2.ensures e w.below g w.first)) ∙ c.if-not-all_held.false) (sym c.gives_both.ensures ∙
     c.if-gives_both.false) (sym c.extends.ensures ∙ c.if-extends.false) ∙ ap (all_of _) (plan_fields y)

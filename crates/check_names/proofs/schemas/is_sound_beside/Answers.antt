@@ -17,6 +17,7 @@ returns-then-held_in-gt-MAX_FIELDS c =
 
 pub returns : goal.returns
 returns c =
-    λ cs d h k. (rw c.own_input.ensures at (c.all_held.ensures cs cs h h)) ∙ as_called (input 0 (inputs cs) ++ input 1 (inputs cs)) Clashing (input (1 - own Joins c.args.p) (inputs cs))
+    λ cs d h k. (rw c.own_input.ensures at (c.all_held.ensures cs cs h h))
+    ∙ as_called (input 0 (inputs cs) ++ input 1 (inputs cs)) Clashing (input (1 - own Joins c.args.p) (inputs cs))
     ∙ beside_own _ (inputs cs) (own_few c.args.p) k ∙ not_many Clashing _
     (c.held_in.ensures cs h) (omega arith) ∙ rule_by_role Joins _ d cs

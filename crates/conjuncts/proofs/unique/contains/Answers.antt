@@ -9,7 +9,14 @@ use Rattle.conjuncts.proofs.unique.contains.Goals as goal
 pub same_item-requires : goal.same_item-requires
 unfolding any
 same_item-requires c =
-    record { present = record { expr = _; item = lists_at c.requires.known.lists c.requires.known.most _ _ c.loop-i-test.true c.item_at.ensures }; present_2 = c.requires.present }
+    record {
+      present = record {
+        expr = _;
+        item = lists_at c.requires.known.lists c.requires.known.most _ _ c.loop-i-test.true
+            c.item_at.ensures;
+      };
+      present_2 = c.requires.present;
+    }
 
 pub returns-then-same_item : goal.returns-then-same_item
 unfolding any

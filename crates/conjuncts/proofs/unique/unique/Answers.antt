@@ -9,7 +9,11 @@ unique_onto-once-requires c =
 
 pub unique_onto-requires : goal.unique_onto-requires
 unique_onto-requires c =
-    record { some = record { exprs = _; lists = c.unique_onto-once.ensures _ _ (lists_none c.empty.ensures) c.requires.known.lists }; known = c.requires.known_2 }
+    record {
+      some = record { exprs = _; lists = c.unique_onto-once.ensures _ _ (lists_none c.empty.ensures) c.requires.known.lists };
+      known =
+          c.requires.known_2;
+    }
 
 pub returns : goal.returns
 returns c =

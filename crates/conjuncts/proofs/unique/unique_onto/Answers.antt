@@ -12,7 +12,18 @@ use Rattle.conjuncts.proofs.unique.unique_onto.Goals as goal
 
 pub add_new-r-requires : goal.add_new-r-requires
 add_new-r-requires c =
-    record { some = record { exprs = _; lists = (c.loop-i.invariant.1 _ _ c.requires.some.lists c.requires.known.lists).lists }; present = record { expr = _; item = lists_at c.requires.known.lists c.requires.known.most _ _ c.loop-i-test.true c.item_at.ensures } }
+    record {
+      some = record {
+        exprs = _;
+        lists = (c.loop-i.invariant.1 _ _ c.requires.some.lists
+            c.requires.known.lists).lists;
+      };
+      present = record {
+        expr = _;
+        item = lists_at c.requires.known.lists c.requires.known.most _ _
+            c.loop-i-test.true c.item_at.ensures;
+      };
+    }
 
 pub loop-i-preserved : goal.loop-i-preserved
 loop-i-preserved c = (

@@ -15,7 +15,8 @@ returns-then-l-eq-COLUMN t c =
 
 pub returns-in-Of : goal.returns-in-Of
 returns-in-Of t c =
-    let e = sym c.literal_of-literal.ensures ∙ c.in-Of.is in record { right = right_literal c.label_at-l.result _ e; is = λ t ns h n le. tree_literal _ _ t (c.label_at-l.ensures.0 ∙ h.head.label) _ e }
+    let e = sym c.literal_of-literal.ensures ∙ c.in-Of.is in
+    record { right = right_literal c.label_at-l.result _ e; is = λ t ns h n le. tree_literal _ _ t (c.label_at-l.ensures.0 ∙ h.head.label) _ e }
 
 pub loop-at-init : goal.loop-at-init
 loop-at-init t c =

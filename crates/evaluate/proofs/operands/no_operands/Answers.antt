@@ -6,4 +6,7 @@ use Rattle.evaluate.proofs.operands.no_operands.Goals as goal
 pub returns : goal.returns
 unfolding any
 returns c =
-    rw c.null_of-none.ensures (record { right = record { first = refl; second = refl; third = refl }; is = record { count = refl; first = refl; second = refl; third = refl; equal = refl; null = refl } })
+    rw c.null_of-none.ensures (record {
+      right = record { first = refl; second = refl; third = refl };
+      is = record { count = refl; first = refl; second = refl; third = refl; equal = refl; null = refl };
+    })

@@ -4,11 +4,19 @@ use Rattle.evaluate.proofs.operands.with_operand.Goals as goal
 
 pub returns-then-count-eq0 : goal.returns-then-count-eq0
 returns-then-count-eq0 c =
-    record { right = record { first = c.requires.1; second = c.requires.0.second; third = c.requires.0.third }; is = λ vs h. seen_first c.args.v vs h c.if-count-eq0.true }
+    record {
+      right = record { first = c.requires.1; second = c.requires.0.second; third = c.requires.0.third };
+      is = λ vs h. seen_first c.args.v vs h
+          c.if-count-eq0.true;
+    }
 
 pub returns-then-count-eq1 : goal.returns-then-count-eq1
 returns-then-count-eq1 c =
-    record { right = record { first = c.requires.0.first; second = c.requires.1; third = c.requires.0.third }; is = λ vs h. seen_second c.args.v c.equals.ensures c.is_null.ensures vs h c.if-count-eq1.true }
+    record {
+      right = record { first = c.requires.0.first; second = c.requires.1; third = c.requires.0.third };
+      is = λ vs h. seen_second c.args.v
+          c.equals.ensures c.is_null.ensures vs h c.if-count-eq1.true;
+    }
 
 pub returns-then-count-eq2 : goal.returns-then-count-eq2
 returns-then-count-eq2 c =

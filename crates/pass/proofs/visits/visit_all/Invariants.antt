@@ -10,7 +10,8 @@ use Rattle.pass.proofs.visits.visit_all.Given as goal
 
 abbrev pub invariant-loop-image : goal.invariant-loop-image
 invariant-loop-image l =
-    (length l.image ≡ length l.initial.image) × (length l.m ≡ length l.initial.m) × (length l.work ≡ length l.initial.work) × (length l.levels ≡ length l.initial.levels)
+    (length l.image ≡ length l.initial.image) × (length l.m ≡ length l.initial.m) × (length l.work ≡ length l.initial.work) ×
+    (length l.levels ≡ length l.initial.levels)
     × ((q : Plan) → WellFormed q → Image l.initial.image l.records q → Visited l.image l.w (pass l.budget q))
 
 abbrev pub decreases-loop-image : goal.decreases-loop-image

@@ -26,7 +26,8 @@ pub split_at-requires-clause-there : goal.split_at-requires-clause-there
 split_at-requires-clause-there c =
     let h = c.requires.present.1.standing in
     let w = c.requires.present.0.item.some c.if-n-eq0.false in
-    let l = value_leads c.record_at.ensures c.requires.stretch w h c.value_for-value.ensures in record { expr = _; standing = value_standing _ _ h l c.requires.s_len_bound w.fits c.if-value-eq0.false }
+    let l = value_leads c.record_at.ensures c.requires.stretch w h c.value_for-value.ensures in
+    record { expr = _; standing = value_standing _ _ h l c.requires.s_len_bound w.fits c.if-value-eq0.false }
 
 pub returns : goal.returns
 returns c =

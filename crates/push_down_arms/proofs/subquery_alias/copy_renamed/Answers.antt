@@ -22,7 +22,8 @@ make_filter-requires-clause-predicated c =
     let to = c.schema_columns-to.ensures o.plan _ (rw c.requires.stretch h.standing.here)
     c.no_fields.ensures in
     let m = c.write_renames.ensures o.over (schema o.plan) h.names to h.wide in
-    let σ : Name → Expr = λ x. col (ren o.over (schema o.plan) x) in record { mapping = σ; expr = replace_cols σ o.expr; predicate = whole_left (h.changed σ); most = h.most }
+    let σ : Name → Expr = λ x. col (ren o.over (schema o.plan) x) in
+    record { mapping = σ; expr = replace_cols σ o.expr; predicate = whole_left (h.changed σ); most = h.most }
 
 pub make_filter-requires-clause-readable : goal.make_filter-requires-clause-readable
 unfolding renamed

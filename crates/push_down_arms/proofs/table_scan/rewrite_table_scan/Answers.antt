@@ -37,7 +37,11 @@ write_filtered-next-requires-clause-some_scan c =
     let h = c.requires.over_scan.rests in
     let z = c.share_of-share.ensures _ _ _ _ h in
     let own = c.scan_filters.ensures _ _ _ _ c.requires.stretch h.placed in
-    let l = c.unique-filters.ensures _ _ own z.takes in (some_scan h z.count, known_of z.leaves (left_few h), record { exprs = _; lists = l; most = c.if-filters-gt-MAX_LIST.false })
+    let l = c.unique-filters.ensures _ _ own z.takes in (
+      some_scan h z.count,
+      known_of z.leaves (left_few h),
+      record { exprs = _; lists = l; most = c.if-filters-gt-MAX_LIST.false },
+    )
 
 pub returns : goal.returns
 returns c =

@@ -45,7 +45,8 @@ write_over-next-requires-clause-x_le_y c =
     let h = t.rests in
     let q = t.above t.plan in
     let k = h.placed.standing in
-    let y = c.last_child-y.ensures (plan_tree q) (rw c.requires.stretch k.here) ∙ t.takes.last in (omega (arith, y), record { plan = t.plan; standing = rw y t.takes.input })
+    let y = c.last_child-y.ensures (plan_tree q) (rw c.requires.stretch k.here) ∙ t.takes.last in
+    (omega (arith, y), record { plan = t.plan; standing = rw y t.takes.input })
 
 pub returns : goal.returns
 returns c =

@@ -47,7 +47,8 @@ copy_renamed-next-requires-clause-stretch c =
     let w = k.1 in
     let u = round _ (k.2 w.expr w.inputs w.spread) c.loop-y-test.true in
     let f = first _ _ _ u.so_far in
-    let r = renames_first w.spread f c.requires.stretch u.turn.past u.turn.here (readable_deep u.turn.here u.readable) in input_at r.standing c.requires.stretch (omega (arith, u.turn.past)) c.from_record-input.ensures
+    let r = renames_first w.spread f c.requires.stretch u.turn.past u.turn.here (readable_deep u.turn.here u.readable) in
+    input_at r.standing c.requires.stretch (omega (arith, u.turn.past)) c.from_record-input.ensures
 
 pub copy_renamed-next-requires-clause-renaming : goal.copy_renamed-next-requires-clause-renaming
 unfolding rewrite_filter
@@ -56,7 +57,8 @@ copy_renamed-next-requires-clause-renaming c =
     let w = k.1 in
     let u = round _ (k.2 w.expr w.inputs w.spread) c.loop-y-test.true in
     let f = first _ _ _ u.so_far in
-    let r = renames_first w.spread f c.requires.stretch u.turn.past u.turn.here (readable_deep u.turn.here u.readable) in record { expr = w.expr; plan = f.plan; over = schema (union w.inputs); renamed = r }
+    let r = renames_first w.spread f c.requires.stretch u.turn.past u.turn.here (readable_deep u.turn.here u.readable) in
+    record { expr = w.expr; plan = f.plan; over = schema (union w.inputs); renamed = r }
 
 pub word_at-y-requires-in-loop-y : goal.word_at-y-requires-in-loop-y
 unfolding rewrite_filter

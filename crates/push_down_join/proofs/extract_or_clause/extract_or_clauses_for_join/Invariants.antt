@@ -16,7 +16,8 @@ use Rattle.push_down_join.proofs.extract_or_clause.extract_or_clauses_for_join.G
 
 abbrev pub invariant-loop-i : goal.invariant-loop-i
 invariant-loop-i l =
-    (l.i ≤ l.n) × ((σ : Name → Expr) (ns : List Name) (t : Name → Bool) (es fs : List Expr) → Sides l.s σ ns t l.initial.r es → Lists l.s l.c fs → Names l.fields ns
+    (l.i ≤ l.n) × ((σ : Name → Expr) (ns : List Name) (t : Name → Bool) (es fs : List Expr) → Sides l.s σ ns t l.initial.r es → Lists l.s l.c fs
+    → Names l.fields ns
     → All (λ e. on_cols (has ns) e ≡ true) fs → Masks l.side ns t → Clauses l.s σ ns t l.r es fs l.i)
 
 abbrev pub decreases-loop-i : goal.decreases-loop-i

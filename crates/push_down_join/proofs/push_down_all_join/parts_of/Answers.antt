@@ -27,7 +27,8 @@ pub select_side-requires-2-clause-known : goal.select_side-requires-2-clause-kno
 select_side-requires-2-clause-known c =
     let p = c.requires in
     let k = p.scopes in
-    let i = c.infer_join_predicates-keyed.ensures p.lefts p.rights p.keys p.exprs k p.reads in known_reads (reads_keep _ i (c.select_side-keyed_stay.ensures _ _ _ i.lists k.names i.over
+    let i = c.infer_join_predicates-keyed.ensures p.lefts p.rights p.keys p.exprs k p.reads in
+    known_reads (reads_keep _ i (c.select_side-keyed_stay.ensures _ _ _ i.lists k.names i.over
     k.leftward))
 
 pub returns : goal.returns

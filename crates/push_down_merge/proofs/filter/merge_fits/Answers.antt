@@ -42,7 +42,8 @@ unfolding size_p
 make_filter-end-requires-clause-buffer c =
     let i = c.requires.mergeable.inside in
     let readable = own_readable c.requires.mergeable.standing c.requires.stretch in
-    let b = c.write_before-spot.ensures c.requires.mergeable.whole c.requires.mergeable.spot i.root i.there (stands_inside i) in (omega (arith, level_small i b.level), c.write_before-spot.auto.out ∙ c.requires.scratch.0)
+    let b = c.write_before-spot.ensures c.requires.mergeable.whole c.requires.mergeable.spot i.root i.there (stands_inside i) in
+    (omega (arith, level_small i b.level), c.write_before-spot.auto.out ∙ c.requires.scratch.0)
 
 pub write_records-records-requires : goal.write_records-records-requires
 unfolding size_p
@@ -50,7 +51,8 @@ write_records-records-requires c =
     let i = c.requires.mergeable.inside in
     let b = c.write_before-spot.ensures c.requires.mergeable.whole
     c.requires.mergeable.spot i.root i.there (stands_inside i) in
-    let w = c.make_filter-end.ensures (map_of c.requires.mergeable.plan) (rw c.requires.stretch (plan_maps c.requires.mergeable.standing)) c.requires.mergeable.expr
+    let w = c.make_filter-end.ensures (map_of c.requires.mergeable.plan)
+    (rw c.requires.stretch (plan_maps c.requires.mergeable.standing)) c.requires.mergeable.expr
     (made_predicate _ c.requires.mergeable.made) c.requires.mergeable.plan (own_here c.requires.mergeable.standing c.requires.stretch) in record {
       n_le_max_records = (
         omega (arith, b.records, few_records i),

@@ -16,7 +16,13 @@ pub resume-new-requires-clause-arm_over : goal.resume-new-requires-clause-arm_ov
 unfolding size_p
 resume-new-requires-clause-arm_over c =
     let i = c.requires.left_inside.inside in
-    let b = c.write_before-spot.ensures c.requires.left_inside.whole c.requires.left_inside.spot i.root i.there (stands_inside i) in (c.requires.scratch_map.0, omega (arith, level_small i b.level), c.write_before-spot.auto.out ∙ c.requires.scratch_map.1, omega (arith, end_within i, few_records i))
+    let b = c.write_before-spot.ensures c.requires.left_inside.whole c.requires.left_inside.spot i.root i.there (stands_inside i) in (
+      c.requires.scratch_map.0,
+      omega (arith, level_small i b.level),
+      c.write_before-spot.auto.out
+          ∙ c.requires.scratch_map.1,
+      omega (arith, end_within i, few_records i),
+    )
 
 pub finish-requires-clause-replaced : goal.finish-requires-clause-replaced
 unfolding size_p

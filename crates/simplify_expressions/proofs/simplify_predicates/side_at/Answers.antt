@@ -12,4 +12,11 @@ returns-in_default c =
 pub returns : goal.returns
 unfolding side_of?
 returns c =
-    let k = c.requires.known in record { right = right_bound _ (c.compared_at.ensures k.exprs k.lists) c.in-Of.is; is = λ es h. rw (← c.compared_at.ensures es h, c.in-Of.is) }
+    let k = c.requires.known in record {
+      right = right_bound _ (c.compared_at.ensures k.exprs k.lists) c.in-Of.is;
+      is = λ es h. rw (
+        ←
+            c.compared_at.ensures es h,
+        c.in-Of.is,
+      );
+    }

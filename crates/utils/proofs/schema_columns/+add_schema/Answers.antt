@@ -17,7 +17,8 @@ add_parts-requires t c =
 
 pub returns-then-creates : goal.returns-then-creates
 returns-then-creates t c =
-    λ p ns h g. let e = c.label_at-l.ensures.0 ∙ h.head.label in rw (schema_made p _ e c.role_of-role.ensures (sym c.creates.ensures ∙ c.if-creates.true)) (c.add_parts.ensures (plan_tree p) ns h g)
+    λ p ns h g. let e = c.label_at-l.ensures.0 ∙ h.head.label in
+    rw (schema_made p _ e c.role_of-role.ensures (sym c.creates.ensures ∙ c.if-creates.true)) (c.add_parts.ensures (plan_tree p) ns h g)
 
 pub plan_at-n-requires : goal.plan_at-n-requires
 plan_at-n-requires t c =
@@ -30,7 +31,8 @@ plan_at-n-requires t c =
 pub returns-then-n-eq0 : goal.returns-then-n-eq0
 returns-then-n-eq0 t c =
     λ p ns h g. let e = c.label_at-l.ensures.0 ∙ h.head.label in let z =
-    schema_none p _ e c.role_of-role.ensures (sym c.creates.ensures ∙ c.if-creates.false) c.own_input.ensures (input_from (c.plan_at-n.ensures (kids_p p) (children c.word_at-first.ensures.0 h))) c.if-n-eq0.true in rw (
+    schema_none p _ e c.role_of-role.ensures (sym c.creates.ensures
+    ∙ c.if-creates.false) c.own_input.ensures (input_from (c.plan_at-n.ensures (kids_p p) (children c.word_at-first.ensures.0 h))) c.if-n-eq0.true in rw (
       z,
       called_nil c.args.set c.args.q,
       append-nil,
@@ -38,7 +40,9 @@ returns-then-n-eq0 t c =
 
 pub from_record-input-requires : goal.from_record-input-requires
 from_record-input-requires t c =
-    let h = c.requires.0 in let e = c.label_at-l.ensures.0 ∙ h.at.head.label in let i = input_of h.plan (c.args.depth - 1) _ e c.role_of-role.ensures (sym c.creates.ensures ∙ c.if-creates.false) c.own_input.ensures (input_from (c.plan_at-n.ensures (kids_p h.plan) (children c.word_at-first.ensures.0 h.at)))
+    let h = c.requires.0 in let e = c.label_at-l.ensures.0 ∙ h.at.head.label in
+    let i = input_of h.plan (c.args.depth - 1) _ e c.role_of-role.ensures (sym c.creates.ensures
+    ∙ c.if-creates.false) c.own_input.ensures (input_from (c.plan_at-n.ensures (kids_p h.plan) (children c.word_at-first.ensures.0 h.at)))
     c.if-n-eq0.false in omega (arith, i.stands.past, i.stands.fits)
 
 pub add_schema-r-requires : goal.add_schema-r-requires
@@ -65,8 +69,12 @@ add_parts-requires-then-extends t c = (
 
 pub returns-then-extends : goal.returns-then-extends
 returns-then-extends t c =
-    λ p ns h g. let e = c.label_at-l.ensures.0 ∙ h.head.label in let i = input_of p (max_depth - 1) _ e c.role_of-role.ensures (sym c.creates.ensures ∙ c.if-creates.false) c.own_input.ensures (input_from (c.plan_at-n.ensures (kids_p p) (children c.word_at-first.ensures.0 h))) c.if-n-eq0.false in
-    let n = rw (c.below_alias.ensures, c.renames-renamed.ensures) at (c.add_schema-r.ensures i.input ns (rw c.from_record-input.ensures i.stands.here) g) in ends_parts p _ e c.role_of-role.ensures c.args.set c.args.q ns i.input n i.rest (sym c.extends.ensures ∙ c.if-extends.true) (λ
+    λ p ns h g. let e = c.label_at-l.ensures.0 ∙ h.head.label in
+    let i = input_of p (max_depth - 1) _ e c.role_of-role.ensures (sym c.creates.ensures
+    ∙ c.if-creates.false) c.own_input.ensures (input_from (c.plan_at-n.ensures (kids_p p) (children c.word_at-first.ensures.0 h))) c.if-n-eq0.false in
+    let n = rw (c.below_alias.ensures, c.renames-renamed.ensures) at (c.add_schema-r.ensures i.input ns (rw
+    c.from_record-input.ensures i.stands.here) g) in ends_parts p _ e c.role_of-role.ensures c.args.set c.args.q ns i.input n i.rest (sym
+    c.extends.ensures ∙ c.if-extends.true) (λ
     ms k. c.add_parts-then-extends.ensures (plan_tree p) ms h k)
 
 pub plan_at-m-requires : goal.plan_at-m-requires
@@ -78,12 +86,20 @@ plan_at-m-requires t c =
 
 pub from_record-right-requires : goal.from_record-right-requires
 from_record-right-requires t c =
-    let h = c.requires.0 in let e = c.label_at-l.ensures.0 ∙ h.at.head.label in let l = children c.word_at-first.ensures.0 h.at in let i = input_of h.plan (c.args.depth - 1) _ e c.role_of-role.ensures (sym c.creates.ensures ∙ c.if-creates.false) c.own_input.ensures (input_from (c.plan_at-n.ensures (kids_p h.plan) l)) c.if-n-eq0.false in let j = second_of h.plan (c.args.depth - 1) _ e c.role_of-role.ensures
-    i.input i.rest (sym c.gives_both.ensures ∙ c.if-gives_both.true) (input_from (c.plan_at-m.ensures (kids_p h.plan) l)) in omega (arith, j.stands.past, j.stands.fits)
+    let h = c.requires.0 in let e = c.label_at-l.ensures.0 ∙ h.at.head.label in let l = children c.word_at-first.ensures.0 h.at in
+    let i = input_of h.plan (c.args.depth - 1) _ e c.role_of-role.ensures (sym c.creates.ensures
+    ∙ c.if-creates.false) c.own_input.ensures (input_from (c.plan_at-n.ensures (kids_p h.plan) l)) c.if-n-eq0.false in
+    let j = second_of h.plan (c.args.depth - 1) _ e c.role_of-role.ensures
+    i.input i.rest (sym c.gives_both.ensures ∙ c.if-gives_both.true) (input_from (c.plan_at-m.ensures (kids_p h.plan) l)) in
+    omega (arith, j.stands.past, j.stands.fits)
 
 pub add_schema-requires : goal.add_schema-requires
 add_schema-requires t c =
-    let h = c.requires.0 in let e = c.label_at-l.ensures.0 ∙ h.at.head.label in let l = children c.word_at-first.ensures.0 h.at in let i = input_of h.plan (c.args.depth - 1) _ e c.role_of-role.ensures (sym c.creates.ensures ∙ c.if-creates.false) c.own_input.ensures (input_from (c.plan_at-n.ensures (kids_p h.plan) l)) c.if-n-eq0.false in let j = second_of h.plan (c.args.depth - 1) _ e c.role_of-role.ensures i.input i.rest (sym c.gives_both.ensures ∙ c.if-gives_both.true) (input_from (c.plan_at-m.ensures (kids_p h.plan) l)) in (
+    let h = c.requires.0 in let e = c.label_at-l.ensures.0 ∙ h.at.head.label in let l = children c.word_at-first.ensures.0 h.at in
+    let i = input_of h.plan (c.args.depth - 1) _ e c.role_of-role.ensures (sym c.creates.ensures
+    ∙ c.if-creates.false) c.own_input.ensures (input_from (c.plan_at-n.ensures (kids_p h.plan) l)) c.if-n-eq0.false in
+    let j = second_of h.plan (c.args.depth - 1) _ e c.role_of-role.ensures i.input i.rest (sym c.gives_both.ensures
+    ∙ c.if-gives_both.true) (input_from (c.plan_at-m.ensures (kids_p h.plan) l)) in (
       omega (
         arith,
         h.some,
@@ -97,17 +113,24 @@ add_schema-requires t c =
 
 pub returns-then-gives_both : goal.returns-then-gives_both
 returns-then-gives_both t c =
-    λ p ns h g. let e = c.label_at-l.ensures.0 ∙ h.head.label in let l = children c.word_at-first.ensures.0 h in let i = input_of p (max_depth - 1) _ e c.role_of-role.ensures (sym c.creates.ensures ∙ c.if-creates.false) c.own_input.ensures (input_from (c.plan_at-n.ensures (kids_p p) l)) c.if-n-eq0.false in
+    λ p ns h g. let e = c.label_at-l.ensures.0 ∙ h.head.label in let l = children c.word_at-first.ensures.0 h in
+    let i = input_of p (max_depth - 1) _ e c.role_of-role.ensures (sym c.creates.ensures
+    ∙ c.if-creates.false) c.own_input.ensures (input_from (c.plan_at-n.ensures (kids_p p) l)) c.if-n-eq0.false in
     let n = rw (
       c.below_alias.ensures,
       c.renames-renamed.ensures,
-    ) at (c.add_schema-r.ensures i.input ns (rw c.from_record-input.ensures i.stands.here) g) in let j = second_of p (max_depth - 1) _ e c.role_of-role.ensures i.input i.rest (sym c.gives_both.ensures ∙ c.if-gives_both.true) (input_from (c.plan_at-m.ensures (kids_p p) l)) in
-    ends_more p _ e c.role_of-role.ensures c.args.set c.args.q ns i.input n (schema j.input) j.rest.0 j.rest.1 (λ ms k. c.add_schema.ensures j.input ms (rw c.from_record-right.ensures j.stands.here)
+    ) at (c.add_schema-r.ensures i.input ns (rw c.from_record-input.ensures i.stands.here) g) in
+    let j = second_of p (max_depth - 1) _ e c.role_of-role.ensures i.input i.rest (sym c.gives_both.ensures
+    ∙ c.if-gives_both.true) (input_from (c.plan_at-m.ensures (kids_p p) l)) in
+    ends_more p _ e c.role_of-role.ensures c.args.set c.args.q ns i.input n (schema j.input) j.rest.0 j.rest.1 (λ ms k.
+    c.add_schema.ensures j.input ms (rw c.from_record-right.ensures j.stands.here)
     k)
 
 pub returns : goal.returns
 returns t c =
-    λ p ns h g. let e = c.label_at-l.ensures.0 ∙ h.head.label in let i = input_of p (max_depth - 1) _ e c.role_of-role.ensures (sym c.creates.ensures ∙ c.if-creates.false) c.own_input.ensures (input_from (c.plan_at-n.ensures (kids_p p)
+    λ p ns h g. let e = c.label_at-l.ensures.0 ∙ h.head.label in
+    let i = input_of p (max_depth - 1) _ e c.role_of-role.ensures (sym c.creates.ensures
+    ∙ c.if-creates.false) c.own_input.ensures (input_from (c.plan_at-n.ensures (kids_p p)
     (children c.word_at-first.ensures.0 h))) c.if-n-eq0.false in let n = rw (
       c.below_alias.ensures,
       c.renames-renamed.ensures,

@@ -14,7 +14,8 @@ decreases-replace_cols_by_name l = l.depth
 
 abbrev pub invariant-loop-from : goal.invariant-loop-from
 invariant-loop-from l =
-    Chain (λ t rest. (e : Tree) → At e l.m l.of → Left l.initial.out l.initial.to (l.level + 1) (replaced_any e t.below) l.out l.to (replaced_any e rest)) l.depth l.s l.base l.from
+    Chain (λ t rest. (e : Tree) → At e l.m l.of → Left l.initial.out l.initial.to (l.level + 1)
+    (replaced_any e t.below) l.out l.to (replaced_any e rest)) l.depth l.s l.base l.from
 
 abbrev pub decreases-loop-from : goal.decreases-loop-from
 decreases-loop-from l = left l.s l.base l.from
