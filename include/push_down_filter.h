@@ -17,10 +17,10 @@
  * Threads. The functions keep nothing between calls and do no input or output: any number of threads may call them at once, each
  * with an output of its own. They allocate nothing.
  *
- * Stack. Give a thread that calls them 1 MiB. On the hardest images known, on x86-64, check and row_test ran in threads of 448 KiB,
- * rewrite in 544 and pass in 608, and each not in 64 KiB less (harness/tests/stack.rs). So none is for threads with small stacks, such
- * as 128 KiB: a rewrite takes 76 KiB at once and a pass 140 KiB, whatever the image. A frame of more than a page touches each of its
- * pages, so that a stack that is too small ends in its guard page.
+ * Stack. Give a thread that calls them 1 MiB. On the hardest images known, on x86-64, check and row_test run in threads of 640 KiB,
+ * rewrite in 704 and pass in 768 (harness/tests/stack.rs). None is for threads with small stacks, such as 128 KiB: a rewrite takes
+ * 76 KiB at once and a pass 140 KiB, whatever the image. A frame of more than a page touches each of its pages, so that a stack that is
+ * too small ends in its guard page.
  */
 #ifndef PUSH_DOWN_FILTER_H
 #define PUSH_DOWN_FILTER_H

@@ -20,7 +20,7 @@ use harness::row_tests;
 use harness::sets::{rewrite_sets, sets};
 
 /// What the header says is enough, in KiB.
-const ENOUGH: [(&str, usize); 4] = [("check", 448), ("rewrite", 544), ("pass", 608), ("row_test", 448)];
+const ENOUGH: [(&str, usize); 4] = [("check", 640), ("rewrite", 704), ("pass", 768), ("row_test", 640)];
 
 /// A byte less than the longest image has, which makes a call use a buffer of its own.
 const ROOM: usize = RECORDS * RECORD_BYTES - 1;
