@@ -21,7 +21,8 @@ use Rattle.image.specs.Limits.{max_records}
 use Rattle.plan.proofs.Lists.{and_l, and_r}
 use Rattle.plan.specs.Words.{words_ok, Worded}
 use Rattle.plan.specs.Form.{bad_form}
-use Rattle.image.specs.Lowest.{Found, nothing, found, alone}
+use Rattle.std.specs.Prelude.{None, Some}
+use Rattle.image.specs.Lowest.{Found, alone}
 use Rattle.acceptance.specs.Check.{buffer_ok, bad_words, Links, tree, broken, rooted, linked, too_deep, Verdict, verdict, at, check_plan}
 use Rattle.acceptance.specs.Check.{check_tree, check_links, check}
 use Rattle.acceptance.specs.Names.{bad_name}
@@ -34,22 +35,22 @@ use Rattle.plan.proofs.Integers.{plan_at_fits}
 
 -- ---- the verdict
 
-at_found : (n : ℕ) (f : Found) (v : Verdict) → 0 < n → at n f v ≡ verdict 0 0 → f ≡ nothing
+at_found : (n : ℕ) (f : Found) (v : Verdict) → 0 < n → at n f v ≡ verdict 0 0 → f ≡ None
 unfolding at
-at_found n nothing v h e = refl
-at_found n (found r) v h e = absurd (omega (arith, ap (λ (x : Verdict). x.number) e))
+at_found n None v h e = refl
+at_found n (Some r) v h e = absurd (omega (arith, ap (λ (x : Verdict). x.number) e))
 
 at_rest : (n : ℕ) (f : Found) (v : Verdict) → 0 < n → at n f v ≡ verdict 0 0 → v ≡ verdict 0 0
 unfolding at
-at_rest n nothing v h e = e
-at_rest n (found r) v h e = absurd (omega (arith, ap (λ (x : Verdict). x.number) e))
+at_rest n None v h e = e
+at_rest n (Some r) v h e = absurd (omega (arith, ap (λ (x : Verdict). x.number) e))
 
 -- the four tests of a tree find nothing
 record Clean (t : Tree) : Type 0 where
-  depth : too_deep t ≡ nothing
-  form : bad_form t ≡ nothing
-  names : bad_name (plan_at t) ≡ nothing
-  types : bad_type (plan_at t) ≡ nothing
+  depth : too_deep t ≡ None
+  form : bad_form t ≡ None
+  names : bad_name (plan_at t) ≡ None
+  types : bad_type (plan_at t) ≡ None
 
 clean : (t : Tree) → check_tree t ≡ verdict 0 0 → Clean t
 unfolding check_tree check_plan
@@ -88,7 +89,7 @@ rooted_tree l n next (good cs j) t h = go (eqb next 0) refl (eqb j n) refl h
 -- ---- words
 
 -- each of the k records at the start of s has the words of its kind
-pub words_of : (k : ℕ) (s : List ℕ) (b : ℕ) → bad_words k s b ≡ nothing → (i : ℕ) → i < k → words_ok (label_at (drop (32 * i) s)) ≡ true
+pub words_of : (k : ℕ) (s : List ℕ) (b : ℕ) → bad_words k s b ≡ None → (i : ℕ) → i < k → words_ok (label_at (drop (32 * i) s)) ≡ true
 unfolding bad_words
 words_of zero s b h i l = absurd (omega arith)
 words_of (suc k) s b h zero l = unless_true _ b (or_first _ _ h)
@@ -150,7 +151,7 @@ buffer_of s h =
     let c = leb-true (length s / 32) max_records (and_r _ _ (and_r _ _ h)) in
     record { len = omega arith; one = omega (arith, a); most = c }
 
-accepted_tree : (s : List ℕ) → Bytes s → Buffer s → bad_words (length s / 32) s 0 ≡ nothing → (t : Tree) → linked s (length s / 32) ≡ tree t
+accepted_tree : (s : List ℕ) → Bytes s → Buffer s → bad_words (length s / 32) s 0 ≡ None → (t : Tree) → linked s (length s / 32) ≡ tree t
     → Clean t → (p : Plan) × Accepted s p
 accepted_tree s bytes b words t l c =
     let n = length s / 32 in
@@ -164,8 +165,8 @@ accepted_tree s bytes b words t l c =
         well = record {
           records = subst (λ (x : Tree). size_t x ≤ max_records) (sym q) (omega (arith, b.most));
           words = subst (λ (x : Tree). Worded (alone x)) (sym q) w;
-          depth = subst (λ (x : Tree). too_deep x ≡ nothing) (sym q) c.depth;
-          form = subst (λ (x : Tree). bad_form x ≡ nothing) (sym q) c.form;
+          depth = subst (λ (x : Tree). too_deep x ≡ None) (sym q) c.depth;
+          form = subst (λ (x : Tree). bad_form x ≡ None) (sym q) c.form;
           names = c.names;
           types = c.types;
           integers = plan_at_fits t w;

@@ -22,7 +22,8 @@ use Rattle.plan.specs.Lists.{◌&◌}
 use Rattle.plan.specs.Kinds as K
 use Rattle.plan.specs.Kinds.{What, expr, plan, part, unknown, what}
 use Rattle.plan.specs.Words.{row_e, row_p, row_q, any_word, unused, words_ok, Worded}
-use Rattle.image.specs.Lowest.{nothing, or_else, unless, alone}
+use Rattle.std.specs.Prelude.{None}
+use Rattle.image.specs.Lowest.{or_else, unless, alone}
 use Rattle.acceptance.specs.Check.{buffer_ok, bad_words, Links, tree, linked, verdict, at, check_plan, check_tree, check}
 use Rattle.plan.specs.Syntax.{Plan}
 use Rattle.acceptance.specs.Accepted.{WellFormed, Accepted}
@@ -81,7 +82,7 @@ words_append (suc a) b s c =
     rw (z, words_append a b (drop 32 s) (c + 1), drop-drop, x, y)
     (sym (or_assoc (unless (words_ok (label_at s)) c) (bad_words a (drop 32 s) (c + 1)) (bad_words b (drop (32 * suc a) s) (c + suc a))))
 
-words_complete : (f : Forest) (s : List ℕ) (b c : ℕ) → Worded f → Stands f s b → bad_words (size f) s c ≡ nothing
+words_complete : (f : Forest) (s : List ℕ) (b c : ℕ) → Worded f → Stands f s b → bad_words (size f) s c ≡ None
 unfolding bad_words or_else unless
 words_complete none s b c w h = refl
 words_complete (node l cs ns) s b c w h =
@@ -176,7 +177,7 @@ check_image t w count =
     let k : Stands (alone t) s 0 = stands_alone t w count in
     let n : length s / 32 ≡ size_t t = omega arith in
     let z : size (alone t) ≡ size_t t = omega arith in
-    let words : bad_words (size_t t) s 0 ≡ nothing = rw z at (words_complete (alone t) s 0 0 w k) in
+    let words : bad_words (size_t t) s 0 ≡ None = rw z at (words_complete (alone t) s 0 0 w k) in
     rw (buffer_ok_lem s (size_t t) len (omega arith) count, n, words, linked_complete t s k)
 
 -- the tests of a well-formed plan's tree find nothing

@@ -9,7 +9,8 @@ use mathlib.Core.Option.{Option, some}
 use lib.ListN.{length, length-append}
 use Rattle.image.specs.Tree.{Label, Forest, none, size}
 use Rattle.image.specs.Flat.{size_t}
-use Rattle.image.specs.Lowest.{nothing, or_else, unless, first_false}
+use Rattle.std.specs.Prelude.{None}
+use Rattle.image.specs.Lowest.{or_else, unless, first_false}
 use Rattle.plan.specs.Lists.{◌&◌, all, flatten}
 use Rattle.plan.specs.Syntax.{Name, Expr, col, num, bool, nul, bin, neg, test, between, inlist, fn, Exprs, enil, econs, Field, Pair}
 use Rattle.plan.specs.Syntax.{WinEntry, Plan, scan, filter, project, join, alias, union, distinct, sort, repartition, limit, aggregate}
@@ -23,13 +24,13 @@ use Rattle.acceptance.specs.Marks.{marks_of, marks_of_all}
 abbrev pub kept : List Bool → Bool
 kept ms = all (λ m. m) ms
 
-pub none_false : (b : ℕ) (ms : List Bool) → first_false b ms ≡ nothing → kept ms ≡ true
+pub none_false : (b : ℕ) (ms : List Bool) → first_false b ms ≡ None → kept ms ≡ true
 unfolding first_false or_else unless all ◌&◌
 none_false b [] h = refl
 none_false b (true ∷ ms) h = none_false (b + 1) ms h
 none_false b (false ∷ ms) h = let z : ◌≡◌ {A = ℕ} 0 1 = cc in absurd (omega arith)
 
-pub all_kept : (b : ℕ) (ms : List Bool) → kept ms ≡ true → first_false b ms ≡ nothing
+pub all_kept : (b : ℕ) (ms : List Bool) → kept ms ≡ true → first_false b ms ≡ None
 unfolding first_false or_else unless all ◌&◌
 all_kept b [] h = refl
 all_kept b (true ∷ ms) h = all_kept (b + 1) ms h

@@ -6,7 +6,7 @@ use mathlib.Core.Bool.{Bool, true, false, ◌||◌, cond, true≢false}
 use mathlib.Core.List.{List, [], ◌∷◌, ◌++◌}
 use mathlib.Core.Option.{Option, none, some}
 use lib.Dec.{eqb}
-use Rattle.image.specs.Lowest.{nothing}
+use Rattle.std.specs.Prelude.{None}
 use Rattle.plan.specs.Lists.{all, any}
 use Rattle.plan.proofs.Lists.{and_l, and_r, and_intro, and_assoc, and_true, true_and, all_append, all_flat, all_map, all_true}
 use Rattle.plan.specs.Syntax.{Name, Expr, col, num, bool, nul, bin, neg, test, between, inlist, fn, Exprs, enil, econs, Plan, scan, filter}
@@ -195,6 +195,6 @@ mutual
 -- ---- the test
 
 -- test 6 finds nothing in a plan exactly if the plan keeps the name rules
-pub names_iff : (p : Plan) → (bad_name p ≡ nothing) ↔ (names_rule p ≡ true)
+pub names_iff : (p : Plan) → (bad_name p ≡ None) ↔ (names_rule p ≡ true)
 unfolding bad_name
 names_iff p = ((λ h. names_kept p (none_false 0 _ h)), (λ h. all_kept 0 _ (kept_names p h)))

@@ -12,7 +12,8 @@ use Rattle.image.specs.Word.{word}
 use Rattle.image.specs.Tree.{Label, Forest, none, node, Tree, size, label_at}
 use Rattle.image.specs.Flat.{size_t}
 use Rattle.image.specs.Links.{Parsed, good, bad, with_next, and_then, parse}
-use Rattle.image.specs.Lowest.{Found, nothing, found, or_else, unless, lowest, alone, first_false}
+use Rattle.std.specs.Prelude.{None, Some}
+use Rattle.image.specs.Lowest.{Found, or_else, unless, lowest, alone, first_false}
 use Rattle.image.proofs.Reading.{cond_cases, Within, within}
 use Rattle.plan.specs.Syntax.{Plan}
 use Rattle.plan.specs.Types.{scans}
@@ -31,8 +32,8 @@ use Rattle.acceptance.proofs.Accept.{words_of, worded, links_count, links_stand,
 
 -- a record found is at most m
 data Below (m : ℕ) : Found → Type 0 where
-  nowhere : Below m nothing
-  there : {r : ℕ} → r ≤ m → Below m (found r)
+  nowhere : Below m None
+  there : {r : ℕ} → r ≤ m → Below m (Some r)
 
 module _ (m : ℕ) where
   below_or : {f g : Found} → Below m f → Below m g → Below m (or_else f g)
@@ -138,14 +139,14 @@ module _ (m : ℕ) where
   form_names : (t : Tree) → Worded (alone t) → size_t t ≤ suc m → (f : Found) → bad_form t ≡ f → Below m f
       → Names m (at 5 f (check_plan (plan_at t)))
   unfolding at
-  form_names t w h nothing e b = plan_names (plan_at t) (subst (λ (x : Tree). size_t x ≤ suc m) (sym (plan_tree_whole t w e)) h)
-  form_names t w h (found r) e (there g) = record { place = g }
+  form_names t w h None e b = plan_names (plan_at t) (subst (λ (x : Tree). size_t x ≤ suc m) (sym (plan_tree_whole t w e)) h)
+  form_names t w h (Some r) e (there g) = record { place = g }
 
   tree_names : (t : Tree) → Worded (alone t) → size_t t ≤ suc m → Names m (check_tree t)
   unfolding check_tree too_deep
   tree_names t w h = at_names 4 (lowest_below m _ _ 1 1 0 (alone t) (omega arith)) (form_names t w h (bad_form t) refl (form_below t h))
 
-  rooted_names : (s : List ℕ) (n : ℕ) (k : Links) → linked s n ≡ k → length s ≡ 32 * n → 1 ≤ n → n ≤ m → bad_words n s 0 ≡ nothing
+  rooted_names : (s : List ℕ) (n : ℕ) (k : Links) → linked s n ≡ k → length s ≡ 32 * n → 1 ≤ n → n ≤ m → bad_words n s 0 ≡ None
       → Names m (check_links k)
   rooted_names s n (tree t) e len some most words =
       tree_names t (worded (alone t) s 0 (λ i j. words_of n s 0 words i (omega (arith, links_count s n t len some e))) (links_stand s n t len some e))
@@ -165,8 +166,8 @@ module _ (m : ℕ) where
       b = buffer_of s e
 
       words_first : (f : Found) → bad_words n s 0 ≡ f → Below m f → Names m (at 2 f (check_links (linked s n)))
-      words_first nothing w k = rooted_names s n (linked s n) refl b.len b.one (omega (arith, b.most)) w
-      words_first (found r) w (there g) = record { place = g }
+      words_first None w k = rooted_names s n (linked s n) refl b.len b.one (omega (arith, b.most)) w
+      words_first (Some r) w (there g) = record { place = g }
 
 -- the record of a verdict is at most the number of records of the largest image
 pub place_within : (s : List ℕ) → (check s).place ≤ max_records

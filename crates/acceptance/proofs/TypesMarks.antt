@@ -7,7 +7,7 @@ use mathlib.Core.List.{List, [], ◌∷◌, ◌++◌, map}
 use mathlib.Core.Option.{Option, none, some}
 use lib.Dec.{eqb}
 use borrow.Author.Tests.{eqb-true, eq-eqb}
-use Rattle.image.specs.Lowest.{nothing}
+use Rattle.std.specs.Prelude.{None}
 use Rattle.plan.specs.Lists.{◌&◌, all, flatten}
 use Rattle.plan.proofs.Lists.{and_l, and_r, and_intro, and_assoc, and_true, true_and, AndSort, all_append, all_flat, all_map, all_true}
 use Rattle.plan.proofs.Lists.{all_and}
@@ -157,16 +157,16 @@ all_as_first (a ∷ bs) h = and_intro (own_first a bs) (all_later a bs bs (and_l
 
 -- ---- the test
 
-types_found : (p : Plan) → bad_type p ≡ nothing → types_ok p ≡ true
+types_found : (p : Plan) → bad_type p ≡ None → types_ok p ≡ true
 unfolding bad_type types_ok as_first
 types_found p h =
     let k : typed p & all (as_first (scans p)) (scans p) ≡ true = sym (types_kept (scans p) p) ∙ none_false 0 _ h in
     and_intro (and_l _ _ k) (all_agree_by (λ t. first_scanned t (scans p)) (scans p) (and_r _ _ k))
 
-types_unfound : (p : Plan) → types_ok p ≡ true → bad_type p ≡ nothing
+types_unfound : (p : Plan) → types_ok p ≡ true → bad_type p ≡ None
 unfolding bad_type types_ok
 types_unfound p h = all_kept 0 _ (types_kept (scans p) p ∙ and_intro (and_l _ _ h) (all_as_first (scans p) (and_r _ _ h)))
 
 -- test 7 finds nothing in a plan exactly if the plan keeps the type rules
-pub types_iff : (p : Plan) → (bad_type p ≡ nothing) ↔ (types_ok p ≡ true)
+pub types_iff : (p : Plan) → (bad_type p ≡ None) ↔ (types_ok p ≡ true)
 types_iff p = (types_found p, types_unfound p)

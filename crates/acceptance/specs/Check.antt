@@ -1,12 +1,12 @@
 -- The check of an image: seven tests, and the answer is the first that is met, at the lowest record that meets it (Link: the first met).
 -- In plain words, each with an image: docs/FORMAT.md, Refusals. Form (5) stands in plan/specs/Form.antt, Name (6) in Names.antt, Type (7)
 -- in Types.antt.
-use Rattle.std.specs.Prelude.{Bool, not, cond, List, ℕ, zero, suc, ◌+◌, ◌/◌, ◌%◌, eqb, leb, length, drop}
+use Rattle.std.specs.Prelude.{Bool, not, cond, List, ℕ, zero, suc, ◌+◌, ◌/◌, ◌%◌, eqb, leb, length, drop, None, Some}
 use Rattle.image.specs.Word.{word}
 use Rattle.image.specs.Tree.{Label, Tree, label_at}
 use Rattle.image.specs.Links.{Parsed, good, bad, parse}
 use Rattle.image.specs.Limits.{max_records, max_depth}
-use Rattle.image.specs.Lowest.{Found, nothing, found, or_else, unless, lowest, alone}
+use Rattle.image.specs.Lowest.{Found, or_else, unless, lowest, alone}
 use Rattle.plan.specs.Lists.{◌&◌}
 use Rattle.plan.specs.Words.{words_ok}
 use Rattle.plan.specs.Form.{bad_form}
@@ -23,7 +23,7 @@ buffer_ok s = not (eqb (length s) 0) & eqb (length s % 32) 0 & leb (length s / 3
 -- ---- Record (2): of the k records at the start of s, the first with the number b
 
 unfoldable pub bad_words : ℕ → List ℕ → ℕ → Found
-bad_words zero s b = nothing
+bad_words zero s b = None
 bad_words (suc k) s b = or_else (unless (words_ok (label_at s)) b) (bad_words k (drop 32 s) (b + 1))
 
 -- ---- Link (3): the tree, or the record that has the first bad link met, or the first record that is left
@@ -58,8 +58,8 @@ verdict n r = record { number = n; place = r }
 
 -- the number n at the record found; the later tests where there is none
 unfoldable pub at : ℕ → Found → Verdict → Verdict
-at n (found r) v = verdict n r
-at n nothing v = v
+at n (Some r) v = verdict n r
+at n None v = v
 
 -- Name (6) and Type (7), of a plan
 unfoldable pub check_plan : Plan → Verdict

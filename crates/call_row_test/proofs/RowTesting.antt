@@ -14,7 +14,8 @@ use borrow.Author.Tests.{eq-eqb, ne_eqb, leb-true}
 use Rattle.image.specs.Word.{Bytes, word}
 use Rattle.image.specs.Flat.{enc}
 use Rattle.image.specs.Limits.{max_below, max_depth, max_fields}
-use Rattle.image.specs.Lowest.{Found, nothing, found, or_else, unless, lowest, alone}
+use Rattle.std.specs.Prelude.{None, Some}
+use Rattle.image.specs.Lowest.{Found, or_else, unless, lowest, alone}
 use Rattle.image.specs.Tree as T
 use Rattle.image.specs.Tree.{Label, Forest, node, At, Deep, Linked, size, Stands}
 use Rattle.image.proofs.Walking.{linked_first}
@@ -264,18 +265,18 @@ module _ {s : List ℕ} {n : ℕ} {o : Option Focus} (f : Present s n o) where
 
 -- ---- accepted images
 
-both : (x y : Found) → or_else x y ≡ nothing → (x ≡ nothing) × (y ≡ nothing)
+both : (x y : Found) → or_else x y ≡ None → (x ≡ None) × (y ≡ None)
 unfolding or_else
-both nothing y h = (refl, h)
-both (found r) y h = let z : ◌≡◌ {A = ℕ} 0 1 = cc in absurd (omega arith)
+both None y h = (refl, h)
+both (Some r) y h = let z : ◌≡◌ {A = ℕ} 0 1 = cc in absurd (omega arith)
 
-held : (b : Bool) (r : ℕ) → unless b r ≡ nothing → b ≡ true
+held : (b : Bool) (r : ℕ) → unless b r ≡ None → b ≡ true
 unfolding unless
 held true r h = refl
 held false r h = let z : ◌≡◌ {A = ℕ} 0 1 = cc in absurd (omega arith)
 
 -- no record is deeper than the limit
-shallow : (f : Forest) (d b : ℕ) → lowest (λ d l cs. leb d max_depth) (λ d l cs. (d + 1, d + 1)) d d b f ≡ nothing → Deep f (max_depth + 1 - d)
+shallow : (f : Forest) (d b : ℕ) → lowest (λ d l cs. leb d max_depth) (λ d l cs. (d + 1, d + 1)) d d b f ≡ None → Deep f (max_depth + 1 - d)
 unfolding lowest
 shallow T.none d b h = tt
 shallow (node l cs ns) d b h =

@@ -8,10 +8,10 @@ use native.Mathlib.Omega.{arith}
 use lib.Dec.{eqb}
 use lib.ListN.{get_or, drop}
 use borrow.Author.Tests.{eq-eqb, ne_eqb}
+use Rattle.std.specs.Prelude.{None, Some}
+use Rattle.image.specs.Lowest.{Found}
 use Rattle.image.specs.Tree.{Label, Forest, none, node, Linked, Node, node_of}
 use Rattle.image.specs.Places.{Chained}
-use Rattle.image.specs.declared.places.Place.{Place}
-use Rattle.image.specs.declared.places.Place.TheVariants.{At, Nowhere}
 use Rattle.image.proofs.Stepping.{Step}
 use Rattle.plan.specs.Lists.{◌&◌}
 use Rattle.plan.specs.Kinds.{unknown, what_of, among, expr_w, plan_w, part_w, number_e, number_p, number_q, Column, TableScan, FieldPart}
@@ -162,41 +162,41 @@ last_other n e f = rw (ne_eqb (n / 10) 3 e)
 -- ---- what follows
 
 -- m and m' are parts of a pattern, and say the same
-leads_same : {m : (Forest → Bool) → Forest → Bool} (m' : (Forest → Bool) → Forest → Bool) {s : List ℕ} {b first : ℕ} {r : Place}
+leads_same : {m : (Forest → Bool) → Forest → Bool} (m' : (Forest → Bool) → Forest → Bool) {s : List ℕ} {b first : ℕ} {r : Found}
     → ((rest : Forest → Bool) (f : Forest) → m' rest f ≡ m rest f) → Leads m s b first r → Leads m' s b first r
 leads_same {m} m' {s} {b} {first} {r} e k = record { leads = λ f h. go f r (k.leads f h) }
   where
-    go : (f : Forest) (r : Place) → Follows m f s b r → Follows m' f s b r
-    go f Nowhere h = λ rest. e rest f ∙ h rest
-    go f (At n) h = (h.0, h.1, λ rest. e rest f ∙ h.2 rest)
+    go : (f : Forest) (r : Found) → Follows m f s b r → Follows m' f s b r
+    go f None h = λ rest. e rest f ∙ h rest
+    go f (Some n) h = (h.0, h.1, λ rest. e rest f ∙ h.2 rest)
 
-module _ {m : (Forest → Bool) → Forest → Bool} {s : List ℕ} {b first : ℕ} {r : Place} (k : Leads m s b first r) where
+module _ {m : (Forest → Bool) → Forest → Bool} {s : List ℕ} {b first : ℕ} {r : Found} (k : Leads m s b first r) where
   -- it fails
-  pub leads_nowhere : (rest : Forest → Bool) → r ≡ Nowhere → (f : Forest) → Linked f s b first → false ≡ m rest f
+  pub leads_nowhere : (rest : Forest → Bool) → r ≡ None → (f : Forest) → Linked f s b first → false ≡ m rest f
   leads_nowhere rest e f h = sym ((subst (Follows m f s b) e (k.leads f h)) rest)
 
   -- or the rest of the pattern is for the trees from record n on
-  pub leads_on : {n : ℕ} (rest : Forest → Bool) {x : Bool} → r ≡ At n → ((g : Forest) → Linked g s b n → x ≡ rest g)
+  pub leads_on : {n : ℕ} (rest : Forest → Bool) {x : Bool} → r ≡ Some n → ((g : Forest) → Linked g s b n → x ≡ rest g)
       → (f : Forest) → Linked f s b first → x ≡ m rest f
   leads_on {n} rest e q f h = let u = subst (Follows m f s b) e (k.leads f h) in q u.0 u.1 ∙ sym (u.2 rest)
 
-  pub leads_chained : {n : ℕ} → r ≡ At n → Chained s b first → Chained s b n
+  pub leads_chained : {n : ℕ} → r ≡ Some n → Chained s b first → Chained s b n
   leads_chained {n} e c = let u = subst (Follows m c.forest s b) e (k.leads c.forest c.linked) in record { forest = u.0; linked = u.1 }
 
 -- ---- where an item leads
 
 module _ (n : ℕ) {sort : Sort} (t : sort ≡ sort_for (n % 10)) {s : List ℕ} {b first : ℕ} where
-  pub leads_gone : n / 10 ≡ 0 → Leads (item n) s b first (At first)
+  pub leads_gone : n / 10 ≡ 0 → Leads (item n) s b first (Some first)
   leads_gone e = record { leads = λ f h. (f, h, λ rest. item_gone n e rest f) }
 
-  pub leads_one : {r : Place} → n / 10 ≡ 1 → Leads (one (of_sort sort)) s b first r → Leads (item n) s b first r
+  pub leads_one : {r : Found} → n / 10 ≡ 1 → Leads (one (of_sort sort)) s b first r → Leads (item n) s b first r
   leads_one e k = leads_same (item n) (λ rest f. item_one n e rest f ∙ ap (λ (x : Sort). one (of_sort x) rest f) (sym t)) k
 
   pub leads_many : {r : ℕ} → n / 10 ≡ 2 → ((f : Forest) → Linked f s b first → Linked (past (of_sort sort) f) s b r)
-      → Leads (item n) s b first (At r)
+      → Leads (item n) s b first (Some r)
   leads_many e k = record {
     leads = λ f h. (past (of_sort sort) f, k f h, λ rest. item_many n e rest f ∙ ap (λ (x : Sort). rest (past (of_sort x) f)) (sym t));
   }
 
-  pub leads_never : (n / 10 ≡ 0 → ⊥) → (n / 10 ≡ 1 → ⊥) → (n / 10 ≡ 2 → ⊥) → Leads (item n) s b first Nowhere
+  pub leads_never : (n / 10 ≡ 0 → ⊥) → (n / 10 ≡ 1 → ⊥) → (n / 10 ≡ 2 → ⊥) → Leads (item n) s b first None
   leads_never x y z = record { leads = λ f h rest. item_never n x y z rest f }

@@ -4,12 +4,11 @@ use mathlib.Core.Path.{◌≡◌, sym, ap, subst, ◌∙◌}
 use mathlib.Core.Bool.{Bool, true, false}
 use mathlib.Core.List.{List}
 use Prim.Native.Nat.{ℕ}
+use Rattle.std.specs.Prelude.{Some}
 use Rattle.image.specs.Word.{word}
 use Rattle.image.specs.Tree as Trees
 use Rattle.image.specs.Tree.{Label, Tree, Linked, Node, node_of}
 use Rattle.image.specs.Lowest.{or_else, unless}
-use Rattle.image.specs.Places.{place_of}
-use Rattle.image.specs.declared.places.Place.TheVariants.{At}
 use Rattle.image.proofs.Walking.{linked_first}
 use Rattle.plan.specs.Kinds.{is_plan, plan_w, what_of}
 use Rattle.plan.specs.Form.{form_ok, bad_form}
@@ -34,7 +33,7 @@ module _ (t : Tree) {s : List ℕ} {v : Node} (h : Trees.At t s 0) (g : v ≡ no
     unfolding sort_of
     plan_is = ap (λ (n : ℕ). plan_w (what_of n)) (sym root_kind) ∙ (sym e ∙ q)
 
-  pub no_plan : {p : Bool} → p ≡ sort_of Plan v.kind → p ≡ false → At 0 ≡ place_of (bad_form t)
+  pub no_plan : {p : Bool} → p ≡ sort_of Plan v.kind → p ≡ false → Some 0 ≡ bad_form t
   unfolding bad_form or_else unless
   no_plan e q = rw (plan_is e q)
 
@@ -43,11 +42,11 @@ module _ (t : Tree) {s : List ℕ} {v : Node} (h : Trees.At t s 0) (g : v ≡ no
   unfolding bad_form or_else unless
   plan_root p = rw p (low_root {C = Unit {0}} (λ c l cs. form_ok l cs) (λ c. c) tt t h root_first)
 
-  pub bad_root : {p : Bool} → p ≡ sort_of Plan v.kind → p ≡ true → form_ok t.label t.below ≡ false → At 0 ≡ place_of (bad_form t)
+  pub bad_root : {p : Bool} → p ≡ sort_of Plan v.kind → p ≡ true → form_ok t.label t.below ≡ false → Some 0 ≡ bad_form t
   unfolding or_else unless
   bad_root e q f = rw (plan_root (plan_is e q), f)
 
   pub root_good : {p : Bool} → p ≡ sort_of Plan v.kind → p ≡ true → form_ok t.label t.below ≡ true
-      → place_of (misformed v.first t.below) ≡ place_of (bad_form t)
+      → misformed v.first t.below ≡ bad_form t
   unfolding or_else unless
   root_good e q f = rw (plan_root (plan_is e q), f)

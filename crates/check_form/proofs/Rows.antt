@@ -10,7 +10,8 @@ use lib.ListN.{drop, get_or}
 use lib.Seq.{drop-drop}
 use borrow.Author.Tests.{eqb-true, le-leb, lt-leb}
 use Rattle.image.specs.Tree.{Label, label_at}
-use Rattle.image.specs.Lowest.{nothing, found, or_else, unless}
+use Rattle.std.specs.Prelude.{None, Some}
+use Rattle.image.specs.Lowest.{or_else, unless}
 use Rattle.plan.specs.Lists.{◌&◌}
 use Rattle.plan.specs.Kinds.{What, expr, plan, part, unknown, what_of, among, expr_w}
 use Rattle.plan.specs.Kinds.{plan_w, part_w, number_e, number_p, number_q, Column, TableScan, Sort, FieldPart}
@@ -119,7 +120,7 @@ module _ (n : ℕ) (s : List ℕ) (i : ℕ) (h : Passed n s i) where
     words_here : words_ok l ≡ words_ok (label_at (drop (32 * i) s))
     words_here = let z : i - 0 ≡ i = omega arith in rw (g, e, z)
 
-    pub bad_here : i < n → words_ok l ≡ false → bad_words n s 0 ≡ found i
+    pub bad_here : i < n → words_ok l ≡ false → bad_words n s 0 ≡ Some i
     unfolding or_else unless
     bad_here lt f = words_next lt ∙ rw (sym words_here ∙ f)
 
@@ -127,6 +128,6 @@ module _ (n : ℕ) (s : List ℕ) (i : ℕ) (h : Passed n s i) where
     unfolding or_else unless
     passed_one lt t = record { within = omega arith; same = words_next lt ∙ rw (sym words_here ∙ t) }
 
-  pub passed_all : n ≤ i → bad_words n s 0 ≡ nothing
+  pub passed_all : n ≤ i → bad_words n s 0 ≡ None
   unfolding bad_words
   passed_all l = let e : n - i ≡ 0 = omega arith in h.same ∙ rw e

@@ -13,29 +13,18 @@ use lib.ListN.{drop}
 use Rattle.image.specs.Tree.{Label, Forest, none, node, Tree, size, link, Linked, Node, node_of}
 use Rattle.image.specs.Tree as Stands
 use Rattle.image.specs.Word.{word}
-use Rattle.image.specs.Lowest.{Found, nothing, found, or_else, unless, lowest, alone}
-use Rattle.image.specs.Places.{place_of, Chained}
-use Rattle.image.specs.declared.places.Place.{Place}
-use Rattle.image.specs.declared.places.Place.TheVariants.{At, Nowhere}
+use Rattle.std.specs.Prelude.{None, Some}
+use Rattle.image.specs.Lowest.{Found, or_else, unless, lowest, alone}
+use Rattle.image.specs.Places.{Chained}
 use Rattle.image.proofs.Stepping.{Step}
 use Rattle.image.proofs.Lowest.{lowest_link}
 use Rattle.image.proofs.Along.{Along, along_start, along_end, along_step, here_in}
 
--- ---- a place, back to what was found
-
-pub was_found : (x : Found) (r : ℕ) → place_of x ≡ At r → x ≡ found r
-was_found nothing r e = let z : ◌≡◌ {A = ℕ} 0 1 = cc in absurd (omega arith)
-was_found (found q) r e = cc
-
-pub was_nothing : (x : Found) → place_of x ≡ Nowhere → x ≡ nothing
-was_nothing nothing e = refl
-was_nothing (found q) e = let z : ◌≡◌ {A = ℕ} 0 1 = cc in absurd (omega arith)
-
 -- nothing more is found
-or_nothing : (x : Found) → or_else x nothing ≡ x
+or_nothing : (x : Found) → or_else x None ≡ x
 unfolding or_else
-or_nothing nothing = refl
-or_nothing (found r) = refl
+or_nothing None = refl
+or_nothing (Some r) = refl
 
 module _ {C : Type 0} (rule : C → Label → Forest → Bool) (next : C → C) where
   -- the lowest record of a chain whose first has the number b
@@ -76,7 +65,7 @@ module _ {C : Type 0} (rule : C → Label → Forest → Bool) (next : C → C) 
   search_start c {s} {b} {from} h = along_start (λ f g. low c from f ≡ low c from g) h (λ f. refl)
 
   pub search_end : (c : C) {s : List ℕ} {b from at : ℕ} → Sought c s b from at → at ≡ 0
-      → (f : Forest) → Linked f s b from → Nowhere ≡ place_of (low c from f)
+      → (f : Forest) → Linked f s b from → None ≡ low c from f
   unfolding lowest
   search_end c k z f h = rw (along_end k z f h)
 
@@ -88,29 +77,29 @@ module _ {C : Type 0} (rule : C → Label → Forest → Bool) (next : C → C) 
     Ruled x = (f : Forest) (w : Step f s b at part v) → rule c w.label w.below ≡ x
 
     -- what the search among its children says
-    abbrev pub Below : Place → Type 0
-    Below x = (f : Forest) → Linked f part at v.first → x ≡ place_of (low (next c) v.first f)
+    abbrev pub Below : Found → Type 0
+    Below x = (f : Forest) → Linked f part at v.first → x ≡ low (next c) v.first f
 
-    pub search_here : Ruled false → (f : Forest) → Linked f s b from → At at ≡ place_of (low c from f)
+    pub search_here : Ruled false → (f : Forest) → Linked f s b from → Some at ≡ low c from f
     unfolding or_else unless
     search_here q f h =
         let w = here_in k nz e g f h in
-        let found_it : low c at (k.still f h).rest ≡ found at = low_step c w ∙ rw (q (k.still f h).rest w) in
-        sym (ap place_of ((k.still f h).so_far ∙ found_it))
+        let found_it : low c at (k.still f h).rest ≡ Some at = low_step c w ∙ rw (q (k.still f h).rest w) in
+        sym ((k.still f h).so_far ∙ found_it)
 
-    pub search_below : {x : Place} {r : ℕ} → Ruled true → Below x → x ≡ At r → (f : Forest) → Linked f s b from → At r ≡ place_of (low c from f)
+    pub search_below : {x : Found} {r : ℕ} → Ruled true → Below x → x ≡ Some r → (f : Forest) → Linked f s b from → Some r ≡ low c from f
     unfolding or_else unless
     search_below {x} {r} q y i f h =
         let w = here_in k nz e g f h in
-        let under : low (next c) v.first w.below ≡ found r = was_found _ r (sym (y w.below w.first) ∙ i) in
-        let found_it : low c at (k.still f h).rest ≡ found r = low_step c w ∙ rw (q (k.still f h).rest w, under) in
-        sym (ap place_of ((k.still f h).so_far ∙ found_it))
+        let under : low (next c) v.first w.below ≡ Some r = sym (y w.below w.first) ∙ i in
+        let found_it : low c at (k.still f h).rest ≡ Some r = low_step c w ∙ rw (q (k.still f h).rest w, under) in
+        sym ((k.still f h).so_far ∙ found_it)
 
-    pub search_on : {x : Place} → Ruled true → Below x → x ≡ Nowhere → Sought c s b from v.next
+    pub search_on : {x : Found} → Ruled true → Below x → x ≡ None → Sought c s b from v.next
     unfolding or_else unless
     search_on {x} q y i =
         along_step k nz e g (λ f r. low c from f ≡ low c v.next r)
         (λ f r w p.
-        let under : low (next c) v.first w.below ≡ nothing = was_nothing _ (sym (y w.below w.first) ∙ i) in
+        let under : low (next c) v.first w.below ≡ None = sym (y w.below w.first) ∙ i in
         let on : low c at r ≡ low c v.next w.after = low_step c w ∙ rw (q r w, under) in
         p ∙ on)

@@ -10,7 +10,8 @@ use native.Mathlib.Omega.{arith}
 use lib.ListN.{length}
 use Rattle.image.specs.Tree.{Tree}
 use Rattle.image.specs.Flat.{size_t}
-use Rattle.image.specs.Lowest.{Found, nothing, found, unless, alone}
+use Rattle.std.specs.Prelude.{None, Some}
+use Rattle.image.specs.Lowest.{Found, unless, alone}
 use Rattle.plan.specs.Form.{bad_form}
 use Rattle.plan.specs.Read.{plan_at}
 use Rattle.acceptance.specs.Check.{buffer_ok, bad_words, Links, tree, broken, linked, too_deep, Verdict, at, check_plan, check_tree, check_links}
@@ -25,9 +26,9 @@ use Rattle.check_form.specs.Formed.{stop, formed_tree, formed_links, formed, num
 
 tree_is : (d f : Found) (v : Verdict) → at 4 d (at 5 f v) ≡ numbered (stop d Depth (stop f Form Whole)) v
 unfolding at stop
-tree_is (found r) f v = refl
-tree_is nothing (found r) v = refl
-tree_is nothing nothing v = refl
+tree_is (Some r) f v = refl
+tree_is None (Some r) v = refl
+tree_is None None v = refl
 
 links_is : (k : Links) → check_links k ≡ numbered (formed_links k) (later k)
 unfolding check_tree formed_tree
@@ -42,16 +43,16 @@ check_is s = go (buffer_ok s) (bad_words (length s / 32) s 0) (linked s (length 
     go : (b : Bool) (w : Found) (k : Links)
         → at 1 (unless b 0) (at 2 w (check_links k)) ≡ numbered (cond b (stop w Record (formed_links k)) Buffer) (later k)
     go false w k = refl
-    go true (found r) k = refl
-    go true nothing k = links_is k
+    go true (Some r) k = refl
+    go true None k = links_is k
 
 -- ---- none is met
 
 -- where none is met, the first finds nothing, and the later ones are not met
-stopped : (w : Found) (at : ℕ → Formed) (rest : Formed) → ((r : ℕ) → at r ≡ Whole → ⊥) → stop w at rest ≡ Whole → (w ≡ nothing) × (rest ≡ Whole)
+stopped : (w : Found) (at : ℕ → Formed) (rest : Formed) → ((r : ℕ) → at r ≡ Whole → ⊥) → stop w at rest ≡ Whole → (w ≡ None) × (rest ≡ Whole)
 unfolding stop
-stopped nothing at rest n h = (refl, h)
-stopped (found r) at rest n h = absurd (n r h)
+stopped None at rest n h = (refl, h)
+stopped (Some r) at rest n h = absurd (n r h)
 
 no_buffer : (b : Bool) (rest : Formed) → cond b rest Buffer ≡ Whole → (b ≡ true) × (rest ≡ Whole)
 no_buffer true rest h = (refl, h)

@@ -1,7 +1,7 @@
 -- The check of an image up to its form, as the code's enum; and the number and the record of each case.
-use Rattle.std.specs.Prelude.{cond, List, ℕ, ◌/◌, length}
+use Rattle.std.specs.Prelude.{cond, List, ℕ, ◌/◌, length, None, Some}
 use Rattle.image.specs.Tree.{Tree}
-use Rattle.image.specs.Lowest.{Found, nothing, found}
+use Rattle.image.specs.Lowest.{Found}
 use Rattle.plan.specs.Form.{bad_form}
 use Rattle.plan.specs.Read.{plan_at}
 use Rattle.acceptance.specs.Check.{buffer_ok, bad_words, Links, tree, broken, linked, too_deep, Verdict, verdict, check_plan}
@@ -10,8 +10,8 @@ use Rattle.check_form.specs.declared.checked.Formed.TheVariants.{Buffer, Record,
 
 -- the record found; the later tests where there is none
 unfoldable pub stop : Found → (ℕ → Formed) → Formed → Formed
-stop (found r) at rest = at r
-stop nothing at rest = rest
+stop (Some r) at rest = at r
+stop None at rest = rest
 
 unfoldable pub formed_tree : Tree → Formed
 formed_tree t = stop (too_deep t) Depth (stop (bad_form t) Form Whole)

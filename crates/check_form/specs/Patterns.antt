@@ -1,8 +1,7 @@
 -- Patterns of children, as the code numbers them: an item is two digits, how many and of which sort.
-use Rattle.std.specs.Prelude.{◌≡◌, Bool, false, not, cond, List, ℕ, ◌+◌, ◌-◌, ◌/◌, ◌%◌, eqb}
+use Rattle.std.specs.Prelude.{◌≡◌, Bool, false, not, cond, List, ℕ, ◌+◌, ◌-◌, ◌/◌, ◌%◌, eqb, None, Some}
+use Rattle.image.specs.Lowest.{Found}
 use Rattle.image.specs.Tree.{Forest, Linked}
-use Rattle.image.specs.declared.places.Place.{Place}
-use Rattle.image.specs.declared.places.Place.TheVariants.{At, Nowhere}
 use Rattle.plan.specs.Lists.{◌&◌}
 use Rattle.plan.specs.Kinds.{is_plan, number_e, number_p, number_q, Column, Aggregate, FieldPart}
 use Rattle.plan.specs.Form.{end, one, many, perhaps}
@@ -34,10 +33,10 @@ unfoldable pub fitting : ℕ → ℕ → Forest → Bool
 fitting kind p f = meets p f & not (eqb kind (number_p Aggregate) & one is_plan end f)
 
 -- what is left after a part of a pattern: it fails, whatever is to follow, or the trees from record n on are to meet what follows
-abbrev pub Follows : ((Forest → Bool) → Forest → Bool) → Forest → List ℕ → ℕ → Place → Type 0
-Follows m f s b Nowhere = (rest : Forest → Bool) → m rest f ≡ false
-Follows m f s b (At n) = (g : Forest) × Linked g s b n × ((rest : Forest → Bool) → m rest f ≡ rest g)
+abbrev pub Follows : ((Forest → Bool) → Forest → Bool) → Forest → List ℕ → ℕ → Found → Type 0
+Follows m f s b None = (rest : Forest → Bool) → m rest f ≡ false
+Follows m f s b (Some n) = (g : Forest) × Linked g s b n × ((rest : Forest → Bool) → m rest f ≡ rest g)
 
 -- r is where a part of a pattern leads, whichever trees stand from record `first` on
-pub record Leads (m : (Forest → Bool) → Forest → Bool) (s : List ℕ) (b first : ℕ) (r : Place) : Type 0 where
+pub record Leads (m : (Forest → Bool) → Forest → Bool) (s : List ℕ) (b first : ℕ) (r : Found) : Type 0 where
   pub leads : (f : Forest) → Linked f s b first → Follows m f s b r

@@ -8,7 +8,6 @@ use crate::form::bad_root_form;
 use crate::linking::{Linking, read};
 use crate::words::bad_words;
 use image::limits::RECORD_BYTES;
-use image::places::Place;
 
 // The first test that an image meets, and the record at which it does.
 #[derive(Clone, Copy)]
@@ -30,7 +29,7 @@ pub fn checked_form(s: &[u8]) -> Formed
     }
     let n = s.len() / RECORD_BYTES;
     let words = bad_words(s, n);
-    if let Place::At(r) = words {
+    if let Some(r) = words {
         return Formed::Record(r);
     }
     let links = read(s, n);
@@ -38,11 +37,11 @@ pub fn checked_form(s: &[u8]) -> Formed
         return Formed::Link(r);
     }
     let depth = bad_depth(s);
-    if let Place::At(r) = depth {
+    if let Some(r) = depth {
         return Formed::Depth(r);
     }
     let form = bad_root_form(s);
-    if let Place::At(r) = form {
+    if let Some(r) = form {
         return Formed::Form(r);
     }
     Formed::Whole

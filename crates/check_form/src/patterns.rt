@@ -8,7 +8,6 @@ ghost use Rattle.check_form.specs.Patterns.{Leads, fitting, item, last_item, mee
 ghost use Rattle.check_form.specs.Sorts.{of_sort};
 
 use crate::sorts::{Sort, of_sort};
-use image::places::Place;
 use image::records::{from_record, look};
 use plan::child_patterns::{EXPRESSION_PATTERNS, NEVER, PART_PATTERNS, PLAN_PATTERNS};
 use plan::kinds::{
@@ -68,18 +67,18 @@ pub fn past_all(s: &[u8], base: usize, first: usize, sort: Sort) -> usize
 }
 
 // The record after one of the sort; nowhere if the first is not of it.
-pub fn past_one(s: &[u8], base: usize, first: usize, sort: Sort) -> Place
+pub fn past_one(s: &[u8], base: usize, first: usize, sort: Sort) -> Option<usize>
     requires { Chained s.now base first }
     ensures { Leads (one (of_sort sort)) s.now base first result }
 {
     if first == 0 {
-        return Place::Nowhere;
+        return None;
     }
     let v = look(from_record(s, base, first));
     if of_sort(v.kind, sort) {
-        return Place::At(v.next);
+        return Some(v.next);
     }
-    Place::Nowhere
+    None
 }
 
 // Whether one of the sort or none is left.
@@ -95,22 +94,22 @@ pub fn one_or_none(s: &[u8], base: usize, first: usize, sort: Sort) -> bool
 }
 
 // The record after an item that others follow.
-fn past_item(s: &[u8], base: usize, first: usize, n: usize) -> Place
+fn past_item(s: &[u8], base: usize, first: usize, n: usize) -> Option<usize>
     requires { Chained s.now base first }
     ensures { Leads (item n) s.now base first result }
 {
     let how = n / 10;
     let sort = sort_for(n % 10);
     if how == 0 {
-        return Place::At(first);
+        return Some(first);
     }
     if how == 1 {
         return past_one(s, base, first, sort);
     }
     if how == 2 {
-        return Place::At(past_all(s, base, first, sort));
+        return Some(past_all(s, base, first, sort));
     }
-    Place::Nowhere
+    None
 }
 
 // Whether the last item is all that is left.
@@ -122,7 +121,7 @@ fn last_item(s: &[u8], base: usize, first: usize, n: usize) -> bool
         return one_or_none(s, base, first, sort_for(n % 10));
     }
     let past = past_item(s, base, first, n);
-    let Place::At(rest) = past else {
+    let Some(rest) = past else {
         return false;
     };
     rest == 0
@@ -134,15 +133,15 @@ pub fn meets_pattern(s: &[u8], base: usize, first: usize, pattern: usize) -> boo
     ensures { (f : Forest) → Linked f s.now base first → result ≡ meets pattern f }
 {
     let a = past_item(s, base, first, pattern / 1000000);
-    let Place::At(second) = a else {
+    let Some(second) = a else {
         return false;
     };
     let b = past_item(s, base, second, pattern / 10000 % 100);
-    let Place::At(third) = b else {
+    let Some(third) = b else {
         return false;
     };
     let c = past_item(s, base, third, pattern / 100 % 100);
-    let Place::At(last) = c else {
+    let Some(last) = c else {
         return false;
     };
     last_item(s, base, last, pattern % 100)

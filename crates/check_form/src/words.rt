@@ -1,12 +1,10 @@
 // Record (2): the range of each word of a record, by its kind.
 ghost use Rattle.std.specs.Prelude.{◌≡◌, ◌*◌, ◌<◌, ◌≤◌, length};
-ghost use Rattle.image.specs.Places.{place_of};
 ghost use Rattle.plan.specs.Kinds.{what_of};
 ghost use Rattle.plan.specs.Words.{in_range, words_ok};
 ghost use Rattle.acceptance.specs.Check.{bad_words};
 ghost use Rattle.check_form.specs.Rows.{decoded, range_of, row_by};
 
-use image::places::Place;
 use image::records::{Label, from_record, label_at};
 use plan::kinds::{
     FIRST_EXPRESSION, FIRST_PART, FIRST_PLAN, SORT, is_expression, is_part, is_plan,
@@ -53,17 +51,17 @@ pub fn words_ok(l: Label) -> bool
 }
 
 // The first of the n records at the start of s whose words are not those of its kind.
-pub fn bad_words(s: &[u8], n: usize) -> Place
+pub fn bad_words(s: &[u8], n: usize) -> Option<usize>
     requires { 32 * n ≤ length s.now }
-    ensures { result ≡ place_of (bad_words n s.now 0) }
+    ensures { result ≡ bad_words n s.now 0 }
 {
     let mut i = 0;
     while i < n {
         let label = label_at(from_record(s, 0, i));
         if !words_ok(label) {
-            return Place::At(i);
+            return Some(i);
         }
         i += 1;
     }
-    Place::Nowhere
+    None
 }

@@ -4,9 +4,8 @@ use native.Mathlib.Omega.{arith}
 use mathlib.Core.Path.{◌≡◌, refl, sym, ap, ◌∙◌}
 use mathlib.Core.List.{List}
 use lib.ListN.{length}
-use Rattle.image.specs.Lowest.{Found, nothing, found}
-use Rattle.image.specs.Places.{place_of}
-use Rattle.image.specs.declared.places.Place.TheVariants.{At, Nowhere}
+use Rattle.std.specs.Prelude.{None, Some}
+use Rattle.image.specs.Lowest.{Found}
 use Rattle.plan.specs.Read.{plan_at}
 use Rattle.plan.proofs.PlanOf.{plan_tree_whole}
 use Rattle.acceptance.specs.Names.{bad_name}
@@ -32,37 +31,37 @@ module _ {s : List ℕ} (w : Sound s) where
   unfolding check_plan
   later_is = rw (w.links, names_are, types_are)
 
-  pub later_name : (r : ℕ) → At r ≡ place_of (bad_names w.tree) → verdict 6 r ≡ later (linked s (length s / 32))
+  pub later_name : (r : ℕ) → Some r ≡ bad_names w.tree → verdict 6 r ≡ later (linked s (length s / 32))
   unfolding at
   later_name r e = go (bad_names w.tree) refl e ∙ sym later_is
     where
-      go : (f : Found) → bad_names w.tree ≡ f → At r ≡ place_of f → verdict 6 r ≡ at 6 (bad_names w.tree) (at 7 (bad_types w.tree) (verdict 0 0))
-      go nothing e h = let z : ◌≡◌ {A = ℕ} 0 1 = cc in absurd (omega arith)
-      go (found q) e h = let i : r ≡ q = cc in rw (e, i)
+      go : (f : Found) → bad_names w.tree ≡ f → Some r ≡ f → verdict 6 r ≡ at 6 (bad_names w.tree) (at 7 (bad_types w.tree) (verdict 0 0))
+      go None e h = let z : ◌≡◌ {A = ℕ} 0 1 = cc in absurd (omega arith)
+      go (Some q) e h = let i : r ≡ q = cc in rw (e, i)
 
-  module _ (none : Nowhere ≡ place_of (bad_names w.tree)) where
-    no_name : bad_names w.tree ≡ nothing
+  module _ (none : None ≡ bad_names w.tree) where
+    no_name : bad_names w.tree ≡ None
     no_name = go (bad_names w.tree) refl none
       where
-        go : (f : Found) → bad_names w.tree ≡ f → Nowhere ≡ place_of f → bad_names w.tree ≡ nothing
-        go nothing e h = e
-        go (found q) e h = let z : ◌≡◌ {A = ℕ} 0 1 = cc in absurd (omega arith)
+        go : (f : Found) → bad_names w.tree ≡ f → None ≡ f → bad_names w.tree ≡ None
+        go None e h = e
+        go (Some q) e h = let z : ◌≡◌ {A = ℕ} 0 1 = cc in absurd (omega arith)
 
-    pub later_type : (r : ℕ) → At r ≡ place_of (bad_types w.tree) → verdict 7 r ≡ later (linked s (length s / 32))
+    pub later_type : (r : ℕ) → Some r ≡ bad_types w.tree → verdict 7 r ≡ later (linked s (length s / 32))
     unfolding at
     later_type r e = go (bad_types w.tree) refl e ∙ sym (later_is ∙ rw no_name)
       where
-        go : (f : Found) → bad_types w.tree ≡ f → At r ≡ place_of f → verdict 7 r ≡ at 7 (bad_types w.tree) (verdict 0 0)
-        go nothing e h = let z : ◌≡◌ {A = ℕ} 0 1 = cc in absurd (omega arith)
-        go (found q) e h = let i : r ≡ q = cc in rw (e, i)
+        go : (f : Found) → bad_types w.tree ≡ f → Some r ≡ f → verdict 7 r ≡ at 7 (bad_types w.tree) (verdict 0 0)
+        go None e h = let z : ◌≡◌ {A = ℕ} 0 1 = cc in absurd (omega arith)
+        go (Some q) e h = let i : r ≡ q = cc in rw (e, i)
 
-    pub later_none : Nowhere ≡ place_of (bad_types w.tree) → verdict 0 0 ≡ later (linked s (length s / 32))
+    pub later_none : None ≡ bad_types w.tree → verdict 0 0 ≡ later (linked s (length s / 32))
     unfolding at
     later_none e = go (bad_types w.tree) refl e ∙ sym (later_is ∙ rw no_name)
       where
-        go : (f : Found) → bad_types w.tree ≡ f → Nowhere ≡ place_of f → verdict 0 0 ≡ at 7 (bad_types w.tree) (verdict 0 0)
-        go nothing e h = rw e
-        go (found q) e h = let z : ◌≡◌ {A = ℕ} 0 1 = cc in absurd (omega arith)
+        go : (f : Found) → bad_types w.tree ≡ f → None ≡ f → verdict 0 0 ≡ at 7 (bad_types w.tree) (verdict 0 0)
+        go None e h = rw e
+        go (Some q) e h = let z : ◌≡◌ {A = ℕ} 0 1 = cc in absurd (omega arith)
 
 -- the answer for the tests 1 to 5 is the check's
 pub told : (s : List ℕ) {r : Formed} (k : Formed) → r ≡ formed s → r ≡ k → numbered k (later (linked s (length s / 32))) ≡ check s

@@ -11,7 +11,6 @@ ghost use Rattle.acceptance.specs.Check as Check;
 use check_form::checked::{Formed, checked_form};
 use check_names::naming::bad_names;
 use check_types::walk::bad_types;
-use image::places::Place;
 
 // The first test that an image meets, and the record at which it does.
 #[derive(Clone, Copy)]
@@ -32,11 +31,11 @@ fn checked_plan(s: &[u8]) -> Checked
     ensures { verdict_of result ≡ later (linked s.now (length s.now / 32)) }
 {
     let name = bad_names(s);
-    if let Place::At(r) = name {
+    if let Some(r) = name {
         return Checked::Names(r);
     }
     let ty = bad_types(s);
-    if let Place::At(r) = ty {
+    if let Some(r) = ty {
         return Checked::Types(r);
     }
     Checked::Accepted

@@ -1,7 +1,7 @@
 // Name (6): the lowest record whose reference does not name one field of what it stands over, or whose schema is not sound.
 ghost use Rattle.std.specs.Prelude.{◌≡◌, true, ◌-◌, ◌<◌, ℕ};
 ghost use Rattle.image.specs.Lowest.{lowest};
-ghost use Rattle.image.specs.Places.{Chained, place_of};
+ghost use Rattle.image.specs.Places.{Chained};
 ghost use Rattle.image.specs.Tree.{At, Forest, Label, Linked, Tree, node, none};
 ghost use Rattle.plan.specs.Kinds.{what_of};
 ghost use Rattle.acceptance.specs.Names.{sound};
@@ -14,7 +14,6 @@ ghost use Rattle.plan.specs.FieldSources as Sources;
 use crate::schemas::{is_sound, is_sound_beside};
 use check_fields::questions::Question;
 use check_fields::scopes::{View, first_view, held_in, rest_view, view_of};
-use image::places::Place;
 use image::records::{Node, from_record, look};
 use plan::field_sources::{Role, gives_both, joins, role_of};
 use plan::kinds::{COLUMN, is_plan};
@@ -90,20 +89,20 @@ pub fn bad_name(
     here: View,
     after: View,
     known: usize,
-) -> Place
+) -> Option<usize>
     requires { Chained s.now base at × Chained g.now gb ga }
     ensures { (f e : Forest) → Linked f s.now base at → Linked e g.now gb ga
         → ((i : ℕ) → i < known → sound (names_in (input i (inputs f))) ≡ true)
-        → result ≡ place_of (lowest name_ok hand (scope_of here e) (scope_of after e) at f) }
+        → result ≡ (lowest name_ok hand (scope_of here e) (scope_of after e) at f) }
 {
     if at == 0 {
-        return Place::Nowhere;
+        return None;
     }
     let part = from_record(s, base, at);
     let v = look(part);
     let role = role_of(v.kind);
     if !name_ok(part, at, v, role, 0 < known, g, gb, ga, here) {
-        return Place::At(at);
+        return Some(at);
     }
     if !is_plan(v.kind) {
         let below = bad_name(
@@ -118,29 +117,29 @@ pub fn bad_name(
             0,
         );
         match below {
-            Place::At(r) => Place::At(r),
-            Place::Nowhere => bad_name(s, base, v.next, g, gb, ga, after, after, known),
+            Some(r) => Some(r),
+            None => bad_name(s, base, v.next, g, gb, ga, after, after, known),
         }
     } else {
         let own = view_of(v.kind);
         let inputs = known_inputs(role);
         let under = bad_name(part, at, v.first, part, at, v.first, own, own, inputs);
         match under {
-            Place::At(r) => Place::At(r),
-            Place::Nowhere => bad_name(s, base, v.next, g, gb, ga, after, after, but_one(known)),
+            Some(r) => Some(r),
+            None => bad_name(s, base, v.next, g, gb, ga, after, after, but_one(known)),
         }
     }
 }
 
 // The lowest record of the image that breaks the rule.
-pub fn bad_names(s: &[u8]) -> Place
+pub fn bad_names(s: &[u8]) -> Option<usize>
     requires { (t : Tree) × At t s.now 0 }
-    ensures { (t : Tree) → At t s.now 0 → result ≡ place_of (bad_names t) }
+    ensures { (t : Tree) → At t s.now 0 → result ≡ bad_names t }
 {
     let v = look(s);
     let role = role_of(v.kind);
     if !name_ok(s, 0, v, role, false, s, 0, 0, View::Nothing) {
-        return Place::At(0);
+        return Some(0);
     }
     let own = view_of(v.kind);
     bad_name(s, 0, v.first, s, 0, v.first, own, own, known_inputs(role))

@@ -4,10 +4,9 @@ use mathlib.Core.Path.{◌≡◌, refl, sym, ap, ◌∙◌}
 use mathlib.Core.Bool.{Bool, true, false}
 use mathlib.Core.List.{List, []}
 use Prim.Native.Nat.{ℕ}
+use Rattle.std.specs.Prelude.{Some}
 use Rattle.image.specs.Tree.{Label, Forest, none, Tree, Node}
 use Rattle.image.specs.Lowest.{Found, or_else, unless, lowest, alone}
-use Rattle.image.specs.Places.{place_of}
-use Rattle.image.specs.declared.places.Place.TheVariants.{At}
 use Rattle.image.proofs.Lowest.{lowest_none}
 use Rattle.image.proofs.Finding.{or_nothing, lowest_at}
 use Rattle.plan.specs.Kinds.{what, what_of}
@@ -48,11 +47,11 @@ module _ {t : Tree} {s : List ℕ} {v : Node} (k : Looked t s 0 v) {r : View} (R
       ∙ ap (λ (b : Bool). or_else (unless b 0) below_root) (sym (rule_of (alone t) (over [] []) t.label t.below _ _ handed X))
 
   -- the rule does not hold of the root
-  pub root_bad : x ≡ false → At 0 ≡ place_of (bad_types t)
+  pub root_bad : x ≡ false → Some 0 ≡ bad_types t
   unfolding or_else unless
-  root_bad e = sym (ap place_of (root_turn ∙ ap (λ (b : Bool). or_else (unless b 0) below_root) e))
+  root_bad e = sym (root_turn ∙ ap (λ (b : Bool). or_else (unless b 0) below_root) e)
 
   -- it does: the walk below it
-  pub root_good : x ≡ true → place_of below_root ≡ place_of (bad_types t)
+  pub root_good : x ≡ true → below_root ≡ bad_types t
   unfolding or_else unless
-  root_good e = sym (ap place_of (root_turn ∙ ap (λ (b : Bool). or_else (unless b 0) below_root) e))
+  root_good e = sym (root_turn ∙ ap (λ (b : Bool). or_else (unless b 0) below_root) e)

@@ -1,7 +1,7 @@
 // The walk of test 7: the lowest record whose types are wrong, with the scope handed down.
 ghost use Rattle.std.specs.Prelude.{◌≡◌};
 ghost use Rattle.image.specs.Lowest.{alone, lowest};
-ghost use Rattle.image.specs.Places.{Chained, place_of};
+ghost use Rattle.image.specs.Places.{Chained};
 ghost use Rattle.image.specs.Tree.{At, Forest, Linked, Tree};
 ghost use Rattle.plan.specs.Kinds.{what};
 ghost use Rattle.check_fields.specs.Rules.{bad_types, hand, type_ok, type_ok_by, types_of};
@@ -12,7 +12,6 @@ use crate::operands::{demand_of, meets};
 use crate::places::united;
 use crate::scans::as_scanned;
 use check_fields::scopes::{View, first_view, rest_view, view_of};
-use image::places::Place;
 use image::records::{from_record, look};
 use plan::kinds::{TABLE_SCAN, UNION, is_plan};
 
@@ -56,13 +55,13 @@ pub fn bad_type(
     here: View,
     after: View,
     root: &[u8],
-) -> Place
+) -> Option<usize>
     requires { Chained s.now base at × Chained g.now gb ga × Filled root.now }
     ensures { (f e : Forest) (u : Tree) → Linked f s.now base at → Linked e g.now gb ga
-        → At u root.now 0 → result ≡ place_of (lowest (type_ok (alone u)) hand (scope_of here e) (scope_of after e) at f) }
+        → At u root.now 0 → result ≡ (lowest (type_ok (alone u)) hand (scope_of here e) (scope_of after e) at f) }
 {
     if at == 0 {
-        return Place::Nowhere;
+        return None;
     }
     let part = from_record(s, base, at);
     let v = look(part);
@@ -70,35 +69,35 @@ pub fn bad_type(
         let first = first_view(v.kind, here);
         let rest = rest_view(v.kind, here);
         if !type_ok(part, at, g, gb, ga, first, rest, root) {
-            return Place::At(at);
+            return Some(at);
         }
         let below = bad_type(part, at, v.first, g, gb, ga, first, rest, root);
         match below {
-            Place::At(r) => Place::At(r),
-            Place::Nowhere => bad_type(s, base, v.next, g, gb, ga, after, after, root),
+            Some(r) => Some(r),
+            None => bad_type(s, base, v.next, g, gb, ga, after, after, root),
         }
     } else {
         let own = view_of(v.kind);
         if !type_ok(part, at, part, at, v.first, own, own, root) {
-            return Place::At(at);
+            return Some(at);
         }
         let under = bad_type(part, at, v.first, part, at, v.first, own, own, root);
         match under {
-            Place::At(r) => Place::At(r),
-            Place::Nowhere => bad_type(s, base, v.next, g, gb, ga, after, after, root),
+            Some(r) => Some(r),
+            None => bad_type(s, base, v.next, g, gb, ga, after, after, root),
         }
     }
 }
 
 // Test 7: the lowest record of the image whose types are wrong.
-pub fn bad_types(s: &[u8]) -> Place
+pub fn bad_types(s: &[u8]) -> Option<usize>
     requires { Filled s.now }
-    ensures { (t : Tree) → At t s.now 0 → result ≡ place_of (bad_types t) }
+    ensures { (t : Tree) → At t s.now 0 → result ≡ bad_types t }
 {
     let v = look(s);
     let own = view_of(v.kind);
     if !type_ok(s, 0, s, 0, v.first, own, own, s) {
-        return Place::At(0);
+        return Some(0);
     }
     bad_type(s, 0, v.first, s, 0, v.first, own, own, s)
 }

@@ -1,4 +1,4 @@
--- A turn of a walk that looks for the lowest record that breaks a rule, as the code's enum says where it ends. For any rule.
+-- A turn of a walk that looks for the lowest record that breaks a rule. For any rule.
 -- Assumes nothing.
 use mathlib.Core.Path.{◌≡◌, refl, sym, ap, ◌∙◌}
 use mathlib.Core.Bool.{Bool, true, false}
@@ -6,29 +6,16 @@ use mathlib.Core.List.{List}
 use Prim.Native.Nat.{ℕ, ◌+◌}
 use native.Mathlib.Omega.{arith}
 use Rattle.image.specs.Tree.{Label, Forest, none, node, size, link, Node}
-use Rattle.image.specs.Lowest.{Found, nothing, found, or_else, unless, lowest}
-use Rattle.image.specs.Places.{place_of}
-use Rattle.image.specs.declared.places.Place.TheVariants.{At, Nowhere}
+use Rattle.std.specs.Prelude.{None, Some}
+use Rattle.image.specs.Lowest.{Found, or_else, unless, lowest}
 use Rattle.image.proofs.Lowest.{lowest_link, lowest_none}
 use Rattle.image.proofs.Stepping.{Step}
 
--- ---- places
-
--- a place that is a record was found
-was_found : (g : Found) (r : ℕ) → At r ≡ place_of g → g ≡ found r
-was_found nothing r e = let z : ◌≡◌ {A = ℕ} 0 1 = cc in absurd (omega arith)
-was_found (found q) r e = cc
-
--- a place that is nowhere was not
-was_nothing : (g : Found) → Nowhere ≡ place_of g → g ≡ nothing
-was_nothing nothing e = refl
-was_nothing (found q) e = let z : ◌≡◌ {A = ℕ} 0 1 = cc in absurd (omega arith)
-
 -- nothing found after
-pub or_nothing : (g : Found) → or_else g nothing ≡ g
+pub or_nothing : (g : Found) → or_else g None ≡ g
 unfolding or_else
-or_nothing nothing = refl
-or_nothing (found r) = refl
+or_nothing None = refl
+or_nothing (Some r) = refl
 
 -- ---- any rule
 
@@ -43,8 +30,8 @@ module _ {C : Type 0} (rule : C → Label → Forest → Bool) (hand : C → Lab
       rw (h, e, g, lowest_link rule hand x y (at + 1) cs, lowest_link rule hand after after (at + 1 + size cs) ns)
 
   -- of no records none is found
-  pub place_none : (c after : C) (at : ℕ) (f : Forest) → f ≡ none → Nowhere ≡ place_of (lowest rule hand c after at f)
-  place_none c after at f e = sym (ap place_of (lowest_none rule hand c after at f e))
+  pub place_none : (c after : C) (at : ℕ) (f : Forest) → f ≡ none → None ≡ lowest rule hand c after at f
+  place_none c after at f e = sym (lowest_none rule hand c after at f e)
 
   module _ {f : Forest} {s : List ℕ} {b at : ℕ} {part : List ℕ} {v : Node} (w : Step f s b at part v) (c after x y : C)
       (h : hand c w.label w.below ≡ (x, y)) {t : Bool} (T : t ≡ rule c w.label w.below) where
@@ -58,23 +45,23 @@ module _ {C : Type 0} (rule : C → Label → Forest → Bool) (hand : C → Lab
         (or_else (lowest rule hand x y v.first w.below) (lowest rule hand after after v.next w.after))) (sym T)
 
     -- the rule does not hold of the record
-    pub place_here : t ≡ false → At at ≡ place_of (lowest rule hand c after at f)
+    pub place_here : t ≡ false → Some at ≡ lowest rule hand c after at f
     unfolding or_else unless
-    place_here e = let z : lowest rule hand c after at f ≡ found at = turned ∙ rw e in sym (ap place_of z)
+    place_here e = let z : lowest rule hand c after at f ≡ Some at = turned ∙ rw e in sym z
 
     -- it holds, and not of a record below
-    pub place_below : (r : ℕ) → t ≡ true → At r ≡ place_of (lowest rule hand x y v.first w.below)
-        → At r ≡ place_of (lowest rule hand c after at f)
+    pub place_below : (r : ℕ) → t ≡ true → Some r ≡ lowest rule hand x y v.first w.below
+        → Some r ≡ lowest rule hand c after at f
     unfolding or_else unless
     place_below r e g =
-        let z : lowest rule hand c after at f ≡ found r = turned ∙ rw (e, was_found (lowest rule hand x y v.first w.below) r g) in
-        sym (ap place_of z)
+        let z : lowest rule hand c after at f ≡ Some r = turned ∙ rw (e, sym g) in
+        sym z
 
     -- it holds, and of all below: the walk goes on
-    pub place_after : t ≡ true → Nowhere ≡ place_of (lowest rule hand x y v.first w.below)
-        → place_of (lowest rule hand after after v.next w.after) ≡ place_of (lowest rule hand c after at f)
+    pub place_after : t ≡ true → None ≡ lowest rule hand x y v.first w.below
+        → lowest rule hand after after v.next w.after ≡ lowest rule hand c after at f
     unfolding or_else unless
     place_after e g =
         let z : lowest rule hand c after at f ≡ lowest rule hand after after v.next w.after =
-        turned ∙ rw (e, was_nothing (lowest rule hand x y v.first w.below) g) in
-        sym (ap place_of z)
+        turned ∙ rw (e, sym g) in
+        sym z

@@ -10,24 +10,25 @@ use Prim.Native.Nat.{ℕ, suc, ◌+◌}
 use native.Mathlib.Omega.{arith}
 use lib.ListN.{length, length-append}
 use Rattle.image.specs.Tree.{Label, Forest, none, node, size, link}
-use Rattle.image.specs.Lowest.{first_false, Found, nothing, found, or_else, unless, lowest}
+use Rattle.std.specs.Prelude.{None, Some}
+use Rattle.image.specs.Lowest.{first_false, Found, or_else, unless, lowest}
 
 -- ---- nothing found
 
 -- where both find nothing, the first does
-pub or_first : (f g : Found) → or_else f g ≡ nothing → f ≡ nothing
+pub or_first : (f g : Found) → or_else f g ≡ None → f ≡ None
 unfolding or_else
-or_first nothing g h = refl
-or_first (found r) g h = h
+or_first None g h = refl
+or_first (Some r) g h = h
 
 -- where both find nothing, the second does
-pub or_second : (f g : Found) → or_else f g ≡ nothing → g ≡ nothing
+pub or_second : (f g : Found) → or_else f g ≡ None → g ≡ None
 unfolding or_else
-or_second nothing g h = h
-or_second (found r) g h = let z : ◌≡◌ {A = ℕ} 0 1 = cc in absurd (omega arith)
+or_second None g h = h
+or_second (Some r) g h = let z : ◌≡◌ {A = ℕ} 0 1 = cc in absurd (omega arith)
 
 -- a record is not found only where its rule holds
-pub unless_true : (b : Bool) (r : ℕ) → unless b r ≡ nothing → b ≡ true
+pub unless_true : (b : Bool) (r : ℕ) → unless b r ≡ None → b ≡ true
 unfolding unless
 unless_true true r h = refl
 unless_true false r h = let z : ◌≡◌ {A = ℕ} 0 1 = cc in absurd (omega arith)
@@ -40,7 +41,7 @@ module _ {C : Type 0} (rule : C → Label → Forest → Bool) (hand : C → Lab
   Passes c after (node l cs ns) = (rule c l cs ≡ true) × Passes (hand c l cs).0 (hand c l cs).1 cs × Passes after after ns
 
   -- where none is found, all pass
-  pub passes : (c after : C) (b : ℕ) (f : Forest) → lowest rule hand c after b f ≡ nothing → Passes c after f
+  pub passes : (c after : C) (b : ℕ) (f : Forest) → lowest rule hand c after b f ≡ None → Passes c after f
   unfolding lowest
   passes c after b none h = tt
   passes c after b (node l cs ns) h = (
@@ -50,7 +51,7 @@ module _ {C : Type 0} (rule : C → Label → Forest → Bool) (hand : C → Lab
   )
 
   -- where all pass, none is found
-  pub finds_nothing : (c after : C) (b : ℕ) (f : Forest) → Passes c after f → lowest rule hand c after b f ≡ nothing
+  pub finds_nothing : (c after : C) (b : ℕ) (f : Forest) → Passes c after f → lowest rule hand c after b f ≡ None
   unfolding lowest or_else unless
   finds_nothing c after b none h = refl
   finds_nothing c after b (node l cs ns) h =
@@ -72,8 +73,8 @@ module _ {C : Type 0} (rule : C → Label → Forest → Bool) (hand : C → Lab
 -- three searches, grouped either way
 pub or_assoc : (f g h : Found) → or_else (or_else f g) h ≡ or_else f (or_else g h)
 unfolding or_else
-or_assoc nothing g h = refl
-or_assoc (found r) g h = refl
+or_assoc None g h = refl
+or_assoc (Some r) g h = refl
 
 -- the first false of two lists, one after the other
 false_append : (b : ℕ) (xs ys : List Bool) → first_false b (xs ++ ys) ≡ or_else (first_false b xs) (first_false (b + length xs) ys)
@@ -107,6 +108,6 @@ module _ {C : Type 0} (rule : C → Label → Forest → Bool) (hand : C → Lab
   lowest_link c after m (node l cs ns) = refl
 
   -- of no records none is found
-  pub lowest_none : (c after : C) (b : ℕ) (f : Forest) → f ≡ none → lowest rule hand c after b f ≡ nothing
+  pub lowest_none : (c after : C) (b : ℕ) (f : Forest) → f ≡ none → lowest rule hand c after b f ≡ None
   unfolding lowest
   lowest_none c after b f e = rw e

@@ -1,14 +1,6 @@
--- A place found, as the code's enum; and a chain of siblings that stands somewhere.
+-- A chain of siblings that stands somewhere.
 use Rattle.std.specs.Prelude.{List, ℕ, zero, suc, ◌-◌, ◌*◌, length}
 use Rattle.image.specs.Tree.{Forest, Linked}
-use Rattle.image.specs.Lowest.{Found, nothing, found}
-use Rattle.image.specs.declared.places.Place.{Place}
-use Rattle.image.specs.declared.places.Place.TheVariants.{At, Nowhere}
-
-abbrev pub place_of : Found → Place
-place_of nothing = Nowhere
-place_of (found r) = At r
-
 -- some forest is linked at `at`, in bytes that begin at record b
 pub record Chained (s : List ℕ) (b at : ℕ) : Type 0 where
   pub forest : Forest

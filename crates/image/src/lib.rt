@@ -5,7 +5,6 @@ pub mod copying;
 pub mod ends;
 pub mod limits;
 pub mod links;
-pub mod places;
 pub mod records;
 pub mod relink;
 pub mod words;

@@ -7,7 +7,8 @@ use mathlib.Core.List.{List, ◌++◌}
 use lib.ListN.{length}
 use borrow.Author.Tests.{eqb-true}
 use Rattle.image.specs.Limits.{work_bytes, max_records, max_depth}
-use Rattle.image.specs.Lowest.{Found, nothing, found, unless, alone}
+use Rattle.std.specs.Prelude.{None, Some}
+use Rattle.image.specs.Lowest.{Found, unless, alone}
 use Rattle.image.specs.Word.{Bytes}
 use Rattle.image.specs.Tree.{Tree, At, Readable, SmallT}
 use Rattle.image.specs.Room.{Wrote}
@@ -43,8 +44,8 @@ record Zeroed (v : Verdict) : Type 0 where
 
 at_zeroed : (n : ℕ) (f : Found) {v : Verdict} → 0 < n → Zeroed v → Zeroed (at n f v)
 unfolding at
-at_zeroed n nothing h z = z
-at_zeroed n (found r) h z = record { place = λ e. absurd (omega arith) }
+at_zeroed n None h z = z
+at_zeroed n (Some r) h z = record { place = λ e. absurd (omega arith) }
 
 tree_zeroed : (t : Tree) → Zeroed (check_tree t)
 unfolding check_tree check_plan

@@ -14,7 +14,7 @@ use Rattle.image.specs.Tree.{Label, Forest, none, node}
 use Rattle.plan.specs.Kinds as K
 use Rattle.plan.specs.Kinds.{expr, part, what, what_of, among, is_kind}
 use Rattle.plan.specs.Form.{past, bad_form}
-use Rattle.image.specs.Lowest.{nothing}
+use Rattle.std.specs.Prelude.{None}
 use Rattle.plan.specs.Syntax.{Name, nm, eq, ne, lt, le, gt, ge, Op, and, or, cmp, Test, is_null, is_not_null, is_true, is_false, is_unknown}
 use Rattle.plan.specs.Syntax.{is_not_true, is_not_false, is_not_unknown, Expr, col, num, bool, nul, bin, neg, test, between, inlist, fn}
 use Rattle.plan.specs.Syntax.{Exprs, enil, econs, Field, Entry, Pair, Key, Agg, count, min, max, AggEntry, WinEntry, Kind, inner}
@@ -337,6 +337,6 @@ unfolding plan_at
 plan_at_back p h = ap head_p (plan_back p none h)
 
 -- the first theorem of the bridge: a plan of the right form, whose integers 64 bits hold, is read back from its tree
-pub plan_of_back : (p : Plan) → FitsP p → bad_form (plan_tree p) ≡ nothing → plan_of (plan_tree p) ≡ some p
+pub plan_of_back : (p : Plan) → FitsP p → bad_form (plan_tree p) ≡ None → plan_of (plan_tree p) ≡ some p
 unfolding plan_of
 plan_of_back p h e = rw (e, plan_at_back p h)

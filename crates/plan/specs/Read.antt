@@ -1,12 +1,12 @@
 -- A tree of records as a plan: what each record stands for.
-use Rattle.std.specs.Prelude.{ℕ, zero, suc, ◌+◌, ◌*◌, ◌-◌, Bool, cond, List, [], ◌∷◌, ltb, ℤ, pos, negsuc}
+use Rattle.std.specs.Prelude.{ℕ, zero, suc, ◌+◌, ◌*◌, ◌-◌, Bool, cond, List, [], ◌∷◌, ltb, ℤ, pos, negsuc, None, Some}
 use Rattle.std.proofs.Math.Option as O
 use Rattle.std.proofs.Math.Option.{Option, some}
 use Rattle.image.specs.Tree.{Label, Forest, none, node, Tree}
 use Rattle.plan.specs.Kinds as K
 use Rattle.plan.specs.Kinds.{What, expr, plan, part, unknown, what, is_kind, ExprKind, PlanKind}
 use Rattle.plan.specs.Form.{past, bad_form}
-use Rattle.image.specs.Lowest.{Found, nothing, found, alone}
+use Rattle.image.specs.Lowest.{Found, alone}
 use Rattle.plan.specs.Syntax.{Name, nm, eq, ne, lt, le, gt, ge, Op, and, or, cmp, Test, is_null, is_not_null, is_true, is_false, is_unknown}
 use Rattle.plan.specs.Syntax.{is_not_true, is_not_false, is_not_unknown, Expr, col, num, bool, nul, bin, neg, test, between, inlist, fn}
 use Rattle.plan.specs.Syntax.{Exprs, enil, econs, Field, Entry, Pair, Key, Agg, count, min, max, AggEntry, WinEntry, Kind, inner}
@@ -173,8 +173,8 @@ unfoldable pub plan_at : Tree → Plan
 plan_at t = head_p (plans_of (alone t))
 
 abbrev pub unless_found : Found → Plan → Option Plan
-unless_found nothing p = some p
-unless_found (found r) p = O.none
+unless_found None p = some p
+unless_found (Some r) p = O.none
 
 -- the plan that a tree of records is, if the form test finds nothing
 unfoldable pub plan_of : Tree → Option Plan

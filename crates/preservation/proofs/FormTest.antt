@@ -13,7 +13,8 @@ use lib.ListN.{length}
 use borrow.Author.Tests.{leb-true, leb-false, le-leb, lt-leb}
 use Rattle.image.specs.Tree.{Label, Forest, none, node}
 use Rattle.image.specs.Limits.{max_list}
-use Rattle.image.specs.Lowest.{nothing, or_else, unless, alone}
+use Rattle.std.specs.Prelude.{None}
+use Rattle.image.specs.Lowest.{or_else, unless, alone}
 use Rattle.image.proofs.Lowest.{or_second, Passes, passes, finds_nothing}
 use Rattle.plan.specs.Lists.{◌&◌}
 use Rattle.plan.proofs.Lists.{and_assoc, and_true, true_and, AndSort}
@@ -359,7 +360,7 @@ unfolding sound formed
 form_tree p = form_p p true ∙ and_true _
 
 -- the law of the test
-pub formed_law : (p : Plan) → (bad_form (plan_tree p) ≡ nothing) ↔ (formed p & leb (list_p p) max_list ≡ true)
+pub formed_law : (p : Plan) → (bad_form (plan_tree p) ≡ None) ↔ (formed p & leb (list_p p) max_list ≡ true)
 unfolding bad_form or_else unless
 formed_law p = (
   (λ h. sym (form_tree p) ∙ (passing (alone (plan_tree p))).1 (passes _ _ tt tt 0 (alone (plan_tree p)) (or_second (unless (is_plan (label_p p)) 0) _ h))),

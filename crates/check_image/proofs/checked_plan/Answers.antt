@@ -3,17 +3,17 @@ use mathlib.Core.Path.{sym, ◌∙◌}
 use Rattle.check_image.proofs.Later.{later_name, later_type, later_none}
 use Rattle.check_image.proofs.checked_plan.Goals as goal
 
-pub returns-in-At : goal.returns-in-At
-returns-in-At c =
+pub returns-in-Some : goal.returns-in-Some
+returns-in-Some c =
     let w = c.requires in
-    later_name w _ (sym c.in-At.is ∙ c.bad_names-name.ensures w.tree w.stands)
+    later_name w _ (sym c.in-Some.is ∙ c.bad_names-name.ensures w.tree w.stands)
 
-pub returns-in-At-ty : goal.returns-in-At-ty
-returns-in-At-ty c =
+pub returns-in-Some-ty : goal.returns-in-Some-ty
+returns-in-Some-ty c =
     let w = c.requires in
     later_type w (sym c.in_default.is
     ∙ c.bad_names-name.ensures w.tree w.stands) _
-    (sym c.in-At-ty.is ∙ c.bad_types-ty.ensures w.tree w.stands)
+    (sym c.in-Some-ty.is ∙ c.bad_types-ty.ensures w.tree w.stands)
 
 pub returns : goal.returns
 returns c =

@@ -9,11 +9,11 @@ pub returns-then-not-buffer_ok : goal.returns-then-not-buffer_ok
 returns-then-not-buffer_ok c =
     stage_buffer _ c.buffer_ok.ensures c.if-not-buffer_ok.true
 
-pub returns-in-At : goal.returns-in-At
-returns-in-At c =
+pub returns-in-Some : goal.returns-in-Some
+returns-in-Some c =
     stage_words _ c.buffer_ok.ensures
     c.if-not-buffer_ok.false c.bad_words-words.ensures
-    c.in-At.is
+    c.in-Some.is
 
 pub read-links-requires : goal.read-links-requires
 read-links-requires c =
@@ -35,14 +35,14 @@ bad_depth-depth-requires c =
     c.read-links.ensures c.in_default-links.is in
     record { tree = p.tree; at = p.at }
 
-pub returns-in-At-depth : goal.returns-in-At-depth
-returns-in-At-depth c =
+pub returns-in-Some-depth : goal.returns-in-Some-depth
+returns-in-Some-depth c =
     stage_depth (stage_tree _ c.buffer_ok.ensures
     c.if-not-buffer_ok.false
     c.bad_words-words.ensures
     c.in_default.is
     c.read-links.ensures c.in_default-links.is)
-    c.bad_depth-depth.ensures c.in-At-depth.is
+    c.bad_depth-depth.ensures c.in-Some-depth.is
 
 pub bad_root_form-form-requires : goal.bad_root_form-form-requires
 bad_root_form-form-requires c =
@@ -53,8 +53,8 @@ bad_root_form-form-requires c =
     c.in_default-links.is in
     record { tree = p.tree; at = p.at }
 
-pub returns-in-At-form : goal.returns-in-At-form
-returns-in-At-form c =
+pub returns-in-Some-form : goal.returns-in-Some-form
+returns-in-Some-form c =
     stage_form (stage_tree _ c.buffer_ok.ensures
     c.if-not-buffer_ok.false
     c.bad_words-words.ensures
@@ -62,7 +62,7 @@ returns-in-At-form c =
     c.read-links.ensures
     c.in_default-links.is)
     c.bad_depth-depth.ensures c.in_default-depth.is
-    c.bad_root_form-form.ensures c.in-At-form.is
+    c.bad_root_form-form.ensures c.in-Some-form.is
 
 pub returns : goal.returns
 returns c =

@@ -27,13 +27,13 @@ too_deep-below-requires t c =
     let w = here k c.loop-at-test.true c.from_record-part.ensures c.look-v.ensures in
     (omega (arith, w.down, k.less, c.decreases), (record { forest = w.below; linked = w.first }, omega arith))
 
-pub returns-in-At : goal.returns-in-At
-returns-in-At t c =
+pub returns-in-Some : goal.returns-in-Some
+returns-in-Some t c =
     search_below rule deeper _ c.loop-at.invariant
     c.loop-at-test.true
     c.from_record-part.ensures c.look-v.ensures
     (λ f w. le-leb _ max_depth c.if-level-gt-MAX_DEPTH.false)
-    c.too_deep-below.ensures c.in-At.is
+    c.too_deep-below.ensures c.in-Some.is
 
 pub loop-at-preserved : goal.loop-at-preserved
 loop-at-preserved t c =

@@ -5,7 +5,6 @@ use Prim.Native.Nat.{◌+◌}
 use native.Mathlib.Omega.{arith}
 use Rattle.image.specs.Limits.{max_depth}
 use Rattle.image.specs.Lowest.{or_else, unless}
-use Rattle.image.specs.Places.{place_of}
 use Rattle.image.proofs.Walking.{linked_first}
 use Rattle.acceptance.specs.Check.{too_deep}
 use Rattle.check_form.proofs.Search.{low_root}
@@ -22,4 +21,4 @@ unfolding too_deep or_else unless
 returns c =
     λ t h. let e = c.word_at.ensures.0 in
     c.too_deep.ensures t.below (rw e (linked_first t _ _ h))
-    ∙ sym (ap place_of (low_root (λ d l cs. leb d max_depth) (λ d. d + 1) 1 t h e))
+    ∙ sym (low_root (λ d l cs. leb d max_depth) (λ d. d + 1) 1 t h e)

@@ -36,15 +36,15 @@ bad_form-below-requires t c =
           { forest = w.below; linked = w.first },
     )
 
-pub returns-in-At : goal.returns-in-At
-returns-in-At t c =
+pub returns-in-Some : goal.returns-in-Some
+returns-in-Some t c =
     search_below rule same tt c.loop-at.invariant
     c.loop-at-test.true
     c.from_record-part.ensures
     c.look-v.ensures
     (λ f w. sym (c.form_ok.ensures w.label w.below w.kind
     w.first) ∙ c.if-not-form_ok.false)
-    c.bad_form-below.ensures c.in-At.is
+    c.bad_form-below.ensures c.in-Some.is
 
 pub loop-at-preserved : goal.loop-at-preserved
 loop-at-preserved t c =

@@ -18,5 +18,5 @@ returns-in_default c =
 
 pub returns : goal.returns
 returns c =
-    λ f h. leads_on c.past_item-past.ensures end c.in-At.is (λ g k. end_link g _ _ _ k) f h
+    λ f h. leads_on c.past_item-past.ensures end c.in-Some.is (λ g k. end_link g _ _ _ k) f h
     ∙ sym (last_other _ c.if-n-eq3.false f)

@@ -11,22 +11,22 @@ returns-in_default c =
 pub returns-in_default-b : goal.returns-in_default-b
 unfolding meets
 returns-in_default-b c =
-    leads_on c.past_item-a.ensures _ c.in-At.is
+    leads_on c.past_item-a.ensures _ c.in-Some.is
     (leads_nowhere c.past_item-b.ensures _ c.in_default-b.is)
 
 pub returns-in_default-c : goal.returns-in_default-c
 unfolding meets
 returns-in_default-c c =
     leads_on c.past_item-a.ensures _
-    c.in-At.is
-    (leads_on c.past_item-b.ensures _ c.in-At-b.is
+    c.in-Some.is
+    (leads_on c.past_item-b.ensures _ c.in-Some-b.is
     (leads_nowhere c.past_item-c.ensures _ c.in_default-c.is))
 
 pub returns : goal.returns
 unfolding meets
 returns c =
     leads_on c.past_item-a.ensures _
-    c.in-At.is
+    c.in-Some.is
     (leads_on c.past_item-b.ensures _
-    c.in-At-b.is
-    (leads_on c.past_item-c.ensures _ c.in-At-c.is c.last_item.ensures))
+    c.in-Some-b.is
+    (leads_on c.past_item-c.ensures _ c.in-Some-c.is c.last_item.ensures))

@@ -1,11 +1,10 @@
 use mathlib.Core.Path.{sym, ap, ◌∙◌}
-use Rattle.image.specs.Places.{place_of}
 use Rattle.check_form.proofs.Rows.{bad_here, passed_one, passed_all}
 use Rattle.check_form.proofs.words.bad_words.Goals as goal
 
 pub returns-then-not-words_ok : goal.returns-then-not-words_ok
 returns-then-not-words_ok c =
-    sym (ap place_of (bad_here _ _ _ c.loop-i.invariant
+    sym ((bad_here _ _ _ c.loop-i.invariant
     _ _ c.from_record.ensures c.label_at-label.ensures.0
     c.loop-i-test.true (sym c.words_ok.ensures ∙ c.if-not-words_ok.true)))
 
@@ -17,4 +16,4 @@ loop-i-preserved c =
 
 pub returns : goal.returns
 returns c =
-    sym (ap place_of (passed_all _ _ _ c.loop-i.invariant c.loop-i-test.false))
+    sym (passed_all _ _ _ c.loop-i.invariant c.loop-i-test.false)

@@ -62,8 +62,8 @@ bad_name-under-requires t c =
     step p.forest p.linked c.if-at-eq0.false c.from_record-part.ensures c.look-v.ensures in
     (omega (arith, w.down), (record { forest = w.below; linked = w.first }, record { forest = w.below; linked = w.first }))
 
-pub bad_name-requires-in-Nowhere-under : goal.bad_name-requires-in-Nowhere-under
-bad_name-requires-in-Nowhere-under t c =
+pub bad_name-requires-in-None-under : goal.bad_name-requires-in-None-under
+bad_name-requires-in-None-under t c =
     let p = c.requires.0 in let w = step p.forest p.linked c.if-at-eq0.false c.from_record-part.ensures c.look-v.ensures in (
       omega (arith, w.less),
       (
@@ -72,42 +72,42 @@ bad_name-requires-in-Nowhere-under t c =
       ),
     )
 
-pub returns-in-At : goal.returns-in-At
-returns-in-At t c =
+pub returns-in-Some : goal.returns-in-Some
+returns-in-Some t c =
     λ f e h g k. let w = step f h c.if-at-eq0.false c.from_record-part.ensures c.look-v.ensures in let here = scope_of c.args.here e in
     let after = scope_of c.args.after e in let ok : name_ok here w.label w.below ≡ true = sym
     (c.name_ok.ensures w.label w.below e w.kind w.p w.q w.first g (sound_first w _ k)) ∙
     c.if-not-name_ok.false in place_below name_ok hand w here after _ _
-    (hand_part w c.args.here e (sym c.is_plan.ensures ∙ c.if-not-is_plan.true) c.first_view.ensures c.rest_view.ensures) refl _ ok (sym c.in-At.is
+    (hand_part w c.args.here e (sym c.is_plan.ensures ∙ c.if-not-is_plan.true) c.first_view.ensures c.rest_view.ensures) refl _ ok (sym c.in-Some.is
     ∙ c.bad_name-below.ensures w.below e w.first g (λ i l. absurd (omega arith)))
 
-pub returns-in-Nowhere : goal.returns-in-Nowhere
-returns-in-Nowhere t c =
+pub returns-in-None : goal.returns-in-None
+returns-in-None t c =
     λ f e h g k. let w = step f h c.if-at-eq0.false c.from_record-part.ensures c.look-v.ensures in let here = scope_of c.args.here e in
     let after = scope_of c.args.after e in let ok : name_ok here w.label w.below ≡ true = sym
     (c.name_ok.ensures w.label w.below e w.kind w.p w.q w.first g (sound_first w _ k)) ∙
     c.if-not-name_ok.false in let z = sym c.is_plan.ensures ∙ c.if-not-is_plan.true in c.bad_name.ensures w.after e w.next g (sound_rest w _ k z)
     ∙ place_after name_ok hand w here after _ _ (hand_part w c.args.here e z c.first_view.ensures c.rest_view.ensures) refl ok (sym
-    c.in-Nowhere.is ∙ c.bad_name-below.ensures w.below e w.first g (λ i l. absurd (omega arith)))
+    c.in-None.is ∙ c.bad_name-below.ensures w.below e w.first g (λ i l. absurd (omega arith)))
 
-pub returns-in-At-under : goal.returns-in-At-under
-returns-in-At-under t c =
+pub returns-in-Some-under : goal.returns-in-Some-under
+returns-in-Some-under t c =
     λ f e h g k. let w = step f h c.if-at-eq0.false c.from_record-part.ensures c.look-v.ensures in let here = scope_of c.args.here e in
     let after = scope_of c.args.after e in let ok : name_ok here w.label w.below ≡ true = sym
     (c.name_ok.ensures w.label w.below e w.kind w.p w.q w.first g (sound_first w _ k)) ∙
     c.if-not-name_ok.false in place_below name_ok hand w here after _ _
-    (hand_plan w here _ c.view_of-own.ensures (sym c.is_plan.ensures ∙ c.if-not-is_plan.false)) refl _ ok (sym c.in-At-under.is
+    (hand_plan w here _ c.view_of-own.ensures (sym c.is_plan.ensures ∙ c.if-not-is_plan.false)) refl _ ok (sym c.in-Some-under.is
     ∙ c.bad_name-under.ensures w.below w.below w.first w.first (sound_below here w.label w.below (c.role_of-role.ensures ∙ ap (λ (n : ℕ). role (what_of
     n)) w.kind) c.known_inputs-inputs.ensures ok))
 
-pub returns-in-Nowhere-under : goal.returns-in-Nowhere-under
-returns-in-Nowhere-under t c =
+pub returns-in-None-under : goal.returns-in-None-under
+returns-in-None-under t c =
     λ f e h g k. let w = step f h c.if-at-eq0.false c.from_record-part.ensures c.look-v.ensures in let here =
     scope_of c.args.here e in let after = scope_of c.args.after e in
     let ok : name_ok here w.label w.below ≡ true = sym (c.name_ok.ensures w.label w.below e w.kind w.p w.q w.first g (sound_first w _ k))
     ∙ c.if-not-name_ok.false in let z
-    = sym c.is_plan.ensures ∙ c.if-not-is_plan.false in c.bad_name-in-Nowhere-under.ensures w.after e w.next g (sound_next w _ k c.but_one.ensures z) ∙
+    = sym c.is_plan.ensures ∙ c.if-not-is_plan.false in c.bad_name-in-None-under.ensures w.after e w.next g (sound_next w _ k c.but_one.ensures z) ∙
     place_after name_ok hand w here after _ _ (hand_plan w here _ c.view_of-own.ensures z) refl
-    ok (sym c.in-Nowhere-under.is ∙ c.bad_name-under.ensures w.below w.below w.first
+    ok (sym c.in-None-under.is ∙ c.bad_name-under.ensures w.below w.below w.first
     w.first (sound_below here w.label w.below (c.role_of-role.ensures ∙ ap (λ (n : ℕ). role (what_of n)) w.kind) c.known_inputs-inputs.ensures
     ok))

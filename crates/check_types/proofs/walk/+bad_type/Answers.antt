@@ -118,8 +118,8 @@ bad_type-under-requires t c =
       ),
     )
 
-pub bad_type-requires-in-Nowhere-under : goal.bad_type-requires-in-Nowhere-under
-bad_type-requires-in-Nowhere-under t c =
+pub bad_type-requires-in-None-under : goal.bad_type-requires-in-None-under
+bad_type-requires-in-None-under t c =
     let p = c.requires.0 in
     let w = step p.forest p.linked c.if-at-eq0.false
     c.from_record-part.ensures
@@ -132,8 +132,8 @@ bad_type-requires-in-Nowhere-under t c =
       ),
     )
 
-pub returns-in-At : goal.returns-in-At
-returns-in-At t c =
+pub returns-in-Some : goal.returns-in-Some
+returns-in-Some t c =
     λ f e u h g z. let w = step f h
     c.if-at-eq0.false
     c.from_record-part.ensures
@@ -152,10 +152,10 @@ returns-in-At t c =
     (c.type_ok.ensures (record { label = w.label; below = w.below }) u e
     (tree_at w h c.from_record-part.ensures) g z))
     _ c.if-not-type_ok.false
-    (sym c.in-At.is ∙ c.bad_type-below.ensures w.below e u w.first g z)
+    (sym c.in-Some.is ∙ c.bad_type-below.ensures w.below e u w.first g z)
 
-pub returns-in-Nowhere : goal.returns-in-Nowhere
-returns-in-Nowhere t c =
+pub returns-in-None : goal.returns-in-None
+returns-in-None t c =
     λ f e u h g z. let w = step f h
     c.if-at-eq0.false
     c.from_record-part.ensures
@@ -174,10 +174,10 @@ returns-in-Nowhere t c =
     (c.type_ok.ensures (record { label = w.label; below = w.below }) u e
     (tree_at w h c.from_record-part.ensures) g z))
     c.if-not-type_ok.false
-    (sym c.in-Nowhere.is ∙ c.bad_type-below.ensures w.below e u w.first g z)
+    (sym c.in-None.is ∙ c.bad_type-below.ensures w.below e u w.first g z)
 
-pub returns-in-At-under : goal.returns-in-At-under
-returns-in-At-under t c =
+pub returns-in-Some-under : goal.returns-in-Some-under
+returns-in-Some-under t c =
     λ f e u h g z. let w = step f h c.if-at-eq0.false
     c.from_record-part.ensures
     c.look-v.ensures in place_below (type_ok (alone u)) hand w
@@ -189,13 +189,13 @@ returns-in-At-under t c =
     (tree_at w h c.from_record-part.ensures) w.first
     z)) _
     c.if-not-type_ok-2.false
-    (sym c.in-At-under.is ∙ c.bad_type-under.ensures w.below w.below u w.first w.first z)
+    (sym c.in-Some-under.is ∙ c.bad_type-under.ensures w.below w.below u w.first w.first z)
 
-pub returns-in-Nowhere-under : goal.returns-in-Nowhere-under
-returns-in-Nowhere-under t c =
+pub returns-in-None-under : goal.returns-in-None-under
+returns-in-None-under t c =
     λ f e u h g z. let w = step f h c.if-at-eq0.false
     c.from_record-part.ensures
-    c.look-v.ensures in c.bad_type-in-Nowhere-under.ensures w.after e u
+    c.look-v.ensures in c.bad_type-in-None-under.ensures w.after e u
     w.next g z ∙ place_after (type_ok (alone u)) hand w
     (scope_of c.args.here e) (scope_of c.args.after e) _ _ (hand_plan w
     (scope_of c.args.here e) _ c.view_of-own.ensures (sym c.is_plan.ensures ∙ c.if-not-is_plan.false))
@@ -204,5 +204,5 @@ returns-in-Nowhere-under t c =
     (c.type_ok-else-not-is_plan.ensures (record { label = w.label; below = w.below }) u w.below
     (tree_at w h c.from_record-part.ensures) w.first z))
     c.if-not-type_ok-2.false
-    (sym c.in-Nowhere-under.is ∙ c.bad_type-under.ensures w.below w.below u w.first w.first
+    (sym c.in-None-under.is ∙ c.bad_type-under.ensures w.below w.below u w.first w.first
     z)
