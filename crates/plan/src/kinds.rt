@@ -2,7 +2,94 @@
 // A new kind is one number here, one row in each table of word_ranges.rt and child_patterns.rt, of a plan its role in field_sources.rt,
 // and a failed proof wherever it is not treated.
 ghost use Rattle.std.specs.Prelude.{◌≡◌};
-ghost use Rattle.plan.specs.Kinds.{expr_w, part_w, plan_w, what_of};
+ghost use Rattle.plan.specs.Kinds.{expr_w, number_of, part_w, plan_w, what_of};
+
+#[derive(Clone, Copy, Debug, PartialEq, Eq, Hash)]
+pub enum ExprKind {
+    Column,
+    Integer,
+    Boolean,
+    Null,
+    Binary,
+    Not,
+    Test,
+    Between,
+    InList,
+    Function,
+}
+
+#[derive(Clone, Copy, Debug, PartialEq, Eq, Hash)]
+pub enum PlanKind {
+    TableScan,
+    Filter,
+    Projection,
+    Join,
+    SubqueryAlias,
+    Union,
+    Distinct,
+    Sort,
+    Repartition,
+    Limit,
+    Aggregate,
+    Window,
+}
+
+#[derive(Clone, Copy, Debug, PartialEq, Eq, Hash)]
+pub enum PartKind {
+    FieldPart,
+    EntryPart,
+    PairPart,
+    KeyPart,
+    AggPart,
+    WinPart,
+}
+
+// What a record is.
+#[derive(Clone, Copy, Debug, PartialEq, Eq, Hash)]
+pub enum What {
+    Expr(ExprKind),
+    Plan(PlanKind),
+    Part(PartKind),
+    Unknown,
+}
+
+// What a record is whose kind has this number.
+#[tactic(auto, unfolding(crate::specs::Kinds::what_of, crate::specs::Kinds::among))]
+pub fn what_of(kind: usize) -> What
+    ensures { result ≡ what_of kind }
+{
+    match kind {
+        1 => What::Expr(ExprKind::Column),
+        2 => What::Expr(ExprKind::Integer),
+        3 => What::Expr(ExprKind::Boolean),
+        4 => What::Expr(ExprKind::Null),
+        5 => What::Expr(ExprKind::Binary),
+        6 => What::Expr(ExprKind::Not),
+        7 => What::Expr(ExprKind::Test),
+        8 => What::Expr(ExprKind::Between),
+        9 => What::Expr(ExprKind::InList),
+        10 => What::Expr(ExprKind::Function),
+        32 => What::Plan(PlanKind::TableScan),
+        33 => What::Plan(PlanKind::Filter),
+        34 => What::Plan(PlanKind::Projection),
+        35 => What::Plan(PlanKind::Join),
+        36 => What::Plan(PlanKind::SubqueryAlias),
+        37 => What::Plan(PlanKind::Union),
+        38 => What::Plan(PlanKind::Distinct),
+        39 => What::Plan(PlanKind::Sort),
+        40 => What::Plan(PlanKind::Repartition),
+        41 => What::Plan(PlanKind::Limit),
+        42 => What::Plan(PlanKind::Aggregate),
+        43 => What::Plan(PlanKind::Window),
+        48 => What::Part(PartKind::FieldPart),
+        49 => What::Part(PartKind::EntryPart),
+        50 => What::Part(PartKind::PairPart),
+        51 => What::Part(PartKind::KeyPart),
+        52 => What::Part(PartKind::AggPart),
+        53 => What::Part(PartKind::WinPart),
+        _ => What::Unknown,
+    }
+}
 
 // ---- expressions
 
