@@ -37,9 +37,7 @@ pub fn relink(out: &mut [u8], n: usize)
         → out.old ≡ flat 1 t ++ rest → out.new ≡ enc 0 t ++ rest }
 {
     let mut table = [0usize; MAX_DEPTH + 2];
-    let mut i = n;
-    while i != 0 {
-        i -= 1;
+    for i in (0..n).rev() {
         link_one(out, &mut table, i);
     }
 }

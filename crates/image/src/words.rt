@@ -3,14 +3,7 @@ ghost use Rattle.std.specs.Prelude.{◌≡◌, ◌++◌, ◌+◌, ◌<◌, ◌�
 ghost use Rattle.std.proofs.lemmas.List.Edits.{sets};
 ghost use Rattle.image.specs.Word.{le, word};
 
-// A byte as a number: the index is then all that a read of it asks for.
-fn wide_byte(x: u8) -> usize
-    ensures { (result ≡ x) × (result < 256) }
-{
-    x as usize
-}
-
-// A word as a number, likewise.
+// A word as a number.
 pub fn wide(x: u32) -> usize
     ensures { (result ≡ x) × (result < 4294967296) }
 {
@@ -18,25 +11,22 @@ pub fn wide(x: u32) -> usize
 }
 
 // The word at byte `at`.
+#[tactic(auto, unfolding(crate::specs::Word::word))]
 pub fn word_at(s: &[u8], at: usize) -> usize
     requires { at + 4 ≤ length s.now }
     ensures { (result ≡ word s.now at) × (result < 4294967296) }
 {
-    wide_byte(s[at])
-        + wide_byte(s[at + 1]) * 256
-        + wide_byte(s[at + 2]) * 65536
-        + wide_byte(s[at + 3]) * 16777216
+    wide(u32::from_le_bytes([s[at], s[at + 1], s[at + 2], s[at + 3]]))
 }
 
 // Stores the word v at byte `at`.
+#[tactic(auto, unfolding(crate::specs::Word::le))]
 pub fn put_word(out: &mut [u8], at: usize, v: usize)
     requires { at + 4 ≤ length out.old }
     ensures { out.new ≡ sets out.old at (le v) }
 {
-    out[at] = (v % 256) as u8;
-    out[at + 1] = (v / 256 % 256) as u8;
-    out[at + 2] = (v / 65536 % 256) as u8;
-    out[at + 3] = (v / 16777216 % 256) as u8;
+    let word = (v % 4294967296) as u32;
+    out[at..at + 4].copy_from_slice(&word.to_le_bytes());
 }
 
 // Stores four words from byte `at` on.

@@ -14,6 +14,3 @@ abbrev pub invariant-loop-i : goal.invariant-loop-i
 invariant-loop-i l =
     (length l.out ≡ length l.initial.out)
     × ((t : Tree) (rest : List ℕ) → Deep t.below max_below → l.n ≡ size_t t → l.initial.out ≡ flat 1 t ++ rest → Back l.out l.table l.i (recs 1 t) rest)
-
-abbrev pub decreases-loop-i : goal.decreases-loop-i
-decreases-loop-i l = l.i
