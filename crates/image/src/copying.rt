@@ -1,12 +1,75 @@
 // Records and trees written flat into a work buffer, each record with its depth in the place of its first link.
+// `Writer` is what writers take; the functions below it, on a buffer and a record, stand until the last of them does.
 ghost use Rattle.std.specs.Prelude.{◌≡◌, ◌+◌, ◌<◌, ◌≤◌, length};
-ghost use Rattle.image.specs.Limits.{max_level, work_bytes};
+ghost use Rattle.image.specs.Limits.{max_level, no_room, work_bytes};
 ghost use Rattle.image.specs.Room.{Put, Wrote};
 ghost use Rattle.image.specs.Tree.{At, Readable, Tree, label_at};
 
 use crate::limits::{MAX_RECORDS, NO_ROOM};
 use crate::records::{FIRST_LINK, Label, NEXT_LINK, from_record, label_at, put_record};
 use crate::words::word_at;
+
+// A work buffer, and the record that is written next. Records past the buffer's end are counted, up to NO_ROOM, and not written.
+pub struct Writer<'a> {
+    pub bytes: &'a mut [u8],
+    pub next: usize,
+    ghost long: { length bytes.now ≡ work_bytes },
+    ghost counted: { next ≤ no_room },
+}
+
+impl<'a> Writer<'a> {
+    // Writes a record with its depth, where there is room.
+    pub fn put(&mut self, label: Label, level: usize)
+        ensures same { self.new.bytes.ghost_name ≡ self.old.bytes.ghost_name }
+        ensures put { Put self.old.bytes.now self.new.bytes.now self.old.next level self.new.next label }
+    {
+        let at = self.next;
+        if at < MAX_RECORDS {
+            put_record(self.bytes, at, label, level, 0);
+            self.next = at + 1;
+        } else {
+            self.next = NO_ROOM;
+        }
+    }
+
+    // Writes the tree that stands at the start of s.
+    pub fn copy_tree(&mut self, s: &[u8], base: usize, depth: usize, level: usize)
+        requires readable { Readable depth s.now base }
+        requires depth_bound { level + depth < max_level }
+        ensures same { self.new.bytes.ghost_name ≡ self.old.bytes.ghost_name }
+        ensures wrote { (t : Tree) → At t s.now base → Wrote self.old.bytes.now self.new.bytes.now self.old.next level self.new.next t }
+    {
+        // Past the buffer's end nothing is written, and no record need be looked at.
+        if MAX_RECORDS <= self.next {
+            self.next = NO_ROOM;
+            return;
+        }
+        self.put(label_at(s), level);
+        let mut from = word_at(s, FIRST_LINK);
+        while from != 0 {
+            let part = from_record(s, base, from);
+            self.copy_tree(part, from, depth - 1, level + 1);
+            from = word_at(part, NEXT_LINK);
+        }
+    }
+
+    // Writes a record of this kind, with the word p and no other.
+    pub fn put_kind(&mut self, kind: usize, p: usize, level: usize)
+        ensures same { self.new.bytes.ghost_name ≡ self.old.bytes.ghost_name }
+        ensures put { Put self.old.bytes.now self.new.bytes.now self.old.next level self.new.next
+            (record { kind = kind; p = p; q = 0; r = 0; lo = 0; hi = 0 }) }
+    {
+        let label = Label {
+            kind,
+            p,
+            q: 0,
+            r: 0,
+            lo: 0,
+            hi: 0,
+        };
+        self.put(label, level);
+    }
+}
 
 // Writes a record with its depth, where there is room, and returns the record after it: NO_ROOM at most.
 pub fn put(out: &mut [u8], at: usize, label: Label, level: usize) -> usize
