@@ -2,17 +2,20 @@
 use Rattle.std.specs.Prelude.{Bool, true, false, cond, List, [], ◌∷◌, ℕ, eqb}
 use Rattle.image.specs.Tree.{Label}
 
--- ---- the kinds, and what a record is: the enums of the code
+pub data ExprKind : Type 0 where
+  Column Integer Boolean Null Binary Not Test Between InList Function : ExprKind
 
-pub use Rattle.plan.specs.declared.kinds.ExprKind.{ExprKind}
-pub use Rattle.plan.specs.declared.kinds.ExprKind.TheVariants.{Column, Integer, Boolean, Null, Binary, Not, Test, Between, InList, Function}
-pub use Rattle.plan.specs.declared.kinds.PlanKind.{PlanKind}
-pub use Rattle.plan.specs.declared.kinds.PlanKind.TheVariants.{TableScan, Filter, Projection, Join, SubqueryAlias, Union, Distinct, Sort}
-pub use Rattle.plan.specs.declared.kinds.PlanKind.TheVariants.{Repartition, Limit, Aggregate, Window}
-pub use Rattle.plan.specs.declared.kinds.PartKind.{PartKind}
-pub use Rattle.plan.specs.declared.kinds.PartKind.TheVariants.{FieldPart, EntryPart, PairPart, KeyPart, AggPart, WinPart}
-pub use Rattle.plan.specs.declared.kinds.What.{What}
-pub use Rattle.plan.specs.declared.kinds.What.TheVariants.{Expr as expr, Plan as plan, Part as part, Unknown as unknown}
+pub data PlanKind : Type 0 where
+  TableScan Filter Projection Join SubqueryAlias Union Distinct Sort Repartition Limit Aggregate Window : PlanKind
+
+pub data PartKind : Type 0 where
+  FieldPart EntryPart PairPart KeyPart AggPart WinPart : PartKind
+
+pub data What : Type 0 where
+  expr : ExprKind → What
+  plan : PlanKind → What
+  part : PartKind → What
+  unknown : What
 
 abbrev pub number_e : ExprKind → ℕ
 number_e Column = 1
