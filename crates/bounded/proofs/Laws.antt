@@ -51,6 +51,12 @@ module _ {T : Type 0} {N : ℕ} {c : Bounded T N} {xs : List T} (h : Holds c xs)
   pub whole : c.len ≤ N → listed c ≡ xs
   whole small = h.lists ∙ take_all N xs (omega (arith, count_is small))
 
+  -- what is held, and has room, stands in the list
+  pub reaches : (i : ℕ) → i < N → i < length xs → i < c.len
+  unfolding most
+  reaches i l k = omega (arith, h.count)
+
+  -- a list is too long if it holds more than there is room for
   pub is_long : N < c.len → N < length xs
   unfolding most
   is_long many = omega (arith, h.count)
