@@ -14,7 +14,8 @@ use native.Mathlib.Omega.{arith}
 use native.Mathlib.Numerals.{add-one}
 use lib.ListN.{length, get_or, drop, drop_of_length-le}
 use lib.Seq.{drop-cons}
-use Rattle.bounded.proofs.Laws.{count_is, fits, holds_full, none_of, whole}
+use Rattle.bounded.proofs.Laws.{fits, holds_full, none_of}
+pub use Rattle.bounded.proofs.Laws.{count_is, whole}
 use Rattle.image.specs.Limits.{max_list}
 use Rattle.plan.specs.Syntax.{Expr}
 use Rattle.plan.specs.Lists.{put, keep, any}
