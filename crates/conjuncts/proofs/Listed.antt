@@ -12,71 +12,14 @@ use mathlib.Core.List.{List, [], ◌∷◌, ◌++◌, append-nil}
 use Prim.Native.Nat.{ℕ, zero, suc, ◌+◌, ◌-◌, ◌≤◌, ◌<◌}
 use native.Mathlib.Omega.{arith}
 use native.Mathlib.Numerals.{add-one}
-use lib.ListN.{length, get_or, drop, set, length-append, drop_of_length-le}
-use lib.Seq.{take_all, take-append-le, take-suc-set, drop-cons}
-use Rattle.image.specs.Limits.{max_list, too_many}
+use lib.ListN.{length, get_or, drop, drop_of_length-le}
+use lib.Seq.{drop-cons}
+use Rattle.bounded.proofs.Laws.{fits, holds_full, none_of}
+pub use Rattle.bounded.proofs.Laws.{count_is, whole}
+use Rattle.image.specs.Limits.{max_list}
 use Rattle.plan.specs.Syntax.{Expr}
 use Rattle.plan.specs.Lists.{put, keep, any}
-use Rattle.conjuncts.specs.Items.{Conjuncts, FALSE, most, listed, Holds, Item, Items, inil, icons, Lists, Known}
-
--- ---- the numbers of a list
-
-module _ {c : Conjuncts} {xs : List ℕ} (h : Holds c xs) where
-  -- a list that is whole has as many as it says
-  pub count_is : c.len ≤ max_list → length xs ≡ c.len
-  unfolding most
-  count_is small = omega (arith, h.count)
-
-  count_small : length xs ≤ max_list → c.len ≤ max_list
-  unfolding most
-  count_small small = omega (arith, h.count)
-
-  -- one that is full is full of what it holds
-  count_more : max_list ≤ c.len → (max_list ≤ length xs) × (most (length xs + 1) ≡ too_many)
-  unfolding most
-  count_more many = omega (arith, h.count)
-
-  -- one that is too long is counted as too_many
-  count_over : max_list < c.len → c.len ≡ too_many
-  unfolding most
-  count_over many = omega (arith, h.count)
-
-  -- a list that is whole stands in its array
-  pub whole : c.len ≤ max_list → listed c ≡ xs
-  whole small = h.lists ∙ take_all max_list xs (omega (arith, count_is small))
-
-most_is : (n : ℕ) → n ≤ too_many → most n ≡ n
-unfolding most
-most_is n h = omega arith
-
-longer : (xs : List ℕ) (x : ℕ) → length (xs ++ (x ∷ [])) ≡ length xs + 1
-longer xs x = length-append xs (x ∷ [])
-
-module _ (c : Conjuncts) (x : ℕ) (xs : List ℕ) (h : Holds c xs) (long : length c.at ≡ max_list) where
-  -- x is appended
-  pub added : c.len < max_list → Holds (record { at = set c.at c.len x; len = c.len + 1 }) (xs ++ (x ∷ []))
-  added small =
-      let n : length xs ≡ c.len = count_is h (omega arith) in
-      let m : length (xs ++ (x ∷ [])) ≡ c.len + 1 = longer xs x ∙ rw n in
-      record {
-        lists = rw (add-one, take-suc-set c.at c.len x (omega arith), whole h (omega arith), take_all max_list (xs ++ (x ∷ [])) (omega arith));
-        count = rw m (sym (most_is (c.len + 1) (omega arith)));
-      }
-
-  -- there is no room for x
-  pub not_added : max_list ≤ c.len → Holds (record { at = c.at; len = too_many }) (xs ++ (x ∷ []))
-  not_added many =
-      let k = count_more h many in
-      record {
-        lists = rw (take-append-le max_list xs (x ∷ []) k.0, ← h.lists, take_all too_many c.at (omega arith), take_all c.len c.at (omega arith));
-        count = rw (longer xs x) (sym k.1);
-      }
-
--- a list that is too long holds one more by doing nothing
-holds_full : {c : Conjuncts} {xs : List ℕ} (x : ℕ) → Holds c xs → max_list < c.len → Holds c (xs ++ (x ∷ []))
-holds_full {c} {xs} x h many =
-    let m = count_more h (omega arith) in
-    record { lists = rw (take-append-le max_list xs (x ∷ []) m.0) h.lists; count = rw (longer xs x) (count_over h many ∙ sym m.1) }
+use Rattle.conjuncts.specs.Items.{Conjuncts, FALSE, listed, Holds, Item, Items, inil, icons, Lists, Known}
 
 -- ---- the expressions of a list
 
@@ -100,8 +43,7 @@ module _ {s : List ℕ} where
 
   -- an empty list
   pub lists_none : {c : Conjuncts} → (listed c ≡ []) × (c.len ≡ 0) → Lists s c []
-  unfolding most
-  lists_none h = record { numbers = []; holds = record { lists = h.0; count = h.1 }; items = inil }
+  lists_none {c} h = record { numbers = []; holds = none_of c h; items = inil }
 
   -- an item is appended
   pub lists_add : {c r : Conjuncts} {es : List Expr} {e : Expr} (n : ℕ) → Lists s c es → Item s n e
@@ -117,7 +59,7 @@ module _ {s : List ℕ} where
 
   -- a list of few enough is whole
   pub known_of : {c : Conjuncts} {es : List Expr} → Lists s c es → length es ≤ max_list → Known s c
-  known_of {c} {es} h small = record { exprs = es; lists = h; most = count_small h.holds (rw (← items_length h.items) small) }
+  known_of {c} {es} h small = record { exprs = es; lists = h; most = fits h.holds (rw (← items_length h.items) small) }
 
   -- of a list that is whole
   module _ {c : Conjuncts} {es : List Expr} (h : Lists s c es) (small : c.len ≤ max_list) where

@@ -1,13 +1,19 @@
 -- A list of conjuncts as a list of expressions: what each item stands for.
-use Rattle.std.specs.Prelude.{◌≡◌, false, List, [], ◌∷◌, ℕ, ◌*◌, ◌-◌, ◌≤◌, ◌<◌, length, take}
-use Rattle.image.specs.Limits.{max_list, max_records, too_many}
+use Rattle.std.specs.Prelude.{◌≡◌, false, List, [], ◌∷◌, ℕ, ◌*◌, ◌≤◌, ◌<◌}
+use Rattle.image.specs.Limits.{max_list, max_records}
 use Rattle.plan.specs.Syntax.{Expr, bool}
 use Rattle.conjuncts.specs.Standing.{Standing}
-use Rattle.conjuncts.specs.declared.lists.Conjuncts as declared
+use Rattle.bounded.specs.declared.Bounded.{Bounded}
 
--- the struct of the code
+-- the numbers in a list of the code: `listed`; and `Holds xs`: those of xs, or as many as there is room for
+pub use Rattle.bounded.specs.Lists.{listed, Holds}
+
+-- .. and how many it says that it has
+unfoldable pub use Rattle.bounded.specs.Lists.{most}
+
+-- the list of the code
 abbrev pub Conjuncts : Type 0
-Conjuncts = declared.Conjuncts
+Conjuncts = Bounded ℕ max_list
 
 abbrev pub FALSE : Expr
 FALSE = bool false
@@ -25,21 +31,6 @@ replaced_by = max_records
 -- so much more for the clause out of an OR
 abbrev pub clause_by : ℕ
 clause_by = 2 * max_records
-
--- ---- the numbers of a list
-
--- n, and too_many at most
-unfoldable pub most : ℕ → ℕ
-most n = n - (n - too_many)
-
--- what stands in the list's array
-abbrev pub listed : Conjuncts → List ℕ
-listed c = take c.len c.at
-
--- c holds the list xs, or as much of it as there is room for
-pub record Holds (c : Conjuncts) (xs : List ℕ) : Type 0 where
-  pub lists : listed c ≡ take max_list xs
-  pub count : c.len ≡ most (length xs)
 
 -- ---- the expressions of a list
 

@@ -1,25 +1,19 @@
-// Lists of at most MAX_LIST conjuncts, each an item of items.rt. A list goes in by value and comes back.
+// Lists of at most MAX_LIST conjuncts, each an item of items.rt.
 ghost use Rattle.std.specs.Prelude.{◌≡◌, ◌++◌, ◌∷◌, List, [], ◌<◌, ℕ, get_or, length};
 ghost use Rattle.image.specs.Limits.{max_records};
 ghost use Rattle.plan.specs.Lists.{put};
 ghost use Rattle.plan.specs.Syntax.{Expr};
 ghost use Rattle.conjuncts.specs.Items.{Holds, Item, Lists, listed};
 
-use image::limits::{MAX_LIST, TOO_MANY};
+use bounded::Bounded;
+use image::limits::MAX_LIST;
 
-#[derive(Clone, Copy)]
-pub struct Conjuncts {
-    pub at: [u16; MAX_LIST],
-    pub len: usize,
-}
+pub type Conjuncts = Bounded<u16, MAX_LIST>;
 
 pub fn empty() -> Conjuncts
     ensures { (listed result ≡ []) × (result.len ≡ 0) }
 {
-    Conjuncts {
-        at: [0u16; MAX_LIST],
-        len: 0,
-    }
+    Bounded::new()
 }
 
 // Appends x, where there is room; past the end the list is counted as too long.
@@ -27,14 +21,8 @@ pub fn add(c: Conjuncts, x: usize) -> Conjuncts
     requires { x < 65536 }
     ensures { (xs : List ℕ) → Holds c xs → Holds result (xs ++ (x ∷ [])) }
 {
-    let n = c.len;
     let mut r = c;
-    if n < MAX_LIST {
-        r.at[n] = x as u16;
-        r.len = n + 1;
-        return r;
-    }
-    r.len = TOO_MANY;
+    r.push(x as u16);
     r
 }
 
@@ -55,5 +43,5 @@ pub fn item_at(c: Conjuncts, i: usize) -> usize
     ensures { result ≡ get_or (listed c) i 0 }
 {
     let items = c.at;
-    items[i] as usize
+    usize::from(items[i])
 }

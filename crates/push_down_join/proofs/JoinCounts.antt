@@ -170,11 +170,11 @@ conditions_count [] h = refl
 conditions_count (e ∷ es) h = ap length (split_joined e h)
 
 -- counts up to `too_many`
-few_of : (n m : ℕ) → n ≡ most m → n ≤ max_list → m ≤ max_list
+few_of : (n m : ℕ) → n ≡ most max_list m → n ≤ max_list → m ≤ max_list
 unfolding most
 few_of n m e h = omega arith
 
-count_of : (n m : ℕ) → n ≡ most m → m ≤ max_list → n ≤ max_list
+count_of : (n m : ℕ) → n ≡ most max_list m → m ≤ max_list → n ≤ max_list
 unfolding most
 count_of n m e h = omega arith
 

@@ -14,6 +14,7 @@ use borrow.Author.Tests.{eq-eqb, ne_eqb}
 use Rattle.plan.specs.Lists.{◌&◌}
 use Rattle.plan.specs.Syntax.{Name, Expr, col}
 use Rattle.rewrite.specs.Utils.{is_empty}
+use Rattle.image.specs.Limits.{max_list}
 use Rattle.conjuncts.specs.Items.{Conjuncts, most, Holds, Items, inil, icons, Lists}
 use Rattle.writing.proofs.Pushing.{each_length, pushes_of}
 use Rattle.push_down_join.specs.Sides.{Sides}
@@ -35,22 +36,22 @@ module _ {s : List ℕ} where
   }
 
   -- what a list counts
-  pub lists_count : {c : Conjuncts} {es : List Expr} → Lists s c es → c.len ≡ most (length es)
-  lists_count h = let p = pushes_of {σ = λ x. col x} h in p.holds.count ∙ ap most (sym (each_length p.items))
+  pub lists_count : {c : Conjuncts} {es : List Expr} → Lists s c es → c.len ≡ most max_list (length es)
+  lists_count h = let p = pushes_of {σ = λ x. col x} h in p.holds.count ∙ ap (most max_list) (sym (each_length p.items))
 
   pub sides_count : {σ : Name → Expr} {ns : List Name} {t : Name → Bool} {c : Conjuncts} {es : List Expr} → Sides s σ ns t c es
-      → c.len ≡ most (length es)
-  sides_count h = h.holds.count ∙ ap most (sym (each_length h.items))
+      → c.len ≡ most max_list (length es)
+  sides_count h = h.holds.count ∙ ap (most max_list) (sym (each_length h.items))
 
 -- 0 where it is empty
-pub counts_none : (n : ℕ) (es : List Expr) → n ≡ most (length es) → eqb n 0 ≡ is_empty es
+pub counts_none : (n : ℕ) (es : List Expr) → n ≡ most max_list (length es) → eqb n 0 ≡ is_empty es
 unfolding most
 counts_none n [] e = eq-eqb n 0 e
 counts_none n (x ∷ es) e = ne_eqb n 0 (λ z. omega arith)
 
 -- ---- whether anything moves
 
-pub moves_flag : (a b c : ℕ) (xs ys zs : List Expr) → a ≡ most (length xs) → b ≡ most (length ys) → c ≡ most (length zs)
+pub moves_flag : (a b c : ℕ) (xs ys zs : List Expr) → a ≡ most max_list (length xs) → b ≡ most max_list (length ys) → c ≡ most max_list (length zs)
     → ((not (eqb a 0) || not (eqb b 0)) || not (eqb c 0)) ≡ not (is_empty xs & (is_empty ys & is_empty zs))
 unfolding ◌&◌
 moves_flag a b c xs ys zs ha hb hc =

@@ -4,7 +4,8 @@
 --     ends-…          what a call has appended as it returns
 -- Assumes nothing.
 use mathlib.Core.Path.{◌≡◌, refl, sym, ap, ◌∙◌}
-use mathlib.Core.Bool.{Bool, true, false, not, ◌&&◌, ◌||◌, cond}
+use mathlib.Core.Bool.{Bool, true, false}
+use Rattle.std.specs.Prelude.{Option, Some, None}
 use mathlib.Core.List.{List, [], ◌∷◌, ◌++◌, map, append_assoc, map-map}
 use Prim.Native.Nat.{ℕ, ◌-◌, ◌*◌, ◌<◌}
 use native.Mathlib.Omega.{arith}
@@ -87,24 +88,15 @@ plan_below h f = let g = f.deep h.deep in record { plan = f.input; at = f.stands
 -- ---- qualifiers
 
 -- an alias below an alias, or below none
-pub called_again : (set alias : Bool) (q w : ℕ) (ns : List Name)
-    → called (set || alias) (cond (alias && not set) w q) ns ≡ called set q (called alias w ns)
-called_again true true q w ns = sym (map-map (requalify q) (requalify w) ns ∙ twice ns)
+pub called_again : (renamed : Bool) (w : ℕ) (o : Option ℕ) (ns : List Name)
+    → called (below renamed w o) ns ≡ called o (called (below renamed w None) ns)
+called_again true w (Some q) ns = sym (map-map (requalify q) (requalify w) ns ∙ twice ns)
   where
     twice : (ns : List Name) → map (λ x. requalify q (requalify w x)) ns ≡ map (requalify q) ns
     twice [] = refl
     twice (nm r m ∷ ns) = ap (nm q m ∷◌) (twice ns)
-called_again true false q w ns = refl
-called_again false true q w ns = refl
-called_again false false q w ns = refl
-
--- the qualifier is a word
-pub below_small : (renamed : Bool) (w q : ℕ) (set : Bool) → w < 4294967296 → q < 4294967296 → below renamed w set q < 4294967296
-below_small renamed w q set h g = go (renamed && not set)
-  where
-    go : (b : Bool) → cond b w q < 4294967296
-    go true = h
-    go false = g
+called_again false w (Some q) ns = refl
+called_again renamed w None ns = refl
 
 -- ---- what has been appended
 
@@ -128,39 +120,39 @@ module _ (p : Plan) (l : Label) (e : l ≡ label_p p) {r : Role} (R : r ≡ role
       go m h (no_input k le is) = is
       go m h (over k i le is r) = absurd (omega (arith, (h.found le).past))
 
-  module _ (set : Bool) (q : ℕ) {f : Fields} (ns : List Name) (i : Plan)
-      (first : Names f (ns ++ called (set || renames r) (below (renames r) l.p set q) (schema i))) where
-    again : Names f (ns ++ called set q (called (renames (role_of p)) (label_p p).p (schema i)))
-    again = rw (R, e, called_again set (renames (role_of p)) q (label_p p).p (schema i)) at first
+  module _ (o : Option ℕ) {f : Fields} (ns : List Name) (i : Plan)
+      (first : Names f (ns ++ called (below (renames r) l.p o) (schema i))) where
+    again : Names f (ns ++ called o (called (below (renames (role_of p)) (label_p p).p None) (schema i)))
+    again = rw (R, e, called_again (renames (role_of p)) (label_p p).p o (schema i)) at first
 
     -- without an alias
-    plain : renames (role_of p) ≡ false → Names f (ns ++ called set q (schema i))
+    plain : renames (role_of p) ≡ false → Names f (ns ++ called o (schema i))
     plain k = rw k at again
 
     -- the fields of an input, and more behind them
     pub ends_more : {g : Fields} (xs : List Name) → renames (role_of p) ≡ false → schema p ≡ schema i ++ xs
-        → ((ms : List Name) → Names f ms → Names g (ms ++ called set q xs)) → Names g (ns ++ called set q (schema p))
+        → ((ms : List Name) → Names f ms → Names g (ms ++ called o xs)) → Names g (ns ++ called o (schema p))
     ends_more {g} xs k is step =
-        rw (is, called_append set q (schema i) xs, ← append_assoc ns (called set q (schema i)) (called set q xs))
-        (step (ns ++ called set q (schema i)) (plain k))
+        rw (is, called_append o (schema i) xs, ← append_assoc ns (called o (schema i)) (called o xs))
+        (step (ns ++ called o (schema i)) (plain k))
 
     -- the fields that the parts make behind them
     pub ends_parts : {g : Fields} → Rest p i → extends r ≡ true
-        → ((ms : List Name) → Names f ms → Names g (ms ++ called set q (made (kids_p p)))) → Names g (ns ++ called set q (schema p))
+        → ((ms : List Name) → Names f ms → Names g (ms ++ called o (made (kids_p p)))) → Names g (ns ++ called o (schema p))
     ends_parts {g} t k step = go (rw (R, e) at k) t
       where
-        go : extends (role_of p) ≡ true → Rest p i → Names g (ns ++ called set q (schema p))
+        go : extends (role_of p) ≡ true → Rest p i → Names g (ns ++ called o (schema p))
         go k (nothing_more x y is) = never k x
         go k (parts x y z is) = ends_more (made (kids_p p)) z is step
         go k (second x y z j le at is) = never k x
 
     -- nothing behind them
     pub ends_first : Rest p i → extends r ≡ false → gives_both r l.p ≡ false
-        → Names f (ns ++ called set q (schema p))
+        → Names f (ns ++ called o (schema p))
     ends_first t k both = go (rw (R, e) at k) (rw (R, e) at both) t
       where
         go : extends (role_of p) ≡ false → gives_both (role_of p) (label_p p).p ≡ false → Rest p i
-            → Names f (ns ++ called set q (schema p))
+            → Names f (ns ++ called o (schema p))
         go k both (nothing_more x y is) = rw is again
         go k both (parts x y z is) = never x k
         go k both (second x y z j le at is) = never y both

@@ -4,6 +4,7 @@
 -- Assumes nothing.
 use mathlib.Core.Path.{◌≡◌, refl, sym, ap, subst, ◌∙◌}
 use mathlib.Core.Bool.{Bool, true, false}
+use Rattle.std.specs.Prelude.{Option, Some, None}
 use mathlib.Core.List.{List, [], ◌∷◌, ◌++◌, append_assoc, append-nil, map-append}
 use Prim.Native.Nat.{ℕ}
 use Rattle.image.specs.Tree.{Label, Forest, none, node, Tree}
@@ -15,26 +16,26 @@ use Rattle.plan.specs.Syntax.{Name, nm}
 use Rattle.utils.specs.Fields.{Fields, Names}
 use Rattle.utils.specs.Inputs.{called, called_label, made}
 
-pub called_nil : (set : Bool) (q : ℕ) → called set q [] ≡ []
-called_nil true q = refl
-called_nil false q = refl
+pub called_nil : (o : Option ℕ) → called o [] ≡ []
+called_nil (Some q) = refl
+called_nil None = refl
 
-module _ (set : Bool) (q : ℕ) (l : Label) where
-  pub part_set : set ≡ true → makes (what l) ≡ true → called set q (called_label l) ≡ nm q l.q ∷ []
+module _ (o : Option ℕ) (l : Label) where
+  pub part_set : {q : ℕ} → o ≡ Some q → makes (what l) ≡ true → called o (called_label l) ≡ nm q l.q ∷ []
   unfolding put called_label
   part_set e k = rw (e, k)
 
-  pub part_kept : set ≡ false → makes (what l) ≡ true → called set q (called_label l) ≡ nm l.p l.q ∷ []
+  pub part_kept : o ≡ None → makes (what l) ≡ true → called o (called_label l) ≡ nm l.p l.q ∷ []
   unfolding put called_label
   part_kept e k = rw (e, k)
 
-  pub part_none : makes (what l) ≡ false → called set q (called_label l) ≡ []
+  pub part_none : makes (what l) ≡ false → called o (called_label l) ≡ []
   unfolding put called_label
-  part_none k = rw k (called_nil set q)
+  part_none k = rw k (called_nil o)
 
-pub called_append : (set : Bool) (q : ℕ) (a b : List Name) → called set q (a ++ b) ≡ called set q a ++ called set q b
-called_append true q a b = map-append (requalify q) a b
-called_append false q a b = refl
+pub called_append : (o : Option ℕ) (a b : List Name) → called o (a ++ b) ≡ called o a ++ called o b
+called_append (Some q) a b = map-append (requalify q) a b
+called_append None a b = refl
 
 made_node : (t : Tree) (after : Forest) → made (node t.label t.below after) ≡ called_label t.label ++ made after
 unfolding made put called_label
@@ -54,20 +55,20 @@ pub record Sum (f : Fields) (rest all : List Name) : Type 0 where
 pub sum_start : {f : Fields} {ns rest : List Name} → Names f ns → Sum f rest (ns ++ rest)
 sum_start {ns = ns} h = record { got = ns; names = h; is = refl }
 
-module _ (set : Bool) (q : ℕ) where
+module _ (o : Option ℕ) where
   -- the fields of a child are appended
   pub sum_next : {f g : Fields} {all : List Name} (t : Tree) (after : Forest)
-      → Sum f (called set q (made (node t.label t.below after))) all
-      → ((ns : List Name) → Names f ns → Names g (ns ++ called set q (called_label t.label))) → Sum g (called set q (made after)) all
+      → Sum f (called o (made (node t.label t.below after))) all
+      → ((ns : List Name) → Names f ns → Names g (ns ++ called o (called_label t.label))) → Sum g (called o (made after)) all
   sum_next t after h step = record {
-    got = h.got ++ called set q (called_label t.label);
+    got = h.got ++ called o (called_label t.label);
     names = step h.got h.names;
-    is = append_assoc h.got (called set q (called_label t.label)) (called set q (made after))
-        ∙ (ap (h.got ++◌) (sym (called_append set q (called_label t.label) (made after)) ∙ ap (called set q) (sym (made_node t after)))
+    is = append_assoc h.got (called o (called_label t.label)) (called o (made after))
+        ∙ (ap (h.got ++◌) (sym (called_append o (called_label t.label) (made after)) ∙ ap (called o) (sym (made_node t after)))
         ∙ h.is);
   }
 
   -- all fields are
-  pub sum_end : {f : Fields} {all : List Name} → Sum f (called set q (made none)) all → Names f all
+  pub sum_end : {f : Fields} {all : List Name} → Sum f (called o (made none)) all → Names f all
   unfolding made
-  sum_end {f} h = subst (Names f) (sym (append-nil h.got) ∙ (ap (h.got ++◌) (sym (called_nil set q)) ∙ h.is)) h.names
+  sum_end {f} h = subst (Names f) (sym (append-nil h.got) ∙ (ap (h.got ++◌) (sym (called_nil o)) ∙ h.is)) h.names

@@ -23,7 +23,8 @@ use Rattle.plan.specs.FieldSources.{makes, role, creates, renames, extends, give
 use Rattle.plan.specs.declared.field_sources.Role.{Role}
 use Rattle.plan.specs.Inputs.{plans_in}
 use Rattle.plan.proofs.Written.{name_back}
-use Rattle.utils.specs.Inputs.{called, made}
+use Rattle.std.specs.Prelude.{None}
+use Rattle.utils.specs.Inputs.{below, called, made}
 use Rattle.utils.proofs.Inputting.{no_tree}
 
 -- ---- expressions and parts are no inputs, and only parts make fields
@@ -98,7 +99,7 @@ role_of p = role (what (label_p p))
 -- what comes behind the fields of the input i
 pub data Rest (p i : Plan) : Type 0 where
   nothing_more : extends (role_of p) ≡ false → gives_both (role_of p) (label_p p).p ≡ false
-      → schema p ≡ called (renames (role_of p)) (label_p p).p (schema i) → Rest p i
+      → schema p ≡ called (below (renames (role_of p)) (label_p p).p None) (schema i) → Rest p i
   parts : extends (role_of p) ≡ true → gives_both (role_of p) (label_p p).p ≡ false → renames (role_of p) ≡ false
       → schema p ≡ schema i ++ made (kids_p p) → Rest p i
   second : extends (role_of p) ≡ false → gives_both (role_of p) (label_p p).p ≡ true → renames (role_of p) ≡ false

@@ -1,5 +1,5 @@
 -- The fields of a plan, read off its records.
-use Rattle.std.specs.Prelude.{Bool, true, false, not, ◌&&◌, cond, List, [], map, ℕ, ◌-◌, ◌<◌}
+use Rattle.std.specs.Prelude.{Bool, cond, Option, Some, None, List, [], map, ℕ, ◌-◌, ◌<◌}
 use Rattle.image.specs.Tree.{Label, Forest, none, node, At, Deep}
 use Rattle.plan.specs.FieldSources.{makes}
 use Rattle.plan.specs.Kinds.{what}
@@ -9,13 +9,14 @@ use Rattle.plan.specs.Syntax.{Name, nm, Plan}
 use Rattle.plan.specs.Trees.{plan_tree, kids_p}
 
 -- the qualifier that the fields of an input get, if they get one: of two aliases the upper one's
-abbrev pub below : Bool → ℕ → Bool → ℕ → ℕ
-below renamed p set q = cond (renamed && not set) p q
+abbrev pub below : Bool → ℕ → Option ℕ → Option ℕ
+below renamed p (Some q) = Some q
+below renamed p None = cond renamed (Some p) None
 
--- names with the qualifier q, or as they are
-abbrev pub called : Bool → ℕ → List Name → List Name
-called true q ns = map (requalify q) ns
-called false q ns = ns
+-- names with this qualifier, or as they are
+abbrev pub called : Option ℕ → List Name → List Name
+called (Some q) ns = map (requalify q) ns
+called None ns = ns
 
 -- the field that a part makes
 unfoldable pub called_label : Label → List Name

@@ -22,7 +22,8 @@ use Rattle.plan.specs.Syntax.{Name, Expr, col}
 use Rattle.plan.specs.Trees.{label_e, kids_e, expr_tree, each, entry_label, entry_kids}
 use Rattle.rewrite.specs.PushDownFilter.{pick, ren}
 use Rattle.utils.specs.Masks.{name_at}
-use Rattle.utils.specs.Fields.{Fields, most, field_at, Names}
+use Rattle.utils.specs.Fields.{Fields, field_at, Names}
+use Rattle.utils.proofs.Named.{names_at, names_count}
 use Rattle.writing.specs.Maps.{Maps}
 use Rattle.writing.specs.Renames.{SmallName, link_to, rename_bytes, renames_from, renames_tree}
 use Rattle.writing.proofs.Maps.{entries_map, maps}
@@ -178,18 +179,13 @@ pick_ren (y ∷ s) (z ∷ t) f g i x e h k =
     pick_ren s t f g (i + 1) x (omega arith) (λ j lt. rw (q j) (h (suc j) (omega arith))) (λ j lt. rw (q j) (k (suc j) (omega arith))) in
     pick_next x hi ki rest
 
--- as many as there are
-whole : {f : Fields} {s : List Name} → Names f s → f.len ≤ max_fields → length s ≡ f.len
-unfolding most
-whole h le = omega (arith, h.count)
-
 -- the renames are a map
 pub renames_map : {f g : Fields} {m : List ℕ} → At (renames_tree f g f.len) m 0 → f.len ≤ max_fields → (s t : List Name) → Names f s → Names g t
     → length s ≡ length t → Maps m 0 3 (λ x. col (ren s t x))
 renames_map {f} {g} {m} h le s t a b e =
-    let n : length s ≡ f.len = whole a le in
-    let fs : (j : ℕ) → j < length s → field_at f (0 + j) ≡ name_at s j = λ j lt. rw zero-add (a.names j (omega arith) lt) in
-    let gs : (j : ℕ) → j < length t → field_at g (0 + j) ≡ name_at t j = λ j lt. rw zero-add (b.names j (omega arith) lt) in
+    let n : length s ≡ f.len = names_count a le in
+    let fs : (j : ℕ) → j < length s → field_at f (0 + j) ≡ name_at s j = λ j lt. rw zero-add (names_at a j (omega arith) lt) in
+    let gs : (j : ℕ) → j < length t → field_at g (0 + j) ≡ name_at t j = λ j lt. rw zero-add (names_at b j (omega arith) lt) in
     maps
     (λ x. entries_map (renames_from f g 0 f.len) none x tt
     ∙ ap expr_tree (ap (λ (k : ℕ). pick (renames_from f g 0 k) x) (sym n) ∙ pick_ren s t f g 0 x e fs gs))

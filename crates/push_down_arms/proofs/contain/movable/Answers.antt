@@ -4,7 +4,7 @@ use native.Mathlib.Omega.{arith}
 use lib.ListN.{length}
 use Rattle.plan.specs.Syntax.{nm}
 use Rattle.utils.specs.Masks.{name_at}
-use Rattle.utils.proofs.Named.{names_count}
+use Rattle.utils.proofs.Named.{names_at, names_count}
 use Rattle.push_down_arms.specs.Movable.{may_move}
 use Rattle.push_down_base.proofs.Masking.{masks_start, masks_step, masks_end}
 use Rattle.push_down_arms.proofs.contain.movable.Goals as goal
@@ -20,7 +20,7 @@ loop-i-preserved c = (
       let i = c.loop-i.i in
       let lt : i < length ns = omega (arith, names_count k p, c.loop-i-test.true) in
       let e : nm c.q_at.result c.n_at.result ≡ name_at ns i =
-      rw (c.q_at.ensures.0, c.n_at.ensures.0) (k.names i (omega arith) lt) in
+      rw (c.q_at.ensures.0, c.n_at.ensures.0) (names_at k i (omega arith) lt) in
       masks_step i c.may_move-yes.result ns (may_move t) c.mark-set.ensures lt (c.may_move-yes.ensures t h ∙ ap (may_move t) e)
       (c.loop-i.invariant.1 t ns h k),
 )

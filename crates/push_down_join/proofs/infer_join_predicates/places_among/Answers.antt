@@ -6,7 +6,7 @@ use lib.ListN.{length}
 use Rattle.plan.specs.Syntax.{nm}
 use Rattle.utils.specs.Fields.{place_in}
 use Rattle.utils.specs.Masks.{name_at}
-use Rattle.utils.proofs.Named.{names_count}
+use Rattle.utils.proofs.Named.{names_at, names_count}
 use Rattle.push_down_base.proofs.Masking.{masks_start, masks_step, masks_end}
 use Rattle.push_down_join.proofs.infer_join_predicates.places_among.Goals as goal
 
@@ -26,7 +26,7 @@ loop-i-preserved c = (
       ) in
       let e : nm c.q_at.result c.n_at.result ≡ name_at ms i = rw
       (c.q_at.ensures.0, c.n_at.ensures.0)
-      (k.names i (omega (arith, c.requires.1)) lt) in
+      (names_at k i (omega (arith, c.requires.1)) lt) in
       masks_step i (ltb c.place_in-place.result c.args.k) ms
       (λ y. ltb (place_in ns y) c.args.k) c.mark-set.ensures lt
       (ap (λ j. ltb j c.args.k) (c.place_in-place.ensures ns h ∙ ap (place_in ns) e))

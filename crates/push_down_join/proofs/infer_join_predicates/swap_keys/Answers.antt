@@ -4,7 +4,7 @@ use native.Mathlib.Omega.{arith}
 use lib.ListN.{length}
 use Rattle.plan.specs.Syntax.{nm}
 use Rattle.utils.specs.Masks.{name_at}
-use Rattle.utils.proofs.Named.{names_count}
+use Rattle.utils.proofs.Named.{names_at, names_count}
 use Rattle.push_down_join.proofs.Growing.{swap_start, swap_step, swap_end}
 use Rattle.push_down_join.proofs.infer_join_predicates.swap_keys.Goals as goal
 
@@ -25,7 +25,7 @@ loop-i-preserved c = (
       ) in
       let e : nm c.q_at-q.result c.n_at-n.result ≡ name_at ns i = rw
       (c.q_at-q.ensures.0, c.n_at-n.ensures.0)
-      (k.names i (omega (arith, c.requires.len_le_max_fields)) lt) in
+      (names_at k i (omega (arith, c.requires.len_le_max_fields)) lt) in
       let p = c.partner-c.ensures t h in
       swap_step lt e p (c.is_nothing.ensures _ p) c.add_partner-to.ensures c.mark-alone.ensures
       (c.loop-i.invariant.1 t ns h k),

@@ -4,32 +4,27 @@ use mathlib.Core.List.{append-nil}
 use Rattle.utils.proofs.Making.{part_set, part_kept, part_none}
 use Rattle.utils.proofs.schema_columns.add_part.Goals as goal
 
-pub returns-then-set : goal.returns-then-set
-returns-then-set c =
-    λ ns h. let a = c.args in
-    rw (
+pub returns-then-not-makes_field : goal.returns-then-not-makes_field
+returns-then-not-makes_field c =
+    λ ns h. rw (
       ← c.label_at-l.ensures.0,
-      part_set a.set a.q c.label_at-l.result c.if-set.true
-          (sym c.makes_field.ensures ∙ c.if-makes_field.true),
+      part_none c.args.alias c.label_at-l.result (sym c.makes_field.ensures ∙ c.if-not-makes_field.true),
+      append-nil,
+    ) h
+
+pub returns-in-Some : goal.returns-in-Some
+returns-in-Some c =
+    λ ns h. rw (
+      ← c.label_at-l.ensures.0,
+      part_set c.args.alias c.label_at-l.result c.in-Some.is (sym c.makes_field.ensures ∙ c.if-not-makes_field.false),
+      ← c.wide.ensures.0,
     )
     (c.add_field.ensures ns h)
 
-pub returns-then-makes_field : goal.returns-then-makes_field
-returns-then-makes_field c =
-    λ ns h. let a = c.args in
-    rw (
+pub returns-in-None : goal.returns-in-None
+returns-in-None c =
+    λ ns h. rw (
       ← c.label_at-l.ensures.0,
-      part_kept a.set a.q c.label_at-l.result c.if-set.false
-          (sym c.makes_field.ensures ∙ c.if-makes_field.true),
+      part_kept c.args.alias c.label_at-l.result c.in-None.is (sym c.makes_field.ensures ∙ c.if-not-makes_field.false),
     )
-    (c.add_field-then-makes_field.ensures ns h)
-
-pub returns : goal.returns
-returns c =
-    λ ns h. let a = c.args in
-    rw (
-      ← c.label_at-l.ensures.0,
-      part_none a.set a.q c.label_at-l.result
-          (sym c.makes_field.ensures ∙ c.if-makes_field.false),
-      append-nil,
-    ) h
+    (c.add_field-in-None.ensures ns h)

@@ -7,7 +7,7 @@ use Rattle.utils.proofs.schema_columns.add_parts.Goals as goal
 
 pub loop-at-init : goal.loop-at-init
 loop-at-init c =
-    let p = c.requires.0 in (p.0, rw c.word_at-at.ensures.0 (chain _ p.1 (λ ns h. sum_start h)))
+    let p = c.requires in (p.0, rw c.word_at-at.ensures.0 (chain _ p.1 (λ ns h. sum_start h)))
 
 pub loop-at-preserved : goal.loop-at-preserved
 loop-at-preserved c =
@@ -17,15 +17,13 @@ loop-at-preserved c =
       c.loop-at.invariant.0,
       rw (c.word_at-at-in-loop-at.ensures.0, part)
           (again _ k u
-          (λ ns h. sum_next c.args.set
-          c.args.q u.turn.child u.turn.after (u.so_far ns h)
+          (λ ns h. sum_next c.args.alias u.turn.child u.turn.after (u.so_far ns h)
           (λ ms g. rw (← u.turn.here.head.label, ← part) (c.add_part-r.ensures ms g)))),
     )
 
 pub returns : goal.returns
 returns c =
     λ t ns h g. let k = c.loop-at.invariant.1 in for_all
-    (λ t. Names c.loop-at.r (ns ++ called c.args.set
-    c.args.q (made t.below))) k.stands
-    (sum_end c.args.set c.args.q
+    (λ t. Names c.loop-at.r (ns ++ called c.args.alias (made t.below))) k.stands
+    (sum_end c.args.alias
     (done _ k c.loop-at-test.false ns g)) t h

@@ -12,7 +12,7 @@ use Rattle.utils.proofs.schema_columns.add_parts.Given as goal
 abbrev pub invariant-loop-at : goal.invariant-loop-at
 invariant-loop-at l =
     (d : ℕ)
-    × Chain (λ t rest. (ns : List Name) → Names l.initial.r ns → Sum l.r (called l.set l.q (made rest)) (ns ++ called l.set l.q (made t.below))) d l.part
+    × Chain (λ t rest. (ns : List Name) → Names l.initial.r ns → Sum l.r (called l.alias (made rest)) (ns ++ called l.alias (made t.below))) d l.part
     l.base l.at
 
 abbrev pub decreases-loop-at : goal.decreases-loop-at
