@@ -4,7 +4,7 @@
 --     or-nothing, ..  what the operands' clauses make
 -- Assumes nothing.
 use mathlib.Core.Path.{◌≡◌, refl, sym, ap, ◌∙◌}
-use mathlib.Core.Bool.{Bool, true, false, ◌||◌, cond}
+use mathlib.Core.Bool.{Bool, true, false, ◌||◌, cond, ◌&&◌}
 use mathlib.Core.List.{List}
 use mathlib.Core.Option.{Option, none, some}
 use Prim.Native.Nat.{ℕ, ◌+◌, ◌-◌, ◌*◌, ◌≤◌, ◌<◌}
@@ -25,9 +25,7 @@ use Rattle.plan.proofs.Lists.{and_l, and_r}
 use Rattle.rewrite.specs.PushDownFilter.{both_or, either_and_option, guarded, extract_or_clause, is_or}
 use Rattle.conjuncts.specs.Standing.{Standing, ReadableE}
 use Rattle.conjuncts.proofs.Operands.{operands, AndParts, readable_left, readable_right}
-use Rattle.push_down_join.specs.declared.extract_or_clause.Clause.{Clause}
-use Rattle.push_down_join.specs.declared.extract_or_clause.Clause.TheVariants.{Made, Nothing}
-use Rattle.push_down_join.specs.Clauses.{operator_of, clause_of, either_and, yields, kept, or_clause}
+use Rattle.push_down_join.specs.Clauses.{operator_of, yields, kept, or_clause}
 
 -- ---- an AND, an OR, or any other expression
 
@@ -171,14 +169,14 @@ module _ (c : Name → Bool) (e : Expr) where
       go (disj a b k is) = absurd (omega arith)
       go (other k is) = is c
 
-  -- it reads the side alone, or not
-  pub other_made : {op : ℕ} → op ≡ operator_of (label_e e) → op ≡ 0 → true ≡ on_cols c e → Made ≡ clause_of (extract_or_clause c e)
+  -- any other yields if it reads the side alone
+  pub other_yields : {op : ℕ} → op ≡ operator_of (label_e e) → op ≡ 0 → on_cols c e ≡ yields (extract_or_clause c e)
   unfolding guarded
-  other_made is z k = rw (other_clause (sym is ∙ z), ← k)
-
-  pub other_nothing : {op : ℕ} → op ≡ operator_of (label_e e) → op ≡ 0 → false ≡ on_cols c e → Nothing ≡ clause_of (extract_or_clause c e)
-  unfolding guarded
-  other_nothing is z k = rw (other_clause (sym is ∙ z), ← k)
+  other_yields is z = sym (ap yields (other_clause (sym is ∙ z)) ∙ go (on_cols c e))
+    where
+      go : (b : Bool) → yields (guarded b e) ≡ b
+      go true = refl
+      go false = refl
 
   pub other_whole : {op : ℕ} {d : Expr} → op ≡ operator_of (label_e e) → op ≡ 0 → extract_or_clause c e ≡ some d → e ≡ d
   unfolding guarded
@@ -198,45 +196,24 @@ module _ (c : Name → Bool) {e : Expr} {x y : ℕ} {left right : List ℕ} wher
   unfolding extract_or_clause
   of_and u = ap (extract_or_clause c) u.is
 
-  module _ (u : Sides or e x y left right) where
-    -- on nothing the OR ends there
-    pub or_nothing_left : {r : Clause} → r ≡ clause_of (extract_or_clause c u.lhs) → r ≡ Nothing
-        → Nothing ≡ clause_of (extract_or_clause c e)
-    unfolding both_or
-    or_nothing_left p q = rw (of_or u) (go (extract_or_clause c u.lhs) (extract_or_clause c u.rhs) (sym p ∙ q))
-      where
-        go : (a b : Option Expr) → clause_of a ≡ Nothing → Nothing ≡ clause_of (both_or a b)
-        go none b h = refl
-        go (some a) none h = refl
-        go (some a) (some b) h = cc
-
-    pub or_nothing_right : {r : Clause} → r ≡ clause_of (extract_or_clause c u.rhs) → r ≡ Nothing
-        → Nothing ≡ clause_of (extract_or_clause c e)
-    unfolding both_or
-    or_nothing_right p q = rw (of_or u) (go (extract_or_clause c u.lhs) (extract_or_clause c u.rhs) (sym p ∙ q))
-      where
-        go : (a b : Option Expr) → clause_of b ≡ Nothing → Nothing ≡ clause_of (both_or a b)
-        go none b h = refl
-        go (some a) none h = refl
-        go (some a) (some b) h = cc
-
-    pub or_made : {r s : Clause} → r ≡ clause_of (extract_or_clause c u.lhs) → r ≡ Made
-        → s ≡ clause_of (extract_or_clause c u.rhs) → s ≡ Made → Made ≡ clause_of (extract_or_clause c e)
-    unfolding both_or
-    or_made p q h k = rw (of_or u) (go (extract_or_clause c u.lhs) (extract_or_clause c u.rhs) (sym p ∙ q) (sym h ∙ k))
-      where
-        go : (a b : Option Expr) → clause_of a ≡ Made → clause_of b ≡ Made → Made ≡ clause_of (both_or a b)
-        go none b h k = cc
-        go (some a) none h k = cc
-        go (some a) (some b) h k = refl
+  -- an OR yields if both its operands do
+  pub or_yields : (u : Sides or e x y left right)
+      → (yields (extract_or_clause c u.lhs) && yields (extract_or_clause c u.rhs)) ≡ yields (extract_or_clause c e)
+  unfolding both_or
+  or_yields u = sym (ap yields (of_or u) ∙ go (extract_or_clause c u.lhs) (extract_or_clause c u.rhs))
+    where
+      go : (a b : Option Expr) → yields (both_or a b) ≡ (yields a && yields b)
+      go none b = refl
+      go (some a) none = refl
+      go (some a) (some b) = refl
 
   -- an AND keeps each operand that yields
-  pub and_made : {r a b : Clause} (u : Sides and e x y left right) → r ≡ either_and a b → a ≡ clause_of (extract_or_clause c u.lhs)
-      → b ≡ clause_of (extract_or_clause c u.rhs) → r ≡ clause_of (extract_or_clause c e)
+  pub and_yields : (u : Sides and e x y left right)
+      → (yields (extract_or_clause c u.lhs) || yields (extract_or_clause c u.rhs)) ≡ yields (extract_or_clause c e)
   unfolding either_and_option
-  and_made u p q h = p ∙ rw (q, h, of_and u) (go (extract_or_clause c u.lhs) (extract_or_clause c u.rhs))
+  and_yields u = sym (ap yields (of_and u) ∙ go (extract_or_clause c u.lhs) (extract_or_clause c u.rhs))
     where
-      go : (a b : Option Expr) → either_and (clause_of a) (clause_of b) ≡ clause_of (either_and_option a b)
+      go : (a b : Option Expr) → yields (either_and_option a b) ≡ (yields a || yields b)
       go none b = refl
       go (some a) none = refl
       go (some a) (some b) = refl
@@ -245,21 +222,6 @@ module _ (c : Name → Bool) {e : Expr} {x y : ℕ} {left right : List ℕ} wher
 
 pub kept_or : {op : ℕ} (x : Option Expr) → op ≡ 2 → true ≡ kept op x
 kept_or {op} x e = rw (eq-eqb op 2 e)
-
-pub kept_nothing : {op : ℕ} {r : Clause} (x : Option Expr) → (op ≡ 2 → ⊥) → r ≡ clause_of x → r ≡ Nothing → false ≡ kept op x
-kept_nothing {op} x differs p q = rw (ne_eqb op 2 differs) (go x (sym p ∙ q))
-  where
-    go : (x : Option Expr) → clause_of x ≡ Nothing → false ≡ yields x
-    go none h = refl
-    go (some a) h = cc
-
-pub kept_made : (op : ℕ) {r : Clause} (x : Option Expr) → r ≡ clause_of x → r ≡ Made → true ≡ kept op x
-kept_made op x p q = go (eqb op 2) x (sym p ∙ q)
-  where
-    go : (b : Bool) (x : Option Expr) → clause_of x ≡ Made → true ≡ (b || yields x)
-    go true x h = refl
-    go false none h = cc
-    go false (some a) h = refl
 
 kept_some : (op : ℕ) (a : Expr) → kept op (some a) ≡ true
 kept_some op a = go (eqb op 2)
@@ -405,10 +367,10 @@ module _ (c : Name → Bool) (e : Expr) {op : ℕ} (is : op ≡ operator_of (lab
   pub or_top : op ≡ 2 → extract_or_clause c e ≡ or_clause c e
   or_top z = rw (or_operator e, ← is, eq-eqb op 2 z)
 
-  pub no_or_top : (op ≡ 2 → ⊥) → Nothing ≡ clause_of (or_clause c e)
+  pub no_or_top : (op ≡ 2 → ⊥) → false ≡ yields (or_clause c e)
   no_or_top nz = rw (or_operator e, ← is, ne_eqb op 2 nz)
 
-pub or_false : (c : Name → Bool) (e : Expr) → e ≡ bool false → Nothing ≡ clause_of (or_clause c e)
+pub or_false : (c : Name → Bool) (e : Expr) → e ≡ bool false → false ≡ yields (or_clause c e)
 unfolding is_or
 or_false c e is = rw is
 

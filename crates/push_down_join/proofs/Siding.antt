@@ -24,9 +24,7 @@ use Rattle.rewrite.specs.PushDownFilter as P
 use Rattle.conjuncts.specs.Items.{Conjuncts, FALSE, listed, Holds, Item, Items, inil, icons, Lists, Known, replaced_by, clause_by}
 use Rattle.conjuncts.specs.Standing.{Standing}
 use Rattle.conjuncts.proofs.Listed.{count_is, whole, lists_room, lists_at, next, at_end}
-use Rattle.push_down_join.specs.Clauses.{clause_of, or_clause}
-use Rattle.push_down_join.specs.declared.extract_or_clause.Clause.{Clause}
-use Rattle.push_down_join.specs.declared.extract_or_clause.Clause.TheVariants.{Made, Nothing}
+use Rattle.push_down_join.specs.Clauses.{or_clause, yields}
 use Rattle.writing.specs.Pushed.{Pushed, Each, nil, cons}
 use Rattle.writing.proofs.Pushing.{pushed_plain, pushed_changed}
 use Rattle.push_down_join.specs.Sides.{ClauseOf, Sided, Sides, Smalls}
@@ -103,21 +101,21 @@ module _ {s : List ℕ} {σ : Name → Expr} {ns : List Name} {t : Name → Bool
     }
 
   -- the clause of an item is, or none
-  module _ {to : Conjuncts} {es : List Expr} (e : Expr) {o : Clause} (h : Sides s σ ns t to es) (is : o ≡ clause_of (or_clause t e)) where
-    pub sides_nothing : o ≡ Nothing → Sides s σ ns t to (es ++ P.listed (or_clause t e))
+  module _ {to : Conjuncts} {es : List Expr} (e : Expr) {o : Bool} (h : Sides s σ ns t to es) (is : o ≡ yields (or_clause t e)) where
+    pub sides_nothing : o ≡ false → Sides s σ ns t to (es ++ P.listed (or_clause t e))
     unfolding P.listed
     sides_nothing k = go (or_clause t e) (sym is ∙ k)
       where
-        go : (x : Option Expr) → clause_of x ≡ Nothing → Sides s σ ns t to (es ++ P.listed x)
+        go : (x : Option Expr) → yields x ≡ false → Sides s σ ns t to (es ++ P.listed x)
         go O.none z = rw (append-nil es) h
         go (some a) z = let w : ◌≡◌ {A = ℕ} 0 1 = cc in absurd (omega arith)
 
-    pub sides_made : {r : Conjuncts} {n : ℕ} → o ≡ Made → Item s n e → on_cols (has ns) e ≡ true
+    pub sides_made : {r : Conjuncts} {n : ℕ} → o ≡ true → Item s n e → on_cols (has ns) e ≡ true
         → ((xs : List ℕ) → Holds to xs → Holds r (xs ++ ((n + clause_by) ∷ []))) → Sides s σ ns t r (es ++ P.listed (or_clause t e))
     unfolding P.listed
     sides_made {r} {n} k i held f = go (or_clause t e) refl (sym is ∙ k)
       where
-        go : (x : Option Expr) → or_clause t e ≡ x → clause_of x ≡ Made → Sides s σ ns t r (es ++ P.listed x)
+        go : (x : Option Expr) → or_clause t e ≡ x → yields x ≡ true → Sides s σ ns t r (es ++ P.listed x)
         go O.none p z = let w : ◌≡◌ {A = ℕ} 0 1 = cc in absurd (omega arith)
         go (some a) p z = record {
           numbers = h.numbers ++ ((n + clause_by) ∷ []);

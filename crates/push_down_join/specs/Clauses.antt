@@ -6,21 +6,10 @@ use Rattle.plan.specs.Kinds.{number_e, Binary}
 use Rattle.plan.specs.Syntax.{Name, Expr, or}
 use Rattle.plan.specs.Trees.{op_number}
 use Rattle.rewrite.specs.PushDownFilter.{extract_or_clause, is_or}
-use Rattle.push_down_join.specs.declared.extract_or_clause.Clause.{Clause}
-use Rattle.push_down_join.specs.declared.extract_or_clause.Clause.TheVariants.{Made, Nothing}
 
 -- the operator of an And or an Or, 0 for any other record
 unfoldable pub operator_of : Label → ℕ
 operator_of l = cond (eqb l.kind (number_e Binary)) (cond (leb l.p (op_number or)) l.p 0) 0
-
-abbrev pub clause_of : Option Expr → Clause
-clause_of none = Nothing
-clause_of (some e) = Made
-
--- an AND of two clauses
-abbrev pub either_and : Clause → Clause → Clause
-either_and Nothing b = b
-either_and Made b = Made
 
 -- there is one
 abbrev pub yields : Option Expr → Bool

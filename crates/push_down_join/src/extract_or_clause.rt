@@ -14,7 +14,7 @@ ghost use Rattle.conjuncts.specs.Items.{Item, Known, Lists, Present};
 ghost use Rattle.conjuncts.specs.Standing.{ReadableE, Standing, There};
 ghost use Rattle.utils.specs.Fields.{Names};
 ghost use Rattle.utils.specs.Masks.{Masks};
-ghost use Rattle.push_down_join.specs.Clauses.{clause_of, either_and, kept, operator_of, or_clause};
+ghost use Rattle.push_down_join.specs.Clauses.{kept, operator_of, or_clause, yields};
 ghost use Rattle.push_down_join.specs.Sides.{Sides};
 
 use conjuncts::items::CLAUSE;
@@ -37,10 +37,10 @@ fn add_clause(s: &[u8], to: Conjuncts, n: usize, fields: Fields, side: u64) -> C
         Item s.now n e → Names fields ns → on_cols (has ns) e ≡ true → Masks side ns t →
         Sides s.now σ ns t result (es ++ listed (or_clause t e)) }
 {
-    let Clause::Made = or_clause_at(s, n, fields, side) else {
-        return to;
-    };
-    add(to, n + CLAUSE)
+    if or_clause_at(s, n, fields, side) {
+        return add(to, n + CLAUSE);
+    }
+    to
 }
 
 // extract_or_clauses_for_join: appends the clauses that the ORs among the conjuncts c yield for a side.
@@ -67,13 +67,6 @@ pub fn extract_or_clauses_for_join(
     r
 }
 
-// A clause or nothing. `copy_clause` writes it, from the expression that yields it.
-#[derive(Clone, Copy)]
-pub enum Clause {
-    Made,
-    Nothing,
-}
-
 // The operator of the expression at the start of `part`, if it is And or Or; 0 for any other and for none.
 pub fn operator(part: &[u8]) -> usize
     requires { 32 ≤ length part.now }
@@ -89,47 +82,28 @@ pub fn operator(part: &[u8]) -> usize
     0
 }
 
-// An AND keeps each operand that yields.
-fn either_and(a: Clause, b: Clause) -> Clause
-    ensures { result ≡ either_and a b }
-{
-    match a {
-        Clause::Made => Clause::Made,
-        Clause::Nothing => b,
-    }
-}
-
-// The clause of the expression at the start of `part` that reads fields of the side only, or nothing.
-// An OR yields one only if both its operands do.
-pub fn extract_or_clause(part: &[u8], base: usize, depth: usize, f: Fields, side: u64) -> Clause
+// Whether the expression at the start of `part` yields a clause that reads fields of the side only; `copy_clause` writes it.
+// An AND keeps each operand that yields, an OR yields only if both its operands do.
+pub fn extract_or_clause(part: &[u8], base: usize, depth: usize, f: Fields, side: u64) -> bool
     requires readable_e { ReadableE depth part.now base }
     requires len_le_max_fields { f.len ≤ max_fields }
     ensures { (e : Expr) (ns : List Name) (c : Name → Bool) → At (expr_tree e) part.now base → Names f ns
-        → on_cols (has ns) e ≡ true → Masks side ns c → result ≡ clause_of (extract_or_clause c e) }
+        → on_cols (has ns) e ≡ true → Masks side ns c → result ≡ yields (extract_or_clause c e) }
 {
     let op = operator(part);
     if op == 0 {
-        if has_all_column_refs(part, base, depth, f, side) {
-            return Clause::Made;
-        }
-        return Clause::Nothing;
+        return has_all_column_refs(part, base, depth, f, side);
     }
     let x = word_at(part, FIRST_LINK);
     let left = from_record(part, base, x);
     let y = word_at(left, NEXT_LINK);
     let right = from_record(part, base, y);
     if op == AND {
-        let a = extract_or_clause(left, x, depth - 1, f, side);
-        let b = extract_or_clause(right, y, depth - 1, f, side);
-        return either_and(a, b);
+        return extract_or_clause(left, x, depth - 1, f, side)
+            || extract_or_clause(right, y, depth - 1, f, side);
     }
-    let Clause::Made = extract_or_clause(left, x, depth - 1, f, side) else {
-        return Clause::Nothing;
-    };
-    let Clause::Made = extract_or_clause(right, y, depth - 1, f, side) else {
-        return Clause::Nothing;
-    };
-    Clause::Made
+    extract_or_clause(left, x, depth - 1, f, side)
+        && extract_or_clause(right, y, depth - 1, f, side)
 }
 
 // Whether an operand is part of the clause of an AND or OR that yields one: of an OR each is, of an AND each that yields.
@@ -139,13 +113,7 @@ fn is_kept(op: usize, part: &[u8], base: usize, depth: usize, f: Fields, side: u
     ensures { (e : Expr) (ns : List Name) (c : Name → Bool) → At (expr_tree e) part.now base → Names f ns
         → on_cols (has ns) e ≡ true → Masks side ns c → result ≡ kept op (extract_or_clause c e) }
 {
-    if op == OR {
-        return true;
-    }
-    let Clause::Made = extract_or_clause(part, base, depth, f, side) else {
-        return false;
-    };
-    true
+    (op == OR) || extract_or_clause(part, base, depth, f, side)
 }
 
 // Writes that clause flat, from record `at` on, and returns the record after it. There must be one.
@@ -190,22 +158,19 @@ pub fn copy_clause(
     copy_clause(right, y, depth - 1, f, side, out, to, level + 1)
 }
 
-// The clause of the conjunct at record n, if it is an OR at its top: 0 stands for FALSE, which is none.
-pub fn or_clause_at(s: &[u8], n: usize, f: Fields, side: u64) -> Clause
+// Whether the conjunct at record n, if it is an OR at its top, yields one: 0 stands for FALSE, which is none.
+pub fn or_clause_at(s: &[u8], n: usize, f: Fields, side: u64) -> bool
     requires present { Present s.now n }
     requires s_len_bound { length s.now ≤ work_bytes }
     requires len_le_max_fields { f.len ≤ max_fields }
     ensures { (e : Expr) (ns : List Name) (c : Name → Bool) → Item s.now n e → Names f ns
-        → on_cols (has ns) e ≡ true → Masks side ns c → result ≡ clause_of (or_clause c e) }
+        → on_cols (has ns) e ≡ true → Masks side ns c → result ≡ yields (or_clause c e) }
 {
     if n == 0 {
-        return Clause::Nothing;
+        return false;
     }
     let part = record_at(s, n);
-    if operator(part) == OR {
-        return extract_or_clause(part, n, MAX_DEPTH, f, side);
-    }
-    Clause::Nothing
+    (operator(part) == OR) && extract_or_clause(part, n, MAX_DEPTH, f, side)
 }
 
 // Writes that clause flat, from record `at` on, and returns the record after it. There must be one.
