@@ -4,7 +4,6 @@
 #![tactic(auto)]
 
 use replaying::lines::{Replayer, Sort};
-use std::fmt;
 use std::io;
 use std::io::Read;
 use stored::numbers::Lines;
@@ -15,16 +14,64 @@ const MAX_LINES: usize = 1000000;
 // So many of the lines that differ are named.
 const MAX_NAMED: u64 = 20;
 
-// How many lines of a sort there were, and how many of them differ.
+// How many lines there were, and how many of them differ.
 #[derive(Clone, Copy, Debug, Default, PartialEq, Eq, Hash)]
 struct Count {
     all: u64,
     differ: u64,
 }
 
-// The lines that were run, by their sort.
-#[derive(Clone, Copy, Debug, PartialEq, Eq)]
+impl Count {
+    fn count(&mut self, agrees: bool) {
+        self.all = self.all.saturating_add(1);
+        if !agrees {
+            self.differ = self.differ.saturating_add(1);
+        }
+    }
+}
+
+// The lines that were run: those of each sort, by its number, and all.
+#[derive(Clone, Copy, Debug, Default, PartialEq, Eq, Hash)]
 struct Tally {
-    counts: [Count; Sort::COUNTED.len()],
-    differ: u64,
+    sorts: [Count; Sort::HOW_MANY],
+    all: Count,
+}
+
+impl Tally {
+    fn count(&mut self, sort: Sort, agrees: bool) {
+        self.sorts[sort as usize].count(agrees);
+        self.all.count(agrees);
+    }
+
+    // Prints how many lines of each sort there were and how many of them differ.
+    fn print(&self, rt: &impl Print) -> io::Result<()> {
+        for sort in Sort::COUNTED {
+            let Count { all, differ } = self.sorts[sort as usize];
+            println!(rt; "{all} {sort}, {differ} differ")?;
+        }
+        Ok(())
+    }
+}
+
+// Runs the lines from the first on, and names those that differ if not many did before.
+fn replay<R: Read + Drop>(rt: &impl Print, input: R) -> io::Result<Tally> {
+    let mut lines = Lines::new(input);
+    let mut replayer = Replayer::new();
+    let mut tally = Tally::default();
+    for number in 1..=MAX_LINES {
+        let Some(line) = lines.next_line()? else {
+            break;
+        };
+        let sort = Sort::from(line.first);
+        let agrees = replayer.run(sort, &line);
+        tally.count(sort, agrees);
+        if !agrees && tally.all.differ <= MAX_NAMED {
+            println!(rt; "line {number} differs")?;
+        }
+    }
+    Ok(tally)
+}
+
+fn main(rt: HostRuntime) -> io::Result<()> {
+    replay(&rt, rt.stdin())?.print(&rt)
 }

@@ -4,7 +4,8 @@ ghost use Rattle.std.specs.Prelude.{◌<◌};
 use arrayvec::ArrayVec;
 use plan::values::signed;
 use push_down_filter::{
-    push_down_filter_check, push_down_filter_pass, push_down_filter_rewrite, push_down_filter_row_test,
+    push_down_filter_check, push_down_filter_pass, push_down_filter_rewrite,
+    push_down_filter_row_test,
 };
 use stored::numbers::Line;
 use stored::outputs::{is_stored, spoil};
@@ -30,7 +31,10 @@ fn value_of_bits(bits: u64) -> i64 {
 }
 
 // Values or marks of a row: how many there are, then these; and the numbers behind them.
-fn part_of_row<T: Default + Drop, F: Fn(u64) -> T>(numbers: &[u64], of: F) -> Option<(ArrayVec<T, MAX_ROW>, &[u64])>
+fn part_of_row<T: Default + Drop, F: Fn(u64) -> T>(
+    numbers: &[u64],
+    of: F,
+) -> Option<(ArrayVec<T, MAX_ROW>, &[u64])>
     requires { F.IsAlwaysCallable of }
 {
     let [count, numbers @ ..] = numbers else {

@@ -20,8 +20,17 @@ pub enum Sort {
 }
 
 impl Sort {
+    pub const HOW_MANY: usize = 7;
+
     // Those that are counted, in the order in which they are printed.
-    pub const COUNTED: [Sort; 6] = [Sort::Image, Sort::Check, Sort::Rewrite, Sort::Pass, Sort::Test, Sort::Unknown];
+    pub const COUNTED: [Sort; 6] = [
+        Sort::Image,
+        Sort::Check,
+        Sort::Rewrite,
+        Sort::Pass,
+        Sort::Test,
+        Sort::Unknown,
+    ];
 
     // How many numbers of a line stand before an answer that it spells, if it can spell one.
     fn head(self) -> Option<usize> {
@@ -126,7 +135,9 @@ impl Replayer {
             self.spelt.len = 0;
             return self.image.write_image(line.numbers);
         }
-        if let Some(head) = sort.head() && line.mark == b',' {
+        if let Some(head) = sort.head()
+            && line.mark == b','
+        {
             self.spelt.write_answer(line.numbers, head);
         }
         self.call(sort, line).unwrap_or(false)

@@ -18,6 +18,7 @@ const MAX_NUMBERS: usize = 16500;
 const MAX_LINE: usize = 1000000;
 
 // A line: its first byte, its last byte that is no digit, no minus and no space, and its numbers.
+#[derive(Clone, Copy, Debug)]
 pub struct Line<'a> {
     pub first: u8,
     pub mark: u8,
