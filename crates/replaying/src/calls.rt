@@ -1,5 +1,6 @@
 // Each exported function called as a line says, and compared with the answer behind it.
-ghost use Rattle.std.specs.Prelude.{◌<◌};
+ghost use Rattle.std.specs.Prelude.{◌≡◌, [], ◌∷◌, ◌<◌, ◌↔◌, IsTrue, IsNone};
+ghost use Rattle.acceptance.specs.Check.{check};
 
 use arrayvec::ArrayVec;
 use plan::values::signed;
@@ -58,7 +59,11 @@ pub struct Call<'a> {
 
 impl<'a> Call<'a> {
     // A colon stands last in a line where the answer is the image.
-    pub fn new(line: &Line<'a>, image: &'a [u8], spelt: &'a [u8]) -> Self {
+    pub fn new(line: &Line<'a>, image: &'a [u8], spelt: &'a [u8]) -> Self
+        ensures kept { IsNone result.spelt ↔ line.now.mark ≡ 58 }
+        ensures image { result.image.now ≡ image.now }
+        ensures numbers { result.numbers.now ≡ line.now.numbers.now }
+    {
         let spelt = (line.mark != b':').then_some(spelt);
         Call {
             numbers: line.numbers,
@@ -68,7 +73,10 @@ impl<'a> Call<'a> {
     }
 
     // NUMBER RECORD
-    pub fn check_agrees(&self) -> bool {
+    pub fn check_agrees(&self) -> bool
+        ensures { IsTrue result
+            ↔ self.now.numbers.now ≡ (check self.now.image.now).number ∷ (check self.now.image.now).place ∷ [] }
+    {
         let v = push_down_filter_check(self.image);
         self.numbers == [u64::from(v.number), u64::from(v.record)].as_slice()
     }
