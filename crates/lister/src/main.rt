@@ -11,14 +11,16 @@ use reading::read_full;
 use std::io;
 use std::io::{Read, Write};
 
+// A record more than an image may have: a longer input is refused as too long.
+const INPUT_BYTES: usize = 65568;
+
 // Reads the input and writes its text. Where the input's bytes are known, and what the output holds, the text of all of these is written
 // behind it.
 pub fn list_input<R: Read, W: Write>(input: &mut R, output: &mut W) -> io::Result<()>
     ensures { OnOk result (IfSome (R.remaining input.old)
         (λ s. Appends (W.contents output.old) (W.contents output.new) (listing s))) }
 {
-    // A record more than an image may have: a longer input is refused as too long.
-    let mut image = [0u8; 65568];
+    let mut image = [0u8; INPUT_BYTES];
     let mut text = [0u8; TEXT_BYTES];
     let n = read_full(input, &mut image)?;
     let end = list(&image[..n], &mut text);

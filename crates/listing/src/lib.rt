@@ -3,12 +3,13 @@
 
 ghost use Rattle.std.specs.Prelude.{◌≡◌, ◌*◌, ◌+◌, ◌≤◌, length, take};
 ghost use Rattle.image.specs.Limits.{max_records, work_bytes};
+ghost use Rattle.text.specs.Written.{Puts};
 ghost use Rattle.listing.specs.Listing.{listing};
 
 use image::copying::copy_tree;
 use image::limits::{MAX_BYTES, MAX_DEPTH, MAX_RECORDS};
 use push_down_filter::push_down_filter_pass;
-use text::lines::{put_counts, put_lines, put_refusal};
+use text::numbers::Text;
 
 // The pass may make so many visits.
 const BUDGET: u64 = 10000;
@@ -18,18 +19,20 @@ const BUDGET: u64 = 10000;
 pub const TEXT_BYTES: usize = 77 * MAX_RECORDS + 87;
 
 // Passes over the image and writes what it leaves, with space lent for the plan, and for the plan with its depths.
-fn list_within(image: &[u8], out: &mut [u8], flat: &mut [u8], text: &mut [u8]) -> usize
-    requires { (length out.old ≡ work_bytes) × (length flat.old ≡ work_bytes) × (77 * max_records + 87 ≤ length text.old) }
-    ensures { (result ≤ length text.new) × (take result text.new ≡ listing image.now) }
+fn list_within(image: &[u8], out: &mut [u8], flat: &mut [u8], text: &mut Text<'_>)
+    requires { (length out.old ≡ work_bytes) × (length flat.old ≡ work_bytes)
+        × (text.old.at + (77 * max_records + 87) ≤ length text.old.space.now) }
+    ensures { Puts text.old text.new (listing image.now) }
 {
     let passed = push_down_filter_pass(image, BUDGET, out);
     // A refused pass leaves no records.
     if passed.records == 0 {
-        return put_refusal(text, passed.number, passed.record);
+        text.put_refusal(passed.number, passed.record);
+        return;
     }
     let n = copy_tree(out, 0, MAX_DEPTH, flat, 0, 1);
-    let to = put_lines(flat, n, text);
-    put_counts(text, to, passed.visits, passed.changed, passed.finished)
+    text.put_lines(flat, n);
+    text.put_counts(passed.visits, passed.changed, passed.finished);
 }
 
 // Writes the text of any bytes, and returns how long it is.
@@ -38,5 +41,7 @@ pub fn list(image: &[u8], text: &mut [u8; TEXT_BYTES]) -> usize
 {
     let mut out = [0u8; MAX_BYTES];
     let mut flat = [0u8; MAX_BYTES];
-    list_within(image, &mut out, &mut flat, text)
+    let mut written = Text::new(text);
+    list_within(image, &mut out, &mut flat, &mut written);
+    written.len()
 }

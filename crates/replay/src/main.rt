@@ -3,142 +3,75 @@
 // many of them differ.
 #![tactic(auto)]
 
-ghost use Rattle.std.specs.Prelude.{◌≡◌, length};
-
-use replaying::lines::{CHECK, IMAGE, Kept, PASS, REWRITE, TEST, UNKNOWN, run_line};
+use replaying::lines::{Replayer, Sort};
 use std::io;
 use std::io::Read;
-use stored::numbers::{Unread, read_line};
+use stored::numbers::Lines;
 
 // How many lines are read at most.
 const MAX_LINES: usize = 1000000;
 
-// The tally: lines by sort, as lines.rt numbers them; those that differ, by sort; all that differ.
-const DIFFER: usize = 7;
-
-const ALL: usize = 14;
-
 // So many of the lines that differ are named.
 const MAX_NAMED: u64 = 20;
 
-// Counts one more.
-fn count_one(tally: &mut [u64], at: usize) {
-    if at < tally.len() {
-        tally[at] = tally[at] % 1000000000 + 1;
-    }
+// How many lines there were, and how many of them differ.
+#[derive(Clone, Copy, Debug, Default, PartialEq, Eq, Hash)]
+struct Count {
+    all: u64,
+    differ: u64,
 }
 
-fn counted(tally: &[u64], at: usize) -> u64 {
-    if at < tally.len() {
-        return tally[at];
-    }
-    0
-}
-
-// Counts a line, and names it if it differs and not many did before it.
-fn count(
-    rt: &impl Print,
-    tally: &mut [u64],
-    sort: usize,
-    agrees: bool,
-    line: usize,
-) -> io::Result<()> {
-    count_one(tally, sort);
-    if agrees {
-        return Ok(());
-    }
-    count_one(tally, DIFFER + sort % DIFFER);
-    count_one(tally, ALL);
-    if counted(tally, ALL) <= MAX_NAMED {
-        println!(rt; "line {line} differs")?;
-    }
-    Ok(())
-}
-
-// Runs the lines from the first on.
-fn replay<R: Read>(
-    rt: &impl Print,
-    input: &mut R,
-    chunk: &mut [u8],
-    numbers: &mut [u64],
-    image: &mut [u8],
-    spelt: &mut [u8],
-    output: &mut [u8],
-    tally: &mut [u64],
-) -> io::Result<()> {
-    let mut kept = Kept { image: 0, spelt: 0 };
-    let mut unread = Unread { at: 0, end: 0 };
-    for line in 1..=MAX_LINES {
-        let read = read_line(input, chunk, unread, numbers)?;
-        if read.is_end {
-            return Ok(());
+impl Count {
+    fn count(&mut self, agrees: bool) {
+        self.all = self.all.saturating_add(1);
+        if !agrees {
+            self.differ = self.differ.saturating_add(1);
         }
-        unread = read.unread;
-        let ran = run_line(read, numbers, kept, image, spelt, output);
-        kept = ran.kept;
-        count(rt, tally, ran.sort, ran.agrees, line)?;
     }
-    Ok(())
 }
 
-// Prints how many lines of a sort there were and how many of them differ.
-fn print_sort(rt: &impl Print, tally: &[u64], sort: usize, name: &str) -> io::Result<()> {
-    let all = counted(tally, sort);
-    let differ = counted(tally, DIFFER + sort % DIFFER);
-    println!(rt; "{all} {name}, {differ} differ")
+// The lines that were run: those of each sort, by its number, and all.
+#[derive(Clone, Copy, Debug, Default, PartialEq, Eq, Hash)]
+struct Tally {
+    sorts: [Count; Sort::HOW_MANY],
+    all: Count,
 }
 
-fn print_tally(rt: &impl Print, tally: &[u64]) -> io::Result<()> {
-    print_sort(rt, tally, IMAGE, "images")?;
-    print_sort(rt, tally, CHECK, "checks")?;
-    print_sort(rt, tally, REWRITE, "rewrites")?;
-    print_sort(rt, tally, PASS, "passes")?;
-    print_sort(rt, tally, TEST, "row tests")?;
-    print_sort(rt, tally, UNKNOWN, "other lines")
+impl Tally {
+    fn count(&mut self, sort: Sort, agrees: bool) {
+        self.sorts[sort as usize].count(agrees);
+        self.all.count(agrees);
+    }
+
+    // Prints how many lines of each sort there were and how many of them differ.
+    fn print(&self, rt: &impl Print) -> io::Result<()> {
+        for sort in Sort::COUNTED {
+            let Count { all, differ } = self.sorts[sort as usize];
+            println!(rt; "{all} {sort}, {differ} differ")?;
+        }
+        Ok(())
+    }
 }
 
-// Replays the input in space that is lent, and prints what there was.
-fn replay_and_print<R: Read>(
-    rt: &impl Print,
-    input: &mut R,
-    chunk: &mut [u8],
-    numbers: &mut [u64],
-    image: &mut [u8],
-    spelt: &mut [u8],
-    output: &mut [u8],
-) -> io::Result<()> {
-    let mut tally = [0u64; 15];
-    replay(rt, input, chunk, numbers, image, spelt, output, &mut tally)?;
-    print_tally(rt, &tally)
-}
-
-// Space for an image, which may be a record too long, or an output. A caller knows of it the length alone.
-fn space() -> [u8; 65600]
-    ensures { 65600 ≡ length result }
-{
-    [0; 65600]
-}
-
-// Space for the numbers of a line.
-fn space_of_numbers() -> [u64; 16500]
-    ensures { 16500 ≡ length result }
-{
-    [0; 16500]
+// Runs the lines from the first on, and names those that differ if not many did before.
+fn replay<R: Read + Drop>(rt: &impl Print, input: R) -> io::Result<Tally> {
+    let mut lines = Lines::new(input);
+    let mut replayer = Replayer::new();
+    let mut tally = Tally::default();
+    for number in 1..=MAX_LINES {
+        let Some(line) = lines.next_line()? else {
+            break;
+        };
+        let sort = Sort::from(line.first);
+        let agrees = replayer.run(sort, &line);
+        tally.count(sort, agrees);
+        if !agrees && tally.all.differ <= MAX_NAMED {
+            println!(rt; "line {number} differs")?;
+        }
+    }
+    Ok(tally)
 }
 
 fn main(rt: HostRuntime) -> io::Result<()> {
-    let mut chunk = space();
-    let mut numbers = space_of_numbers();
-    let mut image = space();
-    let mut spelt = space();
-    let mut output = space();
-    replay_and_print(
-        &rt,
-        &mut rt.stdin(),
-        &mut chunk,
-        &mut numbers,
-        &mut image,
-        &mut spelt,
-        &mut output,
-    )
+    replay(&rt, rt.stdin())?.print(&rt)
 }

@@ -1,11 +1,14 @@
 // Each exported function called as a line says, and compared with the answer behind it.
-ghost use Rattle.std.specs.Prelude.{◌<◌};
+ghost use Rattle.std.specs.Prelude.{◌≡◌, [], ◌∷◌, ◌<◌, ◌↔◌, IsTrue, IsNone};
+ghost use Rattle.acceptance.specs.Check.{check};
 
+use arrayvec::ArrayVec;
 use plan::values::signed;
 use push_down_filter::{
-    Passed, Rewritten, push_down_filter_check, push_down_filter_pass, push_down_filter_rewrite,
+    push_down_filter_check, push_down_filter_pass, push_down_filter_rewrite,
     push_down_filter_row_test,
 };
+use stored::numbers::Line;
 use stored::outputs::{is_stored, spoil};
 
 // A row has at most so many values and marks.
@@ -23,142 +26,101 @@ pub fn length_of(number: u64) -> usize
     (number % 1000000) as usize
 }
 
-// NUMBER RECORD
-pub fn check_agrees(numbers: &[u64], image: &[u8]) -> bool {
-    if numbers.len() != 2 {
-        return false;
-    }
-    let v = push_down_filter_check(image);
-    (v.number as u64 == numbers[0]) & (v.record as u64 == numbers[1])
-}
-
-// The exported functions, of whose contracts nothing is asked here: what they answer is compared.
-fn rewrite_image(image: &[u8], node: u32, output: &mut [u8]) -> Rewritten {
-    push_down_filter_rewrite(image, node, output)
-}
-
-fn pass_image(image: &[u8], budget: u64, output: &mut [u8]) -> Passed {
-    push_down_filter_pass(image, budget, output)
-}
-
-// NODE ROOM NUMBER RECORD FLAG RECORDS
-fn is_rewritten(numbers: &[u64], r: Rewritten) -> bool {
-    if numbers.len() < 6 {
-        return false;
-    }
-    (r.number as u64 == numbers[2])
-        & (r.record as u64 == numbers[3])
-        & (r.flag as u64 == numbers[4])
-        & (r.records as u64 == numbers[5])
-}
-
-// With just that output.
-pub fn rewrite_agrees(
-    numbers: &[u64],
-    is_spelt: bool,
-    image: &[u8],
-    spelt: &[u8],
-    output: &mut [u8],
-) -> bool {
-    if numbers.len() < 1 {
-        return false;
-    }
-    let node = node_of(numbers[0]);
-    spoil(output);
-    let r = rewrite_image(image, node, output);
-    is_rewritten(numbers, r) & is_stored(output, r.number as u64, is_spelt, image, spelt)
-}
-
-// BUDGET ROOM NUMBER RECORD VISITS CHANGED FINISHED RECORDS
-fn is_passed(numbers: &[u64], r: Passed) -> bool {
-    if numbers.len() < 8 {
-        return false;
-    }
-    (r.number as u64 == numbers[2])
-        & (r.record as u64 == numbers[3])
-        & (r.visits == numbers[4])
-        & (r.changed == numbers[5])
-        & (r.finished as u64 == numbers[6])
-        & (r.records as u64 == numbers[7])
-}
-
-// With just that output.
-pub fn pass_agrees(
-    numbers: &[u64],
-    is_spelt: bool,
-    image: &[u8],
-    spelt: &[u8],
-    output: &mut [u8],
-) -> bool {
-    if numbers.len() < 1 {
-        return false;
-    }
-    let budget = numbers[0];
-    spoil(output);
-    let r = pass_image(image, budget, output);
-    is_passed(numbers, r) & is_stored(output, r.number as u64, is_spelt, image, spelt)
-}
-
 // 64 bits as a number with a sign.
 fn value_of_bits(bits: u64) -> i64 {
     signed(bits % 4294967296, bits / 4294967296)
 }
 
-fn put_values(numbers: &[u64], values: &mut [i64]) {
-    for (value, bits) in values.iter_mut().zip(numbers) {
-        *value = value_of_bits(*bits);
+// Values or marks of a row: how many there are, then these; and the numbers behind them.
+fn part_of_row<T: Default + Drop, F: Fn(u64) -> T>(
+    numbers: &[u64],
+    of: F,
+) -> Option<(ArrayVec<T, MAX_ROW>, &[u64])>
+    requires { F.IsAlwaysCallable of }
+{
+    let [count, numbers @ ..] = numbers else {
+        return None;
+    };
+    let (numbers, rest) = numbers.split_at_checked(length_of(*count))?;
+    let mut part = ArrayVec::new();
+    for number in numbers {
+        part.try_push(of(*number)).ok()?;
     }
+    Some((part, rest))
 }
 
-fn put_marks(numbers: &[u64], marks: &mut [u8]) {
-    for (mark, number) in marks.iter_mut().zip(numbers) {
-        *mark = (*number % 256) as u8;
-    }
+// A call on an image: the numbers of its line, and its answer where the line spells one.
+#[derive(Clone, Copy)]
+pub struct Call<'a> {
+    numbers: &'a [u64],
+    image: &'a [u8],
+    spelt: Option<&'a [u8]>,
 }
 
-// NUMBER RECORD TRUTH, after the row
-fn row_agrees(numbers: &[u64], node: u32, image: &[u8], values: &[i64], marks: &[u8]) -> bool {
-    if numbers.len() != 3 {
-        return false;
+impl<'a> Call<'a> {
+    // A colon stands last in a line where the answer is the image.
+    pub fn new(line: &Line<'a>, image: &'a [u8], spelt: &'a [u8]) -> Self
+        ensures kept { IsNone result.spelt ↔ line.now.mark ≡ 58 }
+        ensures image { result.image.now ≡ image.now }
+        ensures numbers { result.numbers.now ≡ line.now.numbers.now }
+    {
+        let spelt = (line.mark != b':').then_some(spelt);
+        Call {
+            numbers: line.numbers,
+            image,
+            spelt,
+        }
     }
-    let t = push_down_filter_row_test(image, node, values, marks);
-    (t.number as u64 == numbers[0])
-        & (t.record as u64 == numbers[1])
-        & (t.truth as u64 == numbers[2])
-}
 
-// MARKS.., how many there are before them, then what is answered
-fn marks_agree(numbers: &[u64], node: u32, image: &[u8], values: &[i64]) -> bool {
-    if numbers.len() < 1 {
-        return false;
+    // NUMBER RECORD
+    pub fn check_agrees(&self) -> bool
+        ensures { IsTrue result
+            ↔ self.now.numbers.now ≡ (check self.now.image.now).number ∷ (check self.now.image.now).place ∷ [] }
+    {
+        let v = push_down_filter_check(self.image);
+        self.numbers == [u64::from(v.number), u64::from(v.record)].as_slice()
     }
-    let count = length_of(numbers[0]);
-    let rest = &numbers[1..];
-    if MAX_ROW < count {
-        return false;
-    }
-    if rest.len() < count {
-        return false;
-    }
-    let mut marks = [0u8; 80];
-    put_marks(&rest[..count], &mut marks);
-    row_agrees(&rest[count..], node, image, values, &marks[..count])
-}
 
-// NODE, how many VALUES, these, how many MARKS, these, NUMBER RECORD TRUTH
-pub fn test_agrees(numbers: &[u64], image: &[u8]) -> bool {
-    if numbers.len() < 2 {
-        return false;
+    // NODE ROOM NUMBER RECORD FLAG RECORDS, with just that output
+    pub fn rewrite_agrees(&self, output: &mut [u8]) -> bool {
+        let [node, _, stored @ ..] = self.numbers else {
+            return false;
+        };
+        spoil(output);
+        let r = push_down_filter_rewrite(self.image, node_of(*node), output);
+        let numbers = [r.number, r.record, r.flag, r.records].map(u64::from);
+        stored.starts_with(&numbers) & is_stored(output, r.number, self.image, self.spelt)
     }
-    let count = length_of(numbers[1]);
-    let rest = &numbers[2..];
-    if MAX_ROW < count {
-        return false;
+
+    // BUDGET ROOM NUMBER RECORD VISITS CHANGED FINISHED RECORDS, with just that output
+    pub fn pass_agrees(&self, output: &mut [u8]) -> bool {
+        let [budget, _, stored @ ..] = self.numbers else {
+            return false;
+        };
+        spoil(output);
+        let r = push_down_filter_pass(self.image, *budget, output);
+        let numbers = [
+            u64::from(r.number),
+            u64::from(r.record),
+            r.visits,
+            r.changed,
+            u64::from(r.finished),
+            u64::from(r.records),
+        ];
+        stored.starts_with(&numbers) & is_stored(output, r.number, self.image, self.spelt)
     }
-    if rest.len() < count {
-        return false;
+
+    // NODE, how many VALUES, these, how many MARKS, these, NUMBER RECORD TRUTH
+    pub fn test_agrees(&self) -> bool {
+        self.tested().unwrap_or(false)
     }
-    let mut values = [0i64; 80];
-    put_values(&rest[..count], &mut values);
-    marks_agree(&rest[count..], node_of(numbers[0]), image, &values[..count])
+
+    // The same; none where the line has no row.
+    fn tested(&self) -> Option<bool> {
+        let (node, numbers) = self.numbers.split_first()?;
+        let (values, numbers) = part_of_row(numbers, value_of_bits)?;
+        let (marks, numbers) = part_of_row(numbers, |number| (number % 256) as u8)?;
+        let t = push_down_filter_row_test(self.image, node_of(*node), &values, &marks);
+        Some(numbers == [u64::from(t.number), u64::from(t.record), u64::from(t.truth)].as_slice())
+    }
 }

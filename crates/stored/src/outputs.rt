@@ -1,5 +1,5 @@
 // Bytes written from the words of a line, and outputs compared with them.
-ghost use Rattle.std.specs.Prelude.{◌≡◌, ◌≢◌, ◌*◌, ◌/◌, ◌≤◌, ◌↔◌, IsFalse, IsTrue, length, replicate, take};
+ghost use Rattle.std.specs.Prelude.{◌≡◌, ◌≢◌, ◌*◌, ◌/◌, ◌≤◌, ◌↔◌, IfNone, IfSome, IsTrue, length, replicate, take};
 ghost use Rattle.stored.specs.Outputs.{IsAnswer, IsZero, words_bytes};
 
 use image::words::put_word;
@@ -31,13 +31,6 @@ pub fn spoil(output: &mut [u8])
     output.fill(UNWRITTEN);
 }
 
-// Whether both are as long and the same at each place.
-fn same(a: &[u8], b: &[u8]) -> bool
-    ensures { IsTrue result ↔ a.now ≡ b.now }
-{
-    a == b
-}
-
 fn is_zero(s: &[u8]) -> bool
     ensures { IsTrue result ↔ IsZero s.now }
 {
@@ -48,24 +41,19 @@ fn is_zero(s: &[u8]) -> bool
 fn is_answer(output: &[u8], answer: &[u8]) -> bool
     ensures { IsTrue result ↔ IsAnswer output.now answer.now }
 {
-    let len = answer.len();
-    if output.len() < len {
-        return false;
-    }
-    same(&output[..len], answer) & is_zero(&output[len..])
+    output
+        .strip_prefix(answer)
+        .is_some_and(|rest| is_zero(rest))
 }
 
-// Whether the output is what a line stores: zeros for a refusal; else the image itself or the answer spelt last, then zeros.
-pub fn is_stored(output: &[u8], number: u64, is_spelt: bool, image: &[u8], spelt: &[u8]) -> bool
+// Whether the output is what a line stores: zeros for a refusal; else the answer that is spelt, or the image itself, then zeros.
+pub fn is_stored(output: &[u8], number: u32, image: &[u8], spelt: Option<&[u8]>) -> bool
     ensures refused { number ≢ 0 → IsTrue result ↔ IsZero output.now }
-    ensures spelt { number ≡ 0 → IsTrue is_spelt → IsTrue result ↔ IsAnswer output.now spelt.now }
-    ensures kept { number ≡ 0 → IsFalse is_spelt → IsTrue result ↔ IsAnswer output.now image.now }
+    ensures spelt { number ≡ 0 → IfSome spelt.entry (λ answer. IsTrue result ↔ IsAnswer output.now answer.now) }
+    ensures kept { number ≡ 0 → IfNone spelt.entry (IsTrue result ↔ IsAnswer output.now image.now) }
 {
     if number != 0 {
         return is_zero(output);
     }
-    if is_spelt {
-        return is_answer(output, spelt);
-    }
-    is_answer(output, image)
+    is_answer(output, spelt.unwrap_or(image))
 }

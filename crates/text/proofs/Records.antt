@@ -3,7 +3,7 @@ use Prim.Native.Nat.{ℕ, zero, suc, ◌+◌, ◌*◌, ◌≤◌, ◌<◌}
 use native.Mathlib.Omega.{arith}
 use native.Mathlib.Nat.{zero-add}
 use native.Mathlib.Numerals.{add-one}
-use mathlib.Core.Path.{◌≡◌, refl, ap, ◌∙◌}
+use mathlib.Core.Path.{◌≡◌, ap, ◌∙◌}
 use mathlib.Core.List.{List, ◌++◌, append_assoc, append-nil}
 use lib.ListN.{length, drop, length-append}
 use lib.Seq.{drop_at, drop-drop}
@@ -16,8 +16,9 @@ use Rattle.image.proofs.Writing.{bytes_of_length}
 use Rattle.image.proofs.Relinking.{depth_of}
 use Rattle.image.proofs.RoundTrip.{stands_enc}
 use Rattle.text.specs.Lines.{decimal, spaced, newline, line, lines}
-use Rattle.text.specs.Written.{Appended, flat_lines}
-use Rattle.text.proofs.Appending.{appended}
+use Rattle.text.specs.declared.numbers.Text.{Text}
+use Rattle.text.specs.Written.{Puts, flat_lines}
+use Rattle.text.proofs.Appending.{put_both, put_nothing}
 use Rattle.text.proofs.Decimals.{word_digits, spaced_word}
 
 -- a line is a depth, then twice three words
@@ -53,27 +54,21 @@ next_line (suc i) s =
     rw (e, ← drop-drop (32 * i) 32 s, append_assoc) (ap (λ (l : List ℕ). line (word s 24) (label_at s) ++ l) (next_line i (drop 32 s)))
 
 -- the records before i are written
-pub record Listed (s text₀ text : List ℕ) (to i : ℕ) : Type 0 where
-  pub lines : Appended text₀ text 0 to (flat_lines i s)
-  pub short : to ≤ 77 * i
+pub record Listed (s : List ℕ) (before text : Text) (i : ℕ) : Type 0 where
+  pub lines : Puts before text (flat_lines i s)
+  pub short : text.at ≤ before.at + 77 * i
 
-pub listed_none : (s text : List ℕ) → Listed s text text 0 0
+pub listed_none : (s : List ℕ) (text : Text) → Listed s text text 0
 unfolding flat_lines
-listed_none s text = record { lines = record { end = refl; text = refl }; short = omega arith }
+listed_none s text = record { lines = put_nothing text; short = omega arith }
 
-pub listed_next : (s : List ℕ) (i : ℕ) {text₀ text text' part : List ℕ} {to r d : ℕ} {l : Label} → part ≡ drop (32 * i) s → d ≡ word part 24
-    → l ≡ label_at part → d < 4294967296 → Fits32 l → Listed s text₀ text to i → Appended text text' to r (line d l)
-    → Listed s text₀ text' r (i + 1)
+pub listed_next : (s : List ℕ) (i : ℕ) {before text text' : Text} {part : List ℕ} {d : ℕ} {l : Label} → part ≡ drop (32 * i) s → d ≡ word part 24
+    → l ≡ label_at part → d < 4294967296 → Fits32 l → Listed s before text i → Puts text text' (line d l) → Listed s before text' (i + 1)
 listed_next s i {part = part} {d = d} {l} at depth label small fits k w =
     record {
-      lines = rw (add-one i, next_line i s, ← at, ← depth, ← label) (appended k.lines w);
-      short = omega (arith, k.short, w.end, line_length d l small fits);
+      lines = rw (add-one i, next_line i s, ← at, ← depth, ← label) (put_both k.lines w);
+      short = omega (arith, k.short, w.written.end, line_length d l small fits);
     }
-
--- all are
-pub listed_all : (s : List ℕ) (i : ℕ) {n : ℕ} {text₀ text : List ℕ} {to : ℕ} → i ≤ n → n ≤ i → Listed s text₀ text to i
-    → Appended text₀ text 0 to (flat_lines n s) × (to ≤ 77 * n)
-listed_all s i {n} h g k = let e : n ≡ i = omega arith in rw e (k.lines, k.short)
 
 -- ---- the lines of a tree that is written flat
 

@@ -1,75 +1,82 @@
-// Bytes and numbers, written behind what stands in a text already.
-ghost use Rattle.std.specs.Prelude.{◌≡◌, ◌++◌, ◌∷◌, [], ◌+◌, ◌<◌, ◌≤◌, length};
-ghost use Rattle.text.specs.Lines.{decimal, named, spaced};
-ghost use Rattle.text.specs.Written.{Appended};
+// A text and the numbers in it, each written behind what stands already.
+ghost use Rattle.std.specs.Prelude.{◌≡◌, ◌+◌, ◌≤◌, length};
 
-// Writes a byte, and returns the place behind it.
-pub fn put_byte(text: &mut [u8], at: usize, b: u8) -> usize
-    requires { at + 1 ≤ length text.old }
-    ensures { Appended text.old text.new at result (b ∷ []) }
-{
-    text[at] = b;
-    at + 1
+use itoa::Buffer;
+
+// A text in space that is lent: what stands before `at`.
+#[derive(Drop)]
+pub struct Text<'a> {
+    space: &'a mut [u8],
+    at: usize,
+    ghost within: { at ≤ length space.now },
 }
 
-// Writes the bytes of s, and returns the place behind them.
-fn put_bytes(text: &mut [u8], at: usize, s: &[u8]) -> usize
-    requires { at + length s.now ≤ length text.old }
-    ensures { Appended text.old text.new at result s.now }
-{
-    let mut i = 0;
-    while i < s.len() {
-        text[at + i] = s[i];
-        i += 1;
+impl<'a> Text<'a> {
+    ghost use Rattle.std.specs.Prelude.{◌++◌, ◌<◌};
+    ghost use Rattle.text.specs.Lines.{decimal, named, spaced};
+    ghost use Rattle.text.specs.Written.{Puts};
+
+    // No text yet.
+    pub fn new(space: &'a mut [u8]) -> Self
+        ensures same_reference { result.space.ghost_name ≡ space.entry.ghost_name }
+        ensures space { result.space.now ≡ space.old }
+        ensures start { result.at ≡ 0 }
+    {
+        Text { space, at: 0 }
     }
-    at + i
-}
 
-// The digit of a number below 10.
-fn digit(n: u64) -> u8
-    requires { n < 10 }
-    ensures { result ≡ 48 + n }
-{
-    48 + n as u8
-}
-
-// Writes a number in base 10, and returns the place behind it.
-pub fn put_decimal(text: &mut [u8], at: usize, n: u64) -> usize
-    requires { at + length (decimal n) ≤ length text.old }
-    ensures { Appended text.old text.new at result (decimal n) }
-{
-    if n < 10 {
-        return put_byte(text, at, digit(n));
+    // How long it is.
+    pub fn len(&self) -> usize
+        ensures { result ≡ self.now.at }
+    {
+        self.at
     }
-    let to = put_decimal(text, at, n / 10);
-    put_byte(text, to, digit(n % 10))
-}
 
-// Writes a space and a number.
-fn put_spaced(text: &mut [u8], at: usize, n: u64) -> usize
-    requires { at + length (spaced n) ≤ length text.old }
-    ensures { Appended text.old text.new at result (spaced n) }
-{
-    let to = put_byte(text, at, b' ');
-    put_decimal(text, to, n)
-}
+    // Writes some bytes.
+    pub fn put(&mut self, bytes: &[u8])
+        requires { self.old.at + length bytes.now ≤ length self.old.space.now }
+        ensures { Puts self.old self.new bytes.now }
+    {
+        let end = self.at + bytes.len();
+        self.space[self.at..end].copy_from_slice(bytes);
+        self.at = end;
+    }
 
-// Writes three words, a space before each.
-pub fn put_words(text: &mut [u8], at: usize, a: usize, b: usize, c: usize) -> usize
-    requires { (a < 4294967296) × (b < 4294967296) × (c < 4294967296) × (at + 33 ≤ length text.old) }
-    ensures { Appended text.old text.new at result (spaced a ++ (spaced b ++ spaced c)) × (result ≤ at + 33) }
-{
-    let x = put_spaced(text, at, a as u64);
-    let y = put_spaced(text, x, b as u64);
-    put_spaced(text, y, c as u64)
-}
+    // Writes a number in base 10.
+    pub fn put_decimal(&mut self, n: u64)
+        requires { self.old.at + length (decimal n) ≤ length self.old.space.now }
+        ensures { Puts self.old self.new (decimal n) }
+    {
+        self.put(Buffer::new().format(n).as_bytes());
+    }
 
-// Writes a name, a space and a number.
-pub fn put_name_and_number(text: &mut [u8], at: usize, name: &[u8], n: u64) -> usize
-    requires { at + (length name.now + 21) ≤ length text.old }
-    ensures { Appended text.old text.new at result (named name.now n)
-        × (result ≤ at + (length name.now + 21)) }
-{
-    let to = put_bytes(text, at, name);
-    put_spaced(text, to, n)
+    // Writes a space and a number.
+    fn put_spaced(&mut self, n: u64)
+        requires { self.old.at + length (spaced n) ≤ length self.old.space.now }
+        ensures { Puts self.old self.new (spaced n) }
+    {
+        self.put(b" ");
+        self.put_decimal(n);
+    }
+
+    // Writes three words, a space before each.
+    pub fn put_words(&mut self, a: usize, b: usize, c: usize)
+        requires { (a < 4294967296) × (b < 4294967296) × (c < 4294967296) × (self.old.at + 33 ≤ length self.old.space.now) }
+        ensures text { Puts self.old self.new (spaced a ++ (spaced b ++ spaced c)) }
+        ensures short { self.new.at ≤ self.old.at + 33 }
+    {
+        self.put_spaced(a as u64);
+        self.put_spaced(b as u64);
+        self.put_spaced(c as u64);
+    }
+
+    // Writes a name, a space and a number.
+    pub fn put_name_and_number(&mut self, name: &[u8], n: u64)
+        requires { self.old.at + (length name.now + 21) ≤ length self.old.space.now }
+        ensures text { Puts self.old self.new (named name.now n) }
+        ensures short { self.new.at ≤ self.old.at + (length name.now + 21) }
+    {
+        self.put(name);
+        self.put_spaced(n);
+    }
 }

@@ -1,5 +1,0 @@
--- `numbers::put_decimal` meets its contract. The measure is the number.
-use Rattle.text.proofs.numbers.+put_decimal.Given as goal
-
-abbrev pub decreases-put_decimal : goal.decreases-put_decimal
-decreases-put_decimal l = l.n
