@@ -8,4 +8,5 @@ pub mod limits;
 pub mod links;
 pub mod records;
 pub mod relink;
+pub mod values;
 pub mod words;

@@ -3,4 +3,3 @@ pub mod Names
 pub mod Sentences
 pub mod InLists
 pub mod Tables
-pub mod Cases

@@ -14,6 +14,9 @@ use Rattle.plan.specs.Syntax.{inlist, fn, Exprs, enil, econs, Field, Entry, Pair
 use Rattle.plan.specs.Syntax.{inner, left, right, full, left_semi, right_semi, left_anti, right_anti, Plan, scan, filter, project, join, alias}
 use Rattle.plan.specs.Syntax.{union, distinct, sort, repartition, limit, aggregate, window, Plans, pnil, pcons}
 
+-- whether a value is NULL, the number of its type, and where it stands in the order of its type
+pub use Rattle.plan.specs.Values.{is_n, kind_of, code}
+
 -- ---- rows, tables, functions
 
 -- a value or NULL for each field, by place
@@ -45,11 +48,6 @@ abbrev pub is_f : Value → Bool
 is_f null = false
 is_f (int z) = false
 is_f (truth b) = not b
-
-abbrev pub is_n : Value → Bool
-is_n null = true
-is_n (int z) = false
-is_n (truth b) = false
 
 -- the truth that is TRUE if the first, FALSE if the second answer is yes, else UNKNOWN
 abbrev pub tri : Bool → Bool → Value
@@ -83,18 +81,6 @@ tested is_not_false a = not (is_f a)
 tested is_not_unknown a = is_t a || is_f a
 
 -- ---- comparisons: operands of comparisons, Between and InList share a type (docs/FORMAT.md, Types); FALSE is below TRUE
-
-abbrev pub kind_of : Value → ℕ
-kind_of null = 0
-kind_of (int z) = 1
-kind_of (truth b) = 2
-
--- where a value stands in the order of its type
-abbrev pub code : Value → ℤ
-code null = pos 0
-code (int z) = z
-code (truth false) = pos 0
-code (truth true) = pos 1
 
 abbrev pub holds : Cmp → ℤ → ℤ → Bool
 holds eq a b = le_z a b & le_z b a

@@ -1,63 +1,40 @@
 -- Laws of value records that are right.
---     kind_null, kind_boolean, kind_integer   the type of what a record holds
 --     right_literal   the record of a literal is right
 --     right_null, valued_null     a NULL
 -- Assumes nothing.
-use mathlib.Core.Path.{◌≡◌, refl, sym}
+use mathlib.Core.Path.{◌≡◌, refl}
 use mathlib.Core.Bool.{Bool, true, false}
 use Prim.Native.Nat.{ℕ}
-use native.Mathlib.Omega.{arith}
-use borrow.Author.Tests.{ne_eqb, eq-eqb}
-use Rattle.plan.specs.Syntax.{Value, null, no_type, integer_type, boolean_type}
+use Rattle.std.specs.Prelude.{Option, Some, None}
 use Rattle.image.specs.Tree.{Label}
-use lib.Dec.{eqb}
-use Rattle.plan.specs.Values.{ValueRecord, Right, Valued, null_of, agrees, case_null, case_kind, literal_of}
-use Rattle.plan.specs.declared.values.Literal.{Literal}
-use Rattle.plan.specs.declared.values.Literal.TheVariants.{Of, Not}
-use Rattle.plan.specs.declared.values.Case.{Case}
-use Rattle.plan.specs.declared.values.Case.TheVariants.{Null, Integer, Truth}
+use Rattle.plan.specs.Kinds as K
+use Rattle.plan.specs.Kinds.{What, expr, plan, part, unknown, what}
+use Rattle.plan.specs.Syntax.{Value, null}
+use Rattle.plan.specs.Values.{ValueRecord, Right, Valued, null_of, agrees, literal_at, literal_of}
 
-never : {X : Type 0} → false ≡ true → X
-never e = let z : ◌≡◌ {A = ℕ} 0 1 = cc in absurd (omega arith)
+abbrev right_l : Option ValueRecord → Bool
+right_l (Some v) = agrees v.ty v.case
+right_l None = true
 
-pub kind_null : (k : Case) → case_null k ≡ true → no_type ≡ case_kind k
-kind_null Null h = refl
-kind_null (Integer z) h = never h
-kind_null (Truth b) h = never h
-
-pub kind_boolean : (t : ℕ) (k : Case) → agrees t k ≡ true → case_null k ≡ false → t ≡ boolean_type → boolean_type ≡ case_kind k
-kind_boolean t Null r h e = never (sym h)
-kind_boolean t (Integer z) r h e = never (rw (eq-eqb t boolean_type e) at r)
-kind_boolean t (Truth b) r h e = refl
-
-pub kind_integer : (t : ℕ) (k : Case) → agrees t k ≡ true → case_null k ≡ false → (t ≡ boolean_type → ⊥) → integer_type ≡ case_kind k
-kind_integer t Null r h e = never (sym h)
-kind_integer t (Integer z) r h e = refl
-kind_integer t (Truth b) r h e = never (rw (ne_eqb t boolean_type e) at r)
-
-abbrev right_l : Literal → Bool
-right_l (Of v) = agrees v.ty v.case
-right_l Not = true
-
-right_here : (l : Label) → right_l (literal_of l) ≡ true
-unfolding literal_of
-right_here l = go2 (eqb l.kind 2) refl
-  where
-    go4 : (b : Bool) → eqb l.kind 2 ≡ false → eqb l.kind 3 ≡ false → eqb l.kind 4 ≡ b → right_l (literal_of l) ≡ true
-    go4 true x y e = rw (x, y, e)
-    go4 false x y e = rw (x, y, e)
-
-    go3 : (b : Bool) → eqb l.kind 2 ≡ false → eqb l.kind 3 ≡ b → right_l (literal_of l) ≡ true
-    go3 true x e = rw (x, e)
-    go3 false x e = go4 (eqb l.kind 4) x e refl
-
-    go2 : (b : Bool) → eqb l.kind 2 ≡ b → right_l (literal_of l) ≡ true
-    go2 true e = rw e
-    go2 false e = go3 (eqb l.kind 3) e refl
+right_here : (w : What) (l : Label) → right_l (literal_at w l) ≡ true
+right_here (expr K.Integer) l = refl
+right_here (expr K.Boolean) l = refl
+right_here (expr K.Null) l = refl
+right_here (expr K.Column) l = refl
+right_here (expr K.Binary) l = refl
+right_here (expr K.Not) l = refl
+right_here (expr K.Test) l = refl
+right_here (expr K.Between) l = refl
+right_here (expr K.InList) l = refl
+right_here (expr K.Function) l = refl
+right_here (plan k) l = refl
+right_here (part k) l = refl
+right_here unknown l = refl
 
 -- the record of a literal is right
-pub right_literal : (l : Label) (v : ValueRecord) → literal_of l ≡ Of v → Right v
-right_literal l v e = rw e at (right_here l)
+pub right_literal : (l : Label) (v : ValueRecord) → literal_of l ≡ Some v → Right v
+unfolding literal_of
+right_literal l v e = rw e at (right_here (what l) l)
 
 -- a NULL
 module _ {r : ValueRecord} {t : ℕ} (e : r ≡ null_of t) where

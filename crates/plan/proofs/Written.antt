@@ -47,7 +47,7 @@ bit_back true = refl
 pub name_back : (x : Name) → nm (qualifier x) (ident x) ≡ x
 name_back (nm q n) = refl
 
-op_back : (o : Op) → nth and ops (op_number o - 1) ≡ o
+pub op_back : (o : Op) → nth and ops (op_number o - 1) ≡ o
 unfolding nth
 op_back and = refl
 op_back or = refl

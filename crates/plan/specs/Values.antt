@@ -1,16 +1,13 @@
 -- What the code's value records stand for.
-use Rattle.std.specs.Prelude.{ℕ, ◌≡◌, Bool, true, false, not, cond, eqb, ℤ, pos}
-use Rattle.std.proofs.Math.Option.{Option, none, some}
+use Rattle.std.specs.Prelude.{ℕ, ◌≡◌, Bool, true, false, not, eqb, ℤ, pos, Option, Some, None}
+use Rattle.std.proofs.Math.Option as O
 use Rattle.image.specs.Tree.{Label}
 use Rattle.plan.specs.Kinds as K
 use Rattle.plan.specs.Syntax as S
 use Rattle.plan.specs.Read.{signed}
-use Rattle.plan.specs.Trees.{bit_of, is_set}
-use Rattle.plan.specs.declared.values.Case.{Case}
-use Rattle.plan.specs.declared.values.Case.TheVariants.{Null, Integer, Truth}
+use Rattle.plan.specs.Trees.{is_set}
+use Rattle.plan.specs.Kinds.{What, expr, what}
 use Rattle.plan.specs.declared.values.Value.{Value}
-use Rattle.plan.specs.declared.values.Literal.{Literal}
-use Rattle.plan.specs.declared.values.Literal.TheVariants.{Of, Not}
 
 -- the code's value record: a type, and the case inside
 abbrev pub ValueRecord : Type 0
@@ -18,43 +15,38 @@ ValueRecord = Value
 
 -- an integer, a boolean, a NULL of a type
 abbrev pub integer : ℤ → ValueRecord
-integer z = record { ty = S.integer_type; case = Integer z }
+integer z = record { ty = S.integer_type; case = S.int z }
 
 abbrev pub boolean : Bool → ValueRecord
-boolean b = record { ty = S.boolean_type; case = Truth b }
+boolean b = record { ty = S.boolean_type; case = S.truth b }
 
 abbrev pub null_of : ℕ → ValueRecord
-null_of t = record { ty = t; case = Null }
+null_of t = record { ty = t; case = S.null }
 
--- the value that a case is
-abbrev pub case_of : Case → S.Value
-case_of Null = S.null
-case_of (Integer z) = S.int z
-case_of (Truth b) = S.truth b
-
--- whether it is NULL
-abbrev pub case_null : Case → Bool
-case_null Null = true
-case_null (Integer z) = false
-case_null (Truth b) = false
+-- whether a value is NULL
+abbrev pub is_n : S.Value → Bool
+is_n S.null = true
+is_n (S.int z) = false
+is_n (S.truth b) = false
 
 -- the number of its type: 0 of NULL
-abbrev pub case_kind : Case → ℕ
-case_kind Null = S.no_type
-case_kind (Integer z) = S.integer_type
-case_kind (Truth b) = S.boolean_type
+abbrev pub kind_of : S.Value → ℕ
+kind_of S.null = S.no_type
+kind_of (S.int z) = S.integer_type
+kind_of (S.truth b) = S.boolean_type
 
 -- where it stands in the order of its type: FALSE below TRUE
-abbrev pub case_code : Case → ℤ
-case_code Null = pos 0
-case_code (Integer z) = z
-case_code (Truth b) = pos (bit_of b)
+abbrev pub code : S.Value → ℤ
+code S.null = pos 0
+code (S.int z) = z
+code (S.truth false) = pos 0
+code (S.truth true) = pos 1
 
 -- whether type and case agree: a truth is of type boolean, an integer of another, a NULL of any
-abbrev pub agrees : ℕ → Case → Bool
-agrees t Null = true
-agrees t (Integer z) = not (eqb t S.boolean_type)
-agrees t (Truth b) = eqb t S.boolean_type
+abbrev pub agrees : ℕ → S.Value → Bool
+agrees t S.null = true
+agrees t (S.int z) = not (eqb t S.boolean_type)
+agrees t (S.truth b) = eqb t S.boolean_type
 
 -- a record that is right
 abbrev pub Right : ValueRecord → Type 0
@@ -63,37 +55,35 @@ Right v = agrees v.ty v.case ≡ true
 -- a record that is the value v, of the type t
 pub record Valued (r : ValueRecord) (t : ℕ) (v : S.Value) : Type 0 where
   pub type : r.ty ≡ t
-  pub value : case_of r.case ≡ v
+  pub value : r.case ≡ v
 
 -- the literal expression of a type and a case
-abbrev pub literal_by : ℕ → Case → S.Expr
-literal_by t Null = S.nul t
-literal_by t (Integer z) = S.num z
-literal_by t (Truth b) = S.bool b
+abbrev pub literal_by : ℕ → S.Value → S.Expr
+literal_by t S.null = S.nul t
+literal_by t (S.int z) = S.num z
+literal_by t (S.truth b) = S.bool b
 
 abbrev pub literal_is : ValueRecord → S.Expr
 literal_is v = literal_by v.ty v.case
 
--- the literal that a record is: an integer, a boolean or a NULL
-unfoldable pub literal_of : Label → Literal
-literal_of l =
-    cond (eqb l.kind (K.number_e K.Integer)) (Of (integer (signed l.lo l.hi)))
-    (cond (eqb l.kind (K.number_e K.Boolean)) (Of (boolean (is_set l.p)))
-    (cond (eqb l.kind (K.number_e K.Null)) (Of (null_of l.p)) Not))
+-- the literal that a record of this kind is: an integer, a boolean or a NULL
+abbrev pub literal_at : What → Label → Option ValueRecord
+literal_at (expr K.Integer) l = Some (integer (signed l.lo l.hi))
+literal_at (expr K.Boolean) l = Some (boolean (is_set l.p))
+literal_at (expr K.Null) l = Some (null_of l.p)
+literal_at _ l = None
+
+unfoldable pub literal_of : Label → Option ValueRecord
+literal_of l = literal_at (what l) l
 
 -- the literal that an expression is
-unfoldable pub literal_in : S.Expr → Literal
-literal_in (S.num z) = Of (integer z)
-literal_in (S.bool b) = Of (boolean b)
-literal_in (S.nul t) = Of (null_of t)
-literal_in (S.col x) = Not
-literal_in (S.bin o a b) = Not
-literal_in (S.neg a) = Not
-literal_in (S.test t a) = Not
-literal_in (S.between n a l h) = Not
-literal_in (S.inlist n a xs) = Not
-literal_in (S.fn p q r xs) = Not
+unfoldable pub literal_in : S.Expr → Option ValueRecord
+literal_in (S.num z) = Some (integer z)
+literal_in (S.bool b) = Some (boolean b)
+literal_in (S.nul t) = Some (null_of t)
+literal_in _ = None
 
-unfoldable pub literal? : Literal → Option ValueRecord
-literal? (Of v) = some v
-literal? Not = none
+-- as the definitions of the rewrite take it
+unfoldable pub literal? : Option ValueRecord → O.Option ValueRecord
+literal? (Some v) = O.some v
+literal? None = O.none

@@ -2,82 +2,57 @@
 ghost use Rattle.std.specs.Prelude.{◌≡◌, ◌<◌};
 ghost use Rattle.image.specs.Tree.{Fits32};
 ghost use Rattle.plan.specs.Read.{signed};
-ghost use Rattle.plan.specs.Values.{Right, case_code, case_kind, case_null, literal_of, null_of};
+ghost use Rattle.plan.specs.Values.{code, is_n, kind_of, literal_of, null_of};
 
-use crate::kinds::{BOOLEAN_LITERAL, INTEGER_LITERAL, NULL_LITERAL};
+use crate::kinds::{ExprKind, What, what_of};
 use crate::words::{BOOLEAN, INTEGER, NO_TYPE, TRUE};
 use image::records::Label;
+pub use image::values::Case;
 
-#[derive(Clone, Copy)]
-pub enum Case {
-    Null,
-    Integer(i64),
-    Truth(bool),
-}
-
-#[derive(Clone, Copy)]
+#[derive(Clone, Copy, Debug, PartialEq, Eq, Hash)]
 pub struct Value {
     pub ty: usize,
     pub case: Case,
 }
 
-// A NULL of a type.
-pub fn null_of(ty: usize) -> Value
-    ensures { result ≡ null_of ty }
-{
-    Value {
-        ty,
-        case: Case::Null,
-    }
-}
-
-pub fn is_null(v: Value) -> bool
-    ensures { result ≡ case_null v.case }
-{
-    let case = v.case;
-    match case {
-        Case::Null => true,
-        Case::Integer(_) => false,
-        Case::Truth(_) => false,
-    }
-}
-
-// The type of what a value holds: none for a NULL, whatever its own type.
-pub fn kind_of(v: Value) -> usize
-    requires { Right v }
-    ensures { result ≡ case_kind v.case }
-{
-    if is_null(v) {
-        return NO_TYPE;
-    }
-    if v.ty == BOOLEAN {
-        return BOOLEAN;
-    }
-    INTEGER
-}
-
-// Where a value stands in the order of its type: FALSE below TRUE.
-pub fn code_of(v: Value) -> i64
-    ensures { result ≡ case_code v.case }
-{
-    let case = v.case;
-    match case {
-        Case::Null => 0,
-        Case::Integer(z) => z,
-        Case::Truth(b) => {
-            if b {
-                return 1;
-            }
-            0
+impl Value {
+    // A NULL of a type.
+    pub fn null_of(ty: usize) -> Value
+        ensures { result ≡ null_of ty }
+    {
+        Value {
+            ty,
+            case: Case::Null,
         }
     }
-}
 
-// A literal, or a record that is none.
-#[derive(Clone, Copy)]
-pub enum Literal {
-    Of(Value),
-    Not,
+    pub fn is_null(self) -> bool
+        ensures { result ≡ is_n self.case }
+    {
+        matches!(self.case, Case::Null)
+    }
+
+    // The type of what a value holds: none for a NULL, whatever its own type.
+    pub fn kind_of(self) -> usize
+        ensures { result ≡ kind_of self.case }
+    {
+        match self.case {
+            Case::Null => NO_TYPE,
+            Case::Integer(_) => INTEGER,
+            Case::Truth(_) => BOOLEAN,
+        }
+    }
+
+    // Where a value stands in the order of its type: FALSE below TRUE.
+    pub fn code_of(self) -> i64
+        ensures { result ≡ code self.case }
+    {
+        match self.case {
+            Case::Null => 0,
+            Case::Integer(z) => z,
+            Case::Truth(b) => i64::from(b),
+        }
+    }
 }
 
 // The signed 64-bit number of its halves, by two's complement.
@@ -93,25 +68,21 @@ pub fn signed(lo: u64, hi: u64) -> i64
 }
 
 // The literal that a record is.
-pub fn literal_of(l: Label) -> Literal
+#[tactic(auto, unfolding(crate::specs::Values::literal_of))]
+pub fn literal_of(l: Label) -> Option<Value>
     requires { Fits32 l }
     ensures { result ≡ literal_of l }
 {
-    let kind = l.kind;
-    if kind == INTEGER_LITERAL {
-        return Literal::Of(Value {
+    match what_of(l.kind) {
+        What::Expr(ExprKind::Integer) => Some(Value {
             ty: INTEGER,
             case: Case::Integer(signed(l.lo as u64, l.hi as u64)),
-        });
-    }
-    if kind == BOOLEAN_LITERAL {
-        return Literal::Of(Value {
+        }),
+        What::Expr(ExprKind::Boolean) => Some(Value {
             ty: BOOLEAN,
             case: Case::Truth(l.p == TRUE),
-        });
+        }),
+        What::Expr(ExprKind::Null) => Some(Value::null_of(l.p)),
+        _ => None,
     }
-    if kind == NULL_LITERAL {
-        return Literal::Of(null_of(l.p));
-    }
-    Literal::Not
 }

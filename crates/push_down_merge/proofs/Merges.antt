@@ -7,6 +7,7 @@ use Prim.Native.Nat.{ℕ, ◌+◌, ◌*◌, ◌≤◌, ◌<◌}
 use native.Mathlib.Omega.{arith}
 use lib.ListN.{length, drop}
 use lib.Dec.{eqb}
+use borrow.Author.Tests.{ne_eqb, eq-eqb}
 use Rattle.image.specs.Limits.{work_bytes, max_list}
 use Rattle.image.specs.Word.{word}
 use Rattle.plan.specs.Measure.{size_e}
@@ -31,6 +32,10 @@ use Rattle.push_down_merge.proofs.Shorter.{new_few}
 -- the conjuncts simplified and reordered
 abbrev renewed : Expr → Reordered
 renewed e = reorder_predicates (simplify_predicates (split_conjunction e))
+
+or_true : (b : Bool) → (b || true) ≡ true
+or_true true = refl
+or_true false = refl
 
 module _ {s : List ℕ} where
   -- the list of a predicate is whole
@@ -70,23 +75,31 @@ module _ {s : List ℕ} where
         go (none_left z) = nothing refl (sym (lists_length l k) ∙ ap length z)
         go (some_left j) = something (made_shaped (made_of j l) k)
 
-    -- what the code tests is what the definition does
-    test_is : {c : Conjuncts} {b : Bool} → Lists s c (renewed e).predicates → b ≡ (renewed e).changed
-        → (not (eqb p.list.len c.len) || b)
-        ≡ (not (eqb (length (split_conjunction e)) (length (renewed e).predicates)) || (renewed e).changed)
-    test_is l e = rw (lists_length h.listed h.most, lists_length l (known_of l few).most, e)
-
-    -- a new predicate
-    pub simplified_new : {c : Conjuncts} {b : Bool} → Lists s c (renewed e).predicates → b ≡ (renewed e).changed
-        → (not (eqb p.list.len c.len) || b) ≡ true → Remains s (record { written = 0; list = c }) (simplify_filter e)
+    -- a new order
+    pub simplified_moved : {c : Conjuncts} → Lists s c (renewed e).predicates × ((renewed e).changed ≡ true)
+        → Remains s (record { written = 0; list = c }) (simplify_filter e)
     unfolding simplify_filter choose
-    simplified_new l i t = rw (sym (test_is l i) ∙ t) (new_remains l)
+    simplified_moved l = rw (l.1, or_true) (new_remains l.0)
 
-    -- the predicate as it is
-    pub simplified_old : {c : Conjuncts} {b : Bool} → Lists s c (renewed e).predicates → b ≡ (renewed e).changed
-        → (not (eqb p.list.len c.len) || b) ≡ false → Remains s p (simplify_filter e)
-    unfolding simplify_filter choose
-    simplified_old l i t = rw (sym (test_is l i) ∙ t) (something h)
+    -- none
+    module _ {c : Conjuncts} (l : Lists s c (simplify_predicates (split_conjunction e)))
+        (k : ((renewed e).predicates ≡ simplify_predicates (split_conjunction e)) × ((renewed e).changed ≡ false)) where
+      there : Lists s c (renewed e).predicates
+      there = rw k.0 l
+
+      -- what the code tests is what the definition does
+      test_is : eqb p.list.len c.len ≡ eqb (length (split_conjunction e)) (length (renewed e).predicates)
+      test_is = rw (lists_length h.listed h.most, lists_length there (known_of there few).most)
+
+      -- fewer predicates
+      pub simplified_new : (p.list.len ≡ c.len → ⊥) → Remains s (record { written = 0; list = c }) (simplify_filter e)
+      unfolding simplify_filter choose
+      simplified_new n = rw (← test_is, ne_eqb _ _ n) (new_remains there)
+
+      -- the predicate as it is
+      pub simplified_old : p.list.len ≡ c.len → Remains s p (simplify_filter e)
+      unfolding simplify_filter choose
+      simplified_old n = rw (← test_is, eq-eqb _ _ n, k.1) (something h)
 
   -- ---- merged
 

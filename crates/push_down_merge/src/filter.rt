@@ -46,10 +46,14 @@ pub fn simplify_filter(s: &[u8], p: Predicate) -> Predicate
 {
     let old = p.list;
     let simplified = simplify_predicates(s, old);
-    let new = reorder_predicates(s, simplified);
-    let list = new.list;
-    if (old.len != list.len) | new.changed {
+    if let Some(list) = reorder_predicates(s, simplified) {
         return Predicate { written: 0, list };
+    }
+    if old.len != simplified.len {
+        return Predicate {
+            written: 0,
+            list: simplified,
+        };
     }
     p
 }

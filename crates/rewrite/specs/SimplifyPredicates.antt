@@ -7,13 +7,13 @@ use Rattle.plan.specs.Syntax.{Value, Name, nm, Cmp, eq, ne, lt, le, gt, ge, Expr
 use Rattle.plan.specs.Syntax.{between, inlist, fn}
 use Rattle.meaning.specs.Meaning.{is_n, kind_of, code, same_v}
 use Rattle.plan.specs.Schema.{same}
-use Rattle.plan.specs.Values.{ValueRecord, case_of, literal_is, literal_in, literal?}
+use Rattle.plan.specs.Values.{ValueRecord, literal_is, literal_in, literal?}
 
 -- ---- a comparison of a column with a literal, as it was written
 
 -- the value of a literal
 abbrev pub lit_val : ValueRecord → Value
-lit_val l = case_of l.case
+lit_val l = l.case
 
 -- what it is to its column: an equality, a lower bound, an upper bound; strict or not
 pub data Rel : Type 0 where

@@ -20,22 +20,21 @@ use Rattle.rewrite.proofs.Simplify.{view_back}
 use Rattle.conjuncts.specs.Items.{FALSE}
 use Rattle.conjuncts.proofs.Listed.{next_back}
 use Rattle.conjuncts.proofs.Equals.{and_both}
-use Rattle.simplify_expressions.specs.declared.simplify_predicates.Compared.{Compared}
-use Rattle.simplify_expressions.specs.declared.simplify_predicates.Compared.TheVariants.{Of, Not}
+use Rattle.std.specs.Prelude as P
 use Rattle.simplify_expressions.specs.declared.simplify_predicates.Bound.{Bound}
-use Rattle.simplify_expressions.specs.Seen.{named, rel_of, seen, strict_r, side_of?, side_in, Spelled}
+use Rattle.simplify_expressions.specs.Seen.{named, relation_in, seen, strict_r, side_of?, side_in, Spelled}
 use Rattle.simplify_expressions.specs.Classes.{is_of, is_other, is_name, in_class, of_class, after, precedes, lesser, least}
 use Rattle.simplify_expressions.specs.declared.simplify_predicates.Class.{Class}
 use Rattle.simplify_expressions.specs.declared.simplify_predicates.Class.TheVariants.{Equality, Lower, Upper, Other}
 
 -- ---- as the code computes them
 
-pub same_class : {x : Compared} {b : Bound} (k : Class) (q n : ℕ) {r : Bool} → x ≡ Of b → r ≡ is_of k (rel_of b.relation)
+pub same_class : {x : P.Option Bound} {b : Bound} (k : Class) (q n : ℕ) {r : Bool} → x ≡ P.Some b → r ≡ is_of k (relation_in b.relation)
     → (r && (eqb b.column.q q && eqb b.column.n n)) ≡ in_class k q n (seen x)
 unfolding in_class
 same_class k q n e h = rw (e, h)
 
-pub no_class : {x : Compared} (k : Class) (q n : ℕ) {r : Bool} → x ≡ Not → r ≡ is_other k → r ≡ in_class k q n (seen x)
+pub no_class : {x : P.Option Bound} (k : Class) (q n : ℕ) {r : Bool} → x ≡ P.None → r ≡ is_other k → r ≡ in_class k q n (seen x)
 unfolding in_class
 no_class k q n e h = rw e h
 
@@ -131,21 +130,21 @@ downs_spelled q n = spelled Upper below refl is_upper q n
 
 -- ---- columns in order, as the code finds them
 
-module _ {x : Compared} (last best : Option Name) where
-  pub lesser_none : x ≡ Not → best ≡ lesser last (seen x) best
+module _ {x : P.Option Bound} (last best : Option Name) where
+  pub lesser_none : x ≡ P.None → best ≡ lesser last (seen x) best
   unfolding lesser
   lesser_none e = rw e
 
-  pub lesser_out : {b : Bound} → x ≡ Of b → after last (named b.column) ≡ false → best ≡ lesser last (seen x) best
+  pub lesser_out : {b : Bound} → x ≡ P.Some b → after last (named b.column) ≡ false → best ≡ lesser last (seen x) best
   unfolding lesser choose
   lesser_out e a = rw (e, a)
 
-  pub lesser_held : {b : Bound} → x ≡ Of b → after last (named b.column) ≡ true → precedes best (named b.column) ≡ true
+  pub lesser_held : {b : Bound} → x ≡ P.Some b → after last (named b.column) ≡ true → precedes best (named b.column) ≡ true
       → best ≡ lesser last (seen x) best
   unfolding lesser choose
   lesser_held e a h = rw (e, a, h)
 
-  pub lesser_new : {b : Bound} → x ≡ Of b → after last (named b.column) ≡ true → precedes best (named b.column) ≡ false
+  pub lesser_new : {b : Bound} → x ≡ P.Some b → after last (named b.column) ≡ true → precedes best (named b.column) ≡ false
       → some (named b.column) ≡ lesser last (seen x) best
   unfolding lesser choose
   lesser_new e a h = rw (e, a, h)

@@ -7,8 +7,8 @@ use Rattle.plan.specs.Values.{ValueRecord, Right, agrees, literal_in, literal?}
 use Rattle.rewrite.specs.SimplifyPredicates.{Rel, Item, rel_of, as_literal, as_column, make, or_item, view}
 use Rattle.simplify_expressions.specs.Seen.{seen}
 use Rattle.simplify_expressions.specs.declared.simplify_predicates.Bound.{Bound}
-use Rattle.simplify_expressions.specs.declared.simplify_predicates.Compared.{Compared}
-use Rattle.simplify_expressions.specs.declared.simplify_predicates.Compared.TheVariants.{Of}
+use Rattle.std.specs.Prelude as P
+use Rattle.std.specs.Option.{unwrap_or}
 
 abbrev right? : Option ValueRecord → Bool
 right? none = true
@@ -61,5 +61,6 @@ right_view (between n a l u) = refl
 right_view (inlist n a xs) = refl
 right_view (fn p q r xs) = refl
 
-pub right_bound : {x : Compared} {b : Bound} (e : Expr) → seen x ≡ view e → x ≡ Of b → Right b.value
-right_bound e h k = subst (λ (o : Option Item). right_item o ≡ true) (sym h ∙ ap seen k) (right_view e)
+pub right_unwrapped : (e : Expr) (o : P.Option Bound) (d : Bound) → seen o ≡ view e → Right d.value → Right (unwrap_or o d).value
+right_unwrapped e P.None d h k = k
+right_unwrapped e (P.Some b) d h k = subst (λ (o : Option Item). right_item o ≡ true) (sym h) (right_view e)

@@ -1,6 +1,6 @@
 -- Laws of sides, for walks along a list of bounds.
---     best_next, better_at      one more bound, and the better of two by their indices
---     kind_next, of_kind_next   one more literal's kind, from the end
+--     best_next, better_new, better_old     one more bound, and the better of two by their indices
+--     kind_here, kind_past      one more literal's kind
 --     spelled_all, best-is      what `most_restrictive` comes to, as expressions
 -- Assumes nothing.
 use mathlib.Core.Path.{◌≡◌, refl, sym, ap, ap₂, ◌∙◌}
@@ -30,52 +30,26 @@ pub best_next : (past : ℤ → ℤ → Bool) (held : Side) (es : List Expr) (i 
     ≡ find_most_restrictive_predicate past (stronger past held (side_in (get_or es i FALSE))) (map side_in (drop (i + 1) es))
 best_next past held es i h = rw (next es i h)
 
-choose_at : (b : Bool) (f : ℕ → Side) (i j : ℕ) → f (choose b i j) ≡ choose b (f i) (f j)
-unfolding choose
-choose_at true f i j = refl
-choose_at false f i j = refl
-
-pub choose_less : (b : Bool) (i j n : ℕ) → i < n → j < n → choose b i j < n
-unfolding choose
-choose_less true i j n h k = h
-choose_less false i j n h k = k
-
 -- the better of two, by their indices
-pub better_at : (past : ℤ → ℤ → Bool) (es : List Expr) (best i : ℕ) (v : Bool) (held d : Side)
-    → v ≡ is_better past held d → held ≡ side_in (get_or es best FALSE) → d ≡ side_in (get_or es i FALSE)
-    → stronger past (side_in (get_or es best FALSE)) (side_in (get_or es i FALSE)) ≡ side_in (get_or es (choose v i best) FALSE)
-better_at past es best i v held d e h k =
-    ap (λ (w : Bool). choose w (side_in (get_or es i FALSE)) (side_in (get_or es best FALSE))) (sym (e ∙ ap₂ (λ (x y : Side). is_better past x y) h k))
-    ∙ sym (choose_at v (λ j. side_in (get_or es j FALSE)) i best)
+module _ (past : ℤ → ℤ → Bool) (es : List Expr) (best i : ℕ) {held d : Side} {v : Bool} (e : v ≡ is_better past held d)
+    (h : held ≡ side_in (get_or es best FALSE)) (k : d ≡ side_in (get_or es i FALSE)) where
+  pub better_new : v ≡ true → stronger past (side_in (get_or es best FALSE)) (side_in (get_or es i FALSE)) ≡ side_in (get_or es i FALSE)
+  unfolding choose
+  better_new t = rw (← h, ← k, ← e, t)
 
-pub find_with : (past : ℤ → ℤ → Bool) (l : List Side) {a b : Side} → a ≡ b
-    → find_most_restrictive_predicate past a l ≡ find_most_restrictive_predicate past b l
-find_with past l e = ap (λ (x : Side). find_most_restrictive_predicate past x l) e
+  pub better_old : v ≡ false → stronger past (side_in (get_or es best FALSE)) (side_in (get_or es i FALSE)) ≡ side_in (get_or es best FALSE)
+  unfolding choose
+  better_old t = rw (← h, ← k, ← e, t)
 
--- ---- kinds, from the end of the list
+-- ---- kinds
 
-cond_choose : (b : Bool) (x y : ℕ) → cond b x y ≡ choose b x y
-unfolding choose
-cond_choose true x y = refl
-cond_choose false x y = refl
+-- the side d stands at i: NULL or not
+module _ (es : List Expr) (i : ℕ) (h : i < length es) {d : Side} (e : d ≡ side_in (get_or es i FALSE)) where
+  pub kind_here : false ≡ is_n (val d) → kind_of (val d) ≡ first_kind (map side_in (drop i es))
+  kind_here n = rw (next es i h, ← e, ← n)
 
--- one literal more in front: the side d, NULL or not, and its kind
-module _ (es : List Expr) (i : ℕ) (nz : i ≡ 0 → ⊥) (h : i ≤ length es) (d : Side) (e : d ≡ side_in (get_or es (i - 1) FALSE))
-    (n : Bool) (en : n ≡ is_n (val d)) (k : ℕ) (ek : k ≡ kind_of (val d)) where
-  pub kind_next : (rest : ℕ) → rest ≡ first_kind (map side_in (drop i es)) → choose n rest k ≡ first_kind (map side_in (drop (i - 1) es))
-  kind_next rest er = rw (next_back es i nz h, ← e, ← en, ← ek, ← er) (sym (cond_choose n rest k))
-
-  pub of_kind_next : (kind : ℕ) (rest : Bool) → rest ≡ all (of_kind kind) (map side_in (drop i es))
-      → ((n || eqb k kind) && rest) ≡ all (of_kind kind) (map side_in (drop (i - 1) es))
-  unfolding all
-  of_kind_next kind rest er = rw (next_back es i nz h, ← e, ← en, ← ek, ← er) (sym (and_is (n || eqb k kind) rest))
-
--- one value more that agrees with v, or not
-pub agree_next : (v : Value) (es : List Expr) (i : ℕ) → (i ≡ 0 → ⊥) → i ≤ length es → (d : Side) → d ≡ side_in (get_or es (i - 1) FALSE)
-    → (y : Bool) → y ≡ same_v v (val d) → (rest : Bool) → rest ≡ all (λ e. same_v v (val e)) (map side_in (drop i es))
-    → (y && rest) ≡ all (λ e. same_v v (val e)) (map side_in (drop (i - 1) es))
-unfolding all
-agree_next v es i nz h d e y ey rest er = rw (next_back es i nz h, ← e, ← ey, ← er) (sym (and_is y rest))
+  pub kind_past : true ≡ is_n (val d) → first_kind (map side_in (drop i es)) ≡ first_kind (map side_in (drop (i + 1) es))
+  kind_past n = rw (next es i h, ← e, ← n)
 
 -- ---- the bounds as expressions
 

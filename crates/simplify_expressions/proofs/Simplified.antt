@@ -113,10 +113,10 @@ module _ {s : List ℕ} {r : Conjuncts} (es : List Expr) where
       let all_left : rest none (sort_out es).groups ≡ (sort_out es).groups = keep_all (sort_out es).groups in
       record { last = none; done = (sort_out es).others; lists = h; is = rw all_left; next = e; few = rw all_left (omega (arith, groups_few es)) }
 
-  pub going_next : {r' : Conjuncts} {key key' : Option Name} {left : ℕ} (q n : ℕ) (k : Going s r es key left) → key ≡ some (nm q n)
-      → Lists s r' (k.done ++ simplify_column_predicates (group_of q n es)) → key' ≡ least (some (nm q n)) es → Going s r' es key' (left - 1)
+  pub going_next : {r' : Conjuncts} {key key' : Option Name} {left left' : ℕ} (q n : ℕ) (k : Going s r es key left) → left ≤ suc left' → key ≡ some (nm q n)
+      → Lists s r' (k.done ++ simplify_column_predicates (group_of q n es)) → key' ≡ least (some (nm q n)) es → Going s r' es key' left'
   unfolding flatten
-  going_next q n k t h e =
+  going_next q n k fewer t h e =
       let gs = (sort_out es).groups in
       let m : rest k.last gs ≡ whole (nm q n) gs ∷ rest (some (nm q n)) gs =
       rest_next k.last (nm q n) gs (sorted_ascends es) (least_head k.last es ∙ (sym k.next ∙ t)) in

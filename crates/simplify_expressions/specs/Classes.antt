@@ -1,5 +1,6 @@
 -- Which predicates are of one class: the equalities, lower bounds and upper bounds of a column, and the others. The columns in order.
 use Rattle.std.specs.Prelude.{Bool, true, false, ◌&&◌, List, [], ◌∷◌, map, ℕ, eqb}
+use Rattle.std.specs.Prelude as P
 use Rattle.std.proofs.Math.Option.{Option, none, some}
 use Rattle.plan.specs.Syntax.{Expr, Name, nm}
 use Rattle.plan.specs.Lists.{choose, keep}
@@ -7,8 +8,7 @@ use Rattle.rewrite.specs.SimplifyPredicates.{Rel, same_as, above, below, Item, G
 use Rattle.simplify_expressions.specs.Seen.{named, side_in}
 use Rattle.simplify_expressions.specs.declared.simplify_predicates.Class.{Class}
 use Rattle.simplify_expressions.specs.declared.simplify_predicates.Class.TheVariants.{Equality, Lower, Upper, Other}
-use Rattle.simplify_expressions.specs.declared.simplify_predicates.Key.{Key}
-use Rattle.simplify_expressions.specs.declared.simplify_predicates.Key.TheVariants.{At, None}
+use Rattle.simplify_expressions.specs.declared.simplify_predicates.Name as declared
 
 -- ---- classes
 
@@ -55,9 +55,9 @@ group_of q n es =
 
 -- ---- columns in order
 
-abbrev pub key_of : Key → Option Name
-key_of (At x) = some (named x)
-key_of None = none
+abbrev pub key_of : P.Option declared.Name → Option Name
+key_of (P.Some x) = some (named x)
+key_of P.None = none
 
 -- a column comes after the last one; any does after none
 abbrev pub after : Option Name → Name → Bool

@@ -1,9 +1,10 @@
--- Which predicates are expensive.
-use Rattle.std.specs.Prelude.{Bool, true, false, not}
+-- What the code's reordering of a list is.
+use Rattle.std.specs.Prelude.{◌≡◌, true, false, List, ℕ, Option, Some, None}
 use Rattle.plan.specs.Syntax.{Expr}
-use Rattle.rewrite.specs.ReorderPredicates.{is_cheap_predicate}
+use Rattle.conjuncts.specs.Items.{Conjuncts, Lists}
+use Rattle.rewrite.specs.ReorderPredicates.{Reordered}
 
--- the expensive ones, or the others
-abbrev pub of_cost : Bool → Expr → Bool
-of_cost false = is_cheap_predicate
-of_cost true = λ e. not (is_cheap_predicate e)
+-- a new list where the order of es changed, else none
+abbrev pub Reorders : List ℕ → Option Conjuncts → List Expr → Reordered → Type 0
+Reorders s (Some c) es r = Lists s c r.predicates × (r.changed ≡ true)
+Reorders s None es r = (r.predicates ≡ es) × (r.changed ≡ false)

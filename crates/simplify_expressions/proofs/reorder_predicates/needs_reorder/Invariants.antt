@@ -11,7 +11,5 @@ use Rattle.simplify_expressions.proofs.Order.{after_cost}
 use Rattle.simplify_expressions.proofs.reorder_predicates.needs_reorder.Given as goal
 
 abbrev pub invariant-loop-i : goal.invariant-loop-i
-invariant-loop-i l = (l.i ≤ l.n) × ((es : List Expr) → Lists l.s l.c es → needs_reorder es ≡ after_cost l.costly (drop l.i es))
+invariant-loop-i l = (es : List Expr) → Lists l.s l.c es → needs_reorder es ≡ after_cost l.costly (drop l.i es)
 
-abbrev pub decreases-loop-i : goal.decreases-loop-i
-decreases-loop-i l = l.n - l.i

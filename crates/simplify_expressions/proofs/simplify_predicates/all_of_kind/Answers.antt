@@ -1,32 +1,20 @@
-use mathlib.Core.Path.{◌∙◌}
-use native.Mathlib.Omega.{arith}
-use Rattle.plan.specs.Lists.{all}
-use Rattle.conjuncts.proofs.Listed.{lists_length, at_end}
-use Rattle.meaning.proofs.Cases.{null_case, kind_case}
-use Rattle.simplify_expressions.proofs.Sides.{of_kind_next}
+-- `simplify_predicates::all_of_kind` meets its contract.
+use Rattle.std.proofs.Common.{refl, ◌∙◌, sym, true, false, arith, rules}
+use Rattle.std.proofs.lemmas.Iterator.{cases_from_all, YieldsList-from_range}
+use Rattle.plan.specs.Syntax.{Expr}
+use Rattle.plan.proofs.Lists.{all_map}
+use Rattle.rewrite.specs.SimplifyPredicates.{of_kind}
+use Rattle.conjuncts.specs.Items.{FALSE}
+use Rattle.conjuncts.proofs.Listed.{lists_length}
+use Rattle.simplify_expressions.specs.Seen.{side_in}
+use Rattle.simplify_expressions.proofs.Walks.{Gives, all_ranged}
 use Rattle.simplify_expressions.proofs.simplify_predicates.all_of_kind.Goals as goal
 
-pub loop-i-init : goal.loop-i-init
-unfolding all
-loop-i-init c =
-    (omega arith, λ es h. rw (at_end es c.args.c.len (omega (arith, lists_length h c.requires.most))))
-
-pub loop-i-preserved : goal.loop-i-preserved
-unfolding all
-loop-i-preserved c = (
-  omega arith,
-  λ es h. of_kind_next es c.loop-i.i c.loop-i-test.true
-      (omega (
-        arith,
-        lists_length h c.requires.most,
-        c.loop-i.invariant.0,
-      )) _ (c.side_at-d.ensures.is es h) _ (c.is_null.ensures ∙ null_case
-      c.side_at-d.result.value.case) _
-      (c.kind_of.ensures ∙ kind_case c.side_at-d.result.value.case) _ _
-      (c.loop-i.invariant.1 es h),
-)
-
 pub returns : goal.returns
-unfolding all
 returns c =
-    λ es h. c.loop-i.invariant.1 es h ∙ rw c.loop-i-test.false
+    λ es h. let n = c.args.c.len in
+    let f = λ (e : Expr). of_kind c.args.kind (side_in e) in
+    all_ranged f FALSE es 0 n (omega (arith, lists_length h c.requires.most)) _
+    (cases_from_all _ _ _ (Gives f FALSE es true) (Gives f FALSE es false) c.all.ensures.ran
+    (YieldsList-from_range 0 n n refl (omega arith)) (λ i q k. search rules) (λ i q k. search rules))
+    ∙ sym (all_map (of_kind c.args.kind) side_in es)

@@ -1,11 +1,8 @@
 -- `simplify_predicates::belongs` meets its contract.
-use Rattle.simplify_expressions.proofs.Classed.{same_class, no_class}
+use Rattle.std.proofs.Common.{rules}
+use Rattle.simplify_expressions.specs.Classes.{in_class}
 use Rattle.simplify_expressions.proofs.simplify_predicates.belongs.Goals as goal
 
-pub returns-in_default : goal.returns-in_default
-returns-in_default c =
-    no_class _ c.args.q c.args.n c.in_default.is c.is_other.ensures
-
-pub returns : goal.returns
-returns c =
-    same_class _ _ _ c.in-Of.is c.is_of.ensures
+pub returns-in-Some : goal.returns-in-Some
+unfolding in_class
+returns-in-Some c = rw (c.in-Some.is, c.says.ensures, c.eq.ensures)

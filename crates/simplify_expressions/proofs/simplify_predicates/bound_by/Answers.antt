@@ -1,24 +1,23 @@
 -- `simplify_predicates::bound_by` meets its contract.
-use borrow.Author.Tests.{eq-eqb, ne_eqb}
+use Rattle.std.proofs.Common.{sym, ap, ◌∙◌}
+use Rattle.plan.specs.Values.{literal?}
 use Rattle.rewrite.specs.SimplifyPredicates.{make}
+use Rattle.simplify_expressions.specs.Seen.{relation_of}
+use Rattle.simplify_expressions.specs.Classes.{key_of}
+use Rattle.simplify_expressions.proofs.Comparing.{make_none, make_none₂}
 use Rattle.simplify_expressions.proofs.simplify_predicates.bound_by.Goals as goal
 
-pub returns-then-op-eq-EQ : goal.returns-then-op-eq-EQ
+pub returns-in_err-relation : goal.returns-in_err-relation
 unfolding make
-returns-then-op-eq-EQ c =
-    rw (eq-eqb _ _ c.if-op-eq-EQ.true)
+returns-in_err-relation c = rw (c.from_residual.ensures, ← c.relation_by.ensures, c.in_err-relation.was)
 
-pub returns-then-op-eq-NOT_EQ : goal.returns-then-op-eq-NOT_EQ
-unfolding make
-returns-then-op-eq-NOT_EQ c =
-    rw (ne_eqb _ _ c.if-op-eq-EQ.false, eq-eqb _ _ c.if-op-eq-NOT_EQ.true)
+pub returns-in_err-column : goal.returns-in_err-column
+returns-in_err-column c = rw (c.from_residual-in_err-column.ensures, ← c.extract_column_from_expr.ensures, c.in_err-column.was) (make_none₂ _ _ _)
 
-pub returns-then-op-flipped : goal.returns-then-op-flipped
-unfolding make
-returns-then-op-flipped c =
-    rw (ne_eqb _ _ c.if-op-eq-EQ.false, ne_eqb _ _ c.if-op-eq-NOT_EQ.false, c.if-op-flipped.true)
+pub returns-in_err-value : goal.returns-in_err-value
+unfolding literal?
+returns-in_err-value c = rw (c.from_residual-in_err-value.ensures, ← c.literal_of.ensures, c.in_err-value.was) (make_none _ _ _)
 
 pub returns : goal.returns
-unfolding make
-returns c =
-    rw (ne_eqb _ _ c.if-op-eq-EQ.false, ne_eqb _ _ c.if-op-eq-NOT_EQ.false, c.if-op-flipped.false)
+unfolding make literal?
+returns c = rw (← c.relation_by.ensures, c.in_ok-relation.was, ← c.extract_column_from_expr.ensures, c.in_ok-column.was, ← c.literal_of.ensures, c.in_ok-value.was)

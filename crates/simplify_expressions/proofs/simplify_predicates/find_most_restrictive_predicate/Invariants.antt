@@ -12,9 +12,6 @@ use Rattle.simplify_expressions.proofs.simplify_predicates.find_most_restrictive
 
 abbrev pub invariant-loop-i : goal.invariant-loop-i
 invariant-loop-i l =
-    (l.i ≤ l.n) × (l.best < l.n) × ((es : List Expr) → Lists l.s l.c es →
-    find_most_restrictive_predicate (past_of l.lower) (side_in (get_or es 0 FALSE)) (map side_in (drop 1 es)) ≡ find_most_restrictive_predicate
-    (past_of l.lower) (side_in (get_or es l.best FALSE)) (map side_in (drop l.i es)))
-
-abbrev pub decreases-loop-i : goal.decreases-loop-i
-decreases-loop-i l = l.n - l.i
+    (l.best < l.c.len) × ((es : List Expr) → Lists l.s l.c es →
+    find_most_restrictive_predicate (past_of l.end) (side_in (get_or es 0 FALSE)) (map side_in (drop 1 es)) ≡ find_most_restrictive_predicate
+    (past_of l.end) (side_in (get_or es l.best FALSE)) (map side_in (drop l.i es)))

@@ -1,29 +1,25 @@
-use mathlib.Core.Path.{◌∙◌}
+use mathlib.Core.Path.{sym, ap, ◌∙◌}
+use mathlib.Core.List.{map}
 use native.Mathlib.Omega.{arith}
+use Rattle.rewrite.specs.SimplifyPredicates.{Side, val, first_kind}
+use Rattle.plan.specs.Values.{is_n, kind_of}
 use Rattle.conjuncts.proofs.Listed.{lists_length, at_end}
-use Rattle.meaning.proofs.Cases.{null_case, kind_case}
-use Rattle.simplify_expressions.proofs.Sides.{kind_next}
+use Rattle.simplify_expressions.specs.Seen.{side_in}
+use Rattle.simplify_expressions.proofs.Sides.{kind_here, kind_past}
 use Rattle.simplify_expressions.proofs.simplify_predicates.first_kind.Goals as goal
 
-pub loop-i-init : goal.loop-i-init
-loop-i-init c =
-    (omega arith, λ es h. rw (at_end es c.args.c.len (omega (arith, lists_length h c.requires.most))))
+pub returns-then-not-is_null : goal.returns-then-not-is_null
+returns-then-not-is_null c =
+    λ es h. c.kind_of.ensures
+    ∙ (kind_here es c.loop-i.i (omega (arith, lists_length h c.requires.most, c.loop-i-test.true)) (c.side_at.ensures.is es h)
+    (sym c.if-not-is_null.true ∙ c.is_null.ensures) ∙ sym (c.loop-i.invariant es h))
 
 pub loop-i-preserved : goal.loop-i-preserved
-loop-i-preserved c = (
-  omega arith,
-  λ es h. c.either-kind.ensures
-      ∙ kind_next es c.loop-i.i c.loop-i-test.true
-      (omega (
-        arith,
-        lists_length h c.requires.most,
-        c.loop-i.invariant.0,
-      )) _ (c.side_at-d.ensures.is es h) _
-      (c.is_null.ensures ∙ null_case c.side_at-d.result.value.case) _
-      (c.kind_of.ensures ∙ kind_case c.side_at-d.result.value.case) _
-      (c.loop-i.invariant.1 es h),
-)
+loop-i-preserved c =
+    λ es h. c.loop-i.invariant es h
+    ∙ kind_past es c.loop-i.i (omega (arith, lists_length h c.requires.most, c.loop-i-test.true)) (c.side_at.ensures.is es h)
+    (sym c.if-not-is_null.false ∙ c.is_null.ensures)
 
 pub returns : goal.returns
 returns c =
-    λ es h. c.loop-i.invariant.1 es h ∙ rw c.loop-i-test.false
+    λ es h. sym (c.loop-i.invariant es h ∙ rw (at_end es c.loop-i.i (omega (arith, lists_length h c.requires.most, c.loop-i-test.false))))

@@ -1,7 +1,6 @@
--- `simplify_predicates::first_kind` meets its contract. The loop's invariant: the kind so far is that of the list from i on.
+-- `simplify_predicates::first_kind` meets its contract. The loop's invariant: the kind of all is that of the rest.
 use mathlib.Core.Path.{◌≡◌}
 use mathlib.Core.List.{List, map}
-use Prim.Native.Nat.{◌≤◌}
 use lib.ListN.{drop}
 use Rattle.plan.specs.Syntax.{Expr}
 use Rattle.rewrite.specs.SimplifyPredicates.{first_kind}
@@ -10,7 +9,4 @@ use Rattle.simplify_expressions.specs.Seen.{side_in}
 use Rattle.simplify_expressions.proofs.simplify_predicates.first_kind.Given as goal
 
 abbrev pub invariant-loop-i : goal.invariant-loop-i
-invariant-loop-i l = (l.i ≤ l.c.len) × ((es : List Expr) → Lists l.s l.c es → l.kind ≡ first_kind (map side_in (drop l.i es)))
-
-abbrev pub decreases-loop-i : goal.decreases-loop-i
-decreases-loop-i l = l.i
+invariant-loop-i l = (es : List Expr) → Lists l.s l.c es → first_kind (map side_in es) ≡ first_kind (map side_in (drop l.i es))

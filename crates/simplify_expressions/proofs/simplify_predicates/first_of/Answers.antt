@@ -9,16 +9,16 @@ returns-in_default c =
 
 pub returns-then-not-comes_after : goal.returns-then-not-comes_after
 returns-then-not-comes_after c =
-    lesser_out _ _ c.in-Of.is (sym c.comes_after.ensures ∙ c.if-not-comes_after.true)
+    lesser_out _ _ c.in-Some.is (sym c.comes_after.ensures ∙ c.if-not-comes_after.true)
 
 pub returns-then-comes_before : goal.returns-then-comes_before
 returns-then-comes_before c =
-    lesser_held _ _ c.in-Of.is
+    lesser_held _ _ c.in-Some.is
     (sym c.comes_after.ensures ∙ c.if-not-comes_after.false)
     (sym c.comes_before.ensures ∙ c.if-comes_before.true)
 
 pub returns : goal.returns
 returns c =
-    lesser_new _ _ c.in-Of.is
+    lesser_new _ _ c.in-Some.is
     (sym c.comes_after.ensures ∙ c.if-not-comes_after.false)
     (sym c.comes_before.ensures ∙ c.if-comes_before.false)

@@ -1,6 +1,8 @@
 -- `simplify_predicates::most_restrictive` meets its contract.
 use mathlib.Core.Path.{sym, ◌∙◌}
+use Rattle.std.proofs.Common.{true, rules}
 use native.Mathlib.Omega.{arith}
+use Rattle.plan.proofs.Lists.{keep_all}
 use lib.ListN.{get_or}
 use Rattle.plan.specs.Lists.{put}
 use Rattle.conjuncts.specs.Items.{FALSE}
@@ -31,4 +33,4 @@ returns c =
     λ es fs spell h k sp. let p = c.requires in
     rw (restrict_all _ spell es (omega (arith, lists_length h p.most, c.if-c-eq0.false)) sp
     (rw (← c.first_kind.ensures es h) (sym c.if-all_of_kind.false ∙ c.all_of_kind.ensures es h)))
-    (c.extend.ensures _ es fs h k)
+    (let all = c.pick.ensures _ es fs (λ e. true) h k (λ i yes lt t. search rules) in rw keep_all at all)

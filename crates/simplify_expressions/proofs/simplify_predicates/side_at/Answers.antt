@@ -1,22 +1,16 @@
 -- `simplify_predicates::side_at` meets its contract.
-use mathlib.Core.Path.{refl}
+use Rattle.std.proofs.Common.{refl, sym, ap, ◌∙◌}
 use Rattle.simplify_expressions.specs.Seen.{side_of?}
-use Rattle.simplify_expressions.proofs.RightSides.{right_bound}
+use Rattle.simplify_expressions.proofs.Comparing.{unwrapped}
+use Rattle.simplify_expressions.proofs.RightSides.{right_unwrapped}
 use Rattle.simplify_expressions.proofs.simplify_predicates.side_at.Goals as goal
 
-pub returns-in_default : goal.returns-in_default
-unfolding side_of?
-returns-in_default c =
-    rw c.null_of.ensures (record { right = refl; is = λ es h. rw (← c.compared_at.ensures es h, c.in_default.is) })
+pub returns-clause-right : goal.returns-clause-right
+returns-clause-right c =
+    let k = c.requires.known in
+    rw (c.unwrap_or.ensures, c.null_of.ensures) (right_unwrapped _ c.compared_at.result _ (c.compared_at.ensures k.exprs k.lists) refl)
 
-pub returns : goal.returns
+pub returns-clause-is : goal.returns-clause-is
 unfolding side_of?
-returns c =
-    let k = c.requires.known in record {
-      right = right_bound _ (c.compared_at.ensures k.exprs k.lists) c.in-Of.is;
-      is = λ es h. rw (
-        ←
-            c.compared_at.ensures es h,
-        c.in-Of.is,
-      );
-    }
+returns-clause-is c =
+    λ es h. rw (c.unwrap_or.ensures, c.null_of.ensures, ← c.compared_at.ensures es h) (unwrapped c.compared_at.result _ refl)

@@ -13,7 +13,7 @@ pub equal_part-equal-requires : goal.equal_part-equal-requires
 equal_part-equal-requires c =
     let p = c.requires in
     let a = c.args in
-    known_kept (of_class Equality a.q a.n) p.exprs
+    known_kept (of_class Equality a.column.q a.column.n) p.exprs
     (c.select_class-eq_predicates.ensures _ _ p.lists
     (lists_none c.empty.ensures)) (omega (arith, lists_length p.lists p.most))
 
@@ -21,7 +21,7 @@ pub most_restrictive-greater-requires : goal.most_restrictive-greater-requires
 most_restrictive-greater-requires c =
     let p = c.requires in
     let a = c.args in
-    known_kept (of_class Lower a.q a.n) p.exprs
+    known_kept (of_class Lower a.column.q a.column.n) p.exprs
     (c.select_class-greater_predicates.ensures _ _ p.lists (lists_none c.empty-2.ensures))
     (omega (arith, lists_length p.lists p.most))
 
@@ -29,15 +29,15 @@ pub most_restrictive-requires : goal.most_restrictive-requires
 most_restrictive-requires c =
     let p = c.requires in
     let a = c.args in
-    known_kept (of_class Upper a.q a.n) p.exprs
+    known_kept (of_class Upper a.column.q a.column.n) p.exprs
     (c.select_class-less_predicates.ensures _ _ p.lists (lists_none c.empty-3.ensures))
     (omega (arith, lists_length p.lists p.most))
 
 pub returns : goal.returns
 returns c =
     λ es fs h k. let a = c.args in
-    let q = a.q in
-    let n = a.n in
+    let q = a.column.q in
+    let n = a.column.n in
     rw regroup
     (c.most_restrictive.ensures _ _ (down_expr (nm q n))
     (c.select_class-less_predicates.ensures es _ h (lists_none c.empty-3.ensures))

@@ -23,10 +23,10 @@ returns-in_default c =
 pub loop-left-preserved : goal.loop-left-preserved
 loop-left-preserved c =
     λ es h. let k = c.loop-left.invariant es h in
-    let x = c.in-At.column in
-    let t : key_of c.loop-left.key ≡ some (named x) = rw c.in-At.is in
-    going_next es x.q x.n k t (c.simplify_column_predicates-r.ensures es _ h k.lists) (c.next_column-key-in-loop-left.ensures es h)
+    let x = c.in-Some.column in
+    let t : key_of c.loop-left.key ≡ some (named x) = rw c.in-Some.is in
+    going_next es x.q x.n k (omega arith) t (c.simplify_column_predicates-r.ensures es _ h k.lists) (c.next_column-key-in-loop-left.ensures es h)
 
 pub returns : goal.returns
 returns c =
-    λ es h. going_zero es (c.loop-left.invariant es h) c.loop-left-test.false
+    λ es h. going_zero es (c.loop-left.invariant es h) (omega (arith, c.loop-left-test.false))
