@@ -1,7 +1,7 @@
 -- `unique::unique_onto` meets its contract. The loop's invariant: what is listed, with the rest appended, is all.
 use mathlib.Core.Path.{◌≡◌}
 use mathlib.Core.List.{List}
-use Prim.Native.Nat.{ℕ, ◌-◌, ◌≤◌}
+use Prim.Native.Nat.{ℕ}
 use lib.ListN.{drop}
 use Rattle.plan.specs.Syntax.{Expr}
 use Rattle.conjuncts.specs.Items.{Conjuncts, Lists}
