@@ -1,13 +1,14 @@
 -- Depths of a flat tree: read from its bytes, and compared with the depth of the tree.
 -- Assumes nothing.
 use mathlib.Core.Path.{◌≡◌, refl, sym}
-use mathlib.Core.Bool.{Bool, true, false}
+use mathlib.Core.Bool.{Bool, true, false, ◌&&◌}
 use mathlib.Core.List.{List, [], ◌∷◌, ◌++◌, append_assoc}
 use Prim.Native.Nat.{ℕ, zero, suc, ◌+◌, ◌-◌, ◌*◌, ◌≤◌, ◌<◌}
 use native.Mathlib.Omega.{arith}
-use lib.Dec.{leb}
+use lib.Dec.{eqb, leb}
+use Rattle.std.specs.List.{list_all, range_with_len}
 use lib.ListN.{length, get_or}
-use borrow.Author.Tests.{leb-true, le-leb}
+use borrow.Author.Tests.{eqb-false, eqb-true, leb-false, leb-true, le-leb}
 use Rattle.image.specs.Limits.{max_depth, max_records, max_below}
 use Rattle.image.specs.Word.{word}
 use Rattle.image.specs.Tree.{Forest, none, node, Tree, size, Deep}
@@ -103,3 +104,35 @@ failed t i lt h = go (leb (depth_t t) max_depth) refl
     go : (b : Bool) → leb (depth_t t) max_depth ≡ b → false ≡ leb (depth_t t) max_depth
     go false e = sym e
     go true e = absurd (omega (arith, shallow_at (recs 1 t) i (first t) (shallow t (tested_deep t e)) (rw recs_length lt)))
+
+-- ---- a test of each record
+
+range_all : (p : ℕ → Bool) (b : Bool) (n a : ℕ) → (((j : ℕ) → a ≤ j → j < a + n → p j ≡ true) → true ≡ b)
+    → ((j : ℕ) → a ≤ j → j < a + n → p j ≡ false → false ≡ b) → list_all p (range_with_len a n) ≡ b
+range_all p b zero a good bad = good (λ j le lt. absurd (omega arith))
+range_all p b (suc n) a good bad = go (p a) refl (range_all p b n (a + 1))
+  where
+    here : p a ≡ true → ((j : ℕ) → a + 1 ≤ j → j < a + 1 + n → p j ≡ true) → (j : ℕ) → a ≤ j → j < a + suc n → (v : Bool) → eqb j a ≡ v
+        → p j ≡ true
+    here e h j le lt true k = rw (eqb-true j a k) e
+    here e h j le lt false k = let z = eqb-false j a k in h j (omega arith) (omega arith)
+
+    go : (v : Bool) → p a ≡ v
+        → ((((j : ℕ) → a + 1 ≤ j → j < a + 1 + n → p j ≡ true) → true ≡ b) → ((j : ℕ) → a + 1 ≤ j → j < a + 1 + n → p j ≡ false → false ≡ b)
+        → list_all p (range_with_len (a + 1) n) ≡ b)
+        → (v && list_all p (range_with_len (a + 1) n)) ≡ b
+    go false e rest = bad a (omega arith) (omega arith) e
+    go true e rest =
+        rest (λ h. good (λ j le lt. here e h j le lt (eqb j a) refl)) (λ j le lt. bad j (omega arith) (omega arith))
+
+-- the depths that stand in a flat tree are all small enough exactly if the tree's is
+pub flat_shallow : (t : Tree) (n : ℕ) (out rest : List ℕ) → n ≡ size_t t → size_t t ≤ max_records → out ≡ flat 1 t ++ rest
+    → list_all (λ i. leb (word out (32 * i + 24)) max_depth) (range_with_len 0 n) ≡ leb (depth_t t) max_depth
+flat_shallow t n out rest e small f =
+    range_all (λ i. leb (word out (32 * i + 24)) max_depth) (leb (depth_t t) max_depth) n 0
+    (λ h. passed t n e (λ j lt. omega (
+      arith,
+      leb-true (word out (32 * j + 24)) max_depth (h j (omega arith) (omega arith)),
+      depth_at t j out rest f small (omega arith),
+    )))
+    (λ j le lt k. failed t j (omega arith) (omega (arith, leb-false (word out (32 * j + 24)) max_depth k, depth_at t j out rest f small (omega arith))))

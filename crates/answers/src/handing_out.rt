@@ -1,8 +1,10 @@
 // Handing out: the depth of what was written is tested, and the answer's bytes go to the caller's buffer.
-ghost use Rattle.std.specs.Prelude.{◌≡◌, ◌++◌, List, ◌*◌, ◌-◌, ◌≤◌, ℕ, leb, length, take};
+ghost use Rattle.std.specs.Prelude.{◌+◌, ◌+◌, ◌≡◌, ◌++◌, List, ◌*◌, ◌-◌, ◌≤◌, ℕ, leb, length, take};
+ghost use Rattle.std.specs.List.{list_all, range_with_len};
 ghost use Rattle.image.specs.Flat.{flat, size_t};
 ghost use Rattle.image.specs.Limits.{max_depth, max_records};
 ghost use Rattle.image.specs.Tree.{Tree};
+ghost use Rattle.image.specs.Word.{word};
 ghost use Rattle.plan.specs.Measure.{depth_t};
 ghost use Rattle.rewrite.specs.OnBytes.{filled, zeros};
 
@@ -10,19 +12,20 @@ use image::limits::{MAX_DEPTH, RECORD_BYTES};
 use image::records::FIRST_LINK;
 use image::words::word_at;
 
+// Whether no depth that stands in the first n records is more than MAX_DEPTH.
+fn are_shallow(work: &[u8], n: usize) -> bool
+    requires { (n ≤ max_records) × (32 * n ≤ length work.now) }
+    ensures { result ≡ list_all (λ i. leb (word work.now (32 * i + 24)) max_depth) (range_with_len 0 n) }
+{
+    (0..n).all(|i| word_at(work, RECORD_BYTES * i + FIRST_LINK) <= MAX_DEPTH)
+}
+
 // Whether no record of the flat tree of n records at the start of `work` is deeper than MAX_DEPTH.
 pub fn is_shallow(work: &[u8], n: usize) -> bool
     requires { (n ≤ max_records) × (32 * n ≤ length work.now) }
     ensures { (t : Tree) (rest : List ℕ) → n ≡ size_t t → work.now ≡ flat 1 t ++ rest → result ≡ leb (depth_t t) max_depth }
 {
-    let mut i = 0;
-    while i < n {
-        if MAX_DEPTH < word_at(work, RECORD_BYTES * i + FIRST_LINK) {
-            return false;
-        }
-        i += 1;
-    }
-    true
+    are_shallow(work, n)
 }
 
 // Zeros from byte m on.
@@ -30,11 +33,7 @@ pub fn clear_from(out: &mut [u8], m: usize)
     requires { m ≤ length out.old }
     ensures { out.new ≡ take m out.old ++ zeros (length out.old - m) }
 {
-    let mut i = m;
-    while i < out.len() {
-        out[i] = 0;
-        i += 1;
-    }
+    out[m..].fill(0);
 }
 
 // All zeros: what a refused call hands out.
@@ -49,11 +48,7 @@ pub fn copy_bytes(from: &[u8], m: usize, to: &mut [u8])
     requires { (m ≤ length from.now) × (m ≤ length to.old) }
     ensures { take m to.new ≡ take m from.now }
 {
-    let mut i = 0;
-    while i < m {
-        to[i] = from[i];
-        i += 1;
-    }
+    to[..m].copy_from_slice(&from[..m]);
 }
 
 // Hands out the first m bytes of `work`, and then zeros.

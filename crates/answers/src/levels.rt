@@ -18,14 +18,12 @@ pub fn note_levels(s: &[u8], levels: &mut [u32]) -> usize
 {
     let n = tree_end(s, 0);
     levels[1] = 2;
-    let mut i = 1;
-    while i < n {
+    for i in 1..n {
         let level = levels[i];
         let first = word_at(s, RECORD_BYTES * i + FIRST_LINK);
         let next = word_at(s, RECORD_BYTES * i + NEXT_LINK);
         levels[first] = level + 1;
         levels[next] = level;
-        i += 1;
     }
     // A link that leads nowhere is 0: what the loop left there is no depth.
     levels[0] = 1;

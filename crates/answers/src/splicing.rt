@@ -44,11 +44,8 @@ pub fn write_records(
         Ran out.old out.new at (n - from) result (slice (32 * from) (32 * n) (flat 1 t)) }
 {
     let mut to = at;
-    let mut i = from;
-    while i < n {
-        let part = record_at(s, i);
-        to = put_label(part, out, to, wide(levels[i]));
-        i += 1;
+    for i in from..n {
+        to = put_label(record_at(s, i), out, to, wide(levels[i]));
     }
     to
 }

@@ -1,27 +1,13 @@
 // Predicates that agree, found by comparing 32-bit words.
 ghost use Rattle.std.specs.Prelude.{◌≡◌, ◌+◌, ◌≤◌, length};
 ghost use Rattle.image.specs.Flat.{size_t};
-ghost use Rattle.image.specs.Tree.{At, Tree, label_at};
-ghost use Rattle.conjuncts.specs.Equality.{same_label};
+ghost use Rattle.image.specs.Tree.{At, Tree};
 ghost use Rattle.by_word.specs.Equality.{agree, alike, counted, same_link};
 ghost use Rattle.by_word.specs.Standing.{Starts};
 
 use image::ends::tree_end;
-use image::records::{FIRST_LINK, HI, KIND, LO, NEXT_LINK, P, Q, R, record_at};
+use image::records::{FIRST_LINK, NEXT_LINK, label_at, record_at};
 use image::words::word_at;
-
-// Whether the records at the start of a and of b have the same label.
-fn same_label(a: &[u8], b: &[u8]) -> bool
-    requires { (32 ≤ length a.now) × (32 ≤ length b.now) }
-    ensures { result ≡ same_label (label_at a.now) (label_at b.now) }
-{
-    (word_at(a, KIND) == word_at(b, KIND))
-        & (word_at(a, P) == word_at(b, P))
-        & (word_at(a, Q) == word_at(b, Q))
-        & (word_at(a, R) == word_at(b, R))
-        & (word_at(a, LO) == word_at(b, LO))
-        & (word_at(a, HI) == word_at(b, HI))
-}
 
 // A link counted from the top of its predicate: 0 if it is 0, since every other leads behind the top.
 fn counted(top: usize, link: usize) -> usize
@@ -46,7 +32,7 @@ fn alike(a: &[u8], top: usize, b: &[u8], of: usize) -> bool
     requires { (32 ≤ length a.now) × (32 ≤ length b.now) }
     ensures { result ≡ alike top a.now of b.now }
 {
-    same_label(a, b) & same_link(a, top, b, of, FIRST_LINK)
+    (label_at(a) == label_at(b)) & same_link(a, top, b, of, FIRST_LINK)
 }
 
 // Whether the predicates at the start of a and of b, whose tops are the records `top` and `of`, agree: one word after another.
@@ -63,14 +49,12 @@ pub fn agree(a: &[u8], top: usize, b: &[u8], of: usize) -> bool
     if !alike(a, top, b, of) {
         return false;
     }
-    let mut i = 1;
-    while i < size {
+    for i in 1..size {
         let x = record_at(a, i);
         let y = record_at(b, i);
         if !(alike(x, top, y, of) & same_link(x, top, y, of, NEXT_LINK)) {
             return false;
         }
-        i += 1;
     }
     true
 }

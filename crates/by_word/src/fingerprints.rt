@@ -35,20 +35,14 @@ fn mixed(h: usize, l: Label, shape: usize) -> usize
 fn leads(link: usize) -> usize
     ensures { (result ≡ leads link) × (result < 2) }
 {
-    if link != 0 {
-        return 1;
-    }
-    0
+    usize::from(link != 0)
 }
 
 // The shape of a record with these links: whether it has a child, and whether a sibling follows.
 fn shape(first: usize, next: usize) -> usize
     ensures { (result ≡ shape first next) × (result < 4) }
 {
-    if next != 0 {
-        return leads(first) + 2;
-    }
-    leads(first)
+    leads(first) + 2 * leads(next)
 }
 
 // A fingerprint with the record at the start of `part`, any but a top.
@@ -73,10 +67,8 @@ fn fingerprint_of(part: &[u8], base: usize) -> usize
     let size = tree_end(part, base) - base;
     // The next of the top leads out of the expression.
     let mut h = mixed(0, label_at(part), shape(word_at(part, FIRST_LINK), 0));
-    let mut i = 1;
-    while i < size {
+    for i in 1..size {
         h = mixed_at(h, record_at(part, i));
-        i += 1;
     }
     h
 }

@@ -41,7 +41,8 @@ use Rattle.acceptance.specs.NamesRule.{rule}
 use Rattle.check_fields.specs.Fields.{Schema, input, inputs, names_in}
 use Rattle.check_fields.specs.Rules.{types_in}
 use Rattle.check_names.proofs.TreeFields.{stand, fields, inputs_expr, inputs_plan, fields_names, fields_types}
-use Rattle.utils.specs.Fields.{Fields, most}
+use Rattle.utils.specs.Fields.{Fields}
+use Rattle.utils.proofs.Named.{names_count, names_fit}
 use Rattle.utils.specs.Fields.{Names as NamesOf}
 use Rattle.rewrite.proofs.OnBytes.{tree_length}
 use Rattle.check_image.specs.Answer.{verdict_of}
@@ -140,8 +141,7 @@ module _ (e : Expr) (p : Plan) (o : Sound (filter e p)) where
   few = leb-true (length (schema p)) max_fields (and_r _ _ (rule_sound (λ a b. true) p (and_r _ _ o.names)))
 
   pub all_fields : {f : Fields} → NamesOf f (schema p) → (f.len ≡ length (schema p)) × (f.len ≤ max_fields)
-  unfolding most
-  all_fields h = (omega (arith, h.count, few), omega (arith, h.count, few))
+  all_fields h = let fit = names_fit h few in (sym (names_count h fit), fit)
 
 names_length : (s : Schema) → length (names_in s) ≡ length s
 unfolding names_in

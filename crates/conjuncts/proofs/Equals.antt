@@ -1,11 +1,13 @@
 -- Equal trees, and equal expressions.
 --     same_is, is_same      `same` says that two trees are equal
 --     same_exprs            the trees of two expressions are the same if they are equal
+--     label_eq              `==` of labels is `same_label`
 --     false_label           an expression is FALSE if its record says so
 -- Assumes nothing.
 use mathlib.Core.Path.{◌≡◌, refl, sym, ap, subst, ◌∙◌}
 use mathlib.Core.Bool.{Bool, true, false, ◌&&◌, decide_iff}
 use mathlib.Core.List.{List}
+use lib.Dec.{eqb}
 use lib.ListN.{drop}
 use Prim.Native.Nat.{ℕ, ◌*◌}
 use native.Mathlib.Omega.{arith}
@@ -141,3 +143,15 @@ false_is e =
 pub false_label : {s : List ℕ} {n : ℕ} {e : Expr} → Standing s n e
     → is_false (label_at (drop (32 * n) s)) ≡ same_e FALSE e
 false_label {e = e} h = ap is_false h.here.head.label ∙ false_is e
+
+-- `==` of labels, field by field
+pub label_eq : (l k : Label)
+    → (eqb l.kind k.kind && (eqb l.p k.p && (eqb l.q k.q && (eqb l.r k.r && (eqb l.lo k.lo && eqb l.hi k.hi))))) ≡ same_label l k
+label_eq l k = six (eqb l.kind k.kind) (eqb l.p k.p) (eqb l.q k.q) (eqb l.r k.r) (eqb l.lo k.lo) (eqb l.hi k.hi)
+  where
+    six : (a b c d e f : Bool) → (a && (b && (c && (d && (e && f))))) ≡ (((((a && b) && c) && d) && e) && f)
+    six true true true true e f = refl
+    six true true true false e f = refl
+    six true true false d e f = refl
+    six true false c d e f = refl
+    six false b c d e f = refl

@@ -4,10 +4,8 @@ use Rattle.image.specs.Limits.{max_list, max_records}
 use Rattle.plan.specs.Syntax.{Expr, bool}
 use Rattle.conjuncts.specs.Standing.{Standing}
 use Rattle.bounded.specs.declared.Bounded.{Bounded}
-
 -- the numbers in a list of the code: `listed`; and `Holds xs`: those of xs, or as many as there is room for
 pub use Rattle.bounded.specs.Lists.{listed, Holds}
-
 -- .. and how many it says that it has
 unfoldable pub use Rattle.bounded.specs.Lists.{most}
 

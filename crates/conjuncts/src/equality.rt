@@ -8,25 +8,12 @@ ghost use Rattle.conjuncts.specs.Items.{FALSE, Item, Known, Lists, Present};
 ghost use Rattle.conjuncts.specs.Says.{Says};
 
 use crate::items::FALSE_ITEM;
-use crate::lists::{Conjuncts, item_at};
+use crate::lists::Conjuncts;
 use image::limits::MAX_DEPTH;
-use image::records::{FIRST_LINK, HI, KIND, LO, NEXT_LINK, P, Q, R, from_record, record_at};
+use image::records::{FIRST_LINK, KIND, NEXT_LINK, P, from_record, label_at, record_at};
 use image::words::word_at;
 use plan::kinds::BOOLEAN_LITERAL;
 use plan::words::TRUE;
-
-// Whether the records at the start of a and of b have the same label.
-fn same_label(a: &[u8], b: &[u8]) -> bool
-    requires { (32 ≤ length a.now) × (32 ≤ length b.now) }
-    ensures { result ≡ same_label (label_at a.now) (label_at b.now) }
-{
-    (word_at(a, KIND) == word_at(b, KIND))
-        & (word_at(a, P) == word_at(b, P))
-        & (word_at(a, Q) == word_at(b, Q))
-        & (word_at(a, R) == word_at(b, R))
-        & (word_at(a, LO) == word_at(b, LO))
-        & (word_at(a, HI) == word_at(b, HI))
-}
 
 // Whether the trees at the start of a and of b are the same, wherever they stand.
 pub fn same_tree(a: &[u8], base: usize, depth: usize, b: &[u8], of: usize, room: usize) -> bool
@@ -34,7 +21,7 @@ pub fn same_tree(a: &[u8], base: usize, depth: usize, b: &[u8], of: usize, room:
     requires readable_2 { Readable room b.now of }
     ensures { (t u : Tree) → At t a.now base → At u b.now of → result ≡ same t u }
 {
-    if !same_label(a, b) {
+    if label_at(a) != label_at(b) {
         return false;
     }
     let mut i = word_at(a, FIRST_LINK);
@@ -90,16 +77,13 @@ pub fn same_items(s: &[u8], a: Conjuncts, b: Conjuncts) -> bool
     requires known_2 { Known s.now b }
     ensures { (xs ys : List Expr) → Lists s.now a xs → Lists s.now b ys → Says result (xs ≡ ys) }
 {
-    let n = a.len;
-    if n != b.len {
+    if a.len != b.len {
         return false;
     }
-    let mut i = 0;
-    while i < n {
-        if !same_item(s, item_at(a, i), item_at(b, i)) {
+    for (x, y) in a.items().iter().zip(b.items()) {
+        if !same_item(s, usize::from(*x), usize::from(*y)) {
             return false;
         }
-        i += 1;
     }
     true
 }

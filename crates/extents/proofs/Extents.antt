@@ -4,11 +4,13 @@
 --     item_small                     an item has no more records, and no more levels, than an image
 --     First                          the invariant of a walk along a list: `first_one`, `first_next`, `first_all`, `first_bounded`
 -- Assumes nothing.
-use mathlib.Core.Path.{◌≡◌, refl}
+use mathlib.Core.Path.{◌≡◌, refl, ap, ◌∙◌}
 use mathlib.Core.List.{List, ◌∷◌}
 use Prim.Native.Nat.{ℕ, zero, suc, ◌+◌, ◌-◌, ◌*◌, ◌≤◌, ◌<◌, max as larger}
 use native.Mathlib.Omega.{arith}
-use lib.ListN.{length, get_or, take, length-drop}
+use lib.ListN.{length, get_or, take, drop, length-drop}
+use Rattle.std.proofs.lemmas.List.{get_or-drop, get_or-take, length-take-le}
+use Rattle.std.specs.Ordering.{nat_cmp, ord_max}
 use lib.Seq.{take_all}
 use Rattle.image.specs.Limits.{max_records, work_bytes}
 use Rattle.image.specs.Tree.{Forest, none, node, Tree, At, size}
@@ -18,9 +20,13 @@ use Rattle.plan.specs.Syntax.{Expr, bin, and}
 use Rattle.plan.specs.Trees.{expr_tree, kids_e}
 use Rattle.rewrite.specs.Utils.{conjoin}
 use Rattle.conjuncts.specs.Items.{Conjuncts, FALSE, Item, Known, Lists, Present, listed}
-use Rattle.conjuncts.proofs.Listed.{lists_at, lists_length}
+use Rattle.conjuncts.proofs.Listed.{lists_at, lists_length, lists_room}
 use Rattle.writing.proofs.Pushing.{conjoin_one, conjoin_more}
 use Rattle.extents.specs.Extents.{Bounded, Extent, Measures}
+
+-- the larger of two, as `a.max(b)` gives it
+pub max_is : (a b : ℕ) → ord_max nat_cmp a b ≡ larger a b
+max_is a b = grind arith
 
 -- a forest has no more levels than records
 depth_size : (f : Forest) → depth f ≤ size f
@@ -131,3 +137,26 @@ module _ {s : List ℕ} {c : Conjuncts} (short : length s ≤ work_bytes) (h : K
   -- .. and they are not large
   pub first_bounded : {i : ℕ} {r : Extent} → First s c i r → Bounded r
   first_bounded f = record { records = omega (arith, f.records, f.most, h.most); depth = omega (arith, f.levels, f.most, h.most) }
+
+-- ---- the items behind the first
+
+module _ {s : List ℕ} {c : Conjuncts} {xs : List ℕ} (h : Known s c) (is : xs ≡ listed c) where
+  rest_len : length (take (length xs - 1) (drop 1 xs)) ≡ c.len - 1
+  rest_len = omega (
+    arith,
+    length-take-le (length xs - 1) (drop 1 xs) (omega (arith, length-drop 1 xs)),
+    ap length is ∙ lists_room h.lists h.most,
+  )
+
+  pub rest_in : {i : ℕ} → i < length (take (length xs - 1) (drop 1 xs)) → i + 1 < c.len
+  rest_in lt = omega (arith, rest_len)
+
+  pub rest_end : {i : ℕ} → length (take (length xs - 1) (drop 1 xs)) ≤ i → c.len ≤ i + 1
+  rest_end le = omega (arith, rest_len)
+
+  pub rest_at : {i n : ℕ} → i < length (take (length xs - 1) (drop 1 xs)) → n ≡ get_or (take (length xs - 1) (drop 1 xs)) i 0
+      → n ≡ get_or (listed c) (i + 1) 0
+  rest_at {i} lt e =
+      let z : 1 + i ≡ i + 1 = omega arith in
+      e ∙ (get_or-take (length xs - 1) (drop 1 xs) i 0 (omega (arith, rest_len, ap length is ∙ lists_room h.lists h.most))
+      ∙ (get_or-drop 1 xs i 0 ∙ rw (z, is)))

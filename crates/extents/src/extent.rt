@@ -9,26 +9,16 @@ ghost use Rattle.conjuncts.specs.Items.{Item, Known, Lists, Present};
 ghost use Rattle.extents.specs.Extents.{Bounded, Measures};
 
 use conjuncts::items::FALSE_ITEM;
-use conjuncts::lists::{Conjuncts, item_at};
+use conjuncts::lists::Conjuncts;
 use image::limits::MAX_DEPTH;
 use image::records::{FIRST_LINK, NEXT_LINK, from_record, record_at};
 use image::words::word_at;
 
 // How many records a tree has, and how many levels.
-#[derive(Clone, Copy)]
+#[derive(Clone, Copy, Debug, PartialEq, Eq)]
 pub struct Extent {
     pub records: usize,
     pub depth: usize,
-}
-
-// The larger of two numbers.
-fn larger(a: usize, b: usize) -> usize
-    ensures { result ≡ max a b }
-{
-    if a < b {
-        return b;
-    }
-    a
 }
 
 // The extent of the tree at the start of `part`, which begins at record `base`: a tree no deeper than `depth`.
@@ -43,7 +33,7 @@ pub fn tree_extent(part: &[u8], base: usize, depth: usize) -> Extent
         let child = from_record(part, base, at);
         let e = tree_extent(child, at, depth - 1);
         records += e.records;
-        below = larger(below, e.depth);
+        below = below.max(e.depth);
         at = word_at(child, NEXT_LINK);
     }
     Extent {
@@ -74,16 +64,14 @@ pub fn conjunction_extent(s: &[u8], c: Conjuncts) -> Extent
     ensures measures { (e : Expr) (es : List Expr) → Lists s.now c (e ∷ es) → Measures result (expr_tree (conjoin e es)) }
     ensures bounded { Bounded result }
 {
-    let n = c.len;
-    let mut r = item_extent(s, item_at(c, 0));
-    let mut i = 1;
-    while i < n {
-        let e = item_extent(s, item_at(c, i));
+    let items = c.items();
+    let mut r = item_extent(s, usize::from(items[0]));
+    for n in &items[1..] {
+        let e = item_extent(s, usize::from(*n));
         r = Extent {
             records: 1 + r.records + e.records,
-            depth: 1 + larger(r.depth, e.depth),
+            depth: 1 + r.depth.max(e.depth),
         };
-        i += 1;
     }
     r
 }

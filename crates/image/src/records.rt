@@ -33,7 +33,7 @@ pub const FIRST_LINK: usize = 24;
 pub const NEXT_LINK: usize = 28;
 
 // What a record says of itself, without its links.
-#[derive(Clone, Copy)]
+#[derive(Clone, Copy, Debug, PartialEq, Eq, Hash)]
 pub struct Label {
     pub kind: usize,
     pub p: usize,

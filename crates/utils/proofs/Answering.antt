@@ -9,7 +9,6 @@ use mathlib.Core.Bool.{Bool, true, false, not, ◌||◌, cond}
 use mathlib.Core.List.{List, [], ◌∷◌, ◌++◌}
 use Prim.Native.Nat.{ℕ, zero, suc, ◌≤◌, ◌<◌}
 use native.Mathlib.Omega.{arith}
-use lib.Bits.{bit_or}
 use lib.Dec.{eqb, eqb-zero-suc, eqb-suc-zero, eqb-suc-suc}
 use borrow.Author.Tests.{ne_eqb}
 use lib.ListN.{length}
@@ -27,7 +26,7 @@ use Rattle.utils.specs.Sets.{member, within}
 use Rattle.utils.specs.Masks.{name_at, Masks, Answers}
 use Rattle.utils.specs.Fields.{Fields, Names, place_in}
 use Rattle.utils.specs.Referring.{on_any, on_tree}
-use Rattle.utils.proofs.Members.{within_none, within_or, within_with}
+use Rattle.utils.proofs.Members.{within_none, within_both, within_with}
 use Rattle.utils.proofs.Named.{names_count, place_has}
 use Rattle.utils.proofs.Marking.{has_at}
 
@@ -148,13 +147,13 @@ module _ (ns : List Name) (t : Tree) where
   unfolding on_any on_tree
   so_held u h = and_l _ _ h.held
 
-  pub so_next : {set : ℕ} (v : ℕ) (u : Tree) {after : Forest} → So set ns t (node u.label u.below after)
-      → Answers v ns (λ c. on_tree c u)
-      → So (bit_or set v) ns t after
+  pub so_next : {set r : ℕ} (v : ℕ) (u : Tree) {after : Forest} → So set ns t (node u.label u.below after)
+      → Answers v ns (λ c. on_tree c u) → ((j : ℕ) → member r j ≡ (member set j || member v j))
+      → So r ns t after
   unfolding on_any on_tree
-  so_next {set} v u {after} h k = record {
+  so_next {set} {r} v u {after} h k both = record {
     held = and_r _ _ h.held;
-    says = λ m c g. rw (within_or max_fields set v m, and_assoc, k.says m c g) (h.says m c g);
+    says = λ m c g. rw (within_both max_fields set v r m both, and_assoc, k.says m c g) (h.says m c g);
   }
 
   -- of all children

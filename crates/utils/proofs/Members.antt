@@ -121,10 +121,10 @@ or_into true false true = refl
 or_into true false false = refl
 or_into false b m = refl
 
-pub within_or : (k a b m : ℕ) → within k (bit_or a b) m ≡ within k a m & within k b m
+pub within_both : (k a b r m : ℕ) → ((j : ℕ) → member r j ≡ (member a j || member b j)) → within k r m ≡ within k a m & within k b m
 unfolding within
-within_or zero a b m = sym (and_true true)
-within_or (suc k) a b m = rw (member_or a b k, or_into (member a k), within_or k a b m) (pairs _ _ _ _)
+within_both zero a b r m h = sym (and_true true)
+within_both (suc k) a b r m h = rw (h k, or_into (member a k), within_both k a b r m h) (pairs _ _ _ _)
   where
     pairs : (x y v w : Bool) → (x & y) & (v & w) ≡ (x & v) & (y & w)
     pairs x y v w = simp AndSort

@@ -121,7 +121,13 @@ fn add_parts(part: &[u8], base: usize, into: Fields, alias: Option<u32>) -> Fiel
 }
 
 // Appends the fields of the plan at the start of `part`, all with the alias for their qualifier if there is one.
-pub fn add_schema(part: &[u8], base: usize, depth: usize, into: Fields, alias: Option<u32>) -> Fields
+pub fn add_schema(
+    part: &[u8],
+    base: usize,
+    depth: usize,
+    into: Fields,
+    alias: Option<u32>,
+) -> Fields
     requires { PlanHere part.now base depth }
     ensures { (p : Plan) (ns : List Name) → At (plan_tree p) part.now base → Names into ns
         → Names result (ns ++ called alias (schema p)) }

@@ -6,13 +6,14 @@ ghost use Rattle.image.specs.Flat.{bytes_of};
 ghost use Rattle.image.specs.Limits.{max_fields};
 ghost use Rattle.plan.specs.Syntax.{Name, col};
 ghost use Rattle.rewrite.specs.PushDownFilter.{ren};
-ghost use Rattle.utils.specs.Fields.{Names, field_at};
+ghost use Rattle.utils.specs.Fields.{Names, named};
 ghost use Rattle.writing.specs.Maps.{Maps};
 ghost use Rattle.writing.specs.Renames.{SmallName, link_to, named_label, rename_bytes};
 
 use image::records::{Label, put_record};
+use image::words::wide;
 use plan::kinds::{COLUMN, ENTRY, PROJECTION};
-use utils::schema_columns::{Fields, n_at, q_at};
+use utils::schema_columns::{ColumnReference, Fields};
 
 // The link to a record that has this many before the end: 0 where there is none.
 fn link_to(at: usize, left: usize) -> usize
@@ -24,16 +25,16 @@ fn link_to(at: usize, left: usize) -> usize
     at
 }
 
-// Stores record `at`: this kind, with the name of the field i.
-fn put_named(m: &mut [u8], at: usize, kind: usize, f: Fields, i: usize, first: usize, next: usize)
-    requires { (i < max_fields) × (32 * (at + 1) ≤ length m.old) }
-    ensures m_after { m.new ≡ sets m.old (32 * at) (bytes_of (named_label kind (field_at f i)) first next) }
-    ensures small_name { SmallName (field_at f i) }
+// Stores record `at`: this kind, with the name of a field.
+fn put_named(m: &mut [u8], at: usize, kind: usize, x: ColumnReference, first: usize, next: usize)
+    requires { 32 * (at + 1) ≤ length m.old }
+    ensures m_after { m.new ≡ sets m.old (32 * at) (bytes_of (named_label kind (named x)) first next) }
+    ensures small_name { SmallName (named x) }
 {
     let label = Label {
         kind,
-        p: q_at(f, i),
-        q: n_at(f, i),
+        p: wide(x.q),
+        q: wide(x.n),
         r: 0,
         lo: 0,
         hi: 0,
@@ -41,14 +42,14 @@ fn put_named(m: &mut [u8], at: usize, kind: usize, f: Fields, i: usize, first: u
     put_record(m, at, label, first, next);
 }
 
-// Stores the rename of the field i: the entry at record `at`, with `next` after it, and the column.
-fn put_rename(from: Fields, to: Fields, i: usize, m: &mut [u8], at: usize, next: usize)
-    requires { (i < max_fields) × (32 * (at + 2) ≤ length m.old) }
-    ensures m_after { m.new ≡ sets m.old (32 * at) (rename_bytes (field_at from i) (field_at to i) (at + 1) next) }
-    ensures small_name { SmallName (field_at from i) × SmallName (field_at to i) }
+// Stores the rename of a field: the entry at record `at`, with `next` after it, and the column.
+fn put_rename(from: ColumnReference, to: ColumnReference, m: &mut [u8], at: usize, next: usize)
+    requires { 32 * (at + 2) ≤ length m.old }
+    ensures m_after { m.new ≡ sets m.old (32 * at) (rename_bytes (named from) (named to) (at + 1) next) }
+    ensures small_name { SmallName (named from) × SmallName (named to) }
 {
-    put_named(m, at, ENTRY, from, i, at + 1, next);
-    put_named(m, at + 1, COLUMN, to, i, 0, 0);
+    put_named(m, at, ENTRY, from, at + 1, next);
+    put_named(m, at + 1, COLUMN, to, 0, 0);
 }
 
 // Writes the renames of the fields of `from` to those of `to`, by place.
@@ -67,9 +68,8 @@ pub fn write_renames(from: Fields, to: Fields, m: &mut [u8])
         hi: 0,
     };
     put_record(m, 0, top, link_to(1, n), 0);
-    let mut i = 0;
-    while i < n {
-        put_rename(from, to, i, m, 2 * i + 1, link_to(2 * i + 3, n - i - 1));
-        i += 1;
+    for i in 0..n {
+        let next = link_to(2 * i + 3, n - i - 1);
+        put_rename(from.at[i], to.at[i], m, 2 * i + 1, next);
     }
 }

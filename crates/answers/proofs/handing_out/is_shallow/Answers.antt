@@ -1,30 +1,9 @@
+-- `handing_out::is_shallow` meets its contract.
+use mathlib.Core.Path.{◌∙◌}
 use native.Mathlib.Omega.{arith}
-use borrow.Author.Count.{below_more}
-use Rattle.answers.proofs.Depths.{depth_at, passed, failed}
+use Rattle.answers.proofs.Depths.{flat_shallow}
 use Rattle.answers.proofs.handing_out.is_shallow.Goals as goal
-
-pub returns-then-word_at-gt-MAX_DEPTH : goal.returns-then-word_at-gt-MAX_DEPTH
-returns-then-word_at-gt-MAX_DEPTH c =
-    λ t rest e f. let i = c.loop-i.i in
-    failed t i (omega arith)
-    (omega (
-      arith,
-      depth_at t i _ rest f (omega (arith, c.requires)) (omega arith),
-      c.word_at.ensures.0,
-    ))
-
-pub loop-i-preserved : goal.loop-i-preserved
-loop-i-preserved c = (
-  omega arith,
-  λ t rest e f. let i = c.loop-i.i in
-      below_more _ _ (c.loop-i.invariant.1 t rest e f)
-      (omega (
-        arith,
-        depth_at t i _ rest f (omega (arith, c.requires)) (omega arith),
-        c.word_at.ensures.0,
-      )),
-)
 
 pub returns : goal.returns
 returns c =
-    λ t rest e f. passed t _ e (λ j lt. c.loop-i.invariant.1 t rest e f j (omega arith))
+    λ t rest e f. c.are_shallow.ensures ∙ flat_shallow t c.args.n c.args.work.now rest e (omega (arith, c.requires)) f

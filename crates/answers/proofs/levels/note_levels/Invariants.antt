@@ -1,6 +1,6 @@
 -- `levels::note_levels` meets its contract. The loop's invariant: the records that those passed lead to have their depths.
 use mathlib.Core.Path.{◌≡◌}
-use Prim.Native.Nat.{◌-◌, ◌≤◌, ◌<◌}
+use Prim.Native.Nat.{◌≤◌, ◌<◌}
 use lib.ListN.{length}
 use Rattle.image.specs.Limits.{max_records}
 use Rattle.image.specs.Tree.{Tree, At}
@@ -11,6 +11,3 @@ use Rattle.answers.proofs.levels.note_levels.Given as goal
 abbrev pub invariant-loop-i : goal.invariant-loop-i
 invariant-loop-i l =
     (0 < l.i) × (l.n ≤ max_records) × (length l.levels ≡ max_records) × ((t : Tree) → At t l.s 0 → l.n ≡ size_t t → Noted l.s (flat 1 t) l.n l.levels l.i)
-
-abbrev pub decreases-loop-i : goal.decreases-loop-i
-decreases-loop-i l = l.n - l.i

@@ -12,7 +12,7 @@ loop-i-preserved c =
       rw put.next (cap_le _),
       λ t h f e l.
           run_next h f e c.loop-i-test.true k.0 l
-          c.wide.ensures.0 (rw c.record_at-part.ensures at put)
+          c.wide.ensures.0 (rw c.record_at.ensures at put)
           (k.2 t h f e l),
     )
 

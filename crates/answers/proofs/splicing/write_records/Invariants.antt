@@ -1,6 +1,6 @@
 -- `splicing::write_records` meets its contract. The loop's invariant: the records that are left complete the output.
 use mathlib.Core.Path.{◌≡◌}
-use Prim.Native.Nat.{◌-◌, ◌≤◌}
+use Prim.Native.Nat.{◌≤◌}
 use lib.ListN.{length}
 use Rattle.image.specs.Limits.{work_bytes, max_records, no_room}
 use Rattle.image.specs.Tree.{Tree, At}
@@ -13,6 +13,3 @@ abbrev pub invariant-loop-i : goal.invariant-loop-i
 invariant-loop-i l =
     (length l.out ≡ work_bytes) × (l.to ≤ no_room) × ((t : Tree) → At t l.s 0 → size_t t ≤ max_records → l.n ≤ size_t t → Levels l.levels t
     → Run t l.n l.from l.initial.out l.at l.i l.out l.to)
-
-abbrev pub decreases-loop-i : goal.decreases-loop-i
-decreases-loop-i l = l.n - l.i

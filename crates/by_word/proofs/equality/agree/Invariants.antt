@@ -11,6 +11,3 @@ abbrev pub invariant-loop-i : goal.invariant-loop-i
 invariant-loop-i l =
     (0 < l.i) × (l.i ≤ l.size) × ((t u : Tree) → At t l.a l.top → At u l.b l.of →
     agree (size_t t) l.top l.a (size_t u) l.of l.b ≡ agreeing (l.size - l.i) l.top (drop (32 * l.i) l.a) l.of (drop (32 * l.i) l.b))
-
-abbrev pub decreases-loop-i : goal.decreases-loop-i
-decreases-loop-i l = l.size - l.i

@@ -1,8 +1,9 @@
 -- `equality::alike` meets its contract.
+use Rattle.conjuncts.proofs.Equals.{label_eq}
 use Rattle.by_word.specs.Equality.{alike}
 use Rattle.by_word.proofs.equality.alike.Goals as goal
 
 pub returns : goal.returns
 unfolding alike
 returns c =
-    rw (c.same_link.ensures, c.same_label.ensures)
+    rw (c.same_link.ensures, c.eq.ensures, label_eq, c.label_at.ensures.0, c.label_at-2.ensures.0)

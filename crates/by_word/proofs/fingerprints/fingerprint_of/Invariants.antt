@@ -15,6 +15,3 @@ all size part = mixed_for (mixed 0 (label_at part) (shape (word part 24) 0)) (si
 
 abbrev pub invariant-loop-i : goal.invariant-loop-i
 invariant-loop-i l = (0 < l.i) × (l.i ≤ l.size) × (l.h < 4294967296) × (mixed_for l.h (l.size - l.i) (drop (32 * l.i) l.part) ≡ all l.size l.part)
-
-abbrev pub decreases-loop-i : goal.decreases-loop-i
-decreases-loop-i l = l.size - l.i

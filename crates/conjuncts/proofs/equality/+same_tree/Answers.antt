@@ -3,17 +3,19 @@ use mathlib.Core.Bool.{true, false}
 use native.Mathlib.Omega.{arith}
 use lib.ListN.{length-drop}
 use Rattle.image.proofs.Walking.{chain, round, again, done}
-use Rattle.conjuncts.specs.Equality.{same}
-use Rattle.conjuncts.proofs.Equals.{for_both}
+use Rattle.conjuncts.specs.Equality.{same, same_label}
+use Rattle.conjuncts.proofs.Equals.{for_both, label_eq}
+use Rattle.conjuncts.proofs.LeftDeeps.{told}
 use Rattle.conjuncts.proofs.equality.+same_tree.Invariants.{Q}
 use Rattle.conjuncts.proofs.equality.+same_tree.Goals as goal
 
 pub loop-i-init : goal.loop-i-init
 loop-i-init t c =
-    let e : c.same_label.result ≡ true = c.if-not-same_label.false in
+    let e : same_label c.label_at.result c.label_at-2.result ≡ true =
+    sym (label_eq c.label_at.result c.label_at-2.result) ∙ told (sym c.ne.ensures ∙ c.if-ne.false) in
     rw (c.word_at-i.ensures.0, c.word_at-j.ensures.0)
     (chain _ c.requires.readable (chain (Q c.requires.readable.tree c.requires.readable.tree.below) c.requires.readable_2
-    (rw (← c.requires.readable.at.head.label, ← c.requires.readable_2.at.head.label, ← c.same_label.ensures, e))))
+    (rw (← c.requires.readable.at.head.label, ← c.requires.readable_2.at.head.label, rw (c.label_at.ensures.0, c.label_at-2.ensures.0) at e))))
 
 pub returns-then-j-eq0 : goal.returns-then-j-eq0
 returns-then-j-eq0 t c =

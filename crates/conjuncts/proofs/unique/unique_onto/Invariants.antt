@@ -1,7 +1,7 @@
 -- `unique::unique_onto` meets its contract. The loop's invariant: what is listed, with the rest appended, is all.
 use mathlib.Core.Path.{◌≡◌}
 use mathlib.Core.List.{List}
-use Prim.Native.Nat.{ℕ, ◌-◌, ◌≤◌}
+use Prim.Native.Nat.{ℕ}
 use lib.ListN.{drop}
 use Rattle.plan.specs.Syntax.{Expr}
 use Rattle.conjuncts.specs.Items.{Conjuncts, Lists}
@@ -13,8 +13,5 @@ pub record Done (s : List ℕ) (r : Conjuncts) (fs es : List Expr) (i : ℕ) : T
   pub lists : Lists s r done
   pub is : onto done (drop i es) ≡ onto fs es
 
-abbrev pub invariant-loop-i : goal.invariant-loop-i
-invariant-loop-i l = (l.i ≤ l.n) × ((fs es : List Expr) → Lists l.s l.initial.r fs → Lists l.s l.c es → Done l.s l.r fs es l.i)
-
-abbrev pub decreases-loop-i : goal.decreases-loop-i
-decreases-loop-i l = l.n - l.i
+abbrev pub invariant-loop-x : goal.invariant-loop-x
+invariant-loop-x l = (fs es : List Expr) → Lists l.s l.initial.r fs → Lists l.s l.fn.c es → Done l.s l.r fs es l.x-index

@@ -1,7 +1,7 @@
 use native.Mathlib.Omega.{arith}
 use lib.ListN.{length-drop}
 use Rattle.image.proofs.Walking.{chain, round, again, done, for_all}
-use Rattle.extents.proofs.Extents.{left_start, left_next, left_end, left_small}
+use Rattle.extents.proofs.Extents.{left_start, left_next, left_end, left_small, max_is}
 use Rattle.extents.proofs.extent.+tree_extent.Goals as goal
 
 pub loop-at-init : goal.loop-at-init
@@ -38,7 +38,7 @@ loop-at-preserved t c =
     let u = round _ k c.loop-at-test.true in
     let part = c.from_record-child.ensures in
     let e = c.tree_extent-e.ensures u.turn.child (rw part u.turn.here) in
-    rw (c.word_at-at-in-loop-at.ensures.0, part, c.larger-below.ensures) (again _ k u (left_next u.so_far e))
+    rw (c.word_at-at-in-loop-at.ensures.0, part, c.max-below.ensures, max_is) (again _ k u (left_next u.so_far e))
 
 pub overflow_add-result : goal.overflow_add-result
 overflow_add-result t c =

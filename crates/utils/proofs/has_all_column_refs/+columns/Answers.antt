@@ -18,17 +18,17 @@ returns-then-word_at-eq-COLUMN t c =
     let q = c.word_at-then-word_at-eq-COLUMN-2.ensures.0 ∙ ap (λ (l : Label). l.q) h.head.label in
     so_column ns t is (rw (← p, ← q) (answers_one ns g c.requires.len_le_max_fields _
     (rw (p, q) (column_held ns t is held)) _
-    (c.add_column.ensures ns g (rw (p, q) (column_held ns t is held)))))
+    (rw c.empty.ensures at (c.add_column.ensures ns g (rw (p, q) (column_held ns t is held))))))
 
 pub loop-at-init : goal.loop-at-init
 loop-at-init t c =
     let h = c.requires.readable in
     let is = ne_eqb _ _ (λ k. c.if-word_at-eq-COLUMN.false (c.word_at.ensures.0
     ∙ (ap (λ (l : Label). l.kind) h.at.head.label ∙ k))) in
-    rw c.word_at-at.ensures.0 (chain _ h (λ ns _ held. so_start ns h.tree is held))
+    rw (c.word_at-at.ensures.0, c.empty-set.ensures) (chain _ h (λ ns _ held. so_start ns h.tree is held))
 
-pub columns-set-requires : goal.columns-set-requires
-columns-set-requires t c =
+pub columns-requires : goal.columns-requires
+columns-requires t c =
     let u = round _ c.loop-at.invariant c.loop-at-test.true in (
       omega (arith, c.loop-at.invariant.some, c.decreases),
       (rw c.from_record-child.ensures u.readable, c.requires.len_le_max_fields),
@@ -41,7 +41,7 @@ loop-at-preserved t c =
     let part = c.from_record-child.ensures in
     rw (c.word_at-at-in-loop-at.ensures.0, part) (again _ k u (λ ns h held. let s = u.so_far ns h held in
     so_next ns k.tree _ u.turn.child s
-    (c.columns-set.ensures u.turn.child ns (rw part u.turn.here) h (so_held ns k.tree u.turn.child s))))
+    (c.columns.ensures u.turn.child ns (rw part u.turn.here) h (so_held ns k.tree u.turn.child s)) c.union-set.ensures))
 
 pub returns : goal.returns
 returns t c =

@@ -7,7 +7,7 @@ use Rattle.utils.proofs.has_all_column_refs.columns_at.Goals as goal
 
 pub returns-then-n-eq-FALSE_ITEM : goal.returns-then-n-eq-FALSE_ITEM
 returns-then-n-eq-FALSE_ITEM c =
-    λ e ns h g held. answers_false ns e (h.none c.if-n-eq-FALSE_ITEM.true)
+    λ e ns h g held. rw c.empty.ensures (answers_false ns e (h.none c.if-n-eq-FALSE_ITEM.true))
 
 pub returns : goal.returns
 returns c =

@@ -5,7 +5,7 @@ use Rattle.writing.proofs.renames.write_renames.Goals as goal
 pub loop-i-preserved : goal.loop-i-preserved
 loop-i-preserved c =
     renames_next _ _ _ _ _ _ _ _ c.loop-i.invariant
-    c.loop-i-test.true c.link_to-in-loop-i.ensures c.put_rename.ensures.m_after c.put_rename.ensures.small_name
+    c.loop-i-test.true c.link_to-next.ensures c.put_rename.ensures.m_after c.put_rename.ensures.small_name
 
 pub returns : goal.returns
 returns c =

@@ -1,4 +1,4 @@
--- `sets::low_places` meets its contract: a number of k ones.
+-- `sets::FieldSet::low_places` meets its contract: a number of k ones.
 use mathlib.Core.Path.{◌≡◌, ◌∙◌}
 use Prim.Native.Nat.{ℕ, ◌*◌, ◌%◌, ◌^◌, ◌<◌}
 use native.Mathlib.Nat.{one-mul}
@@ -6,7 +6,7 @@ use native.Mathlib.Omega.{arith}
 use lib.Pow.{shl_exact}
 use Rattle.image.specs.Limits.{max_fields}
 use Rattle.utils.proofs.Members.{member_low}
-use Rattle.utils.proofs.sets.low_places.Goals as goal
+use Rattle.utils.proofs.sets.FieldSet.low_places.Goals as goal
 
 -- one digit, shifted
 shifted : (k : ℕ) → k < 64 → 1 * 2 ^ k % 18446744073709551616 ≡ 2 ^ k
