@@ -24,7 +24,6 @@ use Rattle.answers.proofs.Whole.{wrote_small}
 use Rattle.answers.proofs.Splice.{Begun, spliced}
 use Rattle.answers.proofs.Fitting.{list_back, fits_over, fits_long}
 use Rattle.push_down_base.specs.Arms.{Written}
-use Rattle.plan.proofs.Bools.{no_yes}
 use Rattle.plan.proofs.Lists.{and_true}
 use Rattle.push_down_merge.proofs.Tested.{few_records, fits_is}
 use Rattle.push_down_merge.specs.declared.filter.TooLarge.{TooLarge}

@@ -24,7 +24,6 @@ use Rattle.push_down_merge.specs.Merging.{Inside}
 use Rattle.push_down_merge.proofs.Tested.{few_records}
 use Rattle.push_down_stays.specs.Staying.{Stays}
 use Rattle.push_down_rewrite.specs.Outcomes.{Outcome, Finishes, Image, answer, Outcomes}
-use Rattle.plan.proofs.Bools.{no_yes}
 
 -- the answer is written
 pub outcomes : {work : List ℕ} {r : Outcome} {w : Plan} {c : Focus} → Finishes work r c (merges c.plan) (rewrite c.plan) → Outcomes work r w c

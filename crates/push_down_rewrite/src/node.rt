@@ -38,7 +38,13 @@ const UNCHANGED: Rewritten = Rewritten {
 };
 
 // Writes what stands behind the new plan, tests the whole, and links it.
-pub fn finish(s: &[u8], spot: Spot, levels: &[u32], new: Written, work: &mut [u8]) -> Result<Rewritten, TooLarge>
+pub fn finish(
+    s: &[u8],
+    spot: Spot,
+    levels: &[u32],
+    new: Written,
+    work: &mut [u8],
+) -> Result<Rewritten, TooLarge>
     requires replaced { Replaced s.now levels.now work.old spot new }
     requires scratch { Scratch work.old levels.now }
     ensures { (node : ℕ) (w : Plan) (c : Focus) (t : Transformed) →
@@ -104,7 +110,13 @@ pub fn rewrite_anew(
 }
 
 // The plan at record `node`. Nothing is written for one that stays as it is: what is written is another plan.
-pub fn rewrite(s: &[u8], node: usize, m: &mut [u8], work: &mut [u8], levels: &mut [u32]) -> Result<Rewritten, TooLarge>
+pub fn rewrite(
+    s: &[u8],
+    node: usize,
+    m: &mut [u8],
+    work: &mut [u8],
+    levels: &mut [u32],
+) -> Result<Rewritten, TooLarge>
     requires found { Found s.now node }
     requires scratch_map { ScratchMap m.old work.old levels.old }
     ensures outcomes { (w : Plan) (c : Focus) → Inside s.now node w c → Outcomes work.new result w c }

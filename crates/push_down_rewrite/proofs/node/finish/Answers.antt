@@ -1,5 +1,5 @@
 -- `node::finish` meets its contract: what is written is the whole with the answer, and its records, its depth and its lists are tested.
-use mathlib.Core.Path.{refl, sym, ◌∙◌}
+use mathlib.Core.Path.{sym, ◌∙◌}
 use native.Mathlib.Omega.{arith}
 use Rattle.plan.specs.Trees.{plan_tree}
 use Rattle.plan.specs.Measure.{size_p}
