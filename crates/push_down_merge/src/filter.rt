@@ -1,6 +1,6 @@
 // What PushDownFilter::rewrite does of a Filter before the match (799 to 832), and the arm Filter (835 to 850) up to where it calls the
 // rewrite again: a predicate is simplified, and merged with that of the Filter below.
-ghost use Rattle.std.specs.Prelude.{◌≡◌, List, ◌<◌, ◌≤◌, ℕ, length};
+ghost use Rattle.std.specs.Prelude.{◌≡◌, List, ◌<◌, ◌≤◌, ℕ, is_ok, length};
 ghost use Rattle.std.proofs.Math.Option.{some};
 ghost use Rattle.image.specs.Buffers.{Scratch};
 ghost use Rattle.image.specs.Limits.{max_list, work_bytes};
@@ -25,7 +25,21 @@ use image::words::word_at;
 use push_down_base::predicates::Predicate;
 use simplify_expressions::reorder_predicates::reorder_predicates;
 use simplify_expressions::simplify_predicates::simplify_predicates;
+use std::error::Error;
+use std::fmt;
 use writing::make_filter::make_filter;
+
+// Test 11: an answer, or a plan on the way to it, is too large for an image.
+#[derive(Clone, Copy, Debug, PartialEq, Eq, Hash)]
+pub struct TooLarge;
+
+impl fmt::Display for TooLarge {
+    fn fmt<W: fmt::Write>(&self, f: &mut fmt::Formatter<W>) -> fmt::Result {
+        write!(f, "the answer is too large for an image")
+    }
+}
+
+impl Error for TooLarge {}
 
 // The predicate at record n as it is written, with its conjuncts.
 pub fn predicate_at(s: &[u8], n: usize) -> Predicate
@@ -90,16 +104,16 @@ pub fn merge_fits(
     x: usize,
     work: &mut [u8],
     levels: &mut [u32],
-) -> bool
+) -> Result<(), TooLarge>
     requires stretch { Stretch s.now x input.now }
     requires mergeable { Mergeable s.now node p x }
     requires scratch { Scratch work.old levels.old }
     ensures { (w : Plan) (c : Focus) → Inside s.now node w c → (e : Expr) (q : Plan) → Made s.now p e →
-        StandingP s.now x q → list_p q ≤ max_list → result ≡ within_limits (c.back (filter e q)) }
+        StandingP s.now x q → list_p q ≤ max_list → is_ok result ≡ within_limits (c.back (filter e q)) }
 {
     let list = p.list;
     if MAX_LIST < list.len {
-        return false;
+        return Err(TooLarge);
     }
     let spot = write_before(s, node, work, levels);
     // No item of a merged list has its columns replaced: any plan of the image serves as the map.
@@ -108,7 +122,10 @@ pub fn merge_fits(
     );
     let records = write_records(s, levels, spot.end, spot.records, work, end);
     if MAX_RECORDS < records {
-        return false;
+        return Err(TooLarge);
     }
-    is_shallow(work, records)
+    if !is_shallow(work, records) {
+        return Err(TooLarge);
+    }
+    Ok(())
 }

@@ -1,4 +1,5 @@
 -- What is left of a Filter's predicate, and the Filter that two are merged into.
+use Rattle.std.specs.Prelude.{Err}
 use Prim.Native.Nat.{ℕ}
 use mathlib.Core.Path.{◌≡◌, refl, sym, ap, subst, ◌∙◌}
 use mathlib.Core.Bool.{true, false}
@@ -24,6 +25,7 @@ use Rattle.push_down_merge.specs.Merging.{Remains, is_filter}
 use Rattle.push_down_merge.proofs.OneMerge.{leaves_none, leaves_some, unmerged, kind_filter}
 use Rattle.push_down_stays.proofs.Nodes.{AFilter, a_filter}
 use Rattle.push_down_rewrite.specs.Filters.{Left}
+use Rattle.push_down_merge.specs.declared.filter.TooLarge.{TooLarge}
 use Rattle.push_down_rewrite.specs.Outcomes.{Outcome, Finishes}
 use Rattle.push_down_rewrite.proofs.Finishes.{unfit}
 
@@ -101,15 +103,15 @@ module _ {s : List ℕ} {x : ℕ} {p left : Predicate} {e : Expr} {q : Plan} (h 
 
 -- ---- two Filters become one, which is rewritten again
 
-module _ {work : List ℕ} {r : Outcome} {c : Focus} (e b : Expr) {m : Expr} (q : Plan) (i : conjunction (merged e b) ≡ some m) where
+module _ {work : List ℕ} {c : Focus} (e b : Expr) {m : Expr} (q : Plan) (i : conjunction (merged e b) ≡ some m) where
   -- the merged Filter fits
-  pub again : within_limits (c.back (filter m q)) ≡ true → Finishes work r c (merges (filter m q)) (rewrite (filter m q))
+  pub again : {r : Outcome} → within_limits (c.back (filter m q)) ≡ true → Finishes work r c (merges (filter m q)) (rewrite (filter m q))
       → Finishes work r c (merges_under e (filter b q)) (rewrite_filter e (filter b q))
   unfolding merges_under merges rewrite_filter rewrite all ◌&◌
-  again t f = rw i record { fit = f.fit ∙ rw t; flag = f.flag; written = f.written; image = f.image }
+  again t f = rw i record { fit = f.fit ∙ rw t; flag = f.flag; image = f.image }
 
   -- it does not
-  pub merge_unfit : r.fits ≡ false → within_limits (c.back (filter m q)) ≡ false
-      → Finishes work r c (merges_under e (filter b q)) (rewrite_filter e (filter b q))
+  pub merge_unfit : {t : TooLarge} → within_limits (c.back (filter m q)) ≡ false
+      → Finishes work (Err t) c (merges_under e (filter b q)) (rewrite_filter e (filter b q))
   unfolding merges_under all ◌&◌
-  merge_unfit n t = unfit n (rw (i, t) (sym (and_false (within_limits (c.back (rewrite_filter e (filter b q)).plan)))))
+  merge_unfit n = unfit (rw (i, n) (sym (and_false (within_limits (c.back (rewrite_filter e (filter b q)).plan)))))

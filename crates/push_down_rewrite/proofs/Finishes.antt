@@ -1,6 +1,7 @@
 -- The whole, with the answer in the place of what was found: its records, its lists and its depth.
 use Prim.Native.Nat.{ℕ, ◌-◌, ◌*◌, ◌≤◌, ◌<◌}
 use native.Mathlib.Omega.{arith}
+use Rattle.std.specs.Prelude.{Err}
 use mathlib.Core.Path.{◌≡◌, refl, sym, ◌∙◌}
 use mathlib.Core.Bool.{Bool, true, false}
 use mathlib.Core.List.{List, []}
@@ -23,20 +24,15 @@ use Rattle.answers.proofs.Whole.{wrote_small}
 use Rattle.answers.proofs.Splice.{Begun, spliced}
 use Rattle.answers.proofs.Fitting.{list_back, fits_over, fits_long}
 use Rattle.push_down_base.specs.Arms.{Written}
-use Rattle.plan.proofs.Bools.{no_yes}
 use Rattle.plan.proofs.Lists.{and_true}
 use Rattle.push_down_merge.proofs.Tested.{few_records, fits_is}
-use Rattle.push_down_rewrite.specs.Outcomes.{Outcome, Replaces, Finishes}
+use Rattle.push_down_merge.specs.declared.filter.TooLarge.{TooLarge}
+use Rattle.push_down_rewrite.specs.Outcomes.{Replaces, Finishes}
 
 -- what does not fit is not asked for more
-pub unfit : {work : List ℕ} {r : Outcome} {c : Focus} {ms : List Plan} {t : Transformed} → r.fits ≡ false
-    → false ≡ (within_limits (c.back t.plan) & all (λ m. within_limits (c.back m)) ms) → Finishes work r c ms t
-unfit e f = record {
-  fit = e ∙ f;
-  flag = λ y. no_yes (sym e ∙ y);
-  written = λ y. no_yes (sym e ∙ y);
-  image = λ y. no_yes (sym e ∙ y);
-}
+pub unfit : {work : List ℕ} {e : TooLarge} {c : Focus} {ms : List Plan} {t : Transformed}
+    → false ≡ (within_limits (c.back t.plan) & all (λ m. within_limits (c.back m)) ms) → Finishes work (Err e) c ms t
+unfit f = record { fit = f; flag = tt; image = tt }
 
 -- no plan is on the way
 pub at_once : (c : Focus) (q : Plan) {b : Bool} → b ≡ within_limits (c.back q)

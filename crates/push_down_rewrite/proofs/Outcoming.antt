@@ -4,6 +4,7 @@ use mathlib.Core.Path.{◌≡◌, refl, sym, ap, subst, ◌∙◌}
 use mathlib.Core.Bool.{Bool, true, false}
 use mathlib.Core.List.{List, []}
 use mathlib.Core.Option.{Option}
+use Rattle.std.specs.Prelude.{Option as Maybe, None, Some, Ok, Err, IfOk, IfSome, IsSomeAnd, MatchOption}
 use Rattle.plan.specs.Lists.{◌&◌, all}
 use Rattle.plan.specs.Syntax.{Expr, Kind, Pair, Plan}
 use Rattle.plan.specs.Syntax.{filter, project, join, alias, union, distinct, sort, repartition, limit, aggregate, window}
@@ -22,13 +23,17 @@ use Rattle.push_down_base.proofs.Finding.{path_to}
 use Rattle.push_down_merge.specs.Merging.{Inside}
 use Rattle.push_down_merge.proofs.Tested.{few_records}
 use Rattle.push_down_stays.specs.Staying.{Stays}
-use Rattle.push_down_rewrite.specs.Outcomes.{Outcome, Finishes, answer, Outcomes}
-use Rattle.plan.proofs.Bools.{no_yes}
+use Rattle.push_down_rewrite.specs.Outcomes.{Outcome, Finishes, Image, answer, Outcomes}
 
 -- the answer is written
 pub outcomes : {work : List ℕ} {r : Outcome} {w : Plan} {c : Focus} → Finishes work r c (merges c.plan) (rewrite c.plan) → Outcomes work r w c
 unfolding result_fits
-outcomes f = record { fit = f.fit; flag = f.flag; image = λ y z. f.image y; same = λ y z. no_yes (sym z ∙ f.written y) }
+outcomes {r = Err e} f = record { fit = f.fit; flag = tt; image = tt }
+outcomes {work} {r = Ok o} {w} {c} f = record { fit = f.fit; flag = f.flag; image = go o.image f.image }
+  where
+    go : (i : Maybe ℕ) → IsSomeAnd i (λ n. Image work n (answer c)) → MatchOption i (answer c ≡ w) (λ n. Image work n (answer c))
+    go None h = absurd h
+    go (Some n) h = h
 
 -- .. of a Filter
 pub filter_outcomes : {work : List ℕ} {r : Outcome} {w : Plan} {c : Focus} {e : Expr} {q : Plan} → c.plan ≡ filter e q
@@ -71,21 +76,19 @@ read_fits {w = w} h =
     (and_intro (deep_tested (plan_tree w) h.root.deep) (le-leb (list_p w) max_list h.lists))
 
 -- one that stays
-pub stays_outcomes : {work s : List ℕ} {b : Bool} {r : Outcome} {w : Plan} {node : ℕ} {c : Focus} → Inside s node w c → Stays b c.plan → b ≡ true
-    → r.fits ≡ true → r.flag ≡ false → r.written ≡ false → Outcomes work r w c
+pub stays_outcomes : {work s : List ℕ} {b : Bool} {w : Plan} {node : ℕ} {c : Focus} → Inside s node w c → Stays b c.plan → b ≡ true
+    → Outcomes work (Ok (record { flag = false; image = None })) w c
 unfolding result_fits all
-stays_outcomes {w = w} {node = node} {c = c} h u t y f n =
+stays_outcomes {w = w} {node = node} {c = c} h u t =
     let k = u.kept.yes t in
     let back : answer c ≡ w = ap (λ t. c.back t.plan) k ∙ path_to ways node w c h.there in
     record {
       fit =
-          y
-          ∙ sym (ap (λ ms. within_limits (answer c) & all (λ m. within_limits (c.back m)) ms) (u.unmerged t) ∙ and_true (within_limits (answer c))
+          sym (ap (λ ms. within_limits (answer c) & all (λ m. within_limits (c.back m)) ms) (u.unmerged t) ∙ and_true (within_limits (answer c))
           ∙ ap within_limits back
           ∙ read_fits h);
-      flag = λ z. f ∙ sym (ap (λ (t : Transformed). t.transformed) k);
-      image = λ z e. no_yes (sym n ∙ e);
-      same = λ z e. back;
+      flag = sym (ap (λ (t : Transformed). t.transformed) k);
+      image = back;
     }
 
 -- ---- what is written for a plan that does not stay
@@ -110,6 +113,11 @@ apart = record {
   in_later = λ n ps t C p h a b e. h a b (let i : C a ≡ C b = cc in i);
 }
 
-pub changed : {s : List ℕ} {b : Bool} {w : Plan} {node : ℕ} {c : Focus} → Inside s node w c → Stays b c.plan → b ≡ false → answer c ≡ w → ⊥
-changed {w = w} {node} {c} h u n e =
-    u.kept.no n (path_to apart node w c h.there (rewrite c.plan).plan c.plan (e ∙ sym (path_to ways node w c h.there)))
+pub changed : {s : List ℕ} {b : Bool} {w : Plan} {node : ℕ} {c : Focus} (r : Outcome) → Inside s node w c → Stays b c.plan → b ≡ false
+    → IfOk r (λ o. IfSome o.image (λ n. answer c ≡ w → ⊥))
+changed (Err e) h u n = tt
+changed {w = w} {node} {c} (Ok o) h u n = go o.image
+  where
+    go : (i : Maybe ℕ) → IfSome i (λ n. answer c ≡ w → ⊥)
+    go None = tt
+    go (Some k) = λ e. u.kept.no n (path_to apart node w c h.there (rewrite c.plan).plan c.plan (e ∙ sym (path_to ways node w c h.there)))

@@ -1,5 +1,5 @@
 -- What a rewrite at a record comes to.
-use Rattle.std.specs.Prelude.{◌≡◌, true, false, List, ℕ, ◌*◌, length, take}
+use Rattle.std.specs.Prelude.{◌≡◌, List, ℕ, ◌*◌, length, take, Result, is_ok, IfOk, IsSomeAnd, MatchOption}
 use Rattle.image.specs.Limits.{work_bytes}
 use Rattle.plan.specs.Lists.{◌&◌, all}
 use Rattle.plan.specs.Syntax.{Plan}
@@ -12,11 +12,12 @@ use Rattle.answers.specs.declared.splicing.Spot.{Spot}
 use Rattle.answers.specs.Splicing.{Before}
 use Rattle.push_down_base.specs.Arms.{Written, Answers}
 use Rattle.push_down_merge.specs.Merging.{Inside}
-use Rattle.push_down_rewrite.specs.declared.node.Outcome as declared
+use Rattle.push_down_merge.specs.declared.filter.TooLarge.{TooLarge}
+use Rattle.push_down_rewrite.specs.declared.node.Rewritten.{Rewritten}
 
--- the struct of the code
+-- what the code comes to
 abbrev pub Outcome : Type 0
-Outcome = declared.Outcome
+Outcome = Result Rewritten TooLarge
 
 -- the answer t was written in the place of what c found at record `node` of the whole, w
 pub record Replaces (s levels work : List ℕ) (spot : Spot) (new : Written) (node : ℕ) (w : Plan) (c : Focus) (t : Transformed)
@@ -42,10 +43,9 @@ pub record Image (work : List ℕ) (records : ℕ) (q : Plan) : Type 0 where
 
 -- the answer t was written in the place of what c found, if it and the plans ms on the way to it are within the limits there
 pub record Finishes (work : List ℕ) (r : Outcome) (c : Focus) (ms : List Plan) (t : Transformed) : Type 0 where
-  pub fit : r.fits ≡ (within_limits (c.back t.plan) & all (λ m. within_limits (c.back m)) ms)
-  pub flag : r.fits ≡ true → r.flag ≡ t.transformed
-  pub written : r.fits ≡ true → r.written ≡ true
-  pub image : r.fits ≡ true → Image work r.records (c.back t.plan)
+  pub fit : is_ok r ≡ (within_limits (c.back t.plan) & all (λ m. within_limits (c.back m)) ms)
+  pub flag : IfOk r (λ o. o.flag ≡ t.transformed)
+  pub image : IfOk r (λ o. IsSomeAnd o.image (λ n. Image work n (c.back t.plan)))
 
 -- the whole with the rewrite of what c found
 abbrev pub answer : Focus → Plan
@@ -53,7 +53,6 @@ answer c = c.back (rewrite c.plan).plan
 
 -- test 11, the flag, and the image of the answer, which is written or is the one that was read
 pub record Outcomes (work : List ℕ) (r : Outcome) (w : Plan) (c : Focus) : Type 0 where
-  pub fit : r.fits ≡ result_fits c
-  pub flag : r.fits ≡ true → r.flag ≡ (rewrite c.plan).transformed
-  pub image : r.fits ≡ true → r.written ≡ true → Image work r.records (answer c)
-  pub same : r.fits ≡ true → r.written ≡ false → answer c ≡ w
+  pub fit : is_ok r ≡ result_fits c
+  pub flag : IfOk r (λ o. o.flag ≡ (rewrite c.plan).transformed)
+  pub image : IfOk r (λ o. MatchOption o.image (answer c ≡ w) (λ n. Image work n (answer c)))

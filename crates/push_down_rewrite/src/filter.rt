@@ -12,7 +12,7 @@ ghost use Rattle.push_down_rewrite.specs.Filters.{Left, LeftInside, OnFilter, On
 ghost use Rattle.push_down_rewrite.specs.Outcomes.{Finishes};
 
 use crate::input::resume;
-use crate::node::{Outcome, finish};
+use crate::node::{Rewritten, finish};
 use answers::splicing::write_before;
 use conjuncts::lists::empty;
 use conjuncts::split_conjunction::split_at;
@@ -20,7 +20,7 @@ use image::records::{KIND, from_record};
 use image::words::word_at;
 use plan::kinds::FILTER;
 use push_down_base::predicates::{Predicate, is_gone};
-use push_down_merge::filter::{filter_input, merge, merge_fits, simplify_filter};
+use push_down_merge::filter::{TooLarge, filter_input, merge, merge_fits, simplify_filter};
 
 // What is left of a predicate, p, over `input`, the plan at record x, written in the place of record `node`.
 fn resume_in_place(
@@ -32,7 +32,7 @@ fn resume_in_place(
     m: &mut [u8],
     work: &mut [u8],
     levels: &mut [u32],
-) -> Outcome
+) -> Result<Rewritten, TooLarge>
     requires stretch { Stretch s.now x input.now }
     requires left_inside { LeftInside s.now node p x }
     requires scratch_map { ScratchMap m.old work.old levels.old }
@@ -56,7 +56,7 @@ pub fn rewrite_filter(
     m: &mut [u8],
     work: &mut [u8],
     levels: &mut [u32],
-) -> Outcome
+) -> Result<Rewritten, TooLarge>
     requires stretch { Stretch s.now x input.now }
     requires on_plan { OnPlan s.now node p x }
     requires scratch_map { ScratchMap m.old work.old levels.old }
@@ -84,7 +84,7 @@ fn merge_filter(
     m: &mut [u8],
     work: &mut [u8],
     levels: &mut [u32],
-) -> Outcome
+) -> Result<Rewritten, TooLarge>
     requires stretch { Stretch s.now x child.now }
     requires on_filter { OnFilter s.now node p x }
     requires scratch_map { ScratchMap m.old work.old levels.old }
@@ -95,13 +95,6 @@ fn merge_filter(
     let y = filter_input(child, x);
     let input = from_record(child, x, y);
     let merged = merge(s, p, split_at(s, x + 1, empty()));
-    if !merge_fits(s, node, merged, input, y, work, levels) {
-        return Outcome {
-            fits: false,
-            flag: false,
-            written: false,
-            records: 0,
-        };
-    }
+    merge_fits(s, node, merged, input, y, work, levels)?;
     rewrite_filter(s, node, merged, input, y, m, work, levels)
 }

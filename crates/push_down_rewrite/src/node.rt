@@ -1,5 +1,5 @@
 // PushDownFilter::rewrite (785 to 798) of the plan at one record: a Filter by its input, a Join by its own filter, no other.
-ghost use Rattle.std.specs.Prelude.{◌≡◌, true, [], ℕ};
+ghost use Rattle.std.specs.Prelude.{◌≡◌, [], ℕ, IfOk, IfSome};
 ghost use Rattle.image.specs.Buffers.{Scratch, ScratchMap};
 ghost use Rattle.plan.specs.Syntax.{Plan};
 ghost use Rattle.rewrite.specs.PushDownFilter.{Transformed};
@@ -20,21 +20,31 @@ use image::words::word_at;
 use plan::kinds::{FILTER, JOIN};
 use push_down_base::predicates::Written;
 use push_down_join::push_down_all_join::push_down_join;
-use push_down_merge::filter::{filter_input, predicate_at};
+use push_down_merge::filter::{TooLarge, filter_input, predicate_at};
 use push_down_stays::stays::stays;
 
-// What a rewrite comes to: whether it is within the limits, and the flag; whether a new image was written, of so many records, or the one
-// that was read is the answer.
-#[derive(Clone, Copy)]
-pub struct Outcome {
-    pub fits: bool,
+// A rewrite that is within the limits: its flag, and how many records the new image has that was written; None: the one that was read is the
+// answer.
+#[derive(Clone, Copy, Debug, PartialEq, Eq, Hash)]
+pub struct Rewritten {
     pub flag: bool,
-    pub written: bool,
-    pub records: usize,
+    pub image: Option<usize>,
 }
 
+// A plan that stays as it is.
+const UNCHANGED: Rewritten = Rewritten {
+    flag: false,
+    image: None,
+};
+
 // Writes what stands behind the new plan, tests the whole, and links it.
-pub fn finish(s: &[u8], spot: Spot, levels: &[u32], new: Written, work: &mut [u8]) -> Outcome
+pub fn finish(
+    s: &[u8],
+    spot: Spot,
+    levels: &[u32],
+    new: Written,
+    work: &mut [u8],
+) -> Result<Rewritten, TooLarge>
     requires replaced { Replaced s.now levels.now work.old spot new }
     requires scratch { Scratch work.old levels.now }
     ensures { (node : ℕ) (w : Plan) (c : Focus) (t : Transformed) →
@@ -43,28 +53,16 @@ pub fn finish(s: &[u8], spot: Spot, levels: &[u32], new: Written, work: &mut [u8
 {
     let records = write_records(s, levels, spot.end, spot.records, work, new.next);
     if MAX_RECORDS < records {
-        return Outcome {
-            fits: false,
-            flag: new.flag,
-            written: false,
-            records: 0,
-        };
+        return Err(TooLarge);
     }
     if !is_shallow(work, records) {
-        return Outcome {
-            fits: false,
-            flag: new.flag,
-            written: false,
-            records: 0,
-        };
+        return Err(TooLarge);
     }
     relink(work, records);
-    Outcome {
-        fits: true,
+    Ok(Rewritten {
         flag: new.flag,
-        written: true,
-        records,
-    }
+        image: Some(records),
+    })
 }
 
 // The Join at the start of `part`, which is record `node`.
@@ -75,7 +73,7 @@ fn rewrite_join_node(
     m: &mut [u8],
     work: &mut [u8],
     levels: &mut [u32],
-) -> Outcome
+) -> Result<Rewritten, TooLarge>
     requires stretch { Stretch s.now node part.now }
     requires join_inside { JoinInside s.now node }
     requires scratch_map { ScratchMap m.old work.old levels.old }
@@ -93,7 +91,7 @@ pub fn rewrite_anew(
     m: &mut [u8],
     work: &mut [u8],
     levels: &mut [u32],
-) -> Outcome
+) -> Result<Rewritten, TooLarge>
     requires found { Found s.now node }
     requires scratch_map { ScratchMap m.old work.old levels.old }
     ensures { (w : Plan) (c : Focus) → Inside s.now node w c → Outcomes work.new result w c }
@@ -108,28 +106,25 @@ pub fn rewrite_anew(
     if kind == JOIN {
         return rewrite_join_node(s, part, node, m, work, levels);
     }
-    Outcome {
-        fits: true,
-        flag: false,
-        written: false,
-        records: 0,
-    }
+    Ok(UNCHANGED)
 }
 
 // The plan at record `node`. Nothing is written for one that stays as it is: what is written is another plan.
-pub fn rewrite(s: &[u8], node: usize, m: &mut [u8], work: &mut [u8], levels: &mut [u32]) -> Outcome
+pub fn rewrite(
+    s: &[u8],
+    node: usize,
+    m: &mut [u8],
+    work: &mut [u8],
+    levels: &mut [u32],
+) -> Result<Rewritten, TooLarge>
     requires found { Found s.now node }
     requires scratch_map { ScratchMap m.old work.old levels.old }
     ensures outcomes { (w : Plan) (c : Focus) → Inside s.now node w c → Outcomes work.new result w c }
-    ensures changes { (w : Plan) (c : Focus) → Inside s.now node w c → result.written ≡ true → answer c ≡ w → ⊥ }
+    ensures changes { (w : Plan) (c : Focus) → Inside s.now node w c →
+        IfOk result (λ o. IfSome o.image (λ _. answer c ≡ w → ⊥)) }
 {
     if stays(s, node) {
-        return Outcome {
-            fits: true,
-            flag: false,
-            written: false,
-            records: 0,
-        };
+        return Ok(UNCHANGED);
     }
     rewrite_anew(s, node, m, work, levels)
 }

@@ -78,6 +78,20 @@ returns-then-records-gt-MAX_RECORDS c =
     sym (fits_over (f.back (filter e q)) (spliced w _ f h.there (filter e q)
     (c.write_before-spot.auto.out ∙ c.requires.scratch.0) (few_records h) b v a) c.if-records-gt-MAX_RECORDS.true)
 
+pub returns-then-not-is_shallow : goal.returns-then-not-is_shallow
+unfolding size_p
+returns-then-not-is_shallow c =
+    λ w f h e q m k l. let b = c.write_before-spot.ensures w f h.root h.there (stands_inside h) in
+    let v = c.make_filter-end.ensures (map_of q) (rw c.requires.stretch
+    (plan_maps k)) e (made_predicate _ m) q (own_here k c.requires.stretch) in
+    let a = c.write_records-records.ensures (plan_tree w) h.root.here (few_records h)
+    (omega (arith, b.records)) b.depths in
+    let g = spliced w _ f h.there (filter e q)
+    (c.write_before-spot.auto.out ∙ c.requires.scratch.0) (few_records h) b v a in
+    let few = c.if-records-gt-MAX_RECORDS.false in
+    sym c.if-not-is_shallow.true ∙ c.is_shallow.ensures (plan_tree (f.back (filter e q))) g.rest (begun_count g few) (g.bytes few)
+    ∙ fits_is (f.back (filter e q)) g few (few_lists h m q l c.if-list-gt-MAX_LIST.false)
+
 pub returns : goal.returns
 unfolding size_p
 returns c =
@@ -89,5 +103,5 @@ returns c =
     let g = spliced w _ f h.there (filter e q)
     (c.write_before-spot.auto.out ∙ c.requires.scratch.0) (few_records h) b v a in
     let few = c.if-records-gt-MAX_RECORDS.false in
-    c.is_shallow.ensures (plan_tree (f.back (filter e q))) g.rest (begun_count g few) (g.bytes few) ∙ fits_is (f.back (filter e q)) g few
+    sym c.if-not-is_shallow.false ∙ c.is_shallow.ensures (plan_tree (f.back (filter e q))) g.rest (begun_count g few) (g.bytes few) ∙ fits_is (f.back (filter e q)) g few
     (few_lists h m q l c.if-list-gt-MAX_LIST.false)

@@ -1,5 +1,7 @@
-use mathlib.Core.Path.{refl, sym, ◌∙◌}
+use Rattle.std.specs.Prelude.{true, Err, is_ok}
+use mathlib.Core.Path.{◌≡◌, sym, ◌∙◌}
 use native.Mathlib.Omega.{arith}
+use Rattle.std.proofs.Common.{rules}
 use Rattle.conjuncts.proofs.Listed.{lists_none, known_of}
 use Rattle.push_down_base.proofs.Steps.{filter_predicate}
 use Rattle.writing.proofs.Stretches.{input_within, input_at}
@@ -56,15 +58,6 @@ merge_filter-merge_fits-requires-clause-mergeable t c =
       standing = m.input.standing;
     }
 
-pub merge_filter-returns-then-not-merge_fits : goal.merge_filter-returns-then-not-merge_fits
-merge_filter-returns-then-not-merge_fits t c =
-    λ w f i e b q k. let h = k.placed in
-    let l = c.split_at.ensures b _ (filter_predicate h.short h.standing) (lists_none c.empty.ensures) in
-    let m = one_merge k (λ n j. c.merge-merged.ensures e b n k.shaped l j) (c.filter_input-y.ensures _ b q
-    c.requires.stretch h.short h.standing).standing in
-    let fit = c.merge_fits.ensures w f i m.expr q m.made m.input.standing m.input.lists in
-    merge_unfit e b q m.is refl (sym fit ∙ c.if-not-merge_fits.true)
-
 pub merge_filter-rewrite_filter-requires : goal.merge_filter-rewrite_filter-requires
 merge_filter-rewrite_filter-requires t c =
     let p = c.requires.on_filter in
@@ -74,7 +67,8 @@ merge_filter-rewrite_filter-requires t c =
     let l = c.split_at.ensures p.lower _ (filter_predicate h.short h.standing) (lists_none c.empty.ensures) in
     let m = one_merge k (λ n i. c.merge-merged.ensures p.expr p.lower n k.shaped l i)
     y.standing in
-    let fit = c.merge_fits.ensures p.whole p.spot p.inside m.expr p.plan m.made m.input.standing m.input.lists in (
+    let fit : is_ok c.merge_fits.result ≡ true = search rules in
+    let fits = sym (c.merge_fits.ensures p.whole p.spot p.inside m.expr p.plan m.made m.input.standing m.input.lists) ∙ fit in (
       omega (arith, plans_fall h.short h.standing y.link m.input.standing, c.decreases),
       (
         input_at y.standing c.requires.stretch y.after c.from_record-input.ensures,
@@ -85,7 +79,7 @@ merge_filter-rewrite_filter-requires t c =
             inside = p.inside;
             expr = m.expr;
             plan = p.plan;
-            rests = merge_rests k p.inside m (sym fit ∙ c.if-not-merge_fits.false);
+            rests = merge_rests k p.inside m fits;
           },
           (c.requires.scratch_map.0, c.merge_fits.auto.work ∙ c.requires.scratch_map.1, c.merge_fits.auto.levels ∙ c.requires.scratch_map.2),
         ),
@@ -98,9 +92,17 @@ merge_filter-returns t c =
     let l = c.split_at.ensures b _ (filter_predicate h.short h.standing) (lists_none c.empty.ensures) in
     let m = one_merge k (λ n j. c.merge-merged.ensures e b n k.shaped l j) (c.filter_input-y.ensures _ b q
     c.requires.stretch h.short h.standing).standing in
-    let fit = c.merge_fits.ensures w f i m.expr q m.made m.input.standing m.input.lists in
-    let yes = sym fit ∙ c.if-not-merge_fits.false in
+    let yes = sym (c.in_ok-merge_fits.ensures w f i m.expr q m.made m.input.standing m.input.lists) in
     again e b q m.is yes (c.rewrite_filter.ensures w f i m.expr q (merge_rests k i m yes))
+
+pub merge_filter-returns-in_err-merge_fits : goal.merge_filter-returns-in_err-merge_fits
+merge_filter-returns-in_err-merge_fits t c =
+    λ w f i e b q k. let h = k.placed in
+    let l = c.split_at.ensures b _ (filter_predicate h.short h.standing) (lists_none c.empty.ensures) in
+    let m = one_merge k (λ n j. c.merge-merged.ensures e b n k.shaped l j) (c.filter_input-y.ensures _ b q
+    c.requires.stretch h.short h.standing).standing in
+    let same : c.from_residual.result ≡ Err c.in_err-merge_fits.field-0.0 = grind arith in
+    rw same (merge_unfit e b q m.is (sym (c.in_err-merge_fits.ensures w f i m.expr q m.made m.input.standing m.input.lists)))
 
 pub rewrite_filter-resume_in_place-requires-clause-left_inside : goal.rewrite_filter-resume_in_place-requires-clause-left_inside
 rewrite_filter-resume_in_place-requires-clause-left_inside t c =

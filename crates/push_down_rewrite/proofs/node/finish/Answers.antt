@@ -1,5 +1,5 @@
 -- `node::finish` meets its contract: what is written is the whole with the answer, and its records, its depth and its lists are tested.
-use mathlib.Core.Path.{refl, sym, ◌∙◌}
+use mathlib.Core.Path.{sym, ◌∙◌}
 use native.Mathlib.Omega.{arith}
 use Rattle.plan.specs.Trees.{plan_tree}
 use Rattle.plan.specs.Measure.{size_p}
@@ -25,7 +25,7 @@ write_records-records-requires c =
 pub returns-then-records-gt-MAX_RECORDS : goal.returns-then-records-gt-MAX_RECORDS
 unfolding size_p
 returns-then-records-gt-MAX_RECORDS c =
-    λ node w f t h. unfit refl (at_once f t.plan
+    λ node w f t h. unfit (at_once f t.plan
     (too_many h (c.write_records-records.ensures (plan_tree w) h.inside.root.here (few_records h.inside)
     (omega (arith, h.begun.records)) h.begun.depths) c.if-records-gt-MAX_RECORDS.true))
 
@@ -36,7 +36,7 @@ returns-then-not-is_shallow c =
     (omega (arith, h.begun.records)) h.begun.depths in
     let few = c.if-records-gt-MAX_RECORDS.false in
     let b = begun h v few in
-    unfit refl (at_once f t.plan
+    unfit (at_once f t.plan
     (sym (c.if-not-is_shallow.true) ∙ c.is_shallow.ensures (plan_tree (f.back t.plan)) b.rest (begun_count b few) (b.bytes few)
     ∙ depth_decides h v few))
 
@@ -61,7 +61,6 @@ returns c =
     (b.bytes few)) ∙ c.if-not-is_shallow.false in
     record {
       fit = at_once f t.plan (sym deep ∙ depth_decides h v few);
-      flag = λ y. h.answers.flag;
-      written = λ y. refl;
-      image = λ y. record { count = begun_count b few; bytes = answered b few deep c.relink.ensures };
+      flag = h.answers.flag;
+      image = record { count = begun_count b few; bytes = answered b few deep c.relink.ensures };
     }

@@ -124,4 +124,4 @@ rewrite_join_node-requires-clause-join_inside c =
 pub returns : goal.returns
 returns c =
     λ w f h. let k = read_kind c.record_at-part.ensures c.word_at-kind.ensures.0 (stands_inside h) in
-    stays_outcomes h (other_stays f.plan (λ e. c.if-kind-eq-FILTER.false (k ∙ e)) (λ e. c.if-kind-eq-JOIN.false (k ∙ e))) refl refl refl refl
+    stays_outcomes h (other_stays f.plan (λ e. c.if-kind-eq-FILTER.false (k ∙ e)) (λ e. c.if-kind-eq-JOIN.false (k ∙ e))) refl
