@@ -7,5 +7,6 @@ pub mod kinds;
 pub mod limits;
 pub mod links;
 pub mod records;
+pub mod refusals;
 pub mod relink;
 pub mod words;
