@@ -1,13 +1,15 @@
 -- An answer of the check that refuses nothing is that of an accepted image; a refusal's number is not 0.
-use Prim.Native.Nat.{ℕ}
+use Prim.Native.Nat.{ℕ, ◌≤◌}
 use native.Mathlib.Omega.{arith}
 use mathlib.Core.Path.{◌≡◌, refl, sym, ap, ◌∙◌}
 use mathlib.Core.List.{List}
 use Rattle.std.specs.Prelude.{Result, Ok, Err}
-use Rattle.image.specs.Refusals.{number_of}
+use Rattle.image.specs.Limits.{max_records}
+use Rattle.image.specs.Refusals.{number_of, named}
 use Rattle.image.specs.declared.refusals.Refusal.{Refusal}
 use Rattle.image.specs.declared.refusals.Refusal.TheVariants.{Buffer, Record, Link, Depth, Form, Names, Types, Absent, Row, Function, TooLarge, NoRoom}
 use Rattle.acceptance.specs.Check.{verdict, check}
+use Rattle.acceptance.proofs.Places.{place_within}
 use Rattle.check_image.specs.Answer.{refused, verdict_of}
 
 module _ (s : List ℕ) {a : Result (Unit {0}) Refusal} (e : verdict_of a ≡ check s) where
@@ -16,6 +18,10 @@ module _ (s : List ℕ) {a : Result (Unit {0}) Refusal} (e : verdict_of a ≡ ch
 
   pub is_refused : {r : Refusal} → a ≡ Err r → refused r ≡ check s
   is_refused {r} h = sym (ap verdict_of h) ∙ e
+
+-- the record that the check names is small
+pub small_record : (s : List ℕ) (r : Refusal) → refused r ≡ check s → named r ≤ max_records
+small_record s r e = omega (arith, place_within s, ap (λ v. v.place) e)
 
 pub no_zero : (r : Refusal) → number_of r ≡ 0 → ⊥
 no_zero Buffer h = omega arith

@@ -7,6 +7,9 @@ use crate::links::BadLink;
 use std::error::Error;
 use std::fmt;
 
+// The number of a call that is not refused.
+pub const GRANTED: u32 = 0;
+
 #[derive(Clone, Copy, Debug, PartialEq, Eq, Hash)]
 pub enum Refusal {
     Buffer,
