@@ -15,11 +15,13 @@ const KINDS: &str = "crates/plan/src/kinds.rt";
 const WORDS: &str = "crates/plan/src/words.rt";
 const LIMITS: &str = "crates/image/src/limits.rt";
 const RECORDS: &str = "crates/image/src/records.rt";
+const REFUSALS: &str = "crates/image/src/refusals.rt";
+const TRUTHS: &str = "crates/call_row_test/src/testing.rt";
 const LIBRARY: &str = "crates/push_down_filter/src/lib.rt";
 const EXPORTS: &str = "crates/push_down_filter_c/src/lib.rt";
 
 /// The header's prefix, the source, and the names that follow the prefix; `a=b` where the source says a and the header b.
-const SAID: [(&str, &str, &str); 12] = [
+const SAID: [(&str, &str, &str); 13] = [
     (
         "KIND_",
         KINDS,
@@ -38,6 +40,7 @@ const SAID: [(&str, &str, &str); 12] = [
     ("TYPE_", WORDS, "INTEGER BOOLEAN"),
     ("FUNCTION_", WORDS, "VOLATILE LEAFWARD VOLATILE_LEAFWARD"),
     ("", WORDS, "TRUE=LITERAL_TRUE NEGATED FETCHES=SORT_FETCHES MARKED=FIELD_MARKED"),
+    ("", REFUSALS, "GRANTED"),
     ("", LIMITS, "RECORD_BYTES MAX_RECORDS MAX_BYTES MAX_DEPTH MAX_FIELDS MAX_LIST"),
     ("AT_", RECORDS, "KIND P Q R LO HI FIRST_LINK NEXT_LINK"),
 ];
@@ -48,25 +51,22 @@ const INNER: &str =
                      TOO_MANY MAP_BYTES";
 
 /// The numbers of answers: the header's name, the source, and the arm that gives it.
-const ANSWERED: [(&str, &str, &str); 18] = [
-    ("GRANTED", "check_image/src/lib.rt", "Checked::Accepted"),
-    ("BUFFER", "check_image/src/lib.rt", "Checked::Buffer"),
-    ("RECORD", "check_image/src/lib.rt", "Checked::Record(_)"),
-    ("LINK", "check_image/src/lib.rt", "Checked::Link(_)"),
-    ("DEPTH", "check_image/src/lib.rt", "Checked::Depth(_)"),
-    ("FORM", "check_image/src/lib.rt", "Checked::Form(_)"),
-    ("NAME", "check_image/src/lib.rt", "Checked::Names(_)"),
-    ("TYPE", "check_image/src/lib.rt", "Checked::Types(_)"),
-    ("CALL", "call_rewrite/src/call_rewrite.rt", "Answer::NoPlan(_)"),
-    ("CALL", "call_row_test/src/testing.rt", "Answer::NoFilter(_)"),
-    ("ROW", "call_row_test/src/testing.rt", "Answer::BadRow"),
-    ("FUNCTION", "call_row_test/src/testing.rt", "Answer::HasFunction(_)"),
-    ("RESULT", "call_rewrite/src/call_rewrite.rt", "Answer::TooLarge(_)"),
-    ("RESULT", "call_pass/src/call_pass.rt", "Answer::Refused(_)"),
-    ("OUTPUT", "call_rewrite/src/call_rewrite.rt", "Answer::NoRoom"),
-    ("FALSE", "call_row_test/src/testing.rt", "Truth::False"),
-    ("TRUE", "call_row_test/src/testing.rt", "Truth::True"),
-    ("UNKNOWN", "call_row_test/src/testing.rt", "Truth::Unknown"),
+const ANSWERED: [(&str, &str, &str); 15] = [
+    ("BUFFER", REFUSALS, "Refusal::Buffer"),
+    ("RECORD", REFUSALS, "Refusal::Record(_)"),
+    ("LINK", REFUSALS, "Refusal::Link(_)"),
+    ("DEPTH", REFUSALS, "Refusal::Depth(_)"),
+    ("FORM", REFUSALS, "Refusal::Form(_)"),
+    ("NAME", REFUSALS, "Refusal::Names(_)"),
+    ("TYPE", REFUSALS, "Refusal::Types(_)"),
+    ("CALL", REFUSALS, "Refusal::Absent(_)"),
+    ("ROW", REFUSALS, "Refusal::Row"),
+    ("FUNCTION", REFUSALS, "Refusal::Function(_)"),
+    ("RESULT", REFUSALS, "Refusal::TooLarge(_)"),
+    ("OUTPUT", REFUSALS, "Refusal::NoRoom"),
+    ("FALSE", TRUTHS, "Truth::False"),
+    ("TRUE", TRUTHS, "Truth::True"),
+    ("UNKNOWN", TRUTHS, "Truth::Unknown"),
 ];
 
 /// Said by the harness alone of all that the header is compared with.
@@ -125,8 +125,8 @@ fn of_source(path: &str) -> BTreeMap<String, Option<u64>> {
 
 /// The number that an arm of a `match` gives.
 fn of_arm(path: &str, arm: &str) -> u64 {
-    let text = read(&format!("crates/{path}"));
-    let body = text.split(if arm.starts_with("Truth") { "fn truth_number" } else { "fn number_of" }).nth(1);
+    let text = read(path);
+    let body = text.split(if arm.starts_with("Truth") { "fn truth_number" } else { "fn number" }).nth(1);
     let mut lines = body.unwrap_or_else(|| panic!("{path} gives no number")).lines();
     let line = lines.find_map(|line| line.trim().strip_prefix(arm)?.strip_prefix(" => "));
     let number = line.unwrap_or_else(|| panic!("{path}: no arm {arm}")).trim_end_matches(',');
@@ -135,7 +135,7 @@ fn of_arm(path: &str, arm: &str) -> u64 {
 
 /// The header's name of each constant of `SAID` beside what its source says.
 fn said() -> Vec<(String, &'static str, &'static str, Option<u64>)> {
-    let sources: BTreeMap<_, _> = [KINDS, WORDS, LIMITS, RECORDS].map(|path| (path, of_source(path))).into();
+    let sources: BTreeMap<_, _> = [KINDS, WORDS, LIMITS, RECORDS, REFUSALS].map(|path| (path, of_source(path))).into();
     let named = |(prefix, path, names): (&'static str, &'static str, &'static str)| {
         let sources = &sources;
         names.split(' ').map(move |name| {
@@ -161,7 +161,7 @@ fn the_header_says_the_numbers_of_the_sources() {
 #[test]
 fn none_is_missing_on_either_side() {
     let said = said();
-    for path in [KINDS, WORDS, LIMITS, RECORDS] {
+    for path in [KINDS, WORDS, LIMITS, RECORDS, REFUSALS] {
         let mut names: BTreeSet<String> = of_source(path).into_keys().collect();
         names.retain(|name| !said.iter().any(|(_, from, said, _)| path == *from && name == said));
         names.retain(|name| !INNER.split_whitespace().any(|inner| inner == name));

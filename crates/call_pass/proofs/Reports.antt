@@ -1,7 +1,8 @@
 -- The call on bytes: the pass on the plan in an accepted image, test 12, and what is handed out.
 use Prim.Native.Nat.{ℕ, ◌*◌, ◌/◌, ◌≤◌, ◌<◌}
 use native.Mathlib.Omega.{arith}
-use mathlib.Core.Path.{◌≡◌, refl, sym, subst, ◌∙◌}
+use mathlib.Core.Path.{◌≡◌, refl, sym, ap, subst, ◌∙◌}
+use mathlib.Core.Bool.{true, false}
 use mathlib.Core.List.{List, ◌++◌}
 use lib.Dec.{leb}
 use lib.ListN.{length, take}
@@ -12,28 +13,31 @@ use Rattle.plan.specs.Measure.{size_p}
 use Rattle.plan.specs.Syntax.{Plan}
 use Rattle.plan.specs.Trees.{bit_of}
 use Rattle.acceptance.specs.Check.{verdict, check}
-use Rattle.acceptance.proofs.Places.{place_within}
-use Rattle.check_image.specs.Answer.{verdict_of}
-use Rattle.check_image.specs.declared.Checked.{Checked}
-use Rattle.rewrite.specs.OnBytes.{plan_in, is_accepted, zeros, filled, no_pass, reported, pass_bytes}
+use Rattle.check_image.specs.Answer.{refused}
+use Rattle.check_image.proofs.Accepting.{no_zero}
+use Rattle.std.specs.Prelude.{Result, Ok, Err, is_err}
+use Rattle.image.specs.Refusals.{number_of}
+use Rattle.image.specs.declared.refusals.Refusal.{Refusal}
+use Rattle.rewrite.specs.OnBytes.{Passed, plan_in, is_accepted, zeros, filled, no_pass, reported, pass_bytes}
 use Rattle.rewrite.specs.Pass.{PassAnswer, pass_refused, pass, pass_with_room, pass_call}
 use Rattle.push_down_merge.proofs.Root.{image_short}
 use Rattle.push_down_merge.specs.Found.{Whole}
 use Rattle.push_down_rewrite.specs.Outcomes.{Image}
 use Rattle.push_down_rewrite.proofs.Images.{image_room, records_are, whole_image}
 use Rattle.push_down_rewrite.proofs.Fronts.{image_front}
-use Rattle.call_pass.specs.Answer.{refusal}
+use Rattle.call_pass.specs.Answer.{refusal, passed_of, outcome_of}
+use Rattle.call_pass.specs.declared.call_pass.Answer.{Answer}
 use Rattle.pass.specs.Walks.{Walk, Left}
 use Rattle.pass.proofs.Steps.{image_copied}
 
 -- ---- test 12
 
-module _ (room : ℕ) {s out : List ℕ} {w : Walk} {x : PassAnswer} (h : Left s w x) where
-  pub no_room : room / 32 < w.records → out ≡ zeros room → refusal (verdict 12 0) out ≡ reported room (pass_with_room room x)
+module _ (room : ℕ) {s : List ℕ} {w : Walk} {x : PassAnswer} (h : Left s w x) where
+  pub no_room : room / 32 < w.records → refusal (verdict 12 0) (zeros room) ≡ reported room (pass_with_room room x)
   unfolding reported no_pass pass_with_room choose
-  no_room few o = rw (h.is, lt-leb (32 * size_p h.plan) room (omega (arith, h.image.count)), o)
+  no_room few = rw (h.is, lt-leb (32 * size_p h.plan) room (omega (arith, h.image.count)))
 
-  pub some_room : w.records ≤ room / 32 → out ≡ filled room (take (32 * w.records) s)
+  pub some_room : {out : List ℕ} → w.records ≤ room / 32 → out ≡ filled room (take (32 * w.records) s)
       → record {
         number = 0;
         place = 0;
@@ -63,10 +67,10 @@ module _ {s : List ℕ} {w : Walk} {x : PassAnswer} (h : Left s w x) where
 
 -- ---- test 11
 
-pub refused_11 : (room : ℕ) {out : List ℕ} {n : ℕ} {x : PassAnswer} → x ≡ pass_refused 11 n → out ≡ zeros room
-    → refusal (verdict 11 n) out ≡ reported room (pass_with_room room x)
+pub refused_11 : (room : ℕ) {n : ℕ} {x : PassAnswer} → x ≡ pass_refused 11 n
+    → refusal (verdict 11 n) (zeros room) ≡ reported room (pass_with_room room x)
 unfolding reported no_pass pass_with_room
-refused_11 room e o = rw (e, o)
+refused_11 room e = rw e
 
 -- the call: the pass, then test 12
 pub called : (budget room : ℕ) (p : Plan) → reported room (pass_with_room room (pass budget p)) ≡ reported room (pass_call budget room p)
@@ -86,15 +90,28 @@ module _ {s : List ℕ} (w : Whole s) where
 
 -- ---- the tests of the image
 
-module _ (s : List ℕ) (a : Checked) (e : verdict_of a ≡ check s) {k : ℕ} (is : k ≡ (verdict_of a).number) (budget room : ℕ) where
-  pub refused_image : {out : List ℕ} → (k ≡ 0 → ⊥) → out ≡ zeros room → refusal (verdict_of a) out ≡ pass_bytes s budget room
+module _ (s : List ℕ) (budget room : ℕ) where
+  pub refused_image : (r : Refusal) → refused r ≡ check s → refusal (refused r) (zeros room) ≡ pass_bytes s budget room
   unfolding pass_bytes is_accepted choose no_pass
-  refused_image h o = rw (← e, ne_eqb (verdict_of a).number 0 (λ z. h (is ∙ z)), o)
+  refused_image r e = rw (← e, ne_eqb (number_of r) 0 (no_zero r))
 
-  pub accepted_image : k ≡ 0 → reported room (pass_call budget room (plan_in s)) ≡ pass_bytes s budget room
+  pub accepted_image : check s ≡ verdict 0 0 → reported room (pass_call budget room (plan_in s)) ≡ pass_bytes s budget room
   unfolding pass_bytes is_accepted choose
-  accepted_image h = rw (← e, eq-eqb (verdict_of a).number 0 (sym is ∙ h))
+  accepted_image e = rw e
 
--- the record that the check names is small
-pub place_small : (s : List ℕ) (a : Checked) → verdict_of a ≡ check s → (verdict_of a).place ≤ max_records
-place_small s a e = rw e (omega (arith, place_within s))
+-- ---- a refusal clears the output
+
+module _ (room : ℕ) (a : Result Answer Refusal) (out : List ℕ) {x : Passed} (e : outcome_of room a out ≡ x) where
+  pub cleared : is_err a ≡ true → (zeroed : List ℕ) → zeroed ≡ zeros room → passed_of a zeroed ≡ x
+  cleared h zeroed o = go a e h
+    where
+      go : (b : Result Answer Refusal) → outcome_of room b out ≡ x → is_err b ≡ true → passed_of b zeroed ≡ x
+      go (Ok y) e h = let z : ◌≡◌ {A = ℕ} 0 1 = cc in absurd (omega arith)
+      go (Err r) e h = rw o e
+
+  pub kept : is_err a ≡ false → passed_of a out ≡ x
+  kept h = go a e h
+    where
+      go : (b : Result Answer Refusal) → outcome_of room b out ≡ x → is_err b ≡ false → passed_of b out ≡ x
+      go (Ok y) e h = e
+      go (Err r) e h = let z : ◌≡◌ {A = ℕ} 0 1 = cc in absurd (omega arith)

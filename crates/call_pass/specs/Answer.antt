@@ -1,27 +1,37 @@
--- The number, the record, the visits, the flags and the count of each case of the pass's answer, beside the output.
-use Rattle.std.specs.Prelude.{List, ℕ, ◌≤◌}
+-- What the pass's answer says, beside the output.
+use Rattle.std.specs.Prelude.{List, ℕ, ◌≤◌, Result, Ok, Err}
 use Rattle.image.specs.Limits.{max_records}
+use Rattle.image.specs.Refusals.{named}
+use Rattle.image.specs.declared.refusals.Refusal.{Refusal}
 use Rattle.plan.specs.Trees.{bit_of}
-use Rattle.acceptance.specs.Check.{Verdict, verdict}
-use Rattle.check_image.specs.Answer.{verdict_of}
-use Rattle.rewrite.specs.OnBytes.{Passed}
+use Rattle.acceptance.specs.Check.{Verdict}
+use Rattle.check_image.specs.Answer.{refused}
+use Rattle.rewrite.specs.OnBytes.{Passed, zeros}
 use Rattle.call_pass.specs.declared.call_pass.Answer.{Answer}
-use Rattle.call_pass.specs.declared.call_pass.Answer.TheVariants.{Image, Refused, NoRoom, Is}
 
 -- a refusal hands out what stands in the output
 abbrev pub refusal : Verdict → List ℕ → Passed
 refusal v out = record { number = v.number; place = v.place; visits = 0; changed = 0; finished = 0; records = 0; output = out }
 
-abbrev pub passed_of : Answer → List ℕ → Passed
-passed_of (Image a) out = refusal (verdict_of a) out
-passed_of (Refused n) out = refusal (verdict 11 n) out
-passed_of NoRoom out = refusal (verdict 12 0) out
-passed_of (Is v c f n) out =
-    record { number = 0; place = 0; visits = v; changed = c; finished = bit_of f; records = n; output = out }
+abbrev pub passed_of : Result Answer Refusal → List ℕ → Passed
+passed_of (Ok a) out =
+    record {
+      number = 0;
+      place = 0;
+      visits = a.visits;
+      changed = a.changed;
+      finished = bit_of a.finished;
+      records = a.records;
+      output = out;
+    }
+passed_of (Err r) out = refusal (refused r) out
+
+-- the same, where an output of this length is cleared after a refusal
+abbrev pub outcome_of : ℕ → Result Answer Refusal → List ℕ → Passed
+outcome_of room (Ok a) out = passed_of (Ok a) out
+outcome_of room (Err r) out = passed_of (Err r) (zeros room)
 
 -- the record and the count are small
-abbrev pub Small : Answer → Type 0
-Small (Image a) = (verdict_of a).place ≤ max_records
-Small (Refused n) = n ≤ max_records
-Small NoRoom = Unit {0}
-Small (Is v c f n) = n ≤ max_records
+abbrev pub Small : Result Answer Refusal → Type 0
+Small (Ok a) = a.records ≤ max_records
+Small (Err r) = named r ≤ max_records

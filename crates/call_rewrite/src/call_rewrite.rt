@@ -1,5 +1,5 @@
 // The call `rewrite` on any bytes, for any record and any room: the image is checked, rewritten and handed out, or refused.
-ghost use Rattle.std.specs.Prelude.{◌≡◌, List, ◌*◌, ◌≤◌, ℕ, length};
+ghost use Rattle.std.specs.Prelude.{◌≡◌, ◌*◌, ◌≤◌, length, Ok};
 ghost use Rattle.image.specs.Buffers.{ScratchMap};
 ghost use Rattle.image.specs.Limits.{map_bytes, max_records, work_bytes};
 ghost use Rattle.plan.specs.Syntax.{Plan};
@@ -7,52 +7,48 @@ ghost use Rattle.rewrite.specs.OnBytes.{plan_in, rewrite_bytes, rewritten};
 ghost use Rattle.rewrite.specs.RewriteAt.{granted, rewrite_call, with_room};
 ghost use Rattle.push_down_merge.specs.Found.{Here, Whole};
 ghost use Rattle.push_down_rewrite.specs.Outcomes.{Image};
-ghost use Rattle.call_rewrite.specs.Answer.{rewritten_of};
+ghost use Rattle.call_rewrite.specs.Answer.{outcome_of, rewritten_of};
 
 use answers::handing_out::{clear, clear_from, hand_out};
-use check_image::{Checked, check};
+use check_image::check;
 use image::limits::{MAP_BYTES, MAX_BYTES, MAX_RECORDS, RECORD_BYTES};
 use image::records::{KIND, record_at};
+use image::refusals::Refusal;
 use image::words::word_at;
 use plan::kinds::is_plan;
 use push_down_rewrite::node::rewrite_anew;
 use push_down_stays::stays::stays;
 
-// The flag and the number of records, or what stands against it: a test of the image, no plan at this record, an answer that is too large
-// for the rewrite at this record, an output that is too short.
-#[derive(Clone, Copy)]
-pub enum Answer {
-    Image(Checked),
-    NoPlan(usize),
-    TooLarge(usize),
-    NoRoom,
-    Is(bool, usize),
+// Whether the rewrite says that it changed the plan, and how many records the answer has.
+#[derive(Clone, Copy, Debug, PartialEq, Eq, Hash)]
+pub struct Answer {
+    pub flag: bool,
+    pub records: usize,
 }
 
 // The answer, of so many records, stands in the output: what is behind it is cleared.
 fn clear_behind(records: usize, flag: bool, out: &mut [u8]) -> Answer
     requires { 32 * records ≤ length out.old }
     ensures { (q : Plan) → Image out.old records q →
-        rewritten_of result out.new
+        rewritten_of (Ok result) out.new
         ≡ rewritten (length out.old) (with_room (length out.old) (granted flag q)) }
 {
     clear_from(out, RECORD_BYTES * records);
-    Answer::Is(flag, records)
+    Answer { flag, records }
 }
 
 // Hands out an image of so many records, if it finds room.
-fn hand_over(image: &[u8], records: usize, flag: bool, out: &mut [u8]) -> Answer
+fn hand_over(image: &[u8], records: usize, flag: bool, out: &mut [u8]) -> Result<Answer, Refusal>
     requires { 32 * records ≤ length image.now }
     ensures { (q : Plan) → Image image.now records q →
-        rewritten_of result out.new
+        outcome_of (length out.old) result out.new
         ≡ rewritten (length out.old) (with_room (length out.old) (granted flag q)) }
 {
     if out.len() / RECORD_BYTES < records {
-        clear(out);
-        return Answer::NoRoom;
+        return Err(Refusal::NoRoom);
     }
     hand_out(image, RECORD_BYTES * records, out);
-    Answer::Is(flag, records)
+    Ok(Answer { flag, records })
 }
 
 // The rewrite of the plan at record `node` of an accepted image, written anew into a buffer of its own.
@@ -63,16 +59,15 @@ fn rewrite_apart(
     work: &mut [u8],
     levels: &mut [u32],
     out: &mut [u8],
-) -> Answer
+) -> Result<Answer, Refusal>
     requires here { Here image.now node }
     requires scratch_map { ScratchMap m.old work.old levels.old }
-    ensures { rewritten_of result out.new
+    ensures { outcome_of (length out.old) result out.new
         ≡ rewritten (length out.old) (rewrite_call node (length out.old) (plan_in image.now)) }
 {
     let r = rewrite_anew(image, node, m, work, levels);
     if !r.fits {
-        clear(out);
-        return Answer::TooLarge(node);
+        return Err(Refusal::TooLarge(node));
     }
     if r.written {
         return hand_over(work, r.records, r.flag, out);
@@ -87,10 +82,10 @@ fn rewrite_short(
     m: &mut [u8],
     levels: &mut [u32],
     out: &mut [u8],
-) -> Answer
+) -> Result<Answer, Refusal>
     requires here { Here image.now node }
     requires map_bytes_in_bounds { (map_bytes ≤ length m.old) × (length levels.old ≡ max_records) }
-    ensures { rewritten_of result out.new
+    ensures { outcome_of (length out.old) result out.new
         ≡ rewritten (length out.old) (rewrite_call node (length out.old) (plan_in image.now)) }
 {
     let mut work = [0u8; MAX_BYTES];
@@ -104,19 +99,18 @@ fn rewrite_in_output(
     m: &mut [u8],
     levels: &mut [u32],
     out: &mut [u8],
-) -> Answer
+) -> Result<Answer, Refusal>
     requires here { Here image.now node }
     requires map_bytes_in_bounds { (map_bytes ≤ length m.old) × (length levels.old ≡ max_records) × (work_bytes ≤ length out.old) }
-    ensures { rewritten_of result out.new
+    ensures { outcome_of (length out.old) result out.new
         ≡ rewritten (length out.old) (rewrite_call node (length out.old) (plan_in image.now)) }
 {
     let r = rewrite_anew(image, node, m, &mut out[..MAX_BYTES], levels);
     if !r.fits {
-        clear(out);
-        return Answer::TooLarge(node);
+        return Err(Refusal::TooLarge(node));
     }
     if r.written {
-        return clear_behind(r.records, r.flag, out);
+        return Ok(clear_behind(r.records, r.flag, out));
     }
     hand_over(image, image.len() / RECORD_BYTES, r.flag, out)
 }
@@ -128,10 +122,10 @@ fn rewrite_within(
     m: &mut [u8],
     levels: &mut [u32],
     out: &mut [u8],
-) -> Answer
+) -> Result<Answer, Refusal>
     requires here { Here image.now node }
     requires map_bytes_in_bounds { (map_bytes ≤ length m.old) × (length levels.old ≡ max_records) }
-    ensures { rewritten_of result out.new
+    ensures { outcome_of (length out.old) result out.new
         ≡ rewritten (length out.old) (rewrite_call node (length out.old) (plan_in image.now)) }
 {
     if out.len() < MAX_BYTES {
@@ -141,9 +135,9 @@ fn rewrite_within(
 }
 
 // Lends the work space.
-fn rewrite_here(image: &[u8], node: usize, out: &mut [u8]) -> Answer
+fn rewrite_here(image: &[u8], node: usize, out: &mut [u8]) -> Result<Answer, Refusal>
     requires { Here image.now node }
-    ensures { rewritten_of result out.new
+    ensures { outcome_of (length out.old) result out.new
         ≡ rewritten (length out.old) (rewrite_call node (length out.old) (plan_in image.now)) }
 {
     let mut m = [0u8; MAP_BYTES];
@@ -152,18 +146,16 @@ fn rewrite_here(image: &[u8], node: usize, out: &mut [u8]) -> Answer
 }
 
 // The rewrite at record `node` of an accepted image.
-fn rewrite_at(image: &[u8], node: usize, out: &mut [u8]) -> Answer
+fn rewrite_at(image: &[u8], node: usize, out: &mut [u8]) -> Result<Answer, Refusal>
     requires { Whole image.now }
-    ensures { rewritten_of result out.new
+    ensures { outcome_of (length out.old) result out.new
         ≡ rewritten (length out.old) (rewrite_call node (length out.old) (plan_in image.now)) }
 {
     if image.len() / RECORD_BYTES <= node {
-        clear(out);
-        return Answer::NoPlan(node);
+        return Err(Refusal::Absent(node));
     }
     if !is_plan(word_at(record_at(image, node), KIND)) {
-        clear(out);
-        return Answer::NoPlan(node);
+        return Err(Refusal::Absent(node));
     }
     // A plan that stays as it is needs no work space.
     if stays(image, node) {
@@ -172,66 +164,21 @@ fn rewrite_at(image: &[u8], node: usize, out: &mut [u8]) -> Answer
     rewrite_here(image, node, out)
 }
 
-// Every slice, node and output get their answer.
-pub fn rewrite_bytes(image: &[u8], node: u32, out: &mut [u8]) -> Answer
+// The rewrite at record `node` of any bytes; where it is refused, it leaves in the output what it likes.
+fn rewrite_or_refuse(image: &[u8], node: usize, out: &mut [u8]) -> Result<Answer, Refusal>
+    ensures { outcome_of (length out.old) result out.new ≡ rewrite_bytes image.now node (length out.old) }
+{
+    check(image)?;
+    rewrite_at(image, node, out)
+}
+
+// Every slice, node and output get their answer: a refusal, one of docs/FORMAT.md, clears the output.
+pub fn rewrite_bytes(image: &[u8], node: u32, out: &mut [u8]) -> Result<Answer, Refusal>
     ensures { rewritten_of result out.new ≡ rewrite_bytes image.now node (length out.old) }
 {
-    let answer = check(image);
-    if check_image::number_of(answer) != 0 {
+    let answer = rewrite_or_refuse(image, node as usize, out);
+    if answer.is_err() {
         clear(out);
-        return Answer::Image(answer);
     }
-    rewrite_at(image, node as usize, out)
-}
-
-// The number of an answer, 0 or one of the refusals of docs/FORMAT.md.
-pub fn number_of(answer: Answer) -> u32
-    ensures { (out : List ℕ) → result ≡ (rewritten_of answer out).number }
-{
-    match answer {
-        Answer::Image(a) => check_image::number_of(a),
-        Answer::NoPlan(_) => 8,
-        Answer::TooLarge(_) => 11,
-        Answer::NoRoom => 12,
-        Answer::Is(_, _) => 0,
-    }
-}
-
-// The record that an answer names.
-pub fn place_of(answer: Answer) -> usize
-    ensures { (out : List ℕ) → result ≡ (rewritten_of answer out).place }
-{
-    match answer {
-        Answer::Image(a) => check_image::place_of(a),
-        Answer::NoPlan(n) => n,
-        Answer::TooLarge(n) => n,
-        Answer::NoRoom => 0,
-        Answer::Is(_, _) => 0,
-    }
-}
-
-// 1 where the flag is raised.
-pub fn flag_of(answer: Answer) -> u32
-    ensures { (out : List ℕ) → result ≡ (rewritten_of answer out).flag }
-{
-    match answer {
-        Answer::Image(_) => 0,
-        Answer::NoPlan(_) => 0,
-        Answer::TooLarge(_) => 0,
-        Answer::NoRoom => 0,
-        Answer::Is(flag, _) => flag as u32,
-    }
-}
-
-// How many records the answer has; none where it is refused.
-pub fn records_of(answer: Answer) -> usize
-    ensures { (out : List ℕ) → result ≡ (rewritten_of answer out).records }
-{
-    match answer {
-        Answer::Image(_) => 0,
-        Answer::NoPlan(_) => 0,
-        Answer::TooLarge(_) => 0,
-        Answer::NoRoom => 0,
-        Answer::Is(_, n) => n,
-    }
+    answer
 }

@@ -14,7 +14,7 @@ use borrow.Author.Tests.{eq-eqb, ne_eqb, leb-true}
 use Rattle.image.specs.Word.{Bytes, word}
 use Rattle.image.specs.Flat.{enc}
 use Rattle.image.specs.Limits.{max_below, max_depth, max_fields}
-use Rattle.std.specs.Prelude.{None, Some}
+use Rattle.std.specs.Prelude.{None, Some, Ok}
 use Rattle.image.specs.Lowest.{Found, or_else, unless, lowest, alone}
 use Rattle.image.specs.Tree as T
 use Rattle.image.specs.Tree.{Label, Forest, node, At, Deep, Linked, size, Stands}
@@ -45,8 +45,10 @@ use Rattle.utils.specs.Fields.{Fields}
 use Rattle.utils.proofs.Named.{names_count, names_fit}
 use Rattle.utils.specs.Fields.{Names as NamesOf}
 use Rattle.rewrite.proofs.OnBytes.{tree_length}
-use Rattle.check_image.specs.Answer.{verdict_of}
-use Rattle.check_image.specs.declared.Checked.{Checked}
+use Rattle.check_image.specs.Answer.{refused}
+use Rattle.check_image.proofs.Accepting.{no_zero}
+use Rattle.image.specs.Refusals.{number_of}
+use Rattle.image.specs.declared.refusals.Refusal.{Refusal}
 use Rattle.rewrite.specs.OnBytes.{plan_in, plan_from_links, is_accepted}
 use Rattle.rewrite.specs.RewriteAt.{Focus, focus}
 use Rattle.rewrite.specs.RowTest.{row_ok, lent, no_functions, no_test, truth_number, test_predicate, test_plan, test_focus, row_test_bytes}
@@ -56,7 +58,6 @@ use Rattle.evaluate.specs.Operators.{expr_in}
 use Rattle.call_row_test.specs.Standing.{Sound, Whole}
 use Rattle.call_row_test.specs.Answer.{tested_of}
 use Rattle.evaluate.specs.declared.logic.Truth.{Truth}
-use Rattle.call_row_test.specs.declared.testing.Answer.TheVariants.{Is}
 use Rattle.evaluate.proofs.TruthLaws.{never, of_value, of_value_f}
 use Rattle.call_row_test.proofs.FieldTypes.{types_length}
 use Rattle.call_row_test.proofs.Locating.{Place, there, nowhere}
@@ -82,7 +83,7 @@ module _ (n : ℕ) (e : Expr) (p : Plan) (zs : List ℤ) (ms ts : List ℕ) (is 
     with_function y = rw (← is, ← o, f, ← h, y)
 
     pub with_truth : (t : Truth) (v : Value) → has ≡ false → value_of t ≡ tri (is_t v) (is_f v)
-        → v ≡ eval no_functions (look (schema p) (lent (types p) zs ms)) e → tested_of (Is t) ≡ test_predicate n e p zs ms
+        → v ≡ eval no_functions (look (schema p) (lent (types p) zs ms)) e → tested_of (Ok t) ≡ test_predicate n e p zs ms
     unfolding test_predicate choose
     with_truth t v y r q =
         let u : truth_number (value_of t) ≡ truth_number (eval no_functions (look (schema p) (lent (types p) zs ms)) e) =
@@ -311,11 +312,11 @@ whole s bytes h = let a = accepted s bytes h in subst Whole (sym a.1.image) (who
 
 -- ---- the whole test
 
-module _ (s : List ℕ) (n : ℕ) (zs : List ℤ) (ms : List ℕ) (a : Checked) (e : verdict_of a ≡ check s) {k : ℕ} (is : k ≡ (verdict_of a).number) where
-  pub refused : (k ≡ 0 → ⊥) → no_test (verdict_of a) ≡ row_test_bytes s n zs ms
+module _ (s : List ℕ) (n : ℕ) (zs : List ℤ) (ms : List ℕ) where
+  pub refused_image : (r : Refusal) → refused r ≡ check s → no_test (refused r) ≡ row_test_bytes s n zs ms
   unfolding row_test_bytes is_accepted choose
-  refused h = rw (← e, ne_eqb (verdict_of a).number 0 (λ z. h (is ∙ z)))
+  refused_image r e = rw (← e, ne_eqb (number_of r) 0 (no_zero r))
 
-  pub granted : k ≡ 0 → test_focus n (focus n (plan_in s)) zs ms ≡ row_test_bytes s n zs ms
+  pub accepted_image : check s ≡ verdict 0 0 → test_focus n (focus n (plan_in s)) zs ms ≡ row_test_bytes s n zs ms
   unfolding row_test_bytes is_accepted choose
-  granted h = rw (← e, eq-eqb (verdict_of a).number 0 (sym is ∙ h))
+  accepted_image e = rw e

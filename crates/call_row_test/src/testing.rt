@@ -8,36 +8,28 @@ ghost use Rattle.plan.specs.Syntax.{Expr, Plan, filter};
 ghost use Rattle.plan.specs.Trees.{expr_tree, plan_tree};
 ghost use Rattle.rewrite.specs.OnBytes.{plan_in};
 ghost use Rattle.rewrite.specs.RewriteAt.{focus};
-ghost use Rattle.rewrite.specs.RowTest.{row_test_bytes, test_focus, test_predicate};
+ghost use Rattle.evaluate.specs.Truths.{value_of};
+ghost use Rattle.rewrite.specs.RowTest.{row_test_bytes, test_focus, test_predicate, truth_number};
 ghost use Rattle.utils.specs.Fields.{Names};
 ghost use Rattle.call_row_test.specs.Answer.{tested_of};
 ghost use Rattle.call_row_test.specs.Standing.{FilterHere, Sound, Whole};
 ghost use Rattle.plan.specs.Types as Types;
 
 use crate::schemas::field_types;
-use check_image::{Checked, check};
+use check_image::check;
 use conjuncts::volatility::has_function;
 use evaluate::cells::row_ok;
 use evaluate::expressions::evaluate;
 use evaluate::logic::{Truth, truth_of};
 use image::limits::{MAX_DEPTH, RECORD_BYTES};
 use image::records::{FIRST_LINK, KIND, NEXT_LINK, from_record, record_at};
+use image::refusals::Refusal;
 use image::words::word_at;
 use plan::kinds::FILTER;
 use utils::schema_columns::{Fields, no_fields, schema_columns};
 
 // The levels that there may be below the root.
 const BELOW: usize = MAX_DEPTH - 1;
-
-// A truth, or what stands against it: a test of the image, no Filter at this record, the row, a function in the predicate of this Filter.
-#[derive(Clone, Copy)]
-pub enum Answer {
-    Image(Checked),
-    NoFilter(usize),
-    BadRow,
-    HasFunction(usize),
-    Is(Truth),
-}
 
 // The predicate at the start of `part`, of the Filter with this record, on a row over the fields with these names and types.
 fn test_predicate(
@@ -48,23 +40,23 @@ fn test_predicate(
     types: &[usize],
     values: &[i64],
     marks: &[u8],
-) -> Answer
+) -> Result<Truth, Refusal>
     requires readable { Readable max_below part.now base }
     requires len_le_max_fields { fields.len ≤ max_fields }
     ensures { (e : Expr) (p : Plan) → At (expr_tree e) part.now base → FitsE e → Names fields (schema p)
         → types.now ≡ Types.types p → tested_of result ≡ test_predicate node e p values.now marks.now }
 {
     if !row_ok(types, values, marks) {
-        return Answer::BadRow;
+        return Err(Refusal::Row);
     }
     if has_function(part, base, BELOW, false) {
-        return Answer::HasFunction(node);
+        return Err(Refusal::Function(node));
     }
-    Answer::Is(truth_of(evaluate(part, base, BELOW, fields, types, values, marks)))
+    Ok(truth_of(evaluate(part, base, BELOW, fields, types, values, marks)))
 }
 
 // The Filter at the start of `part`.
-fn test_filter(part: &[u8], node: usize, values: &[i64], marks: &[u8]) -> Answer
+fn test_filter(part: &[u8], node: usize, values: &[i64], marks: &[u8]) -> Result<Truth, Refusal>
     requires { FilterHere part.now node }
     ensures { (e : Expr) (p : Plan) → At (plan_tree (filter e p)) part.now node → Sound (filter e p)
         → tested_of result ≡ test_predicate node e p values.now marks.now }
@@ -80,71 +72,36 @@ fn test_filter(part: &[u8], node: usize, values: &[i64], marks: &[u8]) -> Answer
 }
 
 // What stands at the record, if it is there: a Filter or not.
-fn test_at(image: &[u8], node: usize, values: &[i64], marks: &[u8]) -> Answer
+fn test_at(image: &[u8], node: usize, values: &[i64], marks: &[u8]) -> Result<Truth, Refusal>
     requires { Whole image.now }
     ensures { tested_of result
         ≡ test_focus node (focus node (plan_in image.now)) values.now marks.now }
 {
     if image.len() / RECORD_BYTES <= node {
-        return Answer::NoFilter(node);
+        return Err(Refusal::Absent(node));
     }
     let part = record_at(image, node);
     if word_at(part, KIND) != FILTER {
-        return Answer::NoFilter(node);
+        return Err(Refusal::Absent(node));
     }
     test_filter(part, node, values, marks)
 }
 
 // Every slice, node, row and marks get their answer.
-pub fn row_test(image: &[u8], node: u32, values: &[i64], marks: &[u8]) -> Answer
+pub fn row_test(image: &[u8], node: u32, values: &[i64], marks: &[u8]) -> Result<Truth, Refusal>
     ensures { tested_of result ≡ row_test_bytes image.now node values.now marks.now }
 {
-    let answer = check(image);
-    if check_image::number_of(answer) != 0 {
-        return Answer::Image(answer);
-    }
+    check(image)?;
     test_at(image, node as usize, values, marks)
 }
 
-// The number of an answer, 0 or one of the refusals of docs/FORMAT.md.
-pub fn number_of(answer: Answer) -> u32
-    ensures { result ≡ (tested_of answer).number }
+// The number of a truth: 0 FALSE, 1 TRUE, 2 UNKNOWN.
+pub fn truth_number(truth: Truth) -> u32
+    ensures { result ≡ truth_number (value_of truth) }
 {
-    match answer {
-        Answer::Image(a) => check_image::number_of(a),
-        Answer::NoFilter(_) => 8,
-        Answer::BadRow => 9,
-        Answer::HasFunction(_) => 10,
-        Answer::Is(_) => 0,
-    }
-}
-
-// The record that an answer names.
-pub fn place_of(answer: Answer) -> usize
-    ensures { result ≡ (tested_of answer).place }
-{
-    match answer {
-        Answer::Image(a) => check_image::place_of(a),
-        Answer::NoFilter(n) => n,
-        Answer::BadRow => 0,
-        Answer::HasFunction(n) => n,
-        Answer::Is(_) => 0,
-    }
-}
-
-// The number of a truth: 0 FALSE, 1 TRUE, 2 UNKNOWN; 0 where the test is refused.
-pub fn truth_number(answer: Answer) -> u32
-    ensures { result ≡ (tested_of answer).truth }
-{
-    match answer {
-        Answer::Image(_) => 0,
-        Answer::NoFilter(_) => 0,
-        Answer::BadRow => 0,
-        Answer::HasFunction(_) => 0,
-        Answer::Is(t) => match t {
-            Truth::False => 0,
-            Truth::True => 1,
-            Truth::Unknown => 2,
-        },
+    match truth {
+        Truth::False => 0,
+        Truth::True => 1,
+        Truth::Unknown => 2,
     }
 }

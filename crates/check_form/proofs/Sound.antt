@@ -10,21 +10,21 @@ use native.Mathlib.Omega.{arith}
 use lib.ListN.{length}
 use Rattle.image.specs.Tree.{Tree}
 use Rattle.image.specs.Flat.{size_t}
-use Rattle.std.specs.Prelude.{None, Some}
+use Rattle.std.specs.Prelude.{None, Some, Ok, Err}
 use Rattle.image.specs.Lowest.{Found, unless, alone}
 use Rattle.plan.specs.Form.{bad_form}
 use Rattle.plan.specs.Read.{plan_at}
 use Rattle.acceptance.specs.Check.{buffer_ok, bad_words, Links, tree, broken, linked, too_deep, Verdict, at, check_plan, check_tree, check_links}
 use Rattle.acceptance.specs.Check.{check}
 use Rattle.acceptance.proofs.Accept.{words_of, worded, links_count, links_stand, buffer_of as sized}
-use Rattle.check_form.specs.declared.checked.Formed.{Formed}
-use Rattle.check_form.specs.declared.checked.Formed.TheVariants.{Buffer, Record, Depth, Form, Whole}
+use Rattle.image.specs.declared.refusals.Refusal.{Refusal}
+use Rattle.image.specs.declared.refusals.Refusal.TheVariants.{Buffer, Record, Depth, Form}
 use Rattle.check_form.specs.Sound.{Sound}
-use Rattle.check_form.specs.Formed.{stop, formed_tree, formed_links, formed, numbered, later}
+use Rattle.check_form.specs.Formed.{Formed, stop, formed_tree, formed_links, formed, numbered, later}
 
 -- ---- the check
 
-tree_is : (d f : Found) (v : Verdict) → at 4 d (at 5 f v) ≡ numbered (stop d Depth (stop f Form Whole)) v
+tree_is : (d f : Found) (v : Verdict) → at 4 d (at 5 f v) ≡ numbered (stop d Depth (stop f Form (Ok tt))) v
 unfolding at stop
 tree_is (Some r) f v = refl
 tree_is None (Some r) v = refl
@@ -41,7 +41,7 @@ unfolding check formed at unless stop
 check_is s = go (buffer_ok s) (bad_words (length s / 32) s 0) (linked s (length s / 32))
   where
     go : (b : Bool) (w : Found) (k : Links)
-        → at 1 (unless b 0) (at 2 w (check_links k)) ≡ numbered (cond b (stop w Record (formed_links k)) Buffer) (later k)
+        → at 1 (unless b 0) (at 2 w (check_links k)) ≡ numbered (cond b (stop w Record (formed_links k)) (Err Buffer)) (later k)
     go false w k = refl
     go true (Some r) k = refl
     go true None k = links_is k
@@ -49,28 +49,28 @@ check_is s = go (buffer_ok s) (bad_words (length s / 32) s 0) (linked s (length 
 -- ---- none is met
 
 -- where none is met, the first finds nothing, and the later ones are not met
-stopped : (w : Found) (at : ℕ → Formed) (rest : Formed) → ((r : ℕ) → at r ≡ Whole → ⊥) → stop w at rest ≡ Whole → (w ≡ None) × (rest ≡ Whole)
+stopped : (w : Found) (at : ℕ → Refusal) (rest : Formed) → stop w at rest ≡ Ok tt → (w ≡ None) × (rest ≡ Ok tt)
 unfolding stop
-stopped None at rest n h = (refl, h)
-stopped (Some r) at rest n h = absurd (n r h)
+stopped None at rest h = (refl, h)
+stopped (Some r) at rest h = let z : ◌≡◌ {A = ℕ} 0 1 = cc in absurd (omega arith)
 
-no_buffer : (b : Bool) (rest : Formed) → cond b rest Buffer ≡ Whole → (b ≡ true) × (rest ≡ Whole)
+no_buffer : (b : Bool) (rest : Formed) → cond b rest (Err Buffer) ≡ Ok tt → (b ≡ true) × (rest ≡ Ok tt)
 no_buffer true rest h = (refl, h)
 no_buffer false rest h = let z : ◌≡◌ {A = ℕ} 0 1 = cc in absurd (omega arith)
 
-no_link : (k : Links) → formed_links k ≡ Whole → (t : Tree) × (k ≡ tree t) × (formed_tree t ≡ Whole)
+no_link : (k : Links) → formed_links k ≡ Ok tt → (t : Tree) × (k ≡ tree t) × (formed_tree t ≡ Ok tt)
 no_link (tree t) h = (t, refl, h)
 no_link (broken r) h = let z : ◌≡◌ {A = ℕ} 0 1 = cc in absurd (omega arith)
 
-pub sound : (s : List ℕ) → formed s ≡ Whole → Sound s
+pub sound : (s : List ℕ) → formed s ≡ Ok tt → Sound s
 unfolding formed formed_tree
 sound s h =
     let n = length s / 32 in
     let b = no_buffer (buffer_ok s) _ h in
-    let w = stopped (bad_words n s 0) Record _ (λ r e. let z : ◌≡◌ {A = ℕ} 0 1 = cc in omega arith) b.1 in
+    let w = stopped (bad_words n s 0) Record _ b.1 in
     let k = no_link (linked s n) w.1 in
-    let d = stopped (too_deep k.0) Depth _ (λ r e. let z : ◌≡◌ {A = ℕ} 0 1 = cc in omega arith) k.2 in
-    let f = stopped (bad_form k.0) Form _ (λ r e. let z : ◌≡◌ {A = ℕ} 0 1 = cc in omega arith) d.1 in
+    let d = stopped (too_deep k.0) Depth _ k.2 in
+    let f = stopped (bad_form k.0) Form _ d.1 in
     let size = sized s b.0 in
     let count : n ≡ size_t k.0 = links_count s n k.0 size.len size.one k.1 in
     let there = links_stand s n k.0 size.len size.one k.1 in

@@ -1,37 +1,38 @@
--- The check of an image up to its form, as the code's enum; and the number and the record of each case.
-use Rattle.std.specs.Prelude.{cond, List, ℕ, ◌/◌, length, None, Some}
+-- The check of an image up to its form, as the code hands it back; and its verdict.
+use Rattle.std.specs.Prelude.{cond, List, ℕ, ◌/◌, length, None, Some, Result, Ok, Err}
 use Rattle.image.specs.Tree.{Tree}
 use Rattle.image.specs.Lowest.{Found}
+use Rattle.image.specs.Refusals.{number_of, named}
+use Rattle.image.specs.declared.refusals.Refusal.{Refusal}
+use Rattle.image.specs.declared.refusals.Refusal.TheVariants.{Buffer, Record, Link, Depth, Form}
 use Rattle.plan.specs.Form.{bad_form}
 use Rattle.plan.specs.Read.{plan_at}
 use Rattle.acceptance.specs.Check.{buffer_ok, bad_words, Links, tree, broken, linked, too_deep, Verdict, verdict, check_plan}
-use Rattle.check_form.specs.declared.checked.Formed.{Formed}
-use Rattle.check_form.specs.declared.checked.Formed.TheVariants.{Buffer, Record, Link, Depth, Form, Whole}
+
+-- nothing, or why it is refused
+abbrev pub Formed : Type 0
+Formed = Result (Unit {0}) Refusal
 
 -- the record found; the later tests where there is none
-unfoldable pub stop : Found → (ℕ → Formed) → Formed → Formed
-stop (Some r) at rest = at r
+unfoldable pub stop : Found → (ℕ → Refusal) → Formed → Formed
+stop (Some r) at rest = Err (at r)
 stop None at rest = rest
 
 unfoldable pub formed_tree : Tree → Formed
-formed_tree t = stop (too_deep t) Depth (stop (bad_form t) Form Whole)
+formed_tree t = stop (too_deep t) Depth (stop (bad_form t) Form (Ok tt))
 
 abbrev pub formed_links : Links → Formed
-formed_links (broken r) = Link r
+formed_links (broken r) = Err (Link r)
 formed_links (tree t) = formed_tree t
 
 -- the first of the tests 1 to 5 that s meets
 unfoldable pub formed : List ℕ → Formed
-formed s = cond (buffer_ok s) (stop (bad_words (length s / 32) s 0) Record (formed_links (linked s (length s / 32)))) Buffer
+formed s = cond (buffer_ok s) (stop (bad_words (length s / 32) s 0) Record (formed_links (linked s (length s / 32)))) (Err Buffer)
 
--- the verdict of each case; v is that of the later tests
+-- its verdict; v is that of the later tests
 abbrev pub numbered : Formed → Verdict → Verdict
-numbered Buffer v = verdict 1 0
-numbered (Record r) v = verdict 2 r
-numbered (Link r) v = verdict 3 r
-numbered (Depth r) v = verdict 4 r
-numbered (Form r) v = verdict 5 r
-numbered Whole v = v
+numbered (Ok u) v = v
+numbered (Err r) v = verdict (number_of r) (named r)
 
 -- what is left of the check: names and types
 abbrev pub later : Links → Verdict

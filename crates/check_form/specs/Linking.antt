@@ -1,9 +1,9 @@
--- What the links of an image come to, as the code's enum.
+-- What the links of an image come to, as the code hands it back.
+use Rattle.std.specs.Prelude.{Result, Ok, Err}
+use Rattle.image.specs.declared.links.BadLink.{BadLink}
 use Rattle.acceptance.specs.Check.{Links, tree, broken}
-use Rattle.check_form.specs.declared.linking.Linking.{Linking}
-use Rattle.check_form.specs.declared.linking.Linking.TheVariants.{Whole, Broken}
 
 -- the tree itself is not kept
-abbrev pub linking_of : Links → Linking
-linking_of (tree t) = Whole
-linking_of (broken r) = Broken r
+abbrev pub linking_of : Links → Result (Unit {0}) BadLink
+linking_of (tree t) = Ok tt
+linking_of (broken r) = Err (record { 0 = r })

@@ -4,15 +4,16 @@ use native.Mathlib.Omega.{arith}
 use mathlib.Core.Path.{◌≡◌, refl, sym, ap, ◌∙◌}
 use mathlib.Core.List.{List}
 use lib.ListN.{length}
-use Rattle.std.specs.Prelude.{None, Some}
+use Rattle.std.specs.Prelude.{None, Some, Ok, Err}
+use Rattle.image.specs.declared.refusals.Refusal.{Refusal}
+use Rattle.check_image.specs.Answer.{refused}
 use Rattle.image.specs.Lowest.{Found}
 use Rattle.plan.specs.Read.{plan_at}
 use Rattle.plan.proofs.PlanOf.{plan_tree_whole}
 use Rattle.acceptance.specs.Names.{bad_name}
 use Rattle.acceptance.specs.Types.{bad_type}
 use Rattle.acceptance.specs.Check.{linked, verdict, at, check_plan, check}
-use Rattle.check_form.specs.Formed.{formed, numbered, later}
-use Rattle.check_form.specs.declared.checked.Formed.{Formed}
+use Rattle.check_form.specs.Formed.{Formed, formed, numbered, later}
 use Rattle.check_form.specs.Sound.{Sound}
 use Rattle.check_form.proofs.Sound.{check_is}
 use Rattle.check_fields.specs.Rules.{bad_names, bad_types}
@@ -64,5 +65,9 @@ module _ {s : List ℕ} (w : Sound s) where
         go (Some q) e h = let z : ◌≡◌ {A = ℕ} 0 1 = cc in absurd (omega arith)
 
 -- the answer for the tests 1 to 5 is the check's
-pub told : (s : List ℕ) {r : Formed} (k : Formed) → r ≡ formed s → r ≡ k → numbered k (later (linked s (length s / 32))) ≡ check s
-told s k e g = sym (check_is s ∙ ap (λ (x : Formed). numbered x (later (linked s (length s / 32)))) (sym e ∙ g))
+module _ (s : List ℕ) {f : Formed} (is : f ≡ formed s) where
+  pub told_refusal : {r : Refusal} → f ≡ Err r → refused r ≡ check s
+  told_refusal {r} e = sym (check_is s ∙ ap (λ (x : Formed). numbered x (later (linked s (length s / 32)))) (sym is ∙ e))
+
+  pub told_whole : f ≡ Ok tt → later (linked s (length s / 32)) ≡ check s
+  told_whole e = sym (check_is s ∙ ap (λ (x : Formed). numbered x (later (linked s (length s / 32)))) (sym is ∙ e))

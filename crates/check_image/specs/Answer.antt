@@ -1,14 +1,12 @@
--- The number and the record of each case of the check's answer.
+-- The number and the record of the check's answer.
+use Rattle.std.specs.Prelude.{Result, Ok, Err}
+use Rattle.image.specs.Refusals.{number_of, named}
+use Rattle.image.specs.declared.refusals.Refusal.{Refusal}
 use Rattle.acceptance.specs.Check.{Verdict, verdict}
-use Rattle.check_image.specs.declared.Checked.{Checked}
-use Rattle.check_image.specs.declared.Checked.TheVariants.{Accepted, Buffer, Record, Link, Depth, Form, Names, Types}
 
-abbrev pub verdict_of : Checked → Verdict
-verdict_of Accepted = verdict 0 0
-verdict_of Buffer = verdict 1 0
-verdict_of (Record r) = verdict 2 r
-verdict_of (Link r) = verdict 3 r
-verdict_of (Depth r) = verdict 4 r
-verdict_of (Form r) = verdict 5 r
-verdict_of (Names r) = verdict 6 r
-verdict_of (Types r) = verdict 7 r
+abbrev pub refused : Refusal → Verdict
+refused r = verdict (number_of r) (named r)
+
+abbrev pub verdict_of : Result (Unit {0}) Refusal → Verdict
+verdict_of (Ok u) = verdict 0 0
+verdict_of (Err r) = refused r

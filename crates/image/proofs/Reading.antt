@@ -15,8 +15,8 @@ use lib.ListN.{drop}
 use borrow.Author.Tests.{eq-eqb, ne_eqb, le-leb, lt-leb, leb-false}
 use Rattle.image.specs.Word.{word}
 use Rattle.image.specs.Tree.{Label, Forest, none, label_at}
-use Rattle.image.specs.declared.links.Walk.{Walk}
-use Rattle.image.specs.declared.links.Walk.TheVariants.{Next, Bad}
+use Rattle.std.specs.Prelude.{Result, Ok, Err}
+use Rattle.image.specs.declared.links.BadLink.{BadLink}
 use Rattle.image.specs.Links.{Parsed, good, bad, outcome, with_next, and_then, parse}
 
 -- `link`, a link of `owner`, where i is the next unread record of n
@@ -83,12 +83,12 @@ within (suc k) s n i link owner h =
     (λ _. tt))
 
 -- what an outcome says of what was parsed
-pub was_next : (n i : ℕ) (p : Parsed) (j : ℕ) → outcome p ≡ Next j → Within n i p → (f : Forest) × (p ≡ good f j) × (i ≤ j) × (j ≤ n)
+pub was_next : (n i : ℕ) (p : Parsed) (j : ℕ) → outcome p ≡ Ok j → Within n i p → (f : Forest) × (p ≡ good f j) × (i ≤ j) × (j ≤ n)
 was_next n i (good f m) j e h = let q : m ≡ j = cc in (f, cc, omega arith, omega arith)
 was_next n i (bad r) j e h = let z : ◌≡◌ {A = ℕ} 0 1 = cc in absurd (omega arith)
 
 -- a bad outcome is that of a bad record
-pub was_bad : (p : Parsed) (r : ℕ) → outcome p ≡ Bad r → p ≡ bad r
+pub was_bad : (p : Parsed) (r : BadLink) → outcome p ≡ Err r → p ≡ bad r.0
 was_bad (good f m) r e = let z : ◌≡◌ {A = ℕ} 0 1 = cc in absurd (omega arith)
 was_bad (bad x) r e = cc
 
@@ -98,11 +98,11 @@ outcome_joined l cs (good f j) = refl
 outcome_joined l cs (bad r) = refl
 
 -- what a call says: r is the outcome at each fuel that is enough
-abbrev pub Says : Walk → List ℕ → ℕ → ℕ → ℕ → ℕ → Type 0
+abbrev pub Says : Result ℕ BadLink → List ℕ → ℕ → ℕ → ℕ → ℕ → Type 0
 Says r s n i link owner = (k : ℕ) → n - i < k → r ≡ outcome (parse k s n i link owner)
 
 -- where a call says that all is read before j, j is no earlier, and there is one at most
-pub next_within : {r : Walk} (s : List ℕ) (n i link owner j : ℕ) → Says r s n i link owner → r ≡ Next j → i ≤ n → (i ≤ j) × (j ≤ n)
+pub next_within : {r : Result ℕ BadLink} (s : List ℕ) (n i link owner j : ℕ) → Says r s n i link owner → r ≡ Ok j → i ≤ n → (i ≤ j) × (j ≤ n)
 next_within s n i link owner j h e l =
     let k = suc (n - i) in
     let w = was_next n i (parse k s n i link owner) j (sym (h k (le_refl k)) ∙ e) (within k s n i link owner l) in
@@ -111,13 +111,13 @@ next_within s n i link owner j h e l =
 -- the same, where the link leads to record i
 module _ (s : List ℕ) (n i link owner : ℕ) (nz : link ≡ 0 → ⊥) (at : link ≡ i) (lt : i < n) where
   -- a record whose children have a bad link has it too
-  pub says_bad : {b : Walk} {r : ℕ} → Says b s n (i + 1) (word s (32 * i + 24)) i → b ≡ Bad r → Says (Bad r) s n i link owner
+  pub says_bad : {b : Result ℕ BadLink} {r : BadLink} → Says b s n (i + 1) (word s (32 * i + 24)) i → b ≡ Err r → Says (Err r) s n i link owner
   says_bad {b} {r} h e k l =
-      let q : parse (k - 1) s n (i + 1) (word s (32 * i + 24)) i ≡ bad r = was_bad _ r (sym (h (k - 1) (omega arith)) ∙ e) in
+      let q : parse (k - 1) s n (i + 1) (word s (32 * i + 24)) i ≡ bad r.0 = was_bad _ r (sym (h (k - 1) (omega arith)) ∙ e) in
       rw (p_node s n i link owner k (omega arith) nz at lt, q)
 
   -- a record whose children are read says what its siblings say
-  pub says_next : {b r : Walk} {j : ℕ} → Says b s n (i + 1) (word s (32 * i + 24)) i → b ≡ Next j
+  pub says_next : {b r : Result ℕ BadLink} {j : ℕ} → Says b s n (i + 1) (word s (32 * i + 24)) i → b ≡ Ok j
       → Says r s n j (word s (32 * i + 28)) i → Says r s n i link owner
   says_next {b} {r} {j} h e g k l =
       let first = word s (32 * i + 24) in

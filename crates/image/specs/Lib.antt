@@ -9,3 +9,4 @@ pub mod Flattened
 pub mod Room
 pub mod Lowest
 pub mod Places
+pub mod Refusals

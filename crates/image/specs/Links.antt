@@ -1,9 +1,8 @@
 -- The forest that a link leads to, read parents first.
-use Rattle.std.specs.Prelude.{cond, List, ℕ, zero, suc, ◌+◌, ◌*◌, eqb, leb, drop}
+use Rattle.std.specs.Prelude.{cond, List, ℕ, zero, suc, ◌+◌, ◌*◌, eqb, leb, drop, Result, Ok, Err}
 use Rattle.image.specs.Word.{word}
 use Rattle.image.specs.Tree.{Label, Forest, none, node, label_at}
-use Rattle.image.specs.declared.links.Walk.{Walk}
-use Rattle.image.specs.declared.links.Walk.TheVariants.{Next, Bad}
+use Rattle.image.specs.declared.links.BadLink.{BadLink}
 
 -- a forest and the next unread record, or the record with a bad link
 pub data Parsed : Type 0 where
@@ -11,9 +10,9 @@ pub data Parsed : Type 0 where
   bad : ℕ → Parsed
 
 -- what the code says of it: the forest itself is not kept
-abbrev pub outcome : Parsed → Walk
-outcome (good f j) = Next j
-outcome (bad r) = Bad r
+abbrev pub outcome : Parsed → Result ℕ BadLink
+outcome (good f j) = Ok j
+outcome (bad r) = Err (record { 0 = r })
 
 -- the forest goes on with the siblings of a tree whose children have been read
 abbrev pub with_next : Label → Forest → Parsed → Parsed

@@ -7,6 +7,7 @@ pub mod kinds;
 pub mod limits;
 pub mod links;
 pub mod records;
+pub mod refusals;
 pub mod relink;
 pub mod values;
 pub mod words;

@@ -9,8 +9,9 @@ ghost use Rattle.acceptance.specs.Check as Check;
 
 use call_pass::call_pass::pass_bytes;
 use call_rewrite::call_rewrite::rewrite_bytes;
-use call_row_test::testing::row_test;
-use check_image::{check, number_of, place_of};
+use call_row_test::testing::{row_test, truth_number};
+use check_image::check;
+use image::refusals::GRANTED;
 
 // The version is that of include/push_down_filter.h; harness/tests/header.rs compares them.
 const MAJOR: u32 = 0;
@@ -40,11 +41,15 @@ pub struct Verdict {
 pub fn push_down_filter_check(image: &[u8]) -> Verdict
     ensures { verdict_is result ≡ Check.check image.now }
 {
-    let answer = check(image);
-    let record = place_of(answer);
-    Verdict {
-        number: number_of(answer),
-        record: record as u32,
+    match check(image) {
+        Ok(()) => Verdict {
+            number: GRANTED,
+            record: 0,
+        },
+        Err(refusal) => Verdict {
+            number: refusal.number(),
+            record: refusal.record() as u32,
+        },
     }
 }
 
@@ -63,14 +68,19 @@ pub struct Rewritten {
 pub fn push_down_filter_rewrite(image: &[u8], node: u32, out: &mut [u8]) -> Rewritten
     ensures { rewritten_is result out.new ≡ rewrite_bytes image.now node (length out.old) }
 {
-    let answer = rewrite_bytes(image, node, out);
-    let place = call_rewrite::call_rewrite::place_of(answer);
-    let records = call_rewrite::call_rewrite::records_of(answer);
-    Rewritten {
-        number: call_rewrite::call_rewrite::number_of(answer),
-        record: place as u32,
-        flag: call_rewrite::call_rewrite::flag_of(answer),
-        records: records as u32,
+    match rewrite_bytes(image, node, out) {
+        Ok(answer) => Rewritten {
+            number: GRANTED,
+            record: 0,
+            flag: answer.flag as u32,
+            records: answer.records as u32,
+        },
+        Err(no_rewrite) => Rewritten {
+            number: no_rewrite.number(),
+            record: no_rewrite.record() as u32,
+            flag: 0,
+            records: 0,
+        },
     }
 }
 
@@ -91,16 +101,23 @@ pub struct Passed {
 pub fn push_down_filter_pass(image: &[u8], budget: u64, out: &mut [u8]) -> Passed
     ensures { passed_is result out.new ≡ pass_bytes image.now budget (length out.old) }
 {
-    let answer = pass_bytes(image, budget, out);
-    let place = call_pass::call_pass::place_of(answer);
-    let count = call_pass::call_pass::records_of(answer);
-    Passed {
-        number: call_pass::call_pass::number_of(answer),
-        record: place as u32,
-        visits: call_pass::call_pass::visits_of(answer),
-        changed: call_pass::call_pass::changed_of(answer),
-        finished: call_pass::call_pass::finished_of(answer),
-        records: count as u32,
+    match pass_bytes(image, budget, out) {
+        Ok(walk) => Passed {
+            number: GRANTED,
+            record: 0,
+            visits: walk.visits,
+            changed: walk.changed,
+            finished: walk.finished as u32,
+            records: walk.records as u32,
+        },
+        Err(no_pass) => Passed {
+            number: no_pass.number(),
+            record: no_pass.record() as u32,
+            visits: 0,
+            changed: 0,
+            finished: 0,
+            records: 0,
+        },
     }
 }
 
@@ -117,11 +134,16 @@ pub struct Tested {
 pub fn push_down_filter_row_test(image: &[u8], node: u32, values: &[i64], marks: &[u8]) -> Tested
     ensures { tested_is result ≡ row_test_bytes image.now node values.now marks.now }
 {
-    let answer = row_test(image, node, values, marks);
-    let place = call_row_test::testing::place_of(answer);
-    Tested {
-        number: call_row_test::testing::number_of(answer),
-        record: place as u32,
-        truth: call_row_test::testing::truth_number(answer),
+    match row_test(image, node, values, marks) {
+        Ok(truth) => Tested {
+            number: GRANTED,
+            record: 0,
+            truth: truth_number(truth),
+        },
+        Err(no_test) => Tested {
+            number: no_test.number(),
+            record: no_test.record() as u32,
+            truth: 0,
+        },
     }
 }

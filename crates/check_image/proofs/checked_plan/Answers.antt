@@ -6,18 +6,18 @@ use Rattle.check_image.proofs.checked_plan.Goals as goal
 pub returns-in-Some : goal.returns-in-Some
 returns-in-Some c =
     let w = c.requires in
-    later_name w _ (sym c.in-Some.is ∙ c.bad_names-name.ensures w.tree w.stands)
+    later_name w _ (sym c.in-Some.is ∙ c.bad_names.ensures w.tree w.stands)
 
-pub returns-in-Some-ty : goal.returns-in-Some-ty
-returns-in-Some-ty c =
+pub returns-in-Some-bad_types : goal.returns-in-Some-bad_types
+returns-in-Some-bad_types c =
     let w = c.requires in
     later_type w (sym c.in_default.is
-    ∙ c.bad_names-name.ensures w.tree w.stands) _
-    (sym c.in-Some-ty.is ∙ c.bad_types-ty.ensures w.tree w.stands)
+    ∙ c.bad_names.ensures w.tree w.stands) _
+    (sym c.in-Some-bad_types.is ∙ c.bad_types.ensures w.tree w.stands)
 
 pub returns : goal.returns
 returns c =
     let w = c.requires in
     later_none w (sym c.in_default.is
-    ∙ c.bad_names-name.ensures w.tree w.stands)
-    (sym c.in_default-ty.is ∙ c.bad_types-ty.ensures w.tree w.stands)
+    ∙ c.bad_names.ensures w.tree w.stands)
+    (sym c.in_default-bad_types.is ∙ c.bad_types.ensures w.tree w.stands)

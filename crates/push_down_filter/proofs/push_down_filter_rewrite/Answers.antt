@@ -1,7 +1,7 @@
 -- `push_down_filter_rewrite` meets its contract: the record fits 32 bits, since it is the node, 0, or a record of the image, and so does the
 -- count of records, which is at most `max_records`.
 use native.Mathlib.Omega.{arith}
-use mathlib.Core.Path.{◌≡◌, refl}
+use mathlib.Core.Path.{◌≡◌, refl, sym, subst}
 use mathlib.Core.Bool.{Bool, true, false}
 use mathlib.Core.List.{List}
 use mathlib.Core.Option.{Option, none, some}
@@ -17,9 +17,6 @@ use Rattle.acceptance.proofs.Places.{place_within}
 use Rattle.rewrite.specs.Limits.{within_limits}
 use Rattle.rewrite.specs.OnBytes.{Rewritten, is_accepted, plan_in, no_rewrite, rewritten, asked_of, rewrite_bytes}
 use Rattle.rewrite.specs.RewriteAt.{Focus, focus, Answer, granted, refused, result_fits, rewrite_in, rewrite_at, with_room, rewrite_call}
-use Rattle.call_rewrite.specs.Answer.{rewritten_of}
-use Rattle.call_rewrite.specs.declared.call_rewrite.Answer.{Answer as Code}
-use Rattle.call_rewrite.specs.declared.call_rewrite.Answer.TheVariants.{Image, NoPlan, TooLarge, NoRoom, Is}
 use Rattle.push_down_filter.proofs.push_down_filter_rewrite.Goals as goal
 
 -- the record and the count fit 32 bits
@@ -58,35 +55,16 @@ module _ (n : ℕ) (l : n < 4294967296) where
       either Small (is_accepted s) _ _ (λ e. of_answer room _ (roomy room _ (in_place (focus n (plan_in s)))))
       (omega (arith, place_within s), omega arith)
 
--- what stands in the output is the answer's
-output_is : (a : Code) (out : List ℕ) → out ≡ (rewritten_of a out).output
-output_is (Image v) out = refl
-output_is (NoPlan n) out = refl
-output_is (TooLarge n) out = refl
-output_is NoRoom out = refl
-output_is (Is f n) out = refl
+-- so they do of an answer, whatever the node
+fits : (s : List ℕ) (n room : ℕ) {t : Rewritten} → t ≡ rewrite_bytes s n room → n < 4294967296 → Small t
+fits s n room i l = subst Small (sym i) (small n l s room)
 
-all_are : {t u : Rewritten} {a b d e : ℕ} {o : List ℕ} → a ≡ t.number → b ≡ t.place → d ≡ t.flag → e ≡ t.records → o ≡ t.output → t ≡ u
-    → record { number = a; place = b; flag = d; records = e; output = o } ≡ u
-all_are {t} e f g h i j = rw (e, f, g, h, i) j
+pub overflow_cast-result-in-Ok : goal.overflow_cast-result-in-Ok
+overflow_cast-result-in-Ok c =
+    let h = fits _ _ _ c.in-Ok.ensures (search rules) in
+    omega (arith, h.1)
 
--- read off an answer, whatever the node
-module _ (s : List ℕ) (n room : ℕ) {t : Rewritten} {a : ℕ} (i : t ≡ rewrite_bytes s n room) (l : n < 4294967296) where
-  place_fits : a ≡ t.place → a < 4294967296
-  place_fits e = rw (e, i) (small n l s room).0
-
-  records_fit : a ≡ t.records → a < 4294967296
-  records_fit e = rw (e, i) (small n l s room).1
-
-pub overflow_cast-result : goal.overflow_cast-result
-overflow_cast-result c =
-    let h : c.place_of-place.result < 4294967296 =
-    place_fits _ _ _ c.rewrite_bytes-answer.ensures (search rules) (c.place_of-place.ensures _) in
-    search rules
-
-pub overflow_cast-result-2 : goal.overflow_cast-result-2
-overflow_cast-result-2 c =
-    let h : c.records_of-records.result < 4294967296 =
-    records_fit _ _ _ c.rewrite_bytes-answer.ensures (search rules)
-    (c.records_of-records.ensures _) in
-    search rules
+pub overflow_cast-result-in-Err : goal.overflow_cast-result-in-Err
+overflow_cast-result-in-Err c =
+    let h = fits _ _ _ c.in-Err.ensures (search rules) in
+    omega (arith, h.0, c.record.ensures)

@@ -1,6 +1,6 @@
 -- `push_down_filter_row_test` meets its contract: the record fits 32 bits, since it is the node, 0, or a record of the image.
 use native.Mathlib.Omega.{arith}
-use mathlib.Core.Path.{◌≡◌}
+use mathlib.Core.Path.{◌≡◌, sym, subst}
 use mathlib.Core.Bool.{Bool, true, false, not}
 use mathlib.Core.List.{List}
 use mathlib.Core.Option.{Option, none, some}
@@ -56,17 +56,17 @@ module _ (n : ℕ) (zs : List ℤ) (ms : List ℕ) (l : n < 4294967296) where
   unfolding row_test_bytes no_test
   small s = either (is_accepted s) _ _ (small_focus (focus n (plan_in s))) (omega (arith, place_within s))
 
-all_are : {t u : Tested} {a b d : ℕ} → a ≡ t.number → b ≡ t.place → d ≡ t.truth → t ≡ u
-    → record { number = a; place = b; truth = d } ≡ u
-all_are {t} e f g h = rw (e, f, g) h
-
--- read off an answer, whatever the node
-place_fits : (s : List ℕ) (n : ℕ) (zs : List ℤ) (ms : List ℕ) {t : Tested} {a : ℕ} → t ≡ row_test_bytes s n zs ms → n < 4294967296
-    → a ≡ t.place → a < 4294967296
-place_fits s n zs ms i l e = rw (e, i) (small n zs ms l s)
+-- so it does of an answer, whatever the node
+fits : (s : List ℕ) (n : ℕ) (zs : List ℤ) (ms : List ℕ) {t : Tested} → t ≡ row_test_bytes s n zs ms → n < 4294967296 → Small t
+fits s n zs ms i l = subst Small (sym i) (small n zs ms l s)
 
 pub overflow_cast-result : goal.overflow_cast-result
+unfolding no_test
 overflow_cast-result c =
-    let h : c.place_of-place.result < 4294967296 =
-    place_fits _ _ _ _ c.row_test-answer.ensures (search rules) c.place_of-place.ensures in
-    search rules
+    let h = fits _ _ _ _ c.in-Err.ensures (search rules) in
+    omega (arith, h, c.record.ensures)
+
+pub returns-in-Err : goal.returns-in-Err
+unfolding no_test
+returns-in-Err c =
+    rw (c.number.ensures, c.record.ensures) c.in-Err.ensures

@@ -10,7 +10,7 @@ pub returns-then-not-w : goal.returns-then-not-w
 returns-then-not-w c =
     let e = c.walk_in-w.ensures in
     let no = (untold c.if-not-w.true) in
-    (omega (arith, e.near no), refused_11 _ (e.refused no) c.clear.ensures ∙ called _ _ _)
+    (omega (arith, e.near no), refused_11 _ (e.refused no) ∙ called _ _ _)
 
 pub hand_over_walk-requires : goal.hand_over_walk-requires
 hand_over_walk-requires c = (

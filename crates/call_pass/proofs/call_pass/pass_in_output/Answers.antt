@@ -5,7 +5,7 @@ use lib.ListN.{drop}
 use lib.Seq.{length-take-le, length_front}
 use Rattle.image.specs.Limits.{work_bytes}
 use Rattle.plan.proofs.Bools.{told, untold}
-use Rattle.push_down_rewrite.proofs.Fronts.{front_long, front_cleared}
+use Rattle.push_down_rewrite.proofs.Fronts.{front_long}
 use Rattle.call_pass.proofs.Reports.{refused_11, called, left_room, left_few, left_front}
 use Rattle.call_pass.proofs.call_pass.pass_in_output.Goals as goal
 
@@ -22,8 +22,7 @@ pub returns-then-not-w : goal.returns-then-not-w
 returns-then-not-w c =
     let e = c.walk_in-w.ensures in
     let no = (untold c.if-not-w.true) in
-    let o = front_cleared work_bytes c.args.out.now c.walk_in-w.new.a c.walk_in-w.auto.a c.clear.ensures in
-    (le_of_lt (e.near no), refused_11 _ (e.refused no) o ∙ called _ _ _)
+    (le_of_lt (e.near no), refused_11 _ (e.refused no) ∙ called _ _ _)
 
 pub clear_behind_walk-requires : goal.clear_behind_walk-requires
 clear_behind_walk-requires c =

@@ -4,7 +4,7 @@ use Rattle.call_rewrite.proofs.call_rewrite.hand_over.Goals as goal
 
 pub returns-then-out-records : goal.returns-then-out-records
 returns-then-out-records c =
-    λ q h. no_room _ _ q h c.if-out-records.true c.clear.ensures
+    λ q h. no_room _ _ q h c.if-out-records.true
 
 pub returns : goal.returns
 returns c =

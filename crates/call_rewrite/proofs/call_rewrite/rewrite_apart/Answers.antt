@@ -9,7 +9,7 @@ pub returns-then-not-r : goal.returns-then-not-r
 returns-then-not-r c =
     let h = c.requires.here in
     let o = c.rewrite_anew-r.ensures _ h.spot h.inside in
-    refused_11 _ _ _ h.inside.there (sym o.fit ∙ untold c.if-not-r.true) c.clear.ensures
+    refused_11 _ _ _ h.inside.there (sym o.fit ∙ untold c.if-not-r.true)
 
 pub hand_over-requires : goal.hand_over-requires
 hand_over-requires c =

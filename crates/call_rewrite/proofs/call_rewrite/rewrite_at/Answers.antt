@@ -6,13 +6,13 @@ use Rattle.call_rewrite.proofs.call_rewrite.rewrite_at.Goals as goal
 
 pub returns-then-image-node : goal.returns-then-image-node
 returns-then-image-node c =
-    refused_8 _ _ _ (absent c.requires c.if-image-node.true) c.clear.ensures
+    refused_8 _ _ _ (absent c.requires c.if-image-node.true)
 
 pub returns-then-not-is_plan : goal.returns-then-not-is_plan
 returns-then-not-is_plan c =
     refused_8 _ _ _
     (no_plan c.requires c.if-image-node.false c.record_at.ensures c.word_at.ensures.0 c.is_plan.ensures
-    (c.if-not-is_plan.true)) c.clear-then-not-is_plan.ensures
+    (c.if-not-is_plan.true))
 
 pub stays-requires : goal.stays-requires
 stays-requires c =

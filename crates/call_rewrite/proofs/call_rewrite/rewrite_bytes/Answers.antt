@@ -1,25 +1,14 @@
 -- `call_rewrite::rewrite_bytes` meets its contract.
-use mathlib.Core.Path.{◌∙◌}
-use native.Mathlib.Omega.{arith}
-use Rattle.check_image.proofs.Accepting.{is_accepted}
-use Rattle.push_down_rewrite.proofs.Images.{whole}
-use Rattle.call_rewrite.proofs.Calls.{refused_image, accepted_image}
+use mathlib.Core.Path.{sym, ap, ◌∙◌}
+use Rattle.std.specs.Prelude.{length}
+use Rattle.rewrite.specs.OnBytes.{zeros}
+use Rattle.call_rewrite.proofs.Calls.{cleared, kept}
 use Rattle.call_rewrite.proofs.call_rewrite.rewrite_bytes.Goals as goal
 
-pub returns-then-number_of-ne0 : goal.returns-then-number_of-ne0
-returns-then-number_of-ne0 c =
-    refused_image _ _ _ c.check-answer.result c.check-answer.ensures c.number_of.ensures c.if-number_of-ne0.true c.clear.ensures
+pub returns-then-is_err : goal.returns-then-is_err
+returns-then-is_err c =
+    cleared _ _ _ c.rewrite_or_refuse-answer.ensures (sym c.is_err.ensures.value ∙ c.if-is_err.true) _ (c.clear.ensures ∙ ap zeros c.rewrite_or_refuse-answer.auto.out)
 
-pub rewrite_at-requires : goal.rewrite_at-requires
-rewrite_at-requires c =
-    whole c.args.image.now (λ i. omega (
-      arith,
-      c.type_inv.image i,
-    ))
-    (is_accepted _ c.check-answer.result c.check-answer.ensures c.number_of.ensures
-    c.if-number_of-ne0.false)
-
-pub returns : goal.returns
-returns c =
-    c.rewrite_at.ensures
-    ∙ accepted_image _ _ _ c.check-answer.result c.check-answer.ensures c.number_of.ensures c.if-number_of-ne0.false
+pub returns-else-is_err : goal.returns-else-is_err
+returns-else-is_err c =
+    kept _ _ _ c.rewrite_or_refuse-answer.ensures (sym c.is_err.ensures.value ∙ c.if-is_err.false)

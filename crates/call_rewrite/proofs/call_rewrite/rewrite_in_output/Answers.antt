@@ -6,7 +6,7 @@ use Rattle.image.specs.Limits.{work_bytes}
 use Rattle.plan.proofs.Bools.{told, untold}
 use Rattle.push_down_rewrite.proofs.Images.{image_room, whole_image}
 use Rattle.call_rewrite.proofs.Calls.{refused_11, granted_call}
-use Rattle.push_down_rewrite.proofs.Fronts.{front_cleared, image_front}
+use Rattle.push_down_rewrite.proofs.Fronts.{image_front}
 use Rattle.call_rewrite.proofs.call_rewrite.rewrite_in_output.Goals as goal
 
 pub rewrite_anew-r-requires-clause-scratch_map : goal.rewrite_anew-r-requires-clause-scratch_map
@@ -22,7 +22,6 @@ returns-then-not-r c =
     let h = c.requires.here in
     let o = c.rewrite_anew-r.ensures _ h.spot h.inside in
     refused_11 _ _ _ h.inside.there (sym o.fit ∙ untold c.if-not-r.true)
-    (front_cleared work_bytes c.args.out.now c.rewrite_anew-r.new.work c.rewrite_anew-r.auto.work c.clear.ensures)
 
 pub clear_behind-requires : goal.clear_behind-requires
 clear_behind-requires c =

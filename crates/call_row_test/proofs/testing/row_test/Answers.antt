@@ -1,21 +1,21 @@
 -- `testing::row_test` meets its contract.
 use native.Mathlib.Omega.{arith}
-use mathlib.Core.Path.{◌∙◌}
-use Rattle.check_image.proofs.Accepting.{is_accepted}
-use Rattle.call_row_test.proofs.RowTesting.{whole, refused, granted}
+use mathlib.Core.Path.{◌≡◌, ap, ◌∙◌}
+use Rattle.std.specs.Prelude.{Err}
+use Rattle.check_image.proofs.Accepting.{is_accepted, is_refused}
+use Rattle.call_row_test.specs.Answer.{tested_of}
+use Rattle.call_row_test.proofs.RowTesting.{whole, refused_image, accepted_image}
 use Rattle.call_row_test.proofs.testing.row_test.Goals as goal
 
-pub returns-then-number_of-ne0 : goal.returns-then-number_of-ne0
-returns-then-number_of-ne0 c =
-    refused _ _ _ _ c.check-answer.result c.check-answer.ensures c.number_of.ensures c.if-number_of-ne0.true
+pub returns-in_err-check : goal.returns-in_err-check
+returns-in_err-check c =
+    let same : c.from_residual.result ≡ Err c.in_err-check.field-0.0 = grind arith in
+    rw same (refused_image _ _ _ _ _ (is_refused _ c.check.ensures c.in_err-check.was))
 
 pub test_at-requires : goal.test_at-requires
 test_at-requires c =
-    whole c.args.image.now
-    (λ i. omega (arith, c.type_inv.image i))
-    (is_accepted _ c.check-answer.result c.check-answer.ensures c.number_of.ensures c.if-number_of-ne0.false)
+    whole c.args.image.now (λ i. omega (arith, c.type_inv.image i)) (is_accepted _ c.check.ensures c.in_ok-check.was)
 
 pub returns : goal.returns
 returns c =
-    c.test_at.ensures ∙ granted _ _ _ _ c.check-answer.result c.check-answer.ensures
-    c.number_of.ensures c.if-number_of-ne0.false
+    c.test_at.ensures ∙ accepted_image _ _ _ _ (is_accepted _ c.check.ensures c.in_ok-check.was)

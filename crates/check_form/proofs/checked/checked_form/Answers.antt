@@ -1,6 +1,8 @@
 -- `checked::checked_form` meets its contract: each answer, where the tests before it are not met.
 use native.Mathlib.Omega.{arith}
-use mathlib.Core.Path.{sym, ◌∙◌}
+use mathlib.Core.Path.{◌≡◌, sym, ◌∙◌}
+use Rattle.std.specs.Prelude.{Err}
+use Rattle.image.specs.declared.refusals.Refusal.TheVariants.{Link}
 use Rattle.acceptance.proofs.Accept.{buffer_of as sized}
 use Rattle.check_form.proofs.Stages.{stage_buffer, stage_words, stage_links, stage_tree, stage_depth, stage_form, stage_whole}
 use Rattle.check_form.proofs.checked.checked_form.Goals as goal
@@ -12,66 +14,67 @@ returns-then-not-buffer_ok c =
 pub returns-in-Some : goal.returns-in-Some
 returns-in-Some c =
     stage_words _ c.buffer_ok.ensures
-    c.if-not-buffer_ok.false c.bad_words-words.ensures
+    c.if-not-buffer_ok.false c.bad_words.ensures
     c.in-Some.is
 
-pub read-links-requires : goal.read-links-requires
-read-links-requires c =
+pub read-requires : goal.read-requires
+read-requires c =
     let n = sized _ (sym c.buffer_ok.ensures ∙ c.if-not-buffer_ok.false) in
     (n.one, omega arith, n.most)
 
-pub returns-in-Broken : goal.returns-in-Broken
-returns-in-Broken c =
-    stage_links _ c.buffer_ok.ensures
+pub returns-in_err-read : goal.returns-in_err-read
+returns-in_err-read c =
+    let same : c.from_residual.result ≡ Err (Link c.in_err-read.field-0.0.0) = grind arith in
+    rw same (stage_links _ c.buffer_ok.ensures
     c.if-not-buffer_ok.false
-    c.bad_words-words.ensures c.in_default.is
-    c.read-links.ensures c.in-Broken.is
+    c.bad_words.ensures c.in_default.is
+    c.read.ensures c.in_err-read.was)
 
-pub bad_depth-depth-requires : goal.bad_depth-depth-requires
-bad_depth-depth-requires c =
+pub bad_depth-requires : goal.bad_depth-requires
+bad_depth-requires c =
     let p = stage_tree _ c.buffer_ok.ensures
     c.if-not-buffer_ok.false
-    c.bad_words-words.ensures c.in_default.is
-    c.read-links.ensures c.in_default-links.is in
+    c.bad_words.ensures c.in_default.is
+    c.read.ensures c.in_ok-read.was in
     record { tree = p.tree; at = p.at }
 
-pub returns-in-Some-depth : goal.returns-in-Some-depth
-returns-in-Some-depth c =
+pub returns-in-Some-bad_depth : goal.returns-in-Some-bad_depth
+returns-in-Some-bad_depth c =
     stage_depth (stage_tree _ c.buffer_ok.ensures
     c.if-not-buffer_ok.false
-    c.bad_words-words.ensures
+    c.bad_words.ensures
     c.in_default.is
-    c.read-links.ensures c.in_default-links.is)
-    c.bad_depth-depth.ensures c.in-Some-depth.is
+    c.read.ensures c.in_ok-read.was)
+    c.bad_depth.ensures c.in-Some-bad_depth.is
 
-pub bad_root_form-form-requires : goal.bad_root_form-form-requires
-bad_root_form-form-requires c =
+pub bad_root_form-requires : goal.bad_root_form-requires
+bad_root_form-requires c =
     let p = stage_tree _ c.buffer_ok.ensures
     c.if-not-buffer_ok.false
-    c.bad_words-words.ensures
-    c.in_default.is c.read-links.ensures
-    c.in_default-links.is in
+    c.bad_words.ensures
+    c.in_default.is c.read.ensures
+    c.in_ok-read.was in
     record { tree = p.tree; at = p.at }
 
-pub returns-in-Some-form : goal.returns-in-Some-form
-returns-in-Some-form c =
+pub returns-in-Some-bad_root_form : goal.returns-in-Some-bad_root_form
+returns-in-Some-bad_root_form c =
     stage_form (stage_tree _ c.buffer_ok.ensures
     c.if-not-buffer_ok.false
-    c.bad_words-words.ensures
+    c.bad_words.ensures
     c.in_default.is
-    c.read-links.ensures
-    c.in_default-links.is)
-    c.bad_depth-depth.ensures c.in_default-depth.is
-    c.bad_root_form-form.ensures c.in-Some-form.is
+    c.read.ensures
+    c.in_ok-read.was)
+    c.bad_depth.ensures c.in_default-bad_depth.is
+    c.bad_root_form.ensures c.in-Some-bad_root_form.is
 
 pub returns : goal.returns
 returns c =
     stage_whole (stage_tree _
     c.buffer_ok.ensures
     c.if-not-buffer_ok.false
-    c.bad_words-words.ensures
+    c.bad_words.ensures
     c.in_default.is
-    c.read-links.ensures
-    c.in_default-links.is)
-    c.bad_depth-depth.ensures c.in_default-depth.is
-    c.bad_root_form-form.ensures c.in_default-form.is
+    c.read.ensures
+    c.in_ok-read.was)
+    c.bad_depth.ensures c.in_default-bad_depth.is
+    c.bad_root_form.ensures c.in_default-bad_root_form.is
