@@ -83,7 +83,8 @@ impl<'a> Call<'a> {
         spoil(output);
         let r = push_down_filter_rewrite(self.image, node_of(*node), output);
         let numbers = [r.number, r.record, r.flag, r.records].map(u64::from);
-        stored.starts_with(&numbers) & is_stored(output, r.number, self.image, self.spelt)
+        stored.starts_with(&numbers)
+            & is_stored(output, u64::from(r.number), self.image, self.spelt)
     }
 
     // BUDGET ROOM NUMBER RECORD VISITS CHANGED FINISHED RECORDS, with just that output
@@ -101,7 +102,8 @@ impl<'a> Call<'a> {
             u64::from(r.finished),
             u64::from(r.records),
         ];
-        stored.starts_with(&numbers) & is_stored(output, r.number, self.image, self.spelt)
+        stored.starts_with(&numbers)
+            & is_stored(output, u64::from(r.number), self.image, self.spelt)
     }
 
     // NODE, how many VALUES, these, how many MARKS, these, NUMBER RECORD TRUTH
