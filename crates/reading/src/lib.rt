@@ -14,6 +14,7 @@ pub fn read_full<R: Read>(input: &mut R, space: &mut [u8]) -> io::Result<usize>
     ensures bytes { IfOk result (λ n. Consumes (R.remaining input.old) (R.remaining input.new) (take n space.new)) }
     ensures end { IfOk result (λ n. n < length space.new → IsAtEnd (R.remaining input.new)) }
 {
+    // Not `read_exact`: it does not say how much of a shorter input was read.
     let mut at = 0usize;
     while at < space.len() {
         let n = input.read(&mut space[at..])?;

@@ -3,7 +3,6 @@ ghost use Rattle.std.specs.Prelude.{◌≡◌, [], ◌∷◌, ◌<◌, ◌↔◌
 ghost use Rattle.acceptance.specs.Check.{check};
 
 use arrayvec::ArrayVec;
-use plan::values::signed;
 use push_down_filter::{
     push_down_filter_check, push_down_filter_pass, push_down_filter_rewrite,
     push_down_filter_row_test,
@@ -24,11 +23,6 @@ pub fn length_of(number: u64) -> usize
     ensures { result < 1000000 }
 {
     (number % 1000000) as usize
-}
-
-// 64 bits as a number with a sign.
-fn value_of_bits(bits: u64) -> i64 {
-    signed(bits % 4294967296, bits / 4294967296)
 }
 
 // Values or marks of a row: how many there are, then these; and the numbers behind them.
@@ -89,7 +83,8 @@ impl<'a> Call<'a> {
         spoil(output);
         let r = push_down_filter_rewrite(self.image, node_of(*node), output);
         let numbers = [r.number, r.record, r.flag, r.records].map(u64::from);
-        stored.starts_with(&numbers) & is_stored(output, r.number, self.image, self.spelt)
+        stored.starts_with(&numbers)
+            & is_stored(output, u64::from(r.number), self.image, self.spelt)
     }
 
     // BUDGET ROOM NUMBER RECORD VISITS CHANGED FINISHED RECORDS, with just that output
@@ -107,7 +102,8 @@ impl<'a> Call<'a> {
             u64::from(r.finished),
             u64::from(r.records),
         ];
-        stored.starts_with(&numbers) & is_stored(output, r.number, self.image, self.spelt)
+        stored.starts_with(&numbers)
+            & is_stored(output, u64::from(r.number), self.image, self.spelt)
     }
 
     // NODE, how many VALUES, these, how many MARKS, these, NUMBER RECORD TRUTH
@@ -118,7 +114,7 @@ impl<'a> Call<'a> {
     // The same; none where the line has no row.
     fn tested(&self) -> Option<bool> {
         let (node, numbers) = self.numbers.split_first()?;
-        let (values, numbers) = part_of_row(numbers, value_of_bits)?;
+        let (values, numbers) = part_of_row(numbers, u64::cast_signed)?;
         let (marks, numbers) = part_of_row(numbers, |number| (number % 256) as u8)?;
         let t = push_down_filter_row_test(self.image, node_of(*node), &values, &marks);
         Some(numbers == [u64::from(t.number), u64::from(t.record), u64::from(t.truth)].as_slice())

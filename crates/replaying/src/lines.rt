@@ -20,6 +20,7 @@ pub enum Sort {
 }
 
 impl Sort {
+    // How many there are, of which each has a number below.
     pub const HOW_MANY: usize = 7;
 
     // Those that are counted, in the order in which they are printed.

@@ -47,7 +47,7 @@ fn is_answer(output: &[u8], answer: &[u8]) -> bool
 }
 
 // Whether the output is what a line stores: zeros for a refusal; else the answer that is spelt, or the image itself, then zeros.
-pub fn is_stored(output: &[u8], number: u32, image: &[u8], spelt: Option<&[u8]>) -> bool
+pub fn is_stored(output: &[u8], number: u64, image: &[u8], spelt: Option<&[u8]>) -> bool
     ensures refused { number ≢ 0 → IsTrue result ↔ IsZero output.now }
     ensures spelt { number ≡ 0 → IfSome spelt.entry (λ answer. IsTrue result ↔ IsAnswer output.now answer.now) }
     ensures kept { number ≡ 0 → IfNone spelt.entry (IsTrue result ↔ IsAnswer output.now image.now) }
