@@ -18,7 +18,7 @@ ghost use Rattle.push_down_join.specs.Clauses.{kept, operator_of, or_clause, yie
 ghost use Rattle.push_down_join.specs.Sides.{Sides};
 
 use conjuncts::items::CLAUSE;
-use conjuncts::lists::{Conjuncts, add, item_at};
+use conjuncts::lists::{Conjuncts, add};
 use image::copying::{copy_tree, put_label};
 use image::limits::{MAX_DEPTH, MAX_RECORDS, NO_ROOM};
 use image::records::{FIRST_LINK, KIND, NEXT_LINK, P, from_record, record_at};
@@ -57,12 +57,9 @@ pub fn extract_or_clauses_for_join(
         Lists s.now c fs → Names fields ns → All (λ e. on_cols (has ns) e ≡ true) fs → Masks side ns t →
         Sides s.now σ ns t result (es ++ extract_or_clauses_for_join t fs) }
 {
-    let n = c.len;
     let mut r = to;
-    let mut i = 0;
-    while i < n {
-        r = add_clause(s, r, item_at(c, i), fields, side);
-        i += 1;
+    for n in c.items() {
+        r = add_clause(s, r, usize::from(*n), fields, side);
     }
     r
 }

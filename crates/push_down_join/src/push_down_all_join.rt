@@ -25,7 +25,7 @@ use crate::infer_join_predicates::infer_join_predicates;
 use crate::lr_is_preserved::{Preserved, is_inner, lr_is_preserved, on_lr_is_preserved};
 use crate::write_sides::{Moves, write_kept};
 use conjuncts::items::REPLACED;
-use conjuncts::lists::{Conjuncts, add, empty, item_at};
+use conjuncts::lists::{Conjuncts, add, empty};
 use conjuncts::split_conjunction::split_at;
 use image::limits::{MAX_LIST, NO_ROOM};
 use image::records::{KIND, NEXT_LINK, P, from_record};
@@ -42,12 +42,9 @@ pub fn append(to: Conjuncts, c: Conjuncts, more: usize) -> Conjuncts
     requires { Smalls c × (more ≤ clause_by) }
     ensures { (xs ys : List ℕ) → Holds to xs → Holds c ys → Holds result (xs ++ map (λ y. y + more) ys) }
 {
-    let n = c.len;
     let mut r = to;
-    let mut i = 0;
-    while i < n {
-        r = add(r, item_at(c, i) + more);
-        i += 1;
+    for n in c.items() {
+        r = add(r, usize::from(*n) + more);
     }
     r
 }
