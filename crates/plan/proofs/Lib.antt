@@ -12,3 +12,4 @@ pub mod Rights
 pub mod PlanOf
 pub mod FieldSources
 pub mod Inputting
+pub mod Nth

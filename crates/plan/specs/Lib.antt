@@ -12,5 +12,6 @@ pub mod Read
 pub mod Measure
 pub mod Integers
 pub mod Values
+pub mod WordValues
 pub mod FieldSources
 pub mod Inputs

@@ -1,4 +1,131 @@
 // What the words of a record can hold, by name: operators, tests, join kinds, aggregates, types and marks.
+// A type has no enum: the definitions have its number, and the code hands on whatever number a word holds.
+ghost use Rattle.std.specs.Prelude.{◌≡◌, ◌-◌};
+ghost use Rattle.plan.specs.Read.{aggs, joins, nth, ops, tests};
+ghost use Rattle.plan.specs.Syntax.{and, count, inner, is_null};
+ghost use Rattle.plan.specs.WordValues.{aggregate_of, join_of, op_of, test_of};
+
+#[derive(Clone, Copy, Debug, PartialEq, Eq, Hash)]
+pub enum Comparison {
+    Eq,
+    NotEq,
+    Lt,
+    LtEq,
+    Gt,
+    GtEq,
+}
+
+// The operators of a BinaryExpr.
+#[derive(Clone, Copy, Debug, PartialEq, Eq, Hash)]
+pub enum Operator {
+    And,
+    Or,
+    Compare(Comparison),
+}
+
+#[derive(Clone, Copy, Debug, PartialEq, Eq, Hash)]
+pub enum Test {
+    IsNull,
+    IsNotNull,
+    IsTrue,
+    IsFalse,
+    IsUnknown,
+    IsNotTrue,
+    IsNotFalse,
+    IsNotUnknown,
+}
+
+#[derive(Clone, Copy, Debug, PartialEq, Eq, Hash)]
+pub enum JoinKind {
+    Inner,
+    Left,
+    Right,
+    Full,
+    LeftSemi,
+    RightSemi,
+    LeftAnti,
+    RightAnti,
+}
+
+// The aggregates of the entries of an Aggregate and of a Window.
+#[derive(Clone, Copy, Debug, PartialEq, Eq, Hash)]
+pub enum Aggregate {
+    Count,
+    Min,
+    Max,
+}
+
+impl Operator {
+    // The operator with this number; And where it is the number of none.
+    #[tactic(auto, unfolding(crate::specs::Read::nth))]
+    pub fn of(word: usize) -> Operator
+        ensures { op_of result ≡ nth and ops (word - 1) }
+    {
+        match word {
+            OR => Operator::Or,
+            EQ => Operator::Compare(Comparison::Eq),
+            NOT_EQ => Operator::Compare(Comparison::NotEq),
+            LT => Operator::Compare(Comparison::Lt),
+            LT_EQ => Operator::Compare(Comparison::LtEq),
+            GT => Operator::Compare(Comparison::Gt),
+            GT_EQ => Operator::Compare(Comparison::GtEq),
+            _ => Operator::And,
+        }
+    }
+}
+
+impl Test {
+    // The test with this number; IsNull where it is the number of none.
+    #[tactic(auto, unfolding(crate::specs::Read::nth))]
+    pub fn of(word: usize) -> Test
+        ensures { test_of result ≡ nth is_null tests (word - 1) }
+    {
+        match word {
+            IS_NOT_NULL => Test::IsNotNull,
+            IS_TRUE => Test::IsTrue,
+            IS_FALSE => Test::IsFalse,
+            IS_UNKNOWN => Test::IsUnknown,
+            IS_NOT_TRUE => Test::IsNotTrue,
+            IS_NOT_FALSE => Test::IsNotFalse,
+            IS_NOT_UNKNOWN => Test::IsNotUnknown,
+            _ => Test::IsNull,
+        }
+    }
+}
+
+impl JoinKind {
+    // The kind of join with this number; Inner where it is the number of none.
+    #[tactic(auto, unfolding(crate::specs::Read::nth))]
+    pub fn of(word: usize) -> JoinKind
+        ensures { join_of result ≡ nth inner joins (word - 1) }
+    {
+        match word {
+            LEFT => JoinKind::Left,
+            RIGHT => JoinKind::Right,
+            FULL => JoinKind::Full,
+            LEFT_SEMI => JoinKind::LeftSemi,
+            RIGHT_SEMI => JoinKind::RightSemi,
+            LEFT_ANTI => JoinKind::LeftAnti,
+            RIGHT_ANTI => JoinKind::RightAnti,
+            _ => JoinKind::Inner,
+        }
+    }
+}
+
+impl Aggregate {
+    // The aggregate with this number; Count where it is the number of none.
+    #[tactic(auto, unfolding(crate::specs::Read::nth))]
+    pub fn of(word: usize) -> Aggregate
+        ensures { aggregate_of result ≡ nth count aggs (word - 1) }
+    {
+        match word {
+            MIN => Aggregate::Min,
+            MAX => Aggregate::Max,
+            _ => Aggregate::Count,
+        }
+    }
+}
+
 // ---- the operators of a BinaryExpr: p
 pub const AND: usize = 1;
 
