@@ -4,7 +4,8 @@ ghost use Rattle.std.proofs.Math.Option.{none};
 ghost use Rattle.image.specs.Limits.{max_fields};
 ghost use Rattle.image.specs.Tree.{At, Readable, Tree, label_at};
 ghost use Rattle.plan.specs.Syntax.{Expr, Name, Pair};
-ghost use Rattle.rewrite.specs.PushDownFilter.{pair_of};
+ghost use Rattle.plan.specs.WordValues.{join_of};
+ghost use Rattle.rewrite.specs.PushDownFilter.{is_inner, pair_of};
 ghost use Rattle.utils.specs.Fields.{Names, named, place_in};
 ghost use Rattle.utils.specs.Masks.{Masks};
 ghost use Rattle.push_down_base.specs.Parting.{Reads};
@@ -12,21 +13,23 @@ ghost use Rattle.push_down_join.specs.Partners.{Swaps, column_of, key_in, name_o
 ghost use Rattle.push_down_join.specs.Scopes.{Asked, Scopes, keyed};
 
 use crate::column_checker::Scope;
+use crate::lr_is_preserved::is_inner;
 use conjuncts::lists::{Conjuncts, empty};
 use image::records::{FIRST_LINK, KIND, NEXT_LINK, from_record, label_at};
 use image::words::{wide, word_at};
 use plan::kinds::{COLUMN, PAIR};
+use plan::words::JoinKind;
 use push_down_base::parting::select_side;
 use utils::schema_columns::{ColumnReference, Fields, no_fields, place_in};
 use utils::sets::mark;
 
 // infer_join_predicates: those that read a key, of an Inner join; with each key's partner in its place they are what is inferred.
-pub fn infer_join_predicates(s: &[u8], c: Conjuncts, sc: Scope, inner: bool) -> Conjuncts
+pub fn infer_join_predicates(s: &[u8], c: Conjuncts, sc: Scope, kind: JoinKind) -> Conjuncts
     requires { Asked s.now sc c }
     ensures { (l r : List Name) (on : List Pair) (es : List Expr) → Scopes sc l r on → Reads s.now (l ++ r) c es →
-        Reads s.now (l ++ r) result (keyed inner on es) }
+        Reads s.now (l ++ r) result (keyed (is_inner (join_of kind)) on es) }
 {
-    if inner {
+    if is_inner(kind) {
         return select_side(s, c, sc.fields, sc.alone, false);
     }
     empty()
