@@ -171,17 +171,14 @@ pub fn join_kind(part: &[u8], x: usize) -> JoinKind
     JoinKind::of(word_at(part, P))
 }
 
-// The record of its filter, or 0 where it has none: it is the last child, and the only one that is an expression.
-pub fn filter_of(part: &[u8], x: usize) -> usize
+// The record of its filter, if it has one: it is the last child, and the only one that is an expression.
+pub fn filter_of(part: &[u8], x: usize) -> Option<usize>
     requires { JoinPart part.now x }
     ensures { (s : List ℕ) (k : Kind) (l r : Plan) (on : List Pair) (f : Option Expr) → Stretch s x part.now →
         Placed s x (join k l r on f) → FilterOf s result f }
 {
     let y = last_child(part, x);
-    if word_at(from_record(part, x, y), KIND) < FIRST_PLAN {
-        return y;
-    }
-    0
+    (word_at(from_record(part, x, y), KIND) < FIRST_PLAN).then_some(y)
 }
 
 // The conjuncts of that filter; `part` is the stretch of the image s that begins at record x.
@@ -191,11 +188,10 @@ pub fn own_filter(s: &[u8], part: &[u8], x: usize) -> Conjuncts
     ensures { (k : Kind) (l r : Plan) (on : List Pair) (f : Option Expr) → Placed s.now x (join k l r on f) →
         Reads s.now (schema l ++ schema r) result (split_conjunction? f) }
 {
-    let y = filter_of(part, x);
-    if y == 0 {
-        return empty();
+    match filter_of(part, x) {
+        Some(y) => split_at(s, y, empty()),
+        None => empty(),
     }
-    split_at(s, y, empty())
 }
 
 // push_down_all_join: c is the predicates above the join at the start of `part`, record x of the image s, g those of its own filter.

@@ -44,11 +44,10 @@ fn own_left_deep(s: &[u8], part: &[u8], x: usize) -> bool
     ensures { (k : Kind) (l r : Plan) (on : List Pair) (f : Option Expr) → Placed s.now x (join k l r on f) →
         Says result (conjunction (split_conjunction? f) ≡ f) }
 {
-    let y = filter_of(part, x);
-    if y == 0 {
-        return true;
+    match filter_of(part, x) {
+        Some(y) => left_deep_at(s, y),
+        None => true,
     }
-    left_deep_at(s, y)
 }
 
 // Whether nothing of the predicates c above that join, and of those of its own filter, g, moves.
