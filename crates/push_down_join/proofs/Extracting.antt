@@ -7,11 +7,10 @@ use mathlib.Core.Path.{◌≡◌, refl, sym, ap, ◌∙◌}
 use mathlib.Core.Bool.{Bool, true, false, ◌||◌, cond, ◌&&◌}
 use mathlib.Core.List.{List}
 use mathlib.Core.Option.{Option, none, some}
-use Prim.Native.Nat.{ℕ, ◌+◌, ◌-◌, ◌*◌, ◌≤◌, ◌<◌}
+use Prim.Native.Nat.{ℕ, ◌+◌, ◌-◌, ◌*◌, ◌≤◌}
 use native.Mathlib.Omega.{arith}
-use lib.Dec.{eqb}
-use borrow.Author.Tests.{eq-eqb, ne_eqb, le-leb, lt-leb}
 use lib.ListN.{length, drop, length-drop}
+use Rattle.std.specs.Prelude as P
 use Rattle.image.specs.Limits.{work_bytes, max_depth}
 use Rattle.image.specs.Word.{word}
 use Rattle.image.specs.Room.{Wrote}
@@ -26,13 +25,15 @@ use Rattle.rewrite.specs.PushDownFilter.{both_or, either_and_option, guarded, ex
 use Rattle.conjuncts.specs.Standing.{Standing, ReadableE}
 use Rattle.conjuncts.proofs.Operands.{operands, AndParts, readable_left, readable_right}
 use Rattle.push_down_join.specs.Clauses.{operator_of, yields, kept, or_clause}
+use Rattle.push_down_join.specs.declared.extract_or_clause.Connective.{Connective}
+use Rattle.push_down_join.specs.declared.extract_or_clause.Connective.TheVariants.{And, Or}
 
 -- ---- an AND, an OR, or any other expression
 
-pub data Operated (e : Expr) (op : ℕ) : Type 0 where
-  conj : (a b : Expr) → op ≡ 1 → e ≡ bin and a b → Operated e op
-  disj : (a b : Expr) → op ≡ 2 → e ≡ bin or a b → Operated e op
-  other : op ≡ 0 → ((c : Name → Bool) → extract_or_clause c e ≡ guarded (on_cols c e) e) → Operated e op
+pub data Operated (e : Expr) (op : P.Option Connective) : Type 0 where
+  conj : (a b : Expr) → op ≡ P.Some And → e ≡ bin and a b → Operated e op
+  disj : (a b : Expr) → op ≡ P.Some Or → e ≡ bin or a b → Operated e op
+  other : op ≡ P.None → ((c : Name → Bool) → extract_or_clause c e ≡ guarded (on_cols c e) e) → Operated e op
 
 pub operated : (e : Expr) → Operated e (operator_of (label_e e))
 unfolding label_e operator_of extract_or_clause
@@ -53,21 +54,6 @@ operated (test t a) = other refl (λ c. refl)
 operated (between n a l u) = other refl (λ c. refl)
 operated (inlist n a xs) = other refl (λ c. refl)
 operated (fn p q r xs) = other refl (λ c. refl)
-
--- ---- the label
-
-module _ (l : Label) (k : ℕ) (is : k ≡ l.kind) where
-  pub operator_no : (k ≡ 5 → ⊥) → 0 ≡ operator_of l
-  unfolding operator_of
-  operator_no h = rw (← is, ne_eqb k 5 h)
-
-  pub operator_low : (p : ℕ) → p ≡ l.p → k ≡ 5 → p ≤ 2 → p ≡ operator_of l
-  unfolding operator_of
-  operator_low p e h low = rw (← is, ← e, eq-eqb k 5 h, le-leb p 2 low)
-
-  pub operator_high : (p : ℕ) → p ≡ l.p → k ≡ 5 → 2 < p → 0 ≡ operator_of l
-  unfolding operator_of
-  operator_high p e h high = rw (← is, ← e, eq-eqb k 5 h, lt-leb p 2 high)
 
 -- ---- where the operands stand
 
@@ -90,20 +76,20 @@ binary_parts {d} o a b at deep room =
     }
 
 -- the operator that was read is that of the expression
-pub op_is : {part : List ℕ} {base op : ℕ} (e : Expr) → op ≡ operator_of (label_at part) → At (expr_tree e) part base
+pub op_is : {part : List ℕ} {base : ℕ} {op : P.Option Connective} (e : Expr) → op ≡ operator_of (label_at part) → At (expr_tree e) part base
     → op ≡ operator_of (label_e e)
 op_is e is h = is ∙ ap operator_of h.head.label
 
 -- an expression with an operator has two operands
-pub parts_of : {d : ℕ} {part : List ℕ} {base op : ℕ} → ReadableE d part base → op ≡ operator_of (label_at part) → (op ≡ 0 → ⊥)
+pub parts_of : {d : ℕ} {part : List ℕ} {base : ℕ} {op : Connective} → ReadableE d part base → P.Some op ≡ operator_of (label_at part)
     → AndParts d part base
-parts_of {d} {part} {base} {op} h is nz = go h.expr h.at h.deep (op_is h.expr is h.at) (operated h.expr)
+parts_of {d} {part} {base} {op} h is = go h.expr h.at h.deep (op_is h.expr is h.at) (operated h.expr)
   where
-    go : (e : Expr) → At (expr_tree e) part base → Deep (kids_e e) (d - 1) → op ≡ operator_of (label_e e)
+    go : (e : Expr) → At (expr_tree e) part base → Deep (kids_e e) (d - 1) → P.Some op ≡ operator_of (label_e e)
         → Operated e (operator_of (label_e e)) → AndParts d part base
     go e at deep q (conj a b k is) = binary_parts and a b (rw is at at) (rw is at deep) h.room
     go e at deep q (disj a b k is) = binary_parts or a b (rw is at at) (rw is at deep) h.room
-    go e at deep q (other k is) = absurd (nz (q ∙ k))
+    go e at deep q (other k is) = absurd (cc)
 
 -- the operands, by what was read on the way to them
 pub record Halves (d x y : ℕ) (left right : List ℕ) : Type 0 where
@@ -130,22 +116,23 @@ module _ {part left right : List ℕ} {base x y : ℕ} (p : x ≡ word part 24) 
       let u = operands o (rw is at h) in
       record { lhs = a; rhs = b; is = is; at_left = rw (q, p) u.left; at_right = rw (s, r, q, p) u.right }
 
-  pub sides_and : {op : ℕ} (e : Expr) → At (expr_tree e) part base → op ≡ operator_of (label_at part) → op ≡ 1 → Sides and e x y left right
+  pub sides_and : {op : Connective} (e : Expr) → At (expr_tree e) part base → P.Some op ≡ operator_of (label_at part) → op ≡ And
+      → Sides and e x y left right
   sides_and {op} e h is one = go (op_is e is h) (operated e)
     where
-      go : op ≡ operator_of (label_e e) → Operated e (operator_of (label_e e)) → Sides and e x y left right
+      go : P.Some op ≡ operator_of (label_e e) → Operated e (operator_of (label_e e)) → Sides and e x y left right
       go q (conj a b k is) = sides and e a b is h
-      go q (disj a b k is) = absurd (omega arith)
-      go q (other k is) = absurd (omega arith)
+      go q (disj a b k is) = absurd (cc)
+      go q (other k is) = absurd (cc)
 
-  pub sides_or : {op : ℕ} (e : Expr) → At (expr_tree e) part base → op ≡ operator_of (label_at part) → (op ≡ 0 → ⊥) → (op ≡ 1 → ⊥)
+  pub sides_or : {op : Connective} (e : Expr) → At (expr_tree e) part base → P.Some op ≡ operator_of (label_at part) → op ≡ Or
       → Sides or e x y left right
-  sides_or {op} e h is nz ny = go (op_is e is h) (operated e)
+  sides_or {op} e h is two = go (op_is e is h) (operated e)
     where
-      go : op ≡ operator_of (label_e e) → Operated e (operator_of (label_e e)) → Sides or e x y left right
-      go q (conj a b k is) = absurd (ny (q ∙ k))
+      go : P.Some op ≡ operator_of (label_e e) → Operated e (operator_of (label_e e)) → Sides or e x y left right
+      go q (conj a b k is) = absurd (cc)
       go q (disj a b k is) = sides or e a b is h
-      go q (other k is) = absurd (nz (q ∙ k))
+      go q (other k is) = absurd (cc)
 
 module _ {o : Op} {e : Expr} {x y : ℕ} {left right : List ℕ} (u : Sides o e x y left right) where
   -- the columns of the operands
@@ -161,16 +148,16 @@ module _ {o : Op} {e : Expr} {x y : ℕ} {left right : List ℕ} (u : Sides o e 
 
 module _ (c : Name → Bool) (e : Expr) where
   -- an expression without an operator
-  other_clause : operator_of (label_e e) ≡ 0 → extract_or_clause c e ≡ guarded (on_cols c e) e
+  other_clause : operator_of (label_e e) ≡ P.None → extract_or_clause c e ≡ guarded (on_cols c e) e
   other_clause z = go (operated e)
     where
       go : Operated e (operator_of (label_e e)) → extract_or_clause c e ≡ guarded (on_cols c e) e
-      go (conj a b k is) = absurd (omega arith)
-      go (disj a b k is) = absurd (omega arith)
+      go (conj a b k is) = absurd (cc)
+      go (disj a b k is) = absurd (cc)
       go (other k is) = is c
 
   -- any other yields if it reads the side alone
-  pub other_yields : {op : ℕ} → op ≡ operator_of (label_e e) → op ≡ 0 → on_cols c e ≡ yields (extract_or_clause c e)
+  pub other_yields : {op : P.Option Connective} → op ≡ operator_of (label_e e) → op ≡ P.None → on_cols c e ≡ yields (extract_or_clause c e)
   unfolding guarded
   other_yields is z = sym (ap yields (other_clause (sym is ∙ z)) ∙ go (on_cols c e))
     where
@@ -178,7 +165,7 @@ module _ (c : Name → Bool) (e : Expr) where
       go true = refl
       go false = refl
 
-  pub other_whole : {op : ℕ} {d : Expr} → op ≡ operator_of (label_e e) → op ≡ 0 → extract_or_clause c e ≡ some d → e ≡ d
+  pub other_whole : {op : P.Option Connective} {d : Expr} → op ≡ operator_of (label_e e) → op ≡ P.None → extract_or_clause c e ≡ some d → e ≡ d
   unfolding guarded
   other_whole {op} {d} is z h = go (on_cols c e) (sym (other_clause (sym is ∙ z)) ∙ h)
     where
@@ -220,15 +207,12 @@ module _ (c : Name → Bool) {e : Expr} {x y : ℕ} {left right : List ℕ} wher
 
 -- ---- which operands are part of the clause
 
-pub kept_or : {op : ℕ} (x : Option Expr) → op ≡ 2 → true ≡ kept op x
-kept_or {op} x e = rw (eq-eqb op 2 e)
+pub kept_or : {op : Connective} (x : Option Expr) → op ≡ Or → true ≡ kept op x
+kept_or x e = rw e refl
 
-kept_some : (op : ℕ) (a : Expr) → kept op (some a) ≡ true
-kept_some op a = go (eqb op 2)
-  where
-    go : (b : Bool) → (b || true) ≡ true
-    go true = refl
-    go false = refl
+kept_some : (op : Connective) (a : Expr) → kept op (some a) ≡ true
+kept_some And a = refl
+kept_some Or a = refl
 
 differ : {A : Type 0} {b : Bool} → true ≡ b → false ≡ b → A
 differ h k = let z : ◌≡◌ {A = ℕ} 0 1 = cc in absurd (omega arith)
@@ -253,9 +237,9 @@ pub record Both (x y : ℕ) (left right : List ℕ) (ns : List Name) (c : Name �
   pub is : clause ≡ bin op lhs rhs
   pub label : label_e e ≡ label_e (bin op lhs rhs)
 
-module _ {part left right : List ℕ} {base x y op : ℕ} (p : x ≡ word part 24) (q : left ≡ drop (32 * (x - base)) part)
+module _ {part left right : List ℕ} {base x y : ℕ} {op : Connective} (p : x ≡ word part 24) (q : left ≡ drop (32 * (x - base)) part)
     (r : y ≡ word left 28)
-    (s : right ≡ drop (32 * (y - base)) part) (is : op ≡ operator_of (label_at part)) (nz : op ≡ 0 → ⊥)
+    (s : right ≡ drop (32 * (y - base)) part) (is : P.Some op ≡ operator_of (label_at part))
     (ns : List Name) (c : Name → Bool) (e d : Expr) (h : At (expr_tree e) part base) (held : on_cols (has ns) e ≡ true)
     (gives : extract_or_clause c e ≡ some d) where
   first_of : {o : Op} {a : Expr} (u : Sides o e x y left right) → extract_or_clause c u.lhs ≡ some a → Half left x ns c a
@@ -265,13 +249,13 @@ module _ {part left right : List ℕ} {base x y op : ℕ} (p : x ≡ word part 2
   last_of u k = record { expr = u.rhs; at = u.at_right; held = held_right u (has ns) held; yields = k }
 
   -- by the operator
-  by_op : {A : Type 0} → (op ≡ 1 → Sides and e x y left right → A) → (op ≡ 2 → Sides or e x y left right → A) → A
+  by_op : {A : Type 0} → (op ≡ And → Sides and e x y left right → A) → (op ≡ Or → Sides or e x y left right → A) → A
   by_op {A} f g = go (op_is e is h) (operated e)
     where
-      go : op ≡ operator_of (label_e e) → Operated e (operator_of (label_e e)) → A
-      go n (conj a b k z) = f (n ∙ k) (sides p q r s and e a b z h)
-      go n (disj a b k z) = g (n ∙ k) (sides p q r s or e a b z h)
-      go n (other k z) = absurd (nz (n ∙ k))
+      go : P.Some op ≡ operator_of (label_e e) → Operated e (operator_of (label_e e)) → A
+      go n (conj a b k z) = f (cc) (sides p q r s and e a b z h)
+      go n (disj a b k z) = g (cc) (sides p q r s or e a b z h)
+      go n (other k z) = absurd (cc)
 
   -- the first is not: it is an AND, and the clause is that of the second
   pub only_last : ((a : Expr) → At (expr_tree a) left x → on_cols (has ns) a ≡ true → false ≡ kept op (extract_or_clause c a))
@@ -311,10 +295,10 @@ module _ {part left right : List ℕ} {base x y op : ℕ} (p : x ≡ word part 2
       (sym (of_and c u) ∙ gives))
       (λ two u. ored u (extract_or_clause c u.lhs) (extract_or_clause c u.rhs) refl refl (sym (of_or c u) ∙ gives))
     where
-      none_kept : op ≡ 1 → kept op none ≡ false
-      none_kept one = rw one
+      none_kept : op ≡ And → kept op none ≡ false
+      none_kept one = rw one refl
 
-      anded : op ≡ 1 → (u : Sides and e x y left right) (a b : Option Expr) → extract_or_clause c u.lhs ≡ a
+      anded : op ≡ And → (u : Sides and e x y left right) (a b : Option Expr) → extract_or_clause c u.lhs ≡ a
           → extract_or_clause c u.rhs ≡ b
           → true ≡ kept op a → true ≡ kept op b → either_and_option a b ≡ some d → Both x y left right ns c e d
       anded one u none b i j k l m = differ k (sym (none_kept one))
@@ -343,7 +327,13 @@ pub standing_readable : {s : List ℕ} {n : ℕ} {e : Expr} → Standing s n e �
 standing_readable {s} {n} {e} h small =
     record { expr = e; at = h.here; some = omega arith; deep = h.deep; room = rw length-drop (omega (arith, h.within)) }
 
-or_operator : (e : Expr) → is_or e ≡ eqb (operator_of (label_e e)) 2
+-- it is Or
+abbrev is_disj : P.Option Connective → Bool
+is_disj P.None = false
+is_disj (P.Some And) = false
+is_disj (P.Some Or) = true
+
+or_operator : (e : Expr) → is_or e ≡ is_disj (operator_of (label_e e))
 unfolding label_e operator_of is_or
 or_operator (bin and a b) = refl
 or_operator (bin or a b) = refl
@@ -363,12 +353,17 @@ or_operator (between n a l u) = refl
 or_operator (inlist n a xs) = refl
 or_operator (fn p q r xs) = refl
 
-module _ (c : Name → Bool) (e : Expr) {op : ℕ} (is : op ≡ operator_of (label_e e)) where
-  pub or_top : op ≡ 2 → extract_or_clause c e ≡ or_clause c e
-  or_top z = rw (or_operator e, ← is, eq-eqb op 2 z)
+module _ (c : Name → Bool) (e : Expr) {op : P.Option Connective} (is : op ≡ operator_of (label_e e)) where
+  pub or_top : op ≡ P.Some Or → extract_or_clause c e ≡ or_clause c e
+  or_top z = rw (or_operator e, ← is, z)
 
-  pub no_or_top : (op ≡ 2 → ⊥) → false ≡ yields (or_clause c e)
-  no_or_top nz = rw (or_operator e, ← is, ne_eqb op 2 nz)
+  pub no_or_top : (op ≡ P.Some Or → ⊥) → false ≡ yields (or_clause c e)
+  no_or_top nz = rw (or_operator e, ← is, none_of op nz)
+    where
+      none_of : (op : P.Option Connective) → (op ≡ P.Some Or → ⊥) → is_disj op ≡ false
+      none_of P.None nz = refl
+      none_of (P.Some And) nz = refl
+      none_of (P.Some Or) nz = absurd (nz refl)
 
 pub or_false : (c : Name → Bool) (e : Expr) → e ≡ bool false → false ≡ yields (or_clause c e)
 unfolding is_or

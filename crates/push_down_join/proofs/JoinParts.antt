@@ -12,10 +12,12 @@ use mathlib.Core.Option.{Option, some}
 use Prim.Native.Nat.{ℕ, suc, ◌+◌, ◌*◌, ◌≤◌, ◌<◌}
 use native.Mathlib.Omega.{arith}
 use native.Mathlib.Nat.{le_trans, le-max_left}
-use lib.Dec.{eqb}
-use borrow.Author.Tests.{ne_eqb}
+use lib.Dec.{eqb, ltb}
+use borrow.Author.Tests.{le-ltb, lt-ltb, ne_eqb}
 use lib.ListN.{length, drop, length-drop}
 use lib.Seq.{length-sets}
+use Rattle.std.specs.Prelude as P
+use Rattle.std.specs.Bool.{then_some}
 use Rattle.image.specs.Limits.{work_bytes, no_room, max_below}
 use Rattle.image.specs.Room.{Wrote}
 use Rattle.image.specs.Tree.{Label, Forest, none, node, Tree, At, size}
@@ -143,36 +145,29 @@ module _ {s : List ℕ} {n : ℕ} where
   last_room (no_filter room kind) = room
   last_room (a_filter h pos kind) = omega (arith, h.here.head.room, length-drop (32 * n) s, h.within)
 
-  pub last_own : {f : Option Expr} → Last s n f → word (drop (32 * n) s) 0 < 32 → FilterOf s n f
-  last_own (no_filter room kind) lt = absurd (omega arith)
-  last_own (a_filter h pos kind) lt = has_one h pos
+  pub last_filter : {f : Option Expr} (w : ℕ) → w ≡ word (drop (32 * n) s) 0 → Last s n f → FilterOf s (then_some (ltb w 32) n) f
+  last_filter w e (no_filter room kind) = rw (e, le-ltb (word (drop (32 * n) s) 0) 32 kind) has_none
+  last_filter w e (a_filter h pos kind) = rw (e, lt-ltb (word (drop (32 * n) s) 0) 32 kind) (has_one h pos)
 
-  pub last_bare : {f : Option Expr} → Last s n f → 32 ≤ word (drop (32 * n) s) 0 → FilterOf s 0 f
-  last_bare (no_filter room kind) le = has_none refl
-  last_bare (a_filter h pos kind) le = absurd (omega arith)
-
-  pub own_there : {f : Option Expr} → FilterOf s n f → (n ≡ 0 → ⊥) → There s n × (0 < n)
-  own_there (has_none e) nz = absurd (nz e)
-  own_there (has_one {e} h pos) nz = (record { expr = e; standing = h }, pos)
+  pub own_there : {f : Option Expr} → FilterOf s (P.Some n) f → There s n × (0 < n)
+  own_there (has_one {e = e} h pos) = (record { expr = e; standing = h }, pos)
 
 -- what is split at the filter
 pub own_reads : {s : List ℕ} {x n : ℕ} {k : Kind} {l r : Plan} {on : List Pair} {f : Option Expr} {z : Conjuncts} → Placed s x (join k l r on f)
-    → FilterOf s n f → (n ≡ 0 → ⊥) → ((e : Expr) → Standing s n e → Lists s z (split_conjunction e))
+    → FilterOf s (P.Some n) f → ((e : Expr) → Standing s n e → Lists s z (split_conjunction e))
     → Reads s (schema l ++ schema r) z (split_conjunction? f)
 unfolding split_conjunction? rule list_p
-own_reads p (has_none e) nz g = absurd (nz e)
-own_reads {l = l} {r} p (has_one {e} h pos) nz g = record {
+own_reads {l = l} {r} p (has_one {e = e} h pos) g = record {
   lists = g e h;
   over = split_cols (has (schema l ++ schema r)) e (and_l _ _ (and_r _ _ (and_r _ _ p.rules)));
   most = (known_of (g e h) (le_trans (le-max_left (length (split_conjunction e)) _) p.lists)).most;
 }
 
 -- where there is none
-pub own_none : {s : List ℕ} {n : ℕ} {f : Option Expr} {ns : List Name} {z : Conjuncts} → FilterOf s n f → n ≡ 0 → Reads s ns z []
+pub own_none : {s : List ℕ} {f : Option Expr} {ns : List Name} {z : Conjuncts} → FilterOf s P.None f → Reads s ns z []
     → Reads s ns z (split_conjunction? f)
 unfolding split_conjunction?
-own_none (has_none e) z h = h
-own_none (has_one t pos) z h = absurd (omega arith)
+own_none has_none h = h
 
 -- ---- the keys
 

@@ -2,10 +2,10 @@
 --     left_some, ..   what a join's lists are to the functions that write them
 --     join_wrote      the label, the inputs, the keys and the filter, one after the other
 -- Assumes nothing.
-use mathlib.Core.Path.{◌≡◌, sym, ap, subst, ◌∙◌}
+use mathlib.Core.Path.{◌≡◌, refl, sym, ap, subst, ◌∙◌}
 use mathlib.Core.List.{List, [], ◌∷◌, ◌++◌, append_assoc}
 use mathlib.Core.Option.{Option}
-use Prim.Native.Nat.{ℕ, ◌+◌, ◌*◌, ◌≤◌}
+use Prim.Native.Nat.{ℕ, ◌+◌, ◌-◌, ◌*◌, ◌≤◌}
 use lib.ListN.{length, drop}
 use Rattle.image.specs.Limits.{work_bytes, max_list}
 use Rattle.image.specs.Room.{Put, Wrote}
@@ -13,7 +13,8 @@ use Rattle.image.specs.Tree.{Label, none}
 use Rattle.image.specs.Word.{word}
 use Rattle.image.specs.Records.{Rec, recs, recs_any}
 use Rattle.plan.specs.Schema.{has, schema}
-use Rattle.plan.specs.Syntax.{Name, Expr, Pair, Kind, Plan, join}
+use Rattle.plan.specs.Read.{joins, nth}
+use Rattle.plan.specs.Syntax.{Name, Expr, Pair, Kind, inner, left, right, full, left_semi, right_semi, left_anti, right_anti, Plan, join}
 use Rattle.plan.specs.Trees.{join_number, label_p, kids_p, plan_tree, each, pair_label, pair_kids, filter_kids}
 use Rattle.conjuncts.specs.Items.{Conjuncts, Known}
 use Rattle.conjuncts.specs.Standing.{StandingP, Stretch}
@@ -92,6 +93,18 @@ join_at {s} e h z = record {
 pub asked : {s : List ℕ} {sc : Scope} {c : Conjuncts} {l r : List Name} {on : List Pair} {es : List Expr} → Scopes sc l r on → Reads s (l ++ r) c es
     → Asked s sc c
 asked {l = l} {r} {on} {es} sc h = record { lefts = l; rights = r; keys = on; exprs = es; scopes = sc; reads = h }
+
+-- the kind with a kind's number
+pub kind_numbered : (k : Kind) → nth inner joins (join_number k - 1) ≡ k
+unfolding nth
+kind_numbered inner = refl
+kind_numbered left = refl
+kind_numbered right = refl
+kind_numbered full = refl
+kind_numbered left_semi = refl
+kind_numbered right_semi = refl
+kind_numbered left_anti = refl
+kind_numbered right_anti = refl
 
 pub kind_is : {s part : List ℕ} {x n : ℕ} {k : Kind} {l r : Plan} {on : List Pair} {f : Option Expr} → StandingP s x (join k l r on f)
     → part ≡ drop (32 * x) s → n ≡ word part 4 → n ≡ join_number k

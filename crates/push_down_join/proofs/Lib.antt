@@ -1,4 +1,3 @@
-pub mod Preserved
 pub mod Partnering
 pub mod Growing
 pub mod Siding

@@ -23,7 +23,7 @@ use Rattle.rewrite.specs.PushDownFilter.{is_or, extract_or_clause, extract_or_cl
 use Rattle.rewrite.specs.PushDownFilter as P
 use Rattle.conjuncts.specs.Items.{Conjuncts, FALSE, listed, Holds, Item, Items, inil, icons, Lists, Known, replaced_by, clause_by}
 use Rattle.conjuncts.specs.Standing.{Standing}
-use Rattle.conjuncts.proofs.Listed.{count_is, whole, lists_room, lists_at, next, at_end}
+use Rattle.conjuncts.proofs.Listed.{whole, lists_length, lists_room, lists_at, next, at_end}
 use Rattle.push_down_join.specs.Clauses.{or_clause, yields}
 use Rattle.writing.specs.Pushed.{Pushed, Each, nil, cons}
 use Rattle.writing.proofs.Pushing.{pushed_plain, pushed_changed}
@@ -34,18 +34,18 @@ use Rattle.push_down_join.specs.Sides.{ClauseOf, Sided, Sides, Smalls}
 pub smalls_of : {s : List ℕ} {c : Conjuncts} → Known s c → Smalls c
 smalls_of h = record { most = h.most; room = lists_room h.lists h.most; each = λ i lt. (lists_at h.lists h.most i _ lt refl).small }
 
--- so many are appended
-pub append_step : (m i x : ℕ) (xs ys : List ℕ) {c : Conjuncts} → Holds c ys → c.len ≤ max_list → i < c.len → x ≡ get_or (listed c) i 0
-    → (xs ++ map (λ y. y + m) (take i ys)) ++ ((x + m) ∷ []) ≡ xs ++ map (λ y. y + m) (take (i + 1) ys)
-append_step m i x xs ys h small lt e =
-    let n = count_is h small in
-    let l : i < length ys = omega arith in
-    let k : x ≡ get_or ys i 0 = rw (← whole h small) e in
-    rw (add-one, take-suc ys i 0 l, map-append, k) (append_assoc xs (map (λ y. y + m) (take i ys)) ((get_or ys i 0 + m) ∷ []))
+-- so many are appended, of the items of a list that is whole
+module _ {c : Conjuncts} {items ys : List ℕ} (h : Holds c ys) (small : c.len ≤ max_list) (is : items ≡ listed c) (i : ℕ) where
+  pub append_step : (m x : ℕ) (xs : List ℕ) → i < length items → x ≡ get_or items i 0
+      → (xs ++ map (λ y. y + m) (take i ys)) ++ ((x + m) ∷ []) ≡ xs ++ map (λ y. y + m) (take (i + 1) ys)
+  append_step m x xs lt e =
+      let k : x ≡ get_or ys i 0 = rw (is ∙ whole h small) at e in
+      let l : i < length ys = rw (is ∙ whole h small) at lt in
+      rw (add-one, take-suc ys i 0 l, map-append, k) (append_assoc xs (map (λ y. y + m) (take i ys)) ((get_or ys i 0 + m) ∷ []))
 
--- all are
-pub append_end : (i : ℕ) (ys : List ℕ) {c : Conjuncts} → Holds c ys → c.len ≤ max_list → c.len ≤ i → take i ys ≡ ys
-append_end i ys h small le = let n = count_is h small in take_all i ys (omega arith)
+  -- all are
+  pub append_end : length items ≤ i → take i ys ≡ ys
+  append_end le = take_all i ys (rw (is ∙ whole h small) at le)
 
 -- ---- what is written
 
@@ -124,6 +124,14 @@ module _ {s : List ℕ} {σ : Name → Expr} {ns : List Name} {t : Name → Bool
         }
 
 -- ---- the clauses of a list
+
+-- in a loop over the items of a list that is whole: the item that is met at i, and how many there are
+module _ {s : List ℕ} {c : Conjuncts} {es : List Expr} (h : Lists s c es) (small : c.len ≤ max_list) {items : List ℕ} (is : items ≡ listed c) where
+  pub walk_all : length items ≡ length es
+  walk_all = ap length is ∙ (lists_room h small ∙ sym (lists_length h small))
+
+  pub walk_item : (i n : ℕ) → i < length items → n ≡ get_or items i 0 → Item s n (get_or es i FALSE)
+  walk_item i n lt e = lists_at h small i n (omega (arith, walk_all, lists_length h small)) (e ∙ ap (λ xs. get_or xs i 0) is)
 
 -- one by one
 pub clauses_each : (t : Name → Bool) (es : List Expr) → extract_or_clauses_for_join t es ≡ flatten (λ e. P.listed (or_clause t e)) es

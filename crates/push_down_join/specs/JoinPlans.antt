@@ -1,4 +1,5 @@
 -- What the writing of a join is asked and answers: the lists that move, and the join over them.
+use Rattle.std.specs.Prelude as P
 use Rattle.std.specs.Prelude.{◌≡◌, not, List, [], ◌++◌, ℕ, ◌+◌, ◌≤◌, ◌<◌, eqb, length}
 use Rattle.std.proofs.Math.Option as O
 use Rattle.std.proofs.Math.Option.{Option, some}
@@ -39,10 +40,10 @@ pub record JoinPart (part : List ℕ) (x : ℕ) : Type 0 where
   pub stretch : Stretch image x part
   pub here : JoinHere image x
 
--- the filter of a join stands at record n, or n is 0 and it has none
-pub data FilterOf (s : List ℕ) (n : ℕ) : Option Expr → Type 0 where
-  has_none : n ≡ 0 → FilterOf s n O.none
-  has_one : {e : Expr} → Standing s n e → 0 < n → FilterOf s n (some e)
+-- the filter of a join stands at this record, or it has none
+pub data FilterOf (s : List ℕ) : P.Option ℕ → Option Expr → Type 0 where
+  has_none : FilterOf s P.None O.none
+  has_one : {n : ℕ} {e : Expr} → Standing s n e → 0 < n → FilterOf s (P.Some n) (some e)
 
 -- a join stands at record x, and the conjuncts c are over its inputs
 pub record JoinUnder (s : List ℕ) (x : ℕ) (c : Conjuncts) : Type 0 where

@@ -1,5 +1,6 @@
 -- The partners of columns by the keys of a join, read off its records.
-use Rattle.std.specs.Prelude.{◌≡◌, cond, List, map, ◌<◌, eqb}
+use Rattle.std.specs.Prelude as P
+use Rattle.std.specs.Prelude.{cond, List, map, eqb}
 use Rattle.std.proofs.Math.Option as O
 use Rattle.std.proofs.Math.Option.{Option, some}
 use Rattle.image.specs.Tree.{Label, Forest, none, node}
@@ -7,33 +8,19 @@ use Rattle.plan.specs.Kinds as K
 use Rattle.plan.specs.Kinds.{number_e, number_q, PairPart}
 use Rattle.plan.specs.Syntax.{Name, nm}
 use Rattle.rewrite.specs.PushDownFilter.{pair_of, no_partner}
-use Rattle.utils.specs.Fields.{Names}
+use Rattle.utils.specs.Fields.{Names, named}
 use Rattle.utils.specs.Masks.{Masks}
-use Rattle.push_down_join.specs.declared.infer_join_predicates.Column as column
-use Rattle.push_down_join.specs.declared.infer_join_predicates.Column.TheVariants.{Is, Nothing}
+use Rattle.utils.specs.declared.schema_columns.ColumnReference.{ColumnReference}
 use Rattle.push_down_join.specs.declared.infer_join_predicates.Swapped as swapped
 
--- the types of the code
-abbrev pub Column : Type 0
-Column = column.Column
-
+-- the struct of the code
 abbrev pub Swapped : Type 0
 Swapped = swapped.Swapped
 
--- the name of the code's column
-abbrev pub name_of : Column → Option Name
-name_of (Is q n) = some (nm q n)
-name_of Nothing = O.none
-
--- 32 bits hold both parts of it
-abbrev pub SmallColumn : Column → Type 0
-SmallColumn (Is q n) = (q < 4294967296) × (n < 4294967296)
-SmallColumn Nothing = Unit {0}
-
--- the code's column is this name, or none
-pub record Told (c : Column) (o : Option Name) : Type 0 where
-  pub is : name_of c ≡ o
-  pub small : SmallColumn c
+-- the name of the code's column, if there is one
+abbrev pub name_of : P.Option ColumnReference → Option Name
+name_of P.None = O.none
+name_of (P.Some x) = some (named x)
 
 -- the name of a record that is a column
 abbrev pub column_of : Label → Option Name

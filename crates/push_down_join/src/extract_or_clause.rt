@@ -18,7 +18,7 @@ ghost use Rattle.push_down_join.specs.Clauses.{kept, operator_of, or_clause, yie
 ghost use Rattle.push_down_join.specs.Sides.{Sides};
 
 use conjuncts::items::CLAUSE;
-use conjuncts::lists::{Conjuncts, add, item_at};
+use conjuncts::lists::{Conjuncts, add};
 use image::copying::{copy_tree, put_label};
 use image::limits::{MAX_DEPTH, MAX_RECORDS, NO_ROOM};
 use image::records::{FIRST_LINK, KIND, NEXT_LINK, P, from_record, record_at};
@@ -57,29 +57,34 @@ pub fn extract_or_clauses_for_join(
         Lists s.now c fs → Names fields ns → All (λ e. on_cols (has ns) e ≡ true) fs → Masks side ns t →
         Sides s.now σ ns t result (es ++ extract_or_clauses_for_join t fs) }
 {
-    let n = c.len;
     let mut r = to;
-    let mut i = 0;
-    while i < n {
-        r = add_clause(s, r, item_at(c, i), fields, side);
-        i += 1;
+    for n in c.items() {
+        r = add_clause(s, r, usize::from(*n), fields, side);
     }
     r
 }
 
-// The operator of the expression at the start of `part`, if it is And or Or; 0 for any other and for none.
-pub fn operator(part: &[u8]) -> usize
+// The operators by which a clause is put together.
+#[derive(Clone, Copy, Debug, PartialEq, Eq)]
+pub enum Connective {
+    And,
+    Or,
+}
+
+// The operator of the expression at the start of `part`, if it is And or Or.
+#[tactic(auto, unfolding(crate::specs::Clauses::operator_of))]
+pub fn operator(part: &[u8]) -> Option<Connective>
     requires { 32 ≤ length part.now }
     ensures { result ≡ operator_of (label_at part.now) }
 {
     if word_at(part, KIND) != BINARY_EXPR {
-        return 0;
+        return None;
     }
-    let p = word_at(part, P);
-    if p <= OR {
-        return p;
+    match word_at(part, P) {
+        AND => Some(Connective::And),
+        OR => Some(Connective::Or),
+        _ => None,
     }
-    0
 }
 
 // Whether the expression at the start of `part` yields a clause that reads fields of the side only; `copy_clause` writes it.
@@ -90,30 +95,36 @@ pub fn extract_or_clause(part: &[u8], base: usize, depth: usize, f: Fields, side
     ensures { (e : Expr) (ns : List Name) (c : Name → Bool) → At (expr_tree e) part.now base → Names f ns
         → on_cols (has ns) e ≡ true → Masks side ns c → result ≡ yields (extract_or_clause c e) }
 {
-    let op = operator(part);
-    if op == 0 {
+    let Some(op) = operator(part) else {
         return has_all_column_refs(part, base, depth, f, side);
-    }
+    };
     let x = word_at(part, FIRST_LINK);
     let left = from_record(part, base, x);
     let y = word_at(left, NEXT_LINK);
     let right = from_record(part, base, y);
-    if op == AND {
-        return extract_or_clause(left, x, depth - 1, f, side)
-            || extract_or_clause(right, y, depth - 1, f, side);
+    match op {
+        Connective::And => {
+            extract_or_clause(left, x, depth - 1, f, side)
+                || extract_or_clause(right, y, depth - 1, f, side)
+        }
+        Connective::Or => {
+            extract_or_clause(left, x, depth - 1, f, side)
+                && extract_or_clause(right, y, depth - 1, f, side)
+        }
     }
-    extract_or_clause(left, x, depth - 1, f, side)
-        && extract_or_clause(right, y, depth - 1, f, side)
 }
 
 // Whether an operand is part of the clause of an AND or OR that yields one: of an OR each is, of an AND each that yields.
-fn is_kept(op: usize, part: &[u8], base: usize, depth: usize, f: Fields, side: u64) -> bool
+fn is_kept(op: Connective, part: &[u8], base: usize, depth: usize, f: Fields, side: u64) -> bool
     requires readable_e { ReadableE depth part.now base }
     requires len_le_max_fields { f.len ≤ max_fields }
     ensures { (e : Expr) (ns : List Name) (c : Name → Bool) → At (expr_tree e) part.now base → Names f ns
         → on_cols (has ns) e ≡ true → Masks side ns c → result ≡ kept op (extract_or_clause c e) }
 {
-    (op == OR) || extract_or_clause(part, base, depth, f, side)
+    match op {
+        Connective::And => extract_or_clause(part, base, depth, f, side),
+        Connective::Or => true,
+    }
 }
 
 // Writes that clause flat, from record `at` on, and returns the record after it. There must be one.
@@ -139,10 +150,9 @@ pub fn copy_clause(
     if MAX_RECORDS <= at {
         return NO_ROOM;
     }
-    let op = operator(part);
-    if op == 0 {
+    let Some(op) = operator(part) else {
         return copy_tree(part, base, depth, out, at, level);
-    }
+    };
     let x = word_at(part, FIRST_LINK);
     let left = from_record(part, base, x);
     let y = word_at(left, NEXT_LINK);
@@ -170,7 +180,10 @@ pub fn or_clause_at(s: &[u8], n: usize, f: Fields, side: u64) -> bool
         return false;
     }
     let part = record_at(s, n);
-    (operator(part) == OR) && extract_or_clause(part, n, MAX_DEPTH, f, side)
+    match operator(part) {
+        Some(Connective::Or) => extract_or_clause(part, n, MAX_DEPTH, f, side),
+        _ => false,
+    }
 }
 
 // Writes that clause flat, from record `at` on, and returns the record after it. There must be one.

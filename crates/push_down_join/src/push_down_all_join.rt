@@ -4,8 +4,8 @@ ghost use Rattle.std.proofs.Math.Option.{Option};
 ghost use Rattle.image.specs.Limits.{max_fields, max_list, work_bytes};
 ghost use Rattle.plan.specs.Schema.{schema};
 ghost use Rattle.plan.specs.Syntax.{Expr, Kind, Name, Pair, Plan, join};
-ghost use Rattle.plan.specs.Trees.{join_number};
-ghost use Rattle.rewrite.specs.PushDownFilter.{extract_or_clauses_for_join, if_list, push_down_all_join, push_down_join, rewrite_filter};
+ghost use Rattle.plan.specs.WordValues.{join_of};
+ghost use Rattle.rewrite.specs.PushDownFilter.{extract_or_clauses_for_join, if_list, is_inner, push_down_all_join, push_down_join, rewrite_filter};
 ghost use Rattle.rewrite.specs.Utils.{replace_cols, split_conjunction?};
 ghost use Rattle.conjuncts.specs.Items.{Holds, clause_by};
 ghost use Rattle.conjuncts.specs.Standing.{StandingP, Stretch};
@@ -25,12 +25,13 @@ use crate::infer_join_predicates::infer_join_predicates;
 use crate::lr_is_preserved::{Preserved, is_inner, lr_is_preserved, on_lr_is_preserved};
 use crate::write_sides::{Moves, write_kept};
 use conjuncts::items::REPLACED;
-use conjuncts::lists::{Conjuncts, add, empty, item_at};
+use conjuncts::lists::{Conjuncts, add, empty};
 use conjuncts::split_conjunction::split_at;
 use image::limits::{MAX_LIST, NO_ROOM};
 use image::records::{KIND, NEXT_LINK, P, from_record};
 use image::words::word_at;
 use plan::kinds::FIRST_PLAN;
+use plan::words::JoinKind;
 use push_down_base::inputs::last_child;
 use push_down_base::parting::{push_not, push_to, select_side};
 use push_down_base::predicates::{Predicate, Written};
@@ -42,12 +43,9 @@ pub fn append(to: Conjuncts, c: Conjuncts, more: usize) -> Conjuncts
     requires { Smalls c × (more ≤ clause_by) }
     ensures { (xs ys : List ℕ) → Holds to xs → Holds c ys → Holds result (xs ++ map (λ y. y + more) ys) }
 {
-    let n = c.len;
     let mut r = to;
-    let mut i = 0;
-    while i < n {
-        r = add(r, item_at(c, i) + more);
-        i += 1;
+    for n in c.items() {
+        r = add(r, usize::from(*n) + more);
     }
     r
 }
@@ -98,14 +96,14 @@ pub struct Parts {
 
 // The parts of the list c, by the sides that are preserved; others are inferred of it if the join is Inner. What moves to the left input
 // does not move to the right one as well.
-fn parts_of(s: &[u8], c: Conjuncts, sc: Scope, sides: Preserved, inner: bool) -> Parts
+fn parts_of(s: &[u8], c: Conjuncts, sc: Scope, sides: Preserved, kind: JoinKind) -> Parts
     requires { Asked s.now sc c }
     ensures { (l r : List Name) (on : List Pair) (es : List Expr) → Scopes sc l r on → Reads s.now (l ++ r) c es →
-        PartsOf s.now sides.left sides.right inner l r on es result }
+        PartsOf s.now sides.left sides.right (is_inner (join_of kind)) l r on es result }
 {
     let stay = push_not(s, c, sc.fields, sc.left, sides.left);
     let rest = push_not(s, stay, sc.fields, sc.right, sides.right);
-    let keyed = infer_join_predicates(s, c, sc, inner);
+    let keyed = infer_join_predicates(s, c, sc, kind);
     let keyed_stay = select_side(s, keyed, sc.fields, sc.leftward, false);
     let left = Part {
         moved: push_to(s, c, sc.fields, sc.left, sides.left),
@@ -122,16 +120,16 @@ fn parts_of(s: &[u8], c: Conjuncts, sc: Scope, sides: Preserved, inner: bool) ->
 
 // The lists of a join of this kind, of the predicates p above it and those of its own filter, g. What moves to no input becomes a condition
 // of an Inner join, and stays above any other.
-pub fn moves_of(s: &[u8], p: Conjuncts, g: Conjuncts, sc: Scope, kind: usize) -> Moves
+pub fn moves_of(s: &[u8], p: Conjuncts, g: Conjuncts, sc: Scope, kind: JoinKind) -> Moves
     requires asked { Asked s.now sc p × Asked s.now sc g }
     requires s_len_bound { length s.now ≤ work_bytes }
-    ensures { (k : Kind) (l r : List Name) (on : List Pair) (P G : List Expr) (σ : Name → Expr) → kind ≡ join_number k →
+    ensures { (k : Kind) (l r : List Name) (on : List Pair) (P G : List Expr) (σ : Name → Expr) → join_of kind ≡ k →
         Scopes sc l r on → Reads s.now (l ++ r) p P → Reads s.now (l ++ r) g G → Swapper σ (l ++ r) on →
         Moved s.now σ result k l r on P G }
 {
     let inner = is_inner(kind);
-    let above = parts_of(s, p, sc, lr_is_preserved(kind), inner);
-    let own = parts_of(s, g, sc, on_lr_is_preserved(kind), inner);
+    let above = parts_of(s, p, sc, lr_is_preserved(kind), kind);
+    let own = parts_of(s, g, sc, on_lr_is_preserved(kind), kind);
     let left_push = side_push(s, above.left, own.left, sc.fields, sc.left);
     let right_push = side_push(s, above.right, own.right, sc.fields, sc.right);
     let join_conditions = if_list(inner, above.rest);
@@ -164,17 +162,23 @@ pub fn right_input(part: &[u8], x: usize) -> usize
     word_at(from_record(part, x, x + 1), NEXT_LINK)
 }
 
-// The record of its filter, or 0 where it has none: it is the last child, and the only one that is an expression.
-pub fn filter_of(part: &[u8], x: usize) -> usize
+// Its kind.
+pub fn join_kind(part: &[u8], x: usize) -> JoinKind
+    requires { JoinPart part.now x }
+    ensures { (s : List ℕ) (k : Kind) (l r : Plan) (on : List Pair) (f : Option Expr) → Stretch s x part.now →
+        Placed s x (join k l r on f) → join_of result ≡ k }
+{
+    JoinKind::of(word_at(part, P))
+}
+
+// The record of its filter, if it has one: it is the last child, and the only one that is an expression.
+pub fn filter_of(part: &[u8], x: usize) -> Option<usize>
     requires { JoinPart part.now x }
     ensures { (s : List ℕ) (k : Kind) (l r : Plan) (on : List Pair) (f : Option Expr) → Stretch s x part.now →
         Placed s x (join k l r on f) → FilterOf s result f }
 {
     let y = last_child(part, x);
-    if word_at(from_record(part, x, y), KIND) < FIRST_PLAN {
-        return y;
-    }
-    0
+    (word_at(from_record(part, x, y), KIND) < FIRST_PLAN).then_some(y)
 }
 
 // The conjuncts of that filter; `part` is the stretch of the image s that begins at record x.
@@ -184,11 +188,10 @@ pub fn own_filter(s: &[u8], part: &[u8], x: usize) -> Conjuncts
     ensures { (k : Kind) (l r : Plan) (on : List Pair) (f : Option Expr) → Placed s.now x (join k l r on f) →
         Reads s.now (schema l ++ schema r) result (split_conjunction? f) }
 {
-    let y = filter_of(part, x);
-    if y == 0 {
-        return empty();
+    match filter_of(part, x) {
+        Some(y) => split_at(s, y, empty()),
+        None => empty(),
     }
-    split_at(s, y, empty())
 }
 
 // push_down_all_join: c is the predicates above the join at the start of `part`, record x of the image s, g those of its own filter.
@@ -213,7 +216,7 @@ fn push_down_all_join(
 {
     let z = right_input(part, x);
     let sc = join_scope(part, x, z);
-    let kind = word_at(part, P);
+    let kind = join_kind(part, x);
     let v = moves_of(s, c, g, sc, kind);
     // A list that is too long is written nowhere.
     if !fits(v) {

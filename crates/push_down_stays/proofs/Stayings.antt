@@ -8,6 +8,7 @@ use mathlib.Core.Option.{Option, none, some}
 use lib.Dec.{eqb}
 use lib.ListN.{length}
 use borrow.Author.Tests.{eqb-true, eqb-false}
+use Rattle.std.specs.Prelude as P
 use Rattle.image.proofs.Walking.{only}
 use Rattle.plan.specs.Columns.{on_cols}
 use Rattle.plan.specs.Schema.{schema}
@@ -57,19 +58,17 @@ kept_as e h = record { yes = λ y. h.yes (e ∙ y); no = λ n. h.no (e ∙ n) }
 
 -- ---- a join's own filter
 
-module _ {s : List ℕ} {n : ℕ} where
+module _ {s : List ℕ} where
   -- it is at record n
-  pub own_deep : {f : Option Expr} {b : Bool} → FilterOf s n f → (n ≡ 0 → ⊥) → ((e : Expr) → Standing s n e → Says b (LeftDeep e))
+  pub own_deep : {n : ℕ} {f : Option Expr} {b : Bool} → FilterOf s (P.Some n) f → ((e : Expr) → Standing s n e → Says b (LeftDeep e))
       → Says b (conjunction (split_conjunction? f) ≡ f)
   unfolding split_conjunction?
-  own_deep (has_none e) nz g = absurd (nz e)
-  own_deep (has_one {e} h pos) nz g = g e h
+  own_deep (has_one {e = e} h pos) g = g e h
 
   -- there is none
-  pub own_bare : {f : Option Expr} → FilterOf s n f → n ≡ 0 → Says true (conjunction (split_conjunction? f) ≡ f)
+  pub own_bare : {f : Option Expr} → FilterOf s P.None f → Says true (conjunction (split_conjunction? f) ≡ f)
   unfolding split_conjunction? conjunction
-  own_bare (has_none e) z = says_so refl
-  own_bare (has_one h pos) z = absurd (omega arith)
+  own_bare has_none = says_so refl
 
 no_conjuncts : (f : Option Expr) → length (split_conjunction? f) ≡ 0 → f ≡ none
 unfolding split_conjunction?

@@ -34,7 +34,7 @@ use push_down_arms::table_scan::share_of;
 use push_down_arms::through::takes_none;
 use push_down_base::predicates::{Predicate, is_gone};
 use push_down_join::column_checker::join_scope;
-use push_down_join::push_down_all_join::{filter_of, moves_of, own_filter, right_input};
+use push_down_join::push_down_all_join::{filter_of, join_kind, moves_of, own_filter, right_input};
 use push_down_merge::filter::{filter_input, simplify_filter};
 
 // Whether the filter of the join at the start of `part`, which is record x, is joined left-deep, if it has one.
@@ -44,11 +44,10 @@ fn own_left_deep(s: &[u8], part: &[u8], x: usize) -> bool
     ensures { (k : Kind) (l r : Plan) (on : List Pair) (f : Option Expr) → Placed s.now x (join k l r on f) →
         Says result (conjunction (split_conjunction? f) ≡ f) }
 {
-    let y = filter_of(part, x);
-    if y == 0 {
-        return true;
+    match filter_of(part, x) {
+        Some(y) => left_deep_at(s, y),
+        None => true,
     }
-    left_deep_at(s, y)
 }
 
 // Whether nothing of the predicates c above that join, and of those of its own filter, g, moves.
@@ -61,7 +60,7 @@ fn nothing_moves(s: &[u8], part: &[u8], x: usize, c: Conjuncts, g: Conjuncts) ->
 {
     let z = right_input(part, x);
     let sc = join_scope(part, x, z);
-    let kind = word_at(part, P);
+    let kind = join_kind(part, x);
     let v = moves_of(s, c, g, sc, kind);
     !v.flag
 }

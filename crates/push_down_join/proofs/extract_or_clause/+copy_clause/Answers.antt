@@ -11,34 +11,33 @@ pub returns-then-at-ge-MAX_RECORDS : goal.returns-then-at-ge-MAX_RECORDS
 returns-then-at-ge-MAX_RECORDS t c =
     λ e k ns d h g held m gives. wrote_past _ _ _ (expr_tree k) c.requires.out_len c.if-at-ge-MAX_RECORDS.true
 
-pub returns-then-op-eq0 : goal.returns-then-op-eq0
-returns-then-op-eq0 t c =
-    λ e k ns d h g held m gives. rw (← other_whole d e (op_is e c.operator-op.ensures h)
-    c.if-op-eq0.true gives)
+pub returns-in_default : goal.returns-in_default
+returns-in_default t c =
+    λ e k ns d h g held m gives. rw (← other_whole d e (op_is e c.operator.ensures h)
+    c.in_default.is gives)
     (c.copy_tree.ensures (expr_tree e) h)
 
 pub from_record-left-requires : goal.from_record-left-requires
 from_record-left-requires t c =
-    let u = parts_of c.requires.readable_e c.operator-op.ensures
-    c.if-op-eq0.false in rw c.word_at-x.ensures.0 (omega (arith, u.past), omega (arith, u.fits))
+    let u = parts_of c.requires.readable_e (sym c.in-Some.is ∙ c.operator.ensures) in rw c.word_at-x.ensures.0 (omega (arith, u.past), omega (arith, u.fits))
 
 pub word_at-y-requires : goal.word_at-y-requires
 word_at-y-requires t c =
     let u = parts_of c.requires.readable_e
-    c.operator-op.ensures c.if-op-eq0.false in
+    (sym c.in-Some.is ∙ c.operator.ensures) in
     rw (c.from_record-left.ensures, length-drop, c.word_at-x.ensures.0) (omega (arith, u.fits))
 
 pub from_record-right-requires : goal.from_record-right-requires
 from_record-right-requires t c =
     let u = parts_of c.requires.readable_e
-    c.operator-op.ensures c.if-op-eq0.false in
+    (sym c.in-Some.is ∙ c.operator.ensures) in
     rw (c.word_at-y.ensures.0, c.from_record-left.ensures, c.word_at-x.ensures.0)
     (omega (arith, u.past₂), omega (arith, u.fits₂))
 
 pub is_kept-requires-clause-readable_e : goal.is_kept-requires-clause-readable_e
 is_kept-requires-clause-readable_e t c =
     let u = parts_of c.requires.readable_e
-    c.operator-op.ensures c.if-op-eq0.false in
+    (sym c.in-Some.is ∙ c.operator.ensures) in
     let v = halves u c.word_at-x.ensures.0 c.from_record-left.ensures
     c.word_at-y.ensures.0 c.from_record-right.ensures in
     v.first
@@ -46,8 +45,7 @@ is_kept-requires-clause-readable_e t c =
 pub copy_clause-requires : goal.copy_clause-requires
 copy_clause-requires t c =
     let u = parts_of c.requires.readable_e
-    c.operator-op.ensures
-    c.if-op-eq0.false in let v = halves u
+    (sym c.in-Some.is ∙ c.operator.ensures) in let v = halves u
     c.word_at-x.ensures.0 c.from_record-left.ensures
     c.word_at-y.ensures.0 c.from_record-right.ensures in (
       omega (
@@ -78,8 +76,7 @@ returns-then-not-is_kept t c =
     c.from_record-left.ensures
     c.word_at-y.ensures.0
     c.from_record-right.ensures
-    c.operator-op.ensures
-    c.if-op-eq0.false ns d e k h held gives
+    (sym c.in-Some.is ∙ c.operator.ensures) ns d e k h held gives
     (λ a at on. sym c.if-not-is_kept.true
     ∙ c.is_kept.ensures a ns d at g on m) in
     c.copy_clause.ensures x.expr k ns d x.at g x.held m x.yields
@@ -87,16 +84,14 @@ returns-then-not-is_kept t c =
 pub is_kept-requires-2-clause-readable_e : goal.is_kept-requires-2-clause-readable_e
 is_kept-requires-2-clause-readable_e t c =
     let u = parts_of c.requires.readable_e
-    c.operator-op.ensures
-    c.if-op-eq0.false in
+    (sym c.in-Some.is ∙ c.operator.ensures) in
     let v = halves u c.word_at-x.ensures.0
     c.from_record-left.ensures c.word_at-y.ensures.0
     c.from_record-right.ensures in v.last
 
 pub copy_clause-requires-then-not-is_kept-2 : goal.copy_clause-requires-then-not-is_kept-2
 copy_clause-requires-then-not-is_kept-2 t c =
-    let u = parts_of c.requires.readable_e c.operator-op.ensures
-    c.if-op-eq0.false in let v = halves u
+    let u = parts_of c.requires.readable_e (sym c.in-Some.is ∙ c.operator.ensures) in let v = halves u
     c.word_at-x.ensures.0
     c.from_record-left.ensures
     c.word_at-y.ensures.0
@@ -129,8 +124,7 @@ returns-then-not-is_kept-2 t c =
     c.from_record-left.ensures
     c.word_at-y.ensures.0
     c.from_record-right.ensures
-    c.operator-op.ensures
-    c.if-op-eq0.false ns d e k h held
+    (sym c.in-Some.is ∙ c.operator.ensures) ns d e k h held
     gives
     (λ a at on. sym c.if-not-is_kept-2.true
     ∙ c.is_kept-2.ensures a ns d at g on m) in
@@ -139,8 +133,7 @@ returns-then-not-is_kept-2 t c =
 pub copy_clause-to-requires : goal.copy_clause-to-requires
 copy_clause-to-requires t c =
     let u = parts_of c.requires.readable_e
-    c.operator-op.ensures
-    c.if-op-eq0.false in let v = halves u
+    (sym c.in-Some.is ∙ c.operator.ensures) in let v = halves u
     c.word_at-x.ensures.0
     c.from_record-left.ensures
     c.word_at-y.ensures.0
@@ -170,7 +163,7 @@ copy_clause-to-requires t c =
 pub copy_clause-requires-2 : goal.copy_clause-requires-2
 copy_clause-requires-2 t c =
     let u = parts_of c.requires.readable_e
-    c.operator-op.ensures c.if-op-eq0.false in let v = halves u
+    (sym c.in-Some.is ∙ c.operator.ensures) in let v = halves u
     c.word_at-x.ensures.0 c.from_record-left.ensures c.word_at-y.ensures.0 c.from_record-right.ensures in (
       omega (
         arith,
@@ -200,8 +193,7 @@ returns t c =
     λ e k ns d h g held m gives. let x = both_of
     c.word_at-x.ensures.0 c.from_record-left.ensures
     c.word_at-y.ensures.0 c.from_record-right.ensures
-    c.operator-op.ensures
-    c.if-op-eq0.false ns d e k h held gives
+    (sym c.in-Some.is ∙ c.operator.ensures) ns d e k h held gives
     (λ a at on. sym c.if-not-is_kept.false ∙ c.is_kept.ensures a ns d at g on m)
     (λ a at on. sym c.if-not-is_kept-2.false
     ∙ c.is_kept-2.ensures a ns d at g on

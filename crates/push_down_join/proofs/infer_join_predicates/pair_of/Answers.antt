@@ -1,32 +1,24 @@
--- `infer_join_predicates::pair_of` meets its contract.
-use Rattle.push_down_join.proofs.Partnering.{told_as, untold, pair_left, pair_right, pair_is}
+use mathlib.Core.Path.{refl}
+use Rattle.rewrite.specs.PushDownFilter.{pair_of}
+use Rattle.push_down_join.proofs.Partnering.{pair_is}
 use Rattle.push_down_join.proofs.infer_join_predicates.pair_of.Goals as goal
 
-pub returns-in_default : goal.returns-in_default
-returns-in_default c =
-    λ x y h k. rw (pair_left h k _ _ c.in_default.is) untold
+pub returns-in_err-a : goal.returns-in_err-a
+unfolding pair_of
+returns-in_err-a c = rw (c.from_residual.ensures, c.in_err-a.was) refl
 
-pub returns-in_default-b : goal.returns-in_default-b
-returns-in_default-b c =
-    λ x y h k. rw (pair_right h k _ _ c.in-Is.is c.in_default-b.is) untold
+pub returns-in_err-b : goal.returns-in_err-b
+unfolding pair_of
+returns-in_err-b c = rw (c.from_residual-in_err-b.ensures, c.in_ok-a.was, c.in_err-b.was) refl
 
-pub returns-then-aq-q : goal.returns-then-aq-q
-returns-then-aq-q c =
-    λ x y h k. rw (pair_is h k _ _ c.in-Is.is c.in-Is-b.is, c.if-aq-q.true)
-    (told_as k c.in-Is-b.is)
+pub returns-then-eq : goal.returns-then-eq
+returns-then-eq c =
+    rw (c.in_ok-a.was, c.in_ok-b.was, pair_is c.args.x c.in_ok-a.a c.in_ok-b.b, ← c.if-eq.ensures) refl
 
-pub returns-then-bq-q : goal.returns-then-bq-q
-returns-then-bq-q c =
-    λ x y h k. rw (
-      pair_is h k _ _ c.in-Is.is c.in-Is-b.is,
-      c.if-aq-q.false,
-      c.if-bq-q.true,
-    ) (told_as h c.in-Is.is)
+pub returns-then-eq-2 : goal.returns-then-eq-2
+returns-then-eq-2 c =
+    rw (c.in_ok-a.was, c.in_ok-b.was, pair_is c.args.x c.in_ok-a.a c.in_ok-b.b, ← c.if-eq.ensures, ← c.if-eq-2.ensures) refl
 
 pub returns : goal.returns
 returns c =
-    λ x y h k. rw (
-      pair_is h k _ _ c.in-Is.is c.in-Is-b.is,
-      c.if-aq-q.false,
-      c.if-bq-q.false,
-    ) untold
+    rw (c.in_ok-a.was, c.in_ok-b.was, pair_is c.args.x c.in_ok-a.a c.in_ok-b.b, ← c.if-eq.ensures, ← c.if-eq-2.ensures) refl

@@ -1,76 +1,78 @@
-use mathlib.Core.Path.{sym, ◌∙◌}
+use mathlib.Core.Path.{◌≡◌, refl, sym, ◌∙◌}
 use native.Mathlib.Omega.{arith}
 use lib.ListN.{length-drop}
-use Rattle.push_down_join.specs.Partners.{Told, column_of}
-use Rattle.push_down_join.proofs.Partnering.{untold, key_none, key_is, pair_empty, pair_one, pair_two}
+use Rattle.push_down_join.specs.Partners.{name_of, column_of}
+use Rattle.push_down_join.proofs.Partnering.{key_none, key_is, pair_empty, pair_one, pair_two}
 use Rattle.push_down_base.proofs.FirstChild.{kind_at, first_turn, none_below, second_turn, none_after}
 use Rattle.push_down_join.proofs.infer_join_predicates.partner_in.Goals as goal
 
 pub returns-then-word_at-ne-PAIR : goal.returns-then-word_at-ne-PAIR
 returns-then-word_at-ne-PAIR c =
-    λ t h. rw (key_none _ t.label t.below (λ e. c.if-word_at-ne-PAIR.true (kind_at h c.word_at.ensures.0 ∙ e))) untold
+    λ t h. rw (key_none _ t.label t.below (λ e. c.if-word_at-ne-PAIR.true (kind_at h c.word_at.ensures.0 ∙ e))) refl
 
-pub returns-then-x-eq0 : goal.returns-then-x-eq0
-returns-then-x-eq0 c =
+pub returns-then-left-eq0 : goal.returns-then-left-eq0
+returns-then-left-eq0 c =
     λ t h. rw (
       key_is _ t.label t.below (sym (kind_at h c.word_at.ensures.0) ∙ c.if-word_at-ne-PAIR.false),
-      pair_empty _ (none_below h c.word_at-x.ensures.0 c.if-x-eq0.true),
-    ) untold
+      pair_empty _ (none_below h c.word_at-left.ensures.0 c.if-left-eq0.true),
+    ) refl
 
 pub from_record-lhs-requires : goal.from_record-lhs-requires
 from_record-lhs-requires c =
-    let u = first_turn c.requires.1.at c.word_at-x.ensures.0 c.if-x-eq0.false in omega
+    let u = first_turn c.requires.1.at c.word_at-left.ensures.0 c.if-left-eq0.false in omega
     (arith, u.past, u.fits)
 
-pub word_at-y-requires : goal.word_at-y-requires
-word_at-y-requires c =
-    let u = first_turn c.requires.1.at c.word_at-x.ensures.0
-    c.if-x-eq0.false in
+pub word_at-right-requires : goal.word_at-right-requires
+word_at-right-requires c =
+    let u = first_turn c.requires.1.at c.word_at-left.ensures.0
+    c.if-left-eq0.false in
     rw (c.from_record-lhs.ensures, length-drop) (omega (arith, u.fits))
 
-pub returns-then-y-eq0 : goal.returns-then-y-eq0
-returns-then-y-eq0 c =
-    λ t h. let u = first_turn h c.word_at-x.ensures.0 c.if-x-eq0.false in
+pub returns-then-right-eq0 : goal.returns-then-right-eq0
+returns-then-right-eq0 c =
+    λ t h. let u = first_turn h c.word_at-left.ensures.0 c.if-left-eq0.false in
     rw (
       key_is _ t.label t.below (sym (kind_at h c.word_at.ensures.0)
           ∙ c.if-word_at-ne-PAIR.false),
-      pair_one _ u (none_after u c.from_record-lhs.ensures c.word_at-y.ensures.0 c.if-y-eq0.true),
-    ) untold
+      pair_one _ u (none_after u c.from_record-lhs.ensures c.word_at-right.ensures.0 c.if-right-eq0.true),
+    ) refl
 
 pub from_record-rhs-requires : goal.from_record-rhs-requires
 from_record-rhs-requires c =
     let u = first_turn c.requires.1.at
-    c.word_at-x.ensures.0 c.if-x-eq0.false in
-    let v = second_turn u c.from_record-lhs.ensures c.word_at-y.ensures.0 c.if-y-eq0.false in
+    c.word_at-left.ensures.0 c.if-left-eq0.false in
+    let v = second_turn u c.from_record-lhs.ensures c.word_at-right.ensures.0 c.if-right-eq0.false in
     omega (arith, v.past, v.fits)
 
 pub as_column-requires : goal.as_column-requires
 as_column-requires c =
     let u = first_turn c.requires.1.at
-    c.word_at-x.ensures.0 c.if-x-eq0.false in
+    c.word_at-left.ensures.0 c.if-left-eq0.false in
     rw (c.from_record-lhs.ensures, length-drop) (omega (arith, u.fits))
 
 pub as_column-requires-2 : goal.as_column-requires-2
 as_column-requires-2 c =
     let u = first_turn c.requires.1.at
-    c.word_at-x.ensures.0 c.if-x-eq0.false in
-    let v = second_turn u c.from_record-lhs.ensures c.word_at-y.ensures.0
-    c.if-y-eq0.false in
+    c.word_at-left.ensures.0 c.if-left-eq0.false in
+    let v = second_turn u c.from_record-lhs.ensures c.word_at-right.ensures.0
+    c.if-right-eq0.false in
     rw (c.from_record-rhs.ensures, length-drop) (omega (arith, v.fits))
 
 pub returns : goal.returns
 returns c =
-    λ t h. let u = first_turn h c.word_at-x.ensures.0
-    c.if-x-eq0.false in
+    λ t h. let u = first_turn h c.word_at-left.ensures.0
+    c.if-left-eq0.false in
     let v = second_turn u c.from_record-lhs.ensures
-    c.word_at-y.ensures.0 c.if-y-eq0.false in
-    let a : Told c.as_column.result (column_of u.child.label) = rw
+    c.word_at-right.ensures.0 c.if-right-eq0.false in
+    let a : name_of c.as_column.result ≡ (column_of u.child.label) = rw
     (← u.here.head.label, ← c.from_record-lhs.ensures) c.as_column.ensures in
-    let b : Told c.as_column-2.result (column_of v.child.label) = rw
+    let b : name_of c.as_column-2.result ≡ (column_of v.child.label) = rw
     (← v.here.head.label, ← c.from_record-rhs.ensures) c.as_column-2.ensures in
     rw (
       key_is _ t.label t.below (sym (kind_at h
           c.word_at.ensures.0) ∙
           c.if-word_at-ne-PAIR.false),
       pair_two _ u v,
-    ) (c.pair_of.ensures _ _ a b)
+      ← a,
+      ← b,
+    ) c.pair_of.ensures

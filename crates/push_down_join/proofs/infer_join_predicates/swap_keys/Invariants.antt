@@ -1,6 +1,5 @@
--- `infer_join_predicates::swap_keys` meets its contract. The loop's invariant: the fields passed are swapped.
+-- The loop's invariant: the fields passed are swapped.
 use mathlib.Core.List.{List}
-use Prim.Native.Nat.{◌-◌, ◌≤◌}
 use Rattle.image.specs.Tree.{Tree, At}
 use Rattle.plan.specs.Syntax.{Name}
 use Rattle.utils.specs.Fields.{Names}
@@ -9,7 +8,4 @@ use Rattle.push_down_join.proofs.infer_join_predicates.swap_keys.Given as goal
 
 abbrev pub invariant-loop-i : goal.invariant-loop-i
 invariant-loop-i l =
-    (l.i ≤ l.len) × ((t : Tree) (ns : List Name) → At t l.part l.base → Names l.fields ns → Swapping l.to l.alone t.below ns l.i)
-
-abbrev pub decreases-loop-i : goal.decreases-loop-i
-decreases-loop-i l = l.len - l.i
+    (t : Tree) (ns : List Name) → At t l.part l.base → Names l.fn.fields ns → Swapping l.to l.alone t.below ns l.i

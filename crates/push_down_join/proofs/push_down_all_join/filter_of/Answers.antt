@@ -1,9 +1,11 @@
 -- `push_down_all_join::filter_of` meets its contract.
+use mathlib.Core.Path.{ap, ◌∙◌}
 use native.Mathlib.Omega.{arith}
 use lib.ListN.{length-drop}
 use Rattle.image.specs.Limits.{max_depth}
+use Rattle.image.specs.Word.{word}
 use Rattle.writing.proofs.Pushing.{plan_readable}
-use Rattle.push_down_join.proofs.JoinParts.{last_found, last_after, last_room, last_own, last_bare}
+use Rattle.push_down_join.proofs.JoinParts.{last_found, last_after, last_room, last_filter}
 use Rattle.writing.proofs.Stretches.{stretch_at, stretch_within}
 use Rattle.push_down_join.proofs.push_down_all_join.filter_of.Goals as goal
 
@@ -27,14 +29,8 @@ word_at-requires c =
     rw (stretch_at p.image p.stretch (last_after p.stretch h g) c.from_record.ensures, length-drop)
     (omega (arith, last_room (last_found p.stretch h g)))
 
-pub returns-then-word_at-lt-FIRST_PLAN : goal.returns-then-word_at-lt-FIRST_PLAN
-returns-then-word_at-lt-FIRST_PLAN c =
-    λ s k l r on f e h. let g = c.last_child-y.ensures in
-    last_own (last_found e h g)
-    (rw (← stretch_at s e (last_after e h g) c.from_record.ensures, ← c.word_at.ensures.0) c.if-word_at-lt-FIRST_PLAN.true)
-
 pub returns : goal.returns
 returns c =
     λ s k l r on f e h. let g = c.last_child-y.ensures in
-    last_bare (last_found e h g)
-    (rw (← stretch_at s e (last_after e h g) c.from_record.ensures, ← c.word_at.ensures.0) c.if-word_at-lt-FIRST_PLAN.false)
+    rw c.then_some.ensures (last_filter c.word_at.result
+    (c.word_at.ensures.0 ∙ ap (λ p. word p 0) (stretch_at s e (last_after e h g) c.from_record.ensures)) (last_found e h g))

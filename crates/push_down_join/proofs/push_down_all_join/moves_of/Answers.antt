@@ -1,8 +1,9 @@
+use mathlib.Core.Path.{ap, ◌∙◌}
 use mathlib.Core.List.{◌++◌}
 use native.Mathlib.Omega.{arith}
 use Rattle.plan.specs.Schema.{has}
 use Rattle.plan.proofs.Lists.{All-append}
-use Rattle.rewrite.specs.PushDownFilter.{join_conditions, left_push, right_push}
+use Rattle.rewrite.specs.PushDownFilter.{is_inner, join_conditions, left_push, right_push}
 use Rattle.push_down_base.proofs.Scoping.{known_reads}
 use Rattle.push_down_join.proofs.Siding.{smalls_of}
 use Rattle.push_down_join.proofs.SideLists.{left_push_is, right_push_is, wholes}
@@ -37,14 +38,14 @@ pub returns : goal.returns
 returns c =
     λ k l r on P G σ e sc h g w. let above = c.parts_of-above.ensures l r on P sc h in
     let own = c.parts_of-own.ensures l r on G sc g in
-    let over = c.lr_is_preserved.ensures k e in
-    let at = c.on_lr_is_preserved.ensures k e in
-    let inner = c.is_inner-inner.ensures k e in
-    let left = rw (left_push_is k l r on P G σ w over.0 over.1 at.0 at.1 inner (All-append above.left.keyed.over
+    let over = rw e at c.lr_is_preserved.ensures in
+    let at = rw e at c.on_lr_is_preserved.ensures in
+    let inner = c.is_inner-inner.ensures ∙ ap is_inner e in
+    let left = rw (left_push_is k l r on P G σ w over.0 over.1 at.0 at.1 (ap is_inner e) (All-append above.left.keyed.over
     own.left.keyed.over))
     at (c.side_push-left_push.ensures σ (l ++ r) (has l) _ _ _ _ _ _ above.left own.left
     sc.names sc.left) in
-    let right = rw (right_push_is k l r on P G σ w over.0 over.1 at.0 at.1 inner (All-append above.right.keyed.over
+    let right = rw (right_push_is k l r on P G σ w over.0 over.1 at.0 at.1 (ap is_inner e) (All-append above.right.keyed.over
     own.right.keyed.over))
     at (c.side_push-right_push.ensures σ (l ++ r) (has r) _ _ _ _ _ _ above.right own.right
     sc.names sc.right) in

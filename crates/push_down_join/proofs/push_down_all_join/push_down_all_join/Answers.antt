@@ -9,7 +9,7 @@ use Rattle.push_down_join.specs.Scopes.{swap}
 use Rattle.push_down_base.proofs.Answering.{answers}
 use Rattle.plan.proofs.Bools.{no_yes}
 use Rattle.push_down_join.proofs.JoinCounts.{fits_each, fits_few, few_fits, inputs_few}
-use Rattle.push_down_join.proofs.JoinWritten.{join_at, asked, kind_is, carries}
+use Rattle.push_down_join.proofs.JoinWritten.{join_at, asked, carries}
 use Rattle.push_down_join.proofs.SideLists.{renames_swap}
 use Rattle.push_down_join.proofs.push_down_all_join.push_down_all_join.Goals as goal
 
@@ -35,7 +35,7 @@ returns-then-not-fits c =
     λ k l r on f P G h q g p w. let i = c.requires.stretch in
     let z = c.right_input-z.ensures _ k l r on f i h in
     let sc = c.join_scope-sc.ensures k l r on f (join_at i h z) in
-    let e = kind_is h.standing i c.word_at-kind.ensures.0 in
+    let e = c.join_kind-kind.ensures _ k l r on f i h in
     let ns = schema l ++ schema r in
     let σ : Name → Expr = λ x. col (ren ns (map (swap on) ns) x) in
     let v = c.moves_of-v.ensures k (schema l) (schema r) on P G σ e sc q g (renames_swap ns on) in
@@ -64,8 +64,7 @@ write_kept-next-requires-clause-carried c =
     q.kind q.lhs q.rhs q.keys q.condition c.requires.stretch h in
     let sc = c.join_scope-sc.ensures q.kind
     q.lhs q.rhs q.keys q.condition (join_at c.requires.stretch h z) in
-    let e = kind_is h.standing c.requires.stretch
-    c.word_at-kind.ensures.0 in
+    let e = c.join_kind-kind.ensures _ q.kind q.lhs q.rhs q.keys q.condition c.requires.stretch h in
     let ns = schema q.lhs ++ schema q.rhs in
     let σ : Name → Expr = λ x. col (ren ns (map (swap q.keys) ns) x) in
     let v = c.moves_of-v.ensures q.kind (schema q.lhs)
@@ -91,8 +90,7 @@ returns c =
     λ k l r on f P G h q g p w. let i = c.requires.stretch in
     let z = c.right_input-z.ensures _ k l r on f i h in
     let sc = c.join_scope-sc.ensures k l r on f (join_at i h z) in
-    let e = kind_is h.standing i
-    c.word_at-kind.ensures.0 in
+    let e = c.join_kind-kind.ensures _ k l r on f i h in
     let ns = schema l ++ schema r in
     let σ : Name → Expr = λ x. col (ren ns (map (swap on) ns) x) in
     let v = c.moves_of-v.ensures k

@@ -6,7 +6,7 @@ use Rattle.plan.specs.Schema.{schema}
 use Rattle.plan.specs.Syntax.{Name, Expr, col}
 use Rattle.rewrite.specs.PushDownFilter.{ren, nothing_moves}
 use Rattle.push_down_join.specs.Scopes.{swap}
-use Rattle.push_down_join.proofs.JoinWritten.{join_at, asked, kind_is}
+use Rattle.push_down_join.proofs.JoinWritten.{join_at, asked}
 use Rattle.push_down_join.proofs.SideLists.{renames_swap}
 use Rattle.push_down_stays.proofs.Stayings.{not_not}
 use Rattle.push_down_stays.proofs.stays.nothing_moves.Goals as goal
@@ -31,7 +31,7 @@ returns c =
     let i = c.requires.stretch in
     let z = c.right_input-z.ensures _ k l r on f i h in
     let sc = c.join_scope-sc.ensures k l r on f (join_at i h z) in
-    let e = kind_is h.standing i c.word_at-kind.ensures.0 in
+    let e = c.join_kind-kind.ensures _ k l r on f i h in
     let σ : Name → Expr = λ x. col (ren (s ++ t) (map (swap on) (s ++ t)) x) in
     let v = c.moves_of-v.ensures k s t on P G σ e sc q g (renames_swap (s ++ t) on) in
     ap not v.flag ∙ not_not (nothing_moves k s t on P G)
