@@ -9,7 +9,7 @@ ghost use Rattle.utils.specs.Fields.{Names};
 ghost use Rattle.meaning.specs.Meaning as M;
 ghost use Rattle.rewrite.specs.RowTest as R;
 
-use plan::values::{Case, Value, null_of};
+use plan::values::{Case, Value};
 use plan::words::{BOOLEAN, NO_TYPE};
 use utils::schema_columns::{Fields, place_in};
 
@@ -42,14 +42,14 @@ pub fn cell_at(types: &[usize], values: &[i64], marks: &[u8], i: usize) -> Value
         (get_or (lent types.now values.now marks.now) i null) }
 {
     if types.len() <= i {
-        return null_of(NO_TYPE);
+        return Value::null_of(NO_TYPE);
     }
     let ty = types[i];
     if (values.len() <= i) | (marks.len() <= i) {
-        return null_of(ty);
+        return Value::null_of(ty);
     }
     if marks[i] == NULL {
-        return null_of(ty);
+        return Value::null_of(ty);
     }
     cell_of(ty, values[i])
 }

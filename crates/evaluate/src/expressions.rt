@@ -12,11 +12,11 @@ ghost use Rattle.utils.specs.Fields.{Names};
 ghost use Rattle.evaluate.specs.Operators.{expr_in};
 
 use crate::cells::column;
-use crate::operands::{no_operands, operate, with_operand};
+use crate::operands::{Seen, operate};
 use image::records::{FIRST_LINK, NEXT_LINK, from_record, label_at};
 use image::words::word_at;
 use plan::kinds::COLUMN;
-use plan::values::{Literal, Value, literal_of};
+use plan::values::{Value, literal_of};
 use utils::schema_columns::Fields;
 
 // The value of the expression at the start of `part`, on the row whose fields have these names, types, values and marks.
@@ -40,16 +40,15 @@ pub fn evaluate(
     if l.kind == COLUMN {
         return column(fields, types, values, marks, l.p, l.q);
     }
-    let literal = literal_of(l);
-    if let Literal::Of(v) = literal {
+    if let Some(v) = literal_of(l) {
         return v;
     }
-    let mut seen = no_operands();
+    let mut seen = Seen::nothing();
     let mut at = word_at(part, FIRST_LINK);
     while at != 0 {
         let child = from_record(part, base, at);
         let v = evaluate(child, at, depth - 1, fields, types, values, marks);
-        seen = with_operand(seen, v);
+        seen = seen.with(v);
         at = word_at(child, NEXT_LINK);
     }
     operate(l, seen)
