@@ -17,9 +17,9 @@ ghost use Rattle.plan.specs.Types as Types;
 use crate::schemas::field_types;
 use check_image::{Checked, check};
 use conjuncts::volatility::has_function;
-use evaluate::cells::row_ok;
+use evaluate::cells::Row;
 use evaluate::expressions::evaluate;
-use evaluate::logic::{Truth, truth_of};
+use evaluate::logic::Truth;
 use image::limits::{MAX_DEPTH, RECORD_BYTES};
 use image::records::{FIRST_LINK, KIND, NEXT_LINK, from_record, record_at};
 use image::words::word_at;
@@ -54,13 +54,19 @@ fn test_predicate(
     ensures { (e : Expr) (p : Plan) → At (expr_tree e) part.now base → FitsE e → Names fields (schema p)
         → types.now ≡ Types.types p → tested_of result ≡ test_predicate node e p values.now marks.now }
 {
-    if !row_ok(types, values, marks) {
+    let row = Row {
+        fields,
+        types,
+        values,
+        marks,
+    };
+    if !row.is_ok() {
         return Answer::BadRow;
     }
     if has_function(part, base, BELOW, false) {
         return Answer::HasFunction(node);
     }
-    Answer::Is(truth_of(evaluate(part, base, BELOW, fields, types, values, marks)))
+    Answer::Is(Truth::of(evaluate(part, base, BELOW, &row)))
 }
 
 // The Filter at the start of `part`.

@@ -20,21 +20,18 @@ returns-in-Some t c =
 
 pub loop-at-init : goal.loop-at-init
 loop-at-init t c =
-    rw c.word_at-at.ensures.0 (chain _ c.requires.readable
+    rw c.word_at-at.ensures.0 (chain _ c.requires
     (c.nothing-seen.ensures.right, λ ns n le. seen_none _ _ c.nothing-seen.ensures.is))
 
-pub evaluate-v-requires : goal.evaluate-v-requires
-evaluate-v-requires t c =
+pub evaluate-requires : goal.evaluate-requires
+evaluate-requires t c =
     let k = c.loop-at.invariant in let u = round _ k c.loop-at-test.true in (
       omega (
         arith,
         k.some,
         c.decreases,
       ),
-      (
-        rw c.from_record-child.ensures u.readable,
-        c.requires.len_le_max_fields,
-      ),
+      rw c.from_record-child.ensures u.readable,
     )
 
 pub loop-at-preserved : goal.loop-at-preserved
@@ -43,9 +40,9 @@ loop-at-preserved t c =
     rw (c.word_at-at-in-loop-at.ensures.0, c.from_record-child.ensures)
     (again _ k u (
       c.with-seen.ensures.right,
-      λ ns n le. seen_next c.evaluate-v.result u.turn.child
+      λ ns n le. seen_next c.evaluate.result u.turn.child
           (u.so_far.1 ns n le)
-          (c.evaluate-v.ensures.is u.turn.child ns (rw c.from_record-child.ensures
+          (c.evaluate.ensures.is u.turn.child ns (rw c.from_record-child.ensures
           u.turn.here) n le).value
           c.with-seen.ensures.is,
     ))
