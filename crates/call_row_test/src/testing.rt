@@ -18,9 +18,9 @@ ghost use Rattle.plan.specs.Types as Types;
 use crate::schemas::field_types;
 use check_image::check;
 use conjuncts::volatility::has_function;
-use evaluate::cells::row_ok;
+use evaluate::cells::Row;
 use evaluate::expressions::evaluate;
-use evaluate::logic::{Truth, truth_of};
+use evaluate::logic::Truth;
 use image::limits::{MAX_DEPTH, RECORD_BYTES};
 use image::records::{FIRST_LINK, KIND, NEXT_LINK, from_record, record_at};
 use image::refusals::Refusal;
@@ -46,13 +46,19 @@ fn test_predicate(
     ensures { (e : Expr) (p : Plan) → At (expr_tree e) part.now base → FitsE e → Names fields (schema p)
         → types.now ≡ Types.types p → tested_of result ≡ test_predicate node e p values.now marks.now }
 {
-    if !row_ok(types, values, marks) {
+    let row = Row {
+        fields,
+        types,
+        values,
+        marks,
+    };
+    if !row.is_ok() {
         return Err(Refusal::Row);
     }
     if has_function(part, base, BELOW, false) {
         return Err(Refusal::Function(node));
     }
-    Ok(truth_of(evaluate(part, base, BELOW, fields, types, values, marks)))
+    Ok(Truth::of(evaluate(part, base, BELOW, &row)))
 }
 
 // The Filter at the start of `part`.

@@ -11,8 +11,8 @@ use Rattle.image.specs.Tree.{Label, Forest, none, node, Tree}
 use Rattle.plan.specs.Read.{exprs_of}
 use Rattle.plan.specs.Syntax.{Value, Name, nm}
 use Rattle.plan.specs.Types.{Types, type_of_expr}
-use Rattle.plan.specs.Values.{ValueRecord, Valued, case_of, literal_of}
-use Rattle.plan.specs.declared.values.Literal.TheVariants.{Of, Not}
+use Rattle.plan.specs.Values.{ValueRecord, Valued, literal_of}
+use Rattle.std.specs.Prelude.{Some, None}
 use Rattle.meaning.specs.Meaning.{Env, look, eval, evals}
 use Rattle.rewrite.specs.RowTest.{lent, no_functions}
 use Rattle.utils.specs.Fields.{Fields, Names}
@@ -39,14 +39,14 @@ pub seen_none : {seen : Seen} (ρ : Env) (t : Tree) → Sees seen [] → SoFar �
 seen_none ρ t h = record { values = []; sees = h; all = refl }
 
 pub seen_next : {ρ : Env} {seen after : Seen} {t : Tree} (v : ValueRecord) (child : Tree) {ns : Forest}
-    → SoFar ρ seen t (node child.label child.below ns) → case_of v.case ≡ eval no_functions ρ (expr_in child)
-    → ((vs : List Value) → Sees seen vs → Sees after (vs ++ (case_of v.case ∷ []))) → SoFar ρ after t ns
+    → SoFar ρ seen t (node child.label child.below ns) → v.case ≡ eval no_functions ρ (expr_in child)
+    → ((vs : List Value) → Sees seen vs → Sees after (vs ++ (v.case ∷ []))) → SoFar ρ after t ns
 unfolding exprs_of eval
 seen_next {ρ} v child {ns} h e add =
     record {
-      values = h.values ++ (case_of v.case ∷ []);
+      values = h.values ++ (v.case ∷ []);
       sees = add h.values h.sees;
-      all = append_assoc h.values (case_of v.case ∷ []) (evals no_functions ρ (exprs_of ns))
+      all = append_assoc h.values (v.case ∷ []) (evals no_functions ρ (exprs_of ns))
           ∙ ap (λ w. h.values ++ (w ∷ evals no_functions ρ (exprs_of ns))) e ∙ h.all;
     }
 
@@ -65,13 +65,13 @@ module _ (τ : Types) (ρ : Env) {l : Label} (t : Tree) (is : l ≡ t.label) whe
     value = h.value ∙ rw is (sym (at_column ρ t.label (exprs_of t.below) (rw is at e)));
   }
 
-  pub tree_literal : (v : ValueRecord) → literal_of l ≡ Of v → Its v
+  pub tree_literal : (v : ValueRecord) → literal_of l ≡ Some v → Its v
   tree_literal v e = record {
     type = type_literal τ t.label (exprs_of t.below) v (rw is at e);
     value = at_literal ρ t.label (exprs_of t.below) v (rw is at e);
   }
 
-  pub tree_operator : (v : ValueRecord) → (l.kind ≡ 1 → ⊥) → literal_of l ≡ Not
+  pub tree_operator : (v : ValueRecord) → (l.kind ≡ 1 → ⊥) → literal_of l ≡ None
       → Valued v (operated_type l) (operated l.kind l.p (evals no_functions ρ (exprs_of t.below))) → Its v
   tree_operator v n e h = record {
     type = h.type ∙ rw is (type_operator τ t.label (exprs_of t.below) (rw is at n) (rw is at e));

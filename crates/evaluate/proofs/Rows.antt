@@ -37,6 +37,9 @@ unmarked ty mark z n = rw (ne_eqb mark 1 n)
 pub held : (ty : ℕ) {a z : ℤ} {v : Value} → a ≡ z → cell ty z 0 ≡ v → cell ty a 0 ≡ v
 held ty e h = ap (λ x. cell ty x 0) e ∙ h
 
+pub held_ok : (ty mark : ℕ) {a z : ℤ} → a ≡ z → cell_ok ty a mark ≡ cell_ok ty z mark
+held_ok ty mark e = ap (λ x. cell_ok ty x mark) e
+
 -- under the mark 1 the cell is NULL
 pub marked_null : (ty mark : ℕ) (z : ℤ) → mark ≡ 1 → null ≡ cell ty z mark
 unfolding cell

@@ -1,120 +1,77 @@
 // Comparisons, ranges and tests of values.
-ghost use Rattle.std.specs.Prelude.{◌≡◌, ◌-◌};
-ghost use Rattle.plan.specs.Read.{nth, tests};
-ghost use Rattle.plan.specs.Syntax.{eq, is_null};
-ghost use Rattle.plan.specs.Values.{Right, case_of};
+ghost use Rattle.std.specs.Prelude.{◌≡◌};
+ghost use Rattle.plan.specs.Syntax.{eq};
+ghost use Rattle.plan.specs.WordValues.{cmp_of, test_of};
 ghost use Rattle.meaning.specs.Meaning.{is_f, is_t};
-ghost use Rattle.evaluate.specs.Operators.{cmp_of};
 ghost use Rattle.evaluate.specs.Truths.{value_of};
 ghost use Rattle.meaning.specs.Meaning as M;
 
-use crate::logic::{Truth, and, known};
-use plan::values::{Case, Value, code_of, is_null, kind_of};
-use plan::words::{
-    EQ, GT, GT_EQ, IS_FALSE, IS_NOT_FALSE, IS_NOT_NULL, IS_NOT_TRUE, IS_NOT_UNKNOWN, IS_TRUE,
-    IS_UNKNOWN, LT, LT_EQ, NOT_EQ,
-};
+use crate::logic::Truth;
+use plan::values::{Case, Value};
+use plan::words::{Comparison, Test};
 
-// Whether the comparison with this number holds; Eq where it is the number of none.
-fn holds(p: usize, a: i64, b: i64) -> bool
-    ensures { result ≡ M.holds (cmp_of p) a b }
+// Whether a comparison holds.
+fn holds(op: Comparison, a: i64, b: i64) -> bool
+    ensures { result ≡ M.holds (cmp_of op) a b }
 {
-    if p == NOT_EQ {
-        return a != b;
+    match op {
+        Comparison::Eq => a == b,
+        Comparison::NotEq => a != b,
+        Comparison::Lt => a < b,
+        Comparison::LtEq => a <= b,
+        Comparison::Gt => b < a,
+        Comparison::GtEq => b <= a,
     }
-    if p == LT {
-        return a < b;
-    }
-    if p == LT_EQ {
-        return a <= b;
-    }
-    if p == GT {
-        return b < a;
-    }
-    if p == GT_EQ {
-        return b <= a;
-    }
-    a == b
 }
 
 // Two values of one type are compared; with NULL a comparison is UNKNOWN.
-pub fn compare(p: usize, a: Value, b: Value) -> Truth
-    requires { Right a × Right b }
-    ensures { value_of result ≡ M.compared (cmp_of p) (case_of a.case) (case_of b.case) }
+pub fn compare(op: Comparison, a: Value, b: Value) -> Truth
+    ensures { value_of result ≡ M.compared (cmp_of op) a.case b.case }
 {
-    if is_null(a) | (kind_of(a) != kind_of(b)) {
+    if a.is_null() | (a.kind_of() != b.kind_of()) {
         return Truth::Unknown;
     }
-    known(holds(p, code_of(a), code_of(b)))
+    Truth::from(holds(op, a.code_of(), b.code_of()))
 }
 
 // low <= operand AND operand <= high.
 pub fn within(operand: Value, low: Value, high: Value) -> Truth
-    requires { Right operand × Right low × Right high }
-    ensures { value_of result ≡ M.within (case_of operand.case) (case_of low.case) (case_of high.case) }
+    ensures { value_of result ≡ M.within operand.case low.case high.case }
 {
-    and(compare(LT_EQ, low, operand), compare(LT_EQ, operand, high))
+    compare(Comparison::LtEq, low, operand).and(compare(Comparison::LtEq, operand, high))
 }
 
 // Whether the item of a list equals the operand: a NULL equals nothing.
 pub fn equals(operand: Value, item: Value) -> bool
-    requires { Right operand × Right item }
-    ensures { result ≡ is_t (M.compared eq (case_of operand.case) (case_of item.case)) }
+    ensures { result ≡ is_t (M.compared eq operand.case item.case) }
 {
-    let t = compare(EQ, operand, item);
-    match t {
-        Truth::False => false,
-        Truth::True => true,
-        Truth::Unknown => false,
-    }
+    matches!(compare(Comparison::Eq, operand, item), Truth::True)
 }
 
 fn is_true(v: Value) -> bool
-    ensures { result ≡ is_t (case_of v.case) }
+    ensures { result ≡ is_t v.case }
 {
-    let case = v.case;
-    match case {
-        Case::Null => false,
-        Case::Integer(_) => false,
-        Case::Truth(b) => b,
-    }
+    matches!(v.case, Case::Truth(true))
 }
 
 fn is_false(v: Value) -> bool
-    ensures { result ≡ is_f (case_of v.case) }
+    ensures { result ≡ is_f v.case }
 {
-    let case = v.case;
-    match case {
-        Case::Null => false,
-        Case::Integer(_) => false,
-        Case::Truth(b) => !b,
-    }
+    matches!(v.case, Case::Truth(false))
 }
 
-// The test with this number; IsNull where it is the number of none.
-pub fn tested(p: usize, v: Value) -> bool
-    ensures { result ≡ M.tested (nth is_null tests (p - 1)) (case_of v.case) }
+// What a test says of a value.
+pub fn tested(test: Test, v: Value) -> bool
+    ensures { result ≡ M.tested (test_of test) v.case }
 {
-    if p == IS_NOT_NULL {
-        return !is_null(v);
+    match test {
+        Test::IsNull => v.is_null(),
+        Test::IsNotNull => !v.is_null(),
+        Test::IsTrue => is_true(v),
+        Test::IsFalse => is_false(v),
+        Test::IsUnknown => !is_true(v) & !is_false(v),
+        Test::IsNotTrue => !is_true(v),
+        Test::IsNotFalse => !is_false(v),
+        Test::IsNotUnknown => is_true(v) | is_false(v),
     }
-    if p == IS_TRUE {
-        return is_true(v);
-    }
-    if p == IS_FALSE {
-        return is_false(v);
-    }
-    if p == IS_UNKNOWN {
-        return !is_true(v) & !is_false(v);
-    }
-    if p == IS_NOT_TRUE {
-        return !is_true(v);
-    }
-    if p == IS_NOT_FALSE {
-        return !is_false(v);
-    }
-    if p == IS_NOT_UNKNOWN {
-        return is_true(v) | is_false(v);
-    }
-    is_null(v)
 }

@@ -1,6 +1,5 @@
 // The value of an expression on a row.
 ghost use Rattle.std.specs.Prelude.{◌≡◌, List, ◌≤◌, length};
-ghost use Rattle.image.specs.Limits.{max_fields};
 ghost use Rattle.image.specs.Tree.{At, Readable, Tree};
 ghost use Rattle.plan.specs.Schema.{look_d};
 ghost use Rattle.plan.specs.Syntax.{Name, no_type};
@@ -11,45 +10,33 @@ ghost use Rattle.rewrite.specs.RowTest.{lent, no_functions};
 ghost use Rattle.utils.specs.Fields.{Names};
 ghost use Rattle.evaluate.specs.Operators.{expr_in};
 
-use crate::cells::column;
-use crate::operands::{no_operands, operate, with_operand};
+use crate::cells::Row;
+use crate::operands::{Seen, operate};
 use image::records::{FIRST_LINK, NEXT_LINK, from_record, label_at};
 use image::words::word_at;
 use plan::kinds::COLUMN;
-use plan::values::{Literal, Value, literal_of};
-use utils::schema_columns::Fields;
+use plan::values::{Value, literal_of};
 
-// The value of the expression at the start of `part`, on the row whose fields have these names, types, values and marks.
-pub fn evaluate(
-    part: &[u8],
-    base: usize,
-    depth: usize,
-    fields: Fields,
-    types: &[usize],
-    values: &[i64],
-    marks: &[u8],
-) -> Value
-    requires readable { Readable depth part.now base }
-    requires len_le_max_fields { fields.len ≤ max_fields }
+// The value of the expression at the start of `part`, on a row.
+pub fn evaluate(part: &[u8], base: usize, depth: usize, row: &Row) -> Value
+    requires { Readable depth part.now base }
     ensures right { Right result }
-    ensures is { (t : Tree) (ns : List Name) → At t part.now base → Names fields ns
-        → length types.now ≤ length ns → Valued result (type_of_expr (look_d no_type ns types.now) (expr_in t))
-        (eval no_functions (look ns (lent types.now values.now marks.now)) (expr_in t)) }
+    ensures is { (t : Tree) (ns : List Name) → At t part.now base → Names row.now.fields ns → length row.now.types.now ≤ length ns
+        → Valued result (type_of_expr (look_d no_type ns row.now.types.now) (expr_in t))
+        (eval no_functions (look ns (lent row.now.types.now row.now.values.now row.now.marks.now)) (expr_in t)) }
 {
     let l = label_at(part);
     if l.kind == COLUMN {
-        return column(fields, types, values, marks, l.p, l.q);
+        return row.column(l.p, l.q);
     }
-    let literal = literal_of(l);
-    if let Literal::Of(v) = literal {
+    if let Some(v) = literal_of(l) {
         return v;
     }
-    let mut seen = no_operands();
+    let mut seen = Seen::nothing();
     let mut at = word_at(part, FIRST_LINK);
     while at != 0 {
         let child = from_record(part, base, at);
-        let v = evaluate(child, at, depth - 1, fields, types, values, marks);
-        seen = with_operand(seen, v);
+        seen = seen.with(evaluate(child, at, depth - 1, row));
         at = word_at(child, NEXT_LINK);
     }
     operate(l, seen)

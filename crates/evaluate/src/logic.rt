@@ -1,14 +1,15 @@
 // Truth in three values, as ISO/IEC 9075 has it.
 ghost use Rattle.std.specs.Prelude.{◌≡◌};
 ghost use Rattle.plan.specs.Syntax.{boolean_type, truth};
-ghost use Rattle.plan.specs.Values.{Right, Valued, case_of};
+ghost use Rattle.plan.specs.Values.{Right, Valued};
 ghost use Rattle.meaning.specs.Meaning.{and3, is_f, is_t, negate, not3, or3, tri};
 ghost use Rattle.evaluate.specs.Truths.{value_of};
 
-use plan::values::{Case, Value, null_of};
+use plan::values::{Case, Value};
 use plan::words::BOOLEAN;
 
-#[derive(Clone, Copy)]
+// No Option<bool>: its `and` and `or` here are those of three values, and Option's are not.
+#[derive(Clone, Copy, Debug, PartialEq, Eq, Hash)]
 pub enum Truth {
     False,
     True,
@@ -16,92 +17,84 @@ pub enum Truth {
 }
 
 // What is known is TRUE or FALSE.
-pub fn known(b: bool) -> Truth
-    ensures { value_of result ≡ truth b }
-{
-    if b {
-        return Truth::True;
-    }
-    Truth::False
-}
+impl From<bool> for Truth {
+    ghost from_gives = { λ b t. value_of t ≡ truth b };
 
-// The truth of a value: NULL is UNKNOWN.
-pub fn truth_of(v: Value) -> Truth
-    ensures { value_of result ≡ tri (is_t (case_of v.case)) (is_f (case_of v.case)) }
-{
-    let case = v.case;
-    match case {
-        Case::Null => Truth::Unknown,
-        Case::Integer(_) => Truth::Unknown,
-        Case::Truth(b) => known(b),
+    fn from(b: bool) -> Truth
+    {
+        if b { Truth::True } else { Truth::False }
     }
 }
 
-// A truth as a value: UNKNOWN is NULL.
-pub fn value_of(t: Truth) -> Value
-    ensures right { Right result }
-    ensures is { Valued result boolean_type (value_of t) }
-{
-    match t {
-        Truth::False => Value {
-            ty: BOOLEAN,
-            case: Case::Truth(false),
-        },
-        Truth::True => Value {
-            ty: BOOLEAN,
-            case: Case::Truth(true),
-        },
-        Truth::Unknown => null_of(BOOLEAN),
+impl Truth {
+    // The truth of a value: NULL is UNKNOWN.
+    pub fn of(v: Value) -> Truth
+        ensures { value_of result ≡ tri (is_t v.case) (is_f v.case) }
+    {
+        match v.case {
+            Case::Truth(true) => Truth::True,
+            Case::Truth(false) => Truth::False,
+            Case::Null | Case::Integer(_) => Truth::Unknown,
+        }
     }
-}
 
-// FALSE if either is, else UNKNOWN if either is.
-pub fn and(a: Truth, b: Truth) -> Truth
-    ensures { value_of result ≡ and3 (value_of a) (value_of b) }
-{
-    match a {
-        Truth::False => Truth::False,
-        Truth::True => b,
-        Truth::Unknown => match b {
-            Truth::False => Truth::False,
-            Truth::True => Truth::Unknown,
+    // A truth as a value: UNKNOWN is NULL.
+    pub fn to_value(self) -> Value
+        ensures right { Right result }
+        ensures is { Valued result boolean_type (value_of self) }
+    {
+        let case = match self {
+            Truth::False => Case::Truth(false),
+            Truth::True => Case::Truth(true),
+            Truth::Unknown => Case::Null,
+        };
+        Value { ty: BOOLEAN, case }
+    }
+
+    // FALSE if either is, else UNKNOWN if either is.
+    pub fn and(self, other: Truth) -> Truth
+        ensures { value_of result ≡ and3 (value_of self) (value_of other) }
+    {
+        match (self, other) {
+            (Truth::True, b) => b,
+            (Truth::False, _) => Truth::False,
+            (Truth::Unknown, Truth::False) => Truth::False,
+            (Truth::Unknown, Truth::True) => Truth::Unknown,
+            (Truth::Unknown, Truth::Unknown) => Truth::Unknown,
+        }
+    }
+
+    // TRUE if either is, else UNKNOWN if either is.
+    pub fn or(self, other: Truth) -> Truth
+        ensures { value_of result ≡ or3 (value_of self) (value_of other) }
+    {
+        match (self, other) {
+            (Truth::False, b) => b,
+            (Truth::True, _) => Truth::True,
+            (Truth::Unknown, Truth::True) => Truth::True,
+            (Truth::Unknown, Truth::False) => Truth::Unknown,
+            (Truth::Unknown, Truth::Unknown) => Truth::Unknown,
+        }
+    }
+
+    // NOT of UNKNOWN is UNKNOWN.
+    pub fn not(self) -> Truth
+        ensures { value_of result ≡ not3 (value_of self) }
+    {
+        match self {
+            Truth::False => Truth::True,
+            Truth::True => Truth::False,
             Truth::Unknown => Truth::Unknown,
-        },
+        }
     }
-}
 
-// TRUE if either is, else UNKNOWN if either is.
-pub fn or(a: Truth, b: Truth) -> Truth
-    ensures { value_of result ≡ or3 (value_of a) (value_of b) }
-{
-    match a {
-        Truth::True => Truth::True,
-        Truth::False => b,
-        Truth::Unknown => match b {
-            Truth::True => Truth::True,
-            Truth::False => Truth::Unknown,
-            Truth::Unknown => Truth::Unknown,
-        },
+    // Between and InList may be negated.
+    pub fn negated(self, yes: bool) -> Truth
+        ensures { value_of result ≡ negate yes (value_of self) }
+    {
+        if yes {
+            return self.not();
+        }
+        self
     }
-}
-
-// NOT of UNKNOWN is UNKNOWN.
-pub fn not(a: Truth) -> Truth
-    ensures { value_of result ≡ not3 (value_of a) }
-{
-    match a {
-        Truth::False => Truth::True,
-        Truth::True => Truth::False,
-        Truth::Unknown => Truth::Unknown,
-    }
-}
-
-// Between and InList may be negated.
-pub fn negated(yes: bool, a: Truth) -> Truth
-    ensures { value_of result ≡ negate yes (value_of a) }
-{
-    if yes {
-        return not(a);
-    }
-    a
 }

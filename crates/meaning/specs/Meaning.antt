@@ -13,7 +13,6 @@ use Rattle.plan.specs.Syntax.{is_false, is_unknown, is_not_true, is_not_false, i
 use Rattle.plan.specs.Syntax.{inlist, fn, Exprs, enil, econs, Field, Entry, Pair, Key, Agg, count, min, max, AggEntry, WinEntry, Kind}
 use Rattle.plan.specs.Syntax.{inner, left, right, full, left_semi, right_semi, left_anti, right_anti, Plan, scan, filter, project, join, alias}
 use Rattle.plan.specs.Syntax.{union, distinct, sort, repartition, limit, aggregate, window, Plans, pnil, pcons}
-
 -- whether a value is NULL, the number of its type, and where it stands in the order of its type
 pub use Rattle.plan.specs.Values.{is_n, kind_of, code}
 

@@ -13,20 +13,19 @@ use Rattle.image.specs.Word.{word}
 use Rattle.image.specs.Tree.{Label, At, label_at}
 use Rattle.plan.specs.Kinds as Kinds
 use Rattle.plan.specs.Kinds.{What, expr, plan, part, unknown, what, what_of, among}
-use Rattle.plan.specs.Read.{nth, ops}
 use Rattle.plan.specs.Syntax.{Cmp, Op, and, or, cmp, Expr, col, num, bool, nul, bin, neg, test, between, inlist, fn, nm, Name}
-use Rattle.plan.specs.Trees.{op_number, label_e, expr_tree}
+use Rattle.plan.specs.Trees.{label_e, expr_tree}
 use Rattle.plan.specs.Integers.{FitsE}
-use Rattle.plan.specs.Values.{ValueRecord, literal_at, literal_of, literal?}
+use Rattle.plan.specs.Values.{ValueRecord, literal?}
 use Rattle.plan.proofs.Literals.{literal_read}
 use Rattle.plan.proofs.Written.{op_back}
-use Rattle.rewrite.specs.SimplifyPredicates.{Rel, Item, rel_of, as_column, as_literal, make, or_item, view}
+use Rattle.rewrite.specs.SimplifyPredicates.{Rel, Item, as_column, as_literal, make, or_item, view}
 use Rattle.conjuncts.proofs.Operands as K
 use Rattle.std.specs.Prelude as P
 use Rattle.std.specs.Prelude.{MatchOption, IsTrue, Bool, true, false}
 use Rattle.std.specs.Option.{unwrap_or}
 use Rattle.rewrite.specs.SimplifyPredicates.{name_under}
-use Rattle.simplify_expressions.specs.Seen.{named, seen, side_of, side_of?, column_at, column_of, value_in, comparison_at, comparison_of, matched_in}
+use Rattle.simplify_expressions.specs.Seen.{named, seen, side_of, side_of?, column_of, value_in, comparison_at, comparison_of, matched_in}
 use Rattle.simplify_expressions.specs.Classes.{key_of, after, precedes}
 use Rattle.simplify_expressions.specs.declared.simplify_predicates.Bound.{Bound}
 use Rattle.simplify_expressions.specs.declared.simplify_predicates.Name as Declared

@@ -3,20 +3,19 @@
 --     kind_here, kind_past      one more literal's kind
 --     spelled_all, best-is      what `most_restrictive` comes to, as expressions
 -- Assumes nothing.
-use mathlib.Core.Path.{◌≡◌, refl, sym, ap, ap₂, ◌∙◌}
-use mathlib.Core.Bool.{Bool, true, false, ◌&&◌, ◌||◌, cond}
+use mathlib.Core.Path.{◌≡◌, refl}
+use mathlib.Core.Bool.{Bool, true, false, ◌&&◌}
 use mathlib.Core.List.{List, [], ◌∷◌, map}
-use Prim.Native.Nat.{ℕ, suc, ◌+◌, ◌-◌, ◌≤◌, ◌<◌}
+use Prim.Native.Nat.{ℕ, suc, ◌+◌, ◌<◌}
 use native.Mathlib.Omega.{arith}
-use lib.Dec.{eqb}
 use lib.IntN.{ℤ}
 use lib.ListN.{length, get_or, drop}
-use Rattle.plan.specs.Syntax.{Value, Expr}
+use Rattle.plan.specs.Syntax.{Expr}
 use Rattle.plan.specs.Lists.{◌&◌, choose, all}
-use Rattle.meaning.specs.Meaning.{is_n, kind_of, same_v}
+use Rattle.meaning.specs.Meaning.{is_n, kind_of}
 use Rattle.rewrite.specs.SimplifyPredicates.{Side, val, find_most_restrictive_predicate, is_better, stronger, first_kind, of_kind, most_restrictive}
 use Rattle.conjuncts.specs.Items.{FALSE}
-use Rattle.conjuncts.proofs.Listed.{next, next_back}
+use Rattle.conjuncts.proofs.Listed.{next}
 use Rattle.simplify_expressions.specs.Seen.{side_in, Spelled}
 
 pub and_is : (a b : Bool) → a & b ≡ (a && b)

@@ -15,7 +15,8 @@ ghost use Rattle.rewrite.specs.SimplifyPredicates.{lit_val, make, most_restricti
 ghost use Rattle.rewrite.specs.SimplifyPredicates.{simplify_predicates, sort_out, val, view};
 ghost use Rattle.conjuncts.specs.Items.{FALSE, Known, Lists};
 ghost use Rattle.simplify_expressions.specs.Classes.{after, group_of, in_class, is_of, key_of, least, lesser, of_class, precedes};
-ghost use Rattle.simplify_expressions.specs.Seen.{Reading, Spelled, column_of, compares, comparison_of, matched_in, named, past_of, relation_in, relation_of, seen};
+ghost use Rattle.simplify_expressions.specs.Seen.{Reading, Spelled, column_of, comparison_of, compares, matched_in};
+ghost use Rattle.simplify_expressions.specs.Seen.{named, past_of, relation_in, relation_of, seen};
 ghost use Rattle.simplify_expressions.specs.Seen.{side_in, side_of, strict_r, value_in};
 ghost use Rattle.plan.specs.Syntax as S;
 
@@ -144,13 +145,7 @@ fn belongs(x: Option<Bound>, k: Class, column: Name) -> bool
 }
 
 // Appends to `into` the predicates of c that are of class k; if they are comparisons, of this column.
-pub fn select_class(
-    s: &[u8],
-    c: Conjuncts,
-    into: Conjuncts,
-    k: Class,
-    column: Name,
-) -> Conjuncts
+pub fn select_class(s: &[u8], c: Conjuncts, into: Conjuncts, k: Class, column: Name) -> Conjuncts
     requires { Known s.now c }
     ensures { (es fs : List Expr) → Lists s.now c es → Lists s.now into fs →
         Lists s.now result (fs ++ keep (of_class k column.q column.n) es) }

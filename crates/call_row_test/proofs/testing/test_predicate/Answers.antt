@@ -3,23 +3,22 @@ use mathlib.Core.Path.{ap, ◌∙◌}
 use mathlib.Core.Bool.{not}
 use Rattle.plan.specs.Schema.{schema}
 use Rattle.plan.specs.Trees.{expr_tree}
-use Rattle.plan.specs.Values.{case_of}
 use Rattle.conjuncts.proofs.FunctionsIn.{fn_tree}
 use Rattle.call_row_test.proofs.RowTesting.{bad_row, with_function, with_truth, read_back, narrow, on_row}
 use Rattle.call_row_test.proofs.testing.test_predicate.Goals as goal
 
-pub returns-then-not-row_ok : goal.returns-then-not-row_ok
-returns-then-not-row_ok c =
-    λ e p h f n t. bad_row _ e p _ _ _ t c.row_ok.ensures (ap not c.if-not-row_ok.true)
+pub returns-then-not-is_ok : goal.returns-then-not-is_ok
+returns-then-not-is_ok c =
+    λ e p h f n t. bad_row _ e p _ _ _ t c.is_ok.ensures (ap not c.if-not-is_ok.true)
 
 pub returns-then-has_function : goal.returns-then-has_function
 returns-then-has_function c =
-    λ e p h f n t. with_function _ e p _ _ _ t c.row_ok.ensures
-    (c.has_function.ensures (expr_tree e) h ∙ fn_tree _ e) (ap not c.if-not-row_ok.false) c.if-has_function.true
+    λ e p h f n t. with_function _ e p _ _ _ t c.is_ok.ensures
+    (c.has_function.ensures (expr_tree e) h ∙ fn_tree _ e) (ap not c.if-not-is_ok.false) c.if-has_function.true
 
 pub returns : goal.returns
 returns c =
-    λ e p h f n t. with_truth _ e p _ _ _ t c.row_ok.ensures
-    (c.has_function.ensures (expr_tree e) h ∙ fn_tree _ e) (ap not c.if-not-row_ok.false)
-    c.truth_of.result (case_of c.evaluate.result.case) c.if-has_function.false c.truth_of.ensures
+    λ e p h f n t. with_truth _ e p _ _ _ t c.is_ok.ensures
+    (c.has_function.ensures (expr_tree e) h ∙ fn_tree _ e) (ap not c.if-not-is_ok.false)
+    c.of.result c.evaluate.result.case c.if-has_function.false c.of.ensures
     ((c.evaluate.ensures.is (expr_tree e) (schema p) h n (narrow p t)).value ∙ on_row p _ _ t (read_back e f))

@@ -16,12 +16,12 @@ unfolding ◌&◌ cell_ok
 returns-then-mark-ne-HELD c =
     rw (lt-leb _ 1 (past_one c.if-mark-eq-NULL.false c.if-mark-ne-HELD.true))
 
-pub returns-then-types-i-eq-BOOLEAN : goal.returns-then-types-i-eq-BOOLEAN
+pub returns-then-ty-eq-BOOLEAN : goal.returns-then-ty-eq-BOOLEAN
 unfolding ◌&◌ cell_ok
-returns-then-types-i-eq-BOOLEAN c =
-    rw (c.if-mark-ne-HELD.false, c.if-types-i-eq-BOOLEAN.true) (search rules)
+returns-then-ty-eq-BOOLEAN c =
+    rw (c.if-mark-ne-HELD.false, c.if-ty-eq-BOOLEAN.true) (search rules)
 
 pub returns : goal.returns
 unfolding ◌&◌ cell_ok
 returns c =
-    rw (c.if-mark-ne-HELD.false, ne_eqb _ _ c.if-types-i-eq-BOOLEAN.false)
+    rw (c.if-mark-ne-HELD.false, ne_eqb _ _ c.if-ty-eq-BOOLEAN.false)

@@ -13,28 +13,25 @@ returns-then-l-eq-COLUMN t c =
           (c.column.ensures.is ns n le);
     }
 
-pub returns-in-Of : goal.returns-in-Of
-returns-in-Of t c =
-    let e = sym c.literal_of-literal.ensures ∙ c.in-Of.is in
+pub returns-in-Some : goal.returns-in-Some
+returns-in-Some t c =
+    let e = sym c.literal_of.ensures ∙ c.in-Some.is in
     record { right = right_literal c.label_at-l.result _ e; is = λ t ns h n le. tree_literal _ _ t (c.label_at-l.ensures.0 ∙ h.head.label) _ e }
 
 pub loop-at-init : goal.loop-at-init
 loop-at-init t c =
-    rw c.word_at-at.ensures.0 (chain _ c.requires.readable
-    (c.no_operands-seen.ensures.right, λ ns n le. seen_none _ _ c.no_operands-seen.ensures.is))
+    rw c.word_at-at.ensures.0 (chain _ c.requires
+    (c.nothing-seen.ensures.right, λ ns n le. seen_none _ _ c.nothing-seen.ensures.is))
 
-pub evaluate-v-requires : goal.evaluate-v-requires
-evaluate-v-requires t c =
+pub evaluate-requires : goal.evaluate-requires
+evaluate-requires t c =
     let k = c.loop-at.invariant in let u = round _ k c.loop-at-test.true in (
       omega (
         arith,
         k.some,
         c.decreases,
       ),
-      (
-        rw c.from_record-child.ensures u.readable,
-        c.requires.len_le_max_fields,
-      ),
+      rw c.from_record-child.ensures u.readable,
     )
 
 pub loop-at-preserved : goal.loop-at-preserved
@@ -42,12 +39,12 @@ loop-at-preserved t c =
     let k = c.loop-at.invariant in let u = round _ k c.loop-at-test.true in
     rw (c.word_at-at-in-loop-at.ensures.0, c.from_record-child.ensures)
     (again _ k u (
-      c.with_operand-seen.ensures.right,
-      λ ns n le. seen_next c.evaluate-v.result u.turn.child
+      c.with-seen.ensures.right,
+      λ ns n le. seen_next c.evaluate.result u.turn.child
           (u.so_far.1 ns n le)
-          (c.evaluate-v.ensures.is u.turn.child ns (rw c.from_record-child.ensures
+          (c.evaluate.ensures.is u.turn.child ns (rw c.from_record-child.ensures
           u.turn.here) n le).value
-          c.with_operand-seen.ensures.is,
+          c.with-seen.ensures.is,
     ))
 
 pub returns : goal.returns
@@ -59,6 +56,6 @@ returns t c =
           (tree_operator _ _ k.tree
           (c.label_at-l.ensures.0 ∙ k.stands.head.label) _
           c.if-l-eq-COLUMN.false
-          (sym c.literal_of-literal.ensures ∙
+          (sym c.literal_of.ensures ∙
           c.in_default.is) (c.operate.ensures.is _ (seen_all e)));
     }

@@ -19,10 +19,10 @@ returns-then-costly-now c =
 pub loop-i-preserved : goal.loop-i-preserved
 loop-i-preserved c =
     λ es h. let p = c.requires in
-      c.loop-i.invariant es h
-      ∙ (after_next es c.loop-i.i
-      (omega (arith, lists_length h p.most, c.loop-i-test.true)) _ _ (c.function_at-now.ensures es h)
-      ∙ rw (and_is, c.if-costly-now.false))
+    c.loop-i.invariant es h
+    ∙ (after_next es c.loop-i.i
+    (omega (arith, lists_length h p.most, c.loop-i-test.true)) _ _ (c.function_at-now.ensures es h)
+    ∙ rw (and_is, c.if-costly-now.false))
 
 pub returns : goal.returns
 returns c =

@@ -1,5 +1,5 @@
 -- `reorder_predicates::reorder_predicates` meets its contract.
-use Rattle.std.proofs.Common.{rules, Bool, not, refl, sym, ap, ◌∙◌}
+use Rattle.std.proofs.Common.{rules, not, refl, sym, ◌∙◌}
 use Rattle.plan.specs.Syntax.{Expr}
 use Rattle.rewrite.specs.ReorderPredicates.{is_cheap_predicate}
 use Rattle.conjuncts.proofs.Listed.{lists_none}
@@ -16,6 +16,8 @@ returns-then-not-needs_reorder c =
 
 pub returns : goal.returns
 returns c =
-    λ es h. rw (reordered es (sym c.if-any_volatile.false ∙ c.any_volatile.ensures es h) (sym c.if-not-needs_reorder.false ∙ c.needs_reorder.ensures es h))
-    (c.pick.ensures _ es _ (λ (e : Expr). not (is_cheap_predicate e)) h (c.pick-cheap.ensures _ es _ is_cheap_predicate h (lists_none c.empty.ensures)
-    (λ i yes lt k. search rules)) (λ i yes lt k. search rules), refl)
+    λ es h. rw (reordered es (sym c.if-any_volatile.false ∙ c.any_volatile.ensures es h) (sym c.if-not-needs_reorder.false ∙ c.needs_reorder.ensures es h)) (
+      c.pick.ensures _ es _ (λ (e : Expr). not (is_cheap_predicate e)) h (c.pick-cheap.ensures _ es _ is_cheap_predicate h (lists_none c.empty.ensures)
+          (λ i yes lt k. search rules)) (λ i yes lt k. search rules),
+      refl,
+    )

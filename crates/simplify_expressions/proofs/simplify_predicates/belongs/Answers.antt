@@ -1,5 +1,4 @@
 -- `simplify_predicates::belongs` meets its contract.
-use Rattle.std.proofs.Common.{rules}
 use Rattle.simplify_expressions.specs.Classes.{in_class}
 use Rattle.simplify_expressions.proofs.simplify_predicates.belongs.Goals as goal
 

@@ -1,9 +1,6 @@
 -- `simplify_predicates::bound_by` meets its contract.
-use Rattle.std.proofs.Common.{sym, ap, ◌∙◌}
 use Rattle.plan.specs.Values.{literal?}
 use Rattle.rewrite.specs.SimplifyPredicates.{make}
-use Rattle.simplify_expressions.specs.Seen.{relation_of}
-use Rattle.simplify_expressions.specs.Classes.{key_of}
 use Rattle.simplify_expressions.proofs.Comparing.{make_none, make_none₂}
 use Rattle.simplify_expressions.proofs.simplify_predicates.bound_by.Goals as goal
 
@@ -12,7 +9,8 @@ unfolding make
 returns-in_err-relation c = rw (c.from_residual.ensures, ← c.relation_by.ensures, c.in_err-relation.was)
 
 pub returns-in_err-column : goal.returns-in_err-column
-returns-in_err-column c = rw (c.from_residual-in_err-column.ensures, ← c.extract_column_from_expr.ensures, c.in_err-column.was) (make_none₂ _ _ _)
+returns-in_err-column c =
+    rw (c.from_residual-in_err-column.ensures, ← c.extract_column_from_expr.ensures, c.in_err-column.was) (make_none₂ _ _ _)
 
 pub returns-in_err-value : goal.returns-in_err-value
 unfolding literal?
@@ -20,4 +18,12 @@ returns-in_err-value c = rw (c.from_residual-in_err-value.ensures, ← c.literal
 
 pub returns : goal.returns
 unfolding make literal?
-returns c = rw (← c.relation_by.ensures, c.in_ok-relation.was, ← c.extract_column_from_expr.ensures, c.in_ok-column.was, ← c.literal_of.ensures, c.in_ok-value.was)
+returns c =
+    rw (
+      ← c.relation_by.ensures,
+      c.in_ok-relation.was,
+      ← c.extract_column_from_expr.ensures,
+      c.in_ok-column.was,
+      ← c.literal_of.ensures,
+      c.in_ok-value.was,
+    )

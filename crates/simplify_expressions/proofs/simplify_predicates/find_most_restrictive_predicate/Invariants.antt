@@ -2,7 +2,7 @@
 -- The loop's invariant: the most restrictive of all is that of the best so far and the rest.
 use mathlib.Core.Path.{◌≡◌}
 use mathlib.Core.List.{List, map}
-use Prim.Native.Nat.{◌-◌, ◌≤◌, ◌<◌}
+use Prim.Native.Nat.{◌<◌}
 use lib.ListN.{get_or, drop}
 use Rattle.plan.specs.Syntax.{Expr}
 use Rattle.conjuncts.specs.Items.{FALSE, Lists}

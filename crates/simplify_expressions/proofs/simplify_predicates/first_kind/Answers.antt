@@ -1,10 +1,6 @@
-use mathlib.Core.Path.{sym, ap, ◌∙◌}
-use mathlib.Core.List.{map}
+use mathlib.Core.Path.{sym, ◌∙◌}
 use native.Mathlib.Omega.{arith}
-use Rattle.rewrite.specs.SimplifyPredicates.{Side, val, first_kind}
-use Rattle.plan.specs.Values.{is_n, kind_of}
 use Rattle.conjuncts.proofs.Listed.{lists_length, at_end}
-use Rattle.simplify_expressions.specs.Seen.{side_in}
 use Rattle.simplify_expressions.proofs.Sides.{kind_here, kind_past}
 use Rattle.simplify_expressions.proofs.simplify_predicates.first_kind.Goals as goal
 

@@ -1,5 +1,5 @@
 -- `simplify_predicates::side_at` meets its contract.
-use Rattle.std.proofs.Common.{refl, sym, ap, ◌∙◌}
+use Rattle.std.proofs.Common.{refl}
 use Rattle.simplify_expressions.specs.Seen.{side_of?}
 use Rattle.simplify_expressions.proofs.Comparing.{unwrapped}
 use Rattle.simplify_expressions.proofs.RightSides.{right_unwrapped}

@@ -1,7 +1,7 @@
--- `operands::no_operands` meets its contract.
+-- `operands::Seen::nothing` meets its contract.
 use mathlib.Core.Path.{refl}
 use Rattle.plan.specs.Lists.{any}
-use Rattle.evaluate.proofs.operands.no_operands.Goals as goal
+use Rattle.evaluate.proofs.operands.Seen.nothing.Goals as goal
 
 pub returns : goal.returns
 unfolding any
