@@ -3,6 +3,7 @@
 
 pub mod copying;
 pub mod ends;
+pub mod kinds;
 pub mod limits;
 pub mod links;
 pub mod records;

@@ -4,15 +4,15 @@ use Rattle.image.specs.Tree.{Label}
 
 -- ---- the kinds, and what a record is: the enums of the code
 
-pub use Rattle.plan.specs.declared.kinds.ExprKind.{ExprKind}
-pub use Rattle.plan.specs.declared.kinds.ExprKind.TheVariants.{Column, Integer, Boolean, Null, Binary, Not, Test, Between, InList, Function}
-pub use Rattle.plan.specs.declared.kinds.PlanKind.{PlanKind}
-pub use Rattle.plan.specs.declared.kinds.PlanKind.TheVariants.{TableScan, Filter, Projection, Join, SubqueryAlias, Union, Distinct, Sort}
-pub use Rattle.plan.specs.declared.kinds.PlanKind.TheVariants.{Repartition, Limit, Aggregate, Window}
-pub use Rattle.plan.specs.declared.kinds.PartKind.{PartKind}
-pub use Rattle.plan.specs.declared.kinds.PartKind.TheVariants.{FieldPart, EntryPart, PairPart, KeyPart, AggPart, WinPart}
-pub use Rattle.plan.specs.declared.kinds.What.{What}
-pub use Rattle.plan.specs.declared.kinds.What.TheVariants.{Expr as expr, Plan as plan, Part as part, Unknown as unknown}
+pub use Rattle.image.specs.declared.kinds.ExprKind.{ExprKind}
+pub use Rattle.image.specs.declared.kinds.ExprKind.TheVariants.{Column, Integer, Boolean, Null, Binary, Not, Test, Between, InList, Function}
+pub use Rattle.image.specs.declared.kinds.PlanKind.{PlanKind}
+pub use Rattle.image.specs.declared.kinds.PlanKind.TheVariants.{TableScan, Filter, Projection, Join, SubqueryAlias, Union, Distinct, Sort}
+pub use Rattle.image.specs.declared.kinds.PlanKind.TheVariants.{Repartition, Limit, Aggregate, Window}
+pub use Rattle.image.specs.declared.kinds.PartKind.{PartKind}
+pub use Rattle.image.specs.declared.kinds.PartKind.TheVariants.{FieldPart, EntryPart, PairPart, KeyPart, AggPart, WinPart}
+pub use Rattle.image.specs.declared.kinds.What.{What}
+pub use Rattle.image.specs.declared.kinds.What.TheVariants.{Expr as expr, Plan as plan, Part as part, Unknown as unknown}
 
 abbrev pub number_e : ExprKind → ℕ
 number_e Column = 1

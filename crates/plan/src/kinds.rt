@@ -4,54 +4,7 @@
 ghost use Rattle.std.specs.Prelude.{◌≡◌};
 ghost use Rattle.plan.specs.Kinds.{expr_w, number_of, part_w, plan_w, what_of};
 
-#[derive(Clone, Copy, Debug, PartialEq, Eq, Hash)]
-pub enum ExprKind {
-    Column,
-    Integer,
-    Boolean,
-    Null,
-    Binary,
-    Not,
-    Test,
-    Between,
-    InList,
-    Function,
-}
-
-#[derive(Clone, Copy, Debug, PartialEq, Eq, Hash)]
-pub enum PlanKind {
-    TableScan,
-    Filter,
-    Projection,
-    Join,
-    SubqueryAlias,
-    Union,
-    Distinct,
-    Sort,
-    Repartition,
-    Limit,
-    Aggregate,
-    Window,
-}
-
-#[derive(Clone, Copy, Debug, PartialEq, Eq, Hash)]
-pub enum PartKind {
-    FieldPart,
-    EntryPart,
-    PairPart,
-    KeyPart,
-    AggPart,
-    WinPart,
-}
-
-// What a record is.
-#[derive(Clone, Copy, Debug, PartialEq, Eq, Hash)]
-pub enum What {
-    Expr(ExprKind),
-    Plan(PlanKind),
-    Part(PartKind),
-    Unknown,
-}
+pub use image::kinds::{ExprKind, PartKind, PlanKind, What};
 
 // What a record is whose kind has this number.
 #[tactic(auto, unfolding(crate::specs::Kinds::what_of, crate::specs::Kinds::among))]
