@@ -1,6 +1,7 @@
 -- A chain of siblings that stands somewhere.
 use Rattle.std.specs.Prelude.{List, ℕ, zero, suc, ◌-◌, ◌*◌, length}
 use Rattle.image.specs.Tree.{Forest, Linked}
+
 -- some forest is linked at `at`, in bytes that begin at record b
 pub record Chained (s : List ℕ) (b at : ℕ) : Type 0 where
   pub forest : Forest

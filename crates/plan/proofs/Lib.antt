@@ -11,4 +11,6 @@ pub mod Literals
 pub mod Rights
 pub mod PlanOf
 pub mod FieldSources
+pub mod Fronts
+pub mod Planning
 pub mod Inputting

@@ -13,4 +13,6 @@ pub mod Measure
 pub mod Integers
 pub mod Values
 pub mod FieldSources
+pub mod Chains
 pub mod Inputs
+pub mod Siblings
