@@ -10,13 +10,15 @@ use lib.ListN.{length, drop, length-drop, length-append}
 use borrow.Author.Tests.{leb-true, eqb-true}
 use Rattle.image.specs.Lowest.{alone}
 use Rattle.image.specs.Tree.{Forest, none, node, Tree, size, Stands, Linked, Node}
-use Rattle.image.proofs.Stepping.{Step}
+use Rattle.plan.proofs.Fronts.{Front}
 use Rattle.plan.specs.Kinds as K
 use Rattle.plan.specs.Kinds.{What, expr, plan, part, unknown, what, what_of, plan_w}
 use Rattle.plan.specs.FieldSources.{role, role_p, creates, renames, extends, gives_both, own}
 use Rattle.plan.specs.declared.field_sources.Role.{Role}
 use Rattle.plan.specs.declared.field_sources.Role.TheVariants.{NoPlan, Creates, Joins, Renames, Extends, Passes}
-use Rattle.plan.specs.Inputs.{plans_in, Planned}
+use Rattle.plan.specs.Inputs.{plans_in}
+use Rattle.plan.specs.Siblings.{forest, PlanAt}
+use Rattle.plan.specs.declared.siblings.Branch.{Branch}
 use Rattle.plan.specs.Lists.{put}
 use Rattle.plan.specs.Syntax.{Name, nm, full, right_semi, right_anti}
 use Rattle.plan.specs.Trees.{join_number}
@@ -68,22 +70,26 @@ inputs_of (node l cs ns) = go (what l) refl (inputs_of ns)
     go unknown q e = e
     go (plan k) q e = rw (q, e)
 
--- so from the plan on that was found
-pub inputs_from : {f : Forest} {s : List ℕ} {b at i r : ℕ} (y : Planned f s b at i r) → drop i (inputs f) ≡ inputs y.forest
-inputs_from {f} {i = i} y =
-    ap (drop i) (inputs_of f) ∙ drop_map i (plans_in f) ∙ ap (map own_schema) y.plans ∙ sym (inputs_of y.forest)
-  where
-    drop_map : (i : ℕ) (ts : List Tree) → drop i (map own_schema ts) ≡ map own_schema (drop i ts)
-    drop_map zero ts = refl
-    drop_map (suc i) [] = refl
-    drop_map (suc i) (t ∷ ts) = drop_map i ts
+drop_map : (i : ℕ) (ts : List Tree) → drop i (map own_schema ts) ≡ map own_schema (drop i ts)
+drop_map zero ts = refl
+drop_map (suc i) [] = refl
+drop_map (suc i) (t ∷ ts) = drop_map i ts
 
-module _ {f : Forest} {s : List ℕ} {b at : ℕ} {part : List ℕ} {v : Node} (w : Step f s b at part v) where
+-- so from the plan on that was found
+pub inputs_from : {f : Forest} {i : ℕ} {t : Branch} (y : PlanAt f i t) → drop i (inputs f) ≡ inputs (forest y.trees)
+inputs_from {f} {i} y =
+    ap (drop i) (inputs_of f) ∙ drop_map i (plans_in f) ∙ ap (map own_schema) y.plans ∙ sym (inputs_of (forest y.trees))
+
+-- there is none
+pub inputs_none : (f : Forest) (i : ℕ) → drop i (plans_in f) ≡ [] → drop i (inputs f) ≡ []
+inputs_none f i e = ap (drop i) (inputs_of f) ∙ drop_map i (plans_in f) ∙ ap (map own_schema) e
+
+module _ {f : Forest} {v : Node} (w : Front f v) where
   inputs_is : inputs f ≡ inputs_by (what_of v.kind) w.label w.below (inputs w.below) (inputs w.after)
   unfolding inputs
   inputs_is =
       ap inputs w.is
-      ∙ ap (λ (k : ℕ). inputs_by (what_of k) w.label w.below (inputs w.below) (inputs w.after)) (sym w.kind)
+      ∙ ap (λ (k : ℕ). inputs_by (what_of k) w.label w.below (inputs w.below) (inputs w.after)) (sym w.says.kind)
 
   -- a record that is no plan is passed over
   pub skip_part : plan_w (what_of v.kind) ≡ false → inputs f ≡ inputs w.after
@@ -108,8 +114,8 @@ module _ {f : Forest} {s : List ℕ} {b at : ℕ} {part : List ℕ} {v : Node} (
       go (K.part k) q e = no_yes e
       go unknown q e = no_yes e
       go (plan k) q e =
-          let n : v.kind ≡ K.number_p k = w.kind ∙ kind_p w.label k (ap what_of (sym w.kind) ∙ q) in
-          rw (w.p, n)
+          let n : v.kind ≡ K.number_p k = w.says.kind ∙ kind_p w.label k (ap what_of (sym w.says.kind) ∙ q) in
+          rw (w.says.p, n)
 
   pub fields_here : plan_w (what_of v.kind) ≡ true → {r : Role} → r ≡ role (what_of v.kind)
       → input 0 (inputs f) ≡ fields_by r v.p (made (parts_over v.kind (inputs w.below)) w.below) (inputs w.below)
@@ -117,31 +123,31 @@ module _ {f : Forest} {s : List ℕ} {b at : ℕ} {part : List ℕ} {v : Node} (
   fields_here z R = rw (R, plan_first z)
 
 -- below an alias one asks by the name alone, or for none
-pub renamed_one : (asks : Question) (p q n r m : ℕ) → hit asks q n p m ≡ hit (under_alias p asks q) q n r m
-renamed_one Exact p q n r m = go (eqb p q)
+pub renamed_one : (asks : Question) (p r m : ℕ) → hit asks p m ≡ hit (under_alias p asks) r m
+renamed_one (Exact q n) p r m = go (eqb p q)
   where
-    go : (b : Bool) → (b && eqb m n) ≡ hit (cond b ByName Nothing) q n r m
+    go : (b : Bool) → (b && eqb m n) ≡ hit (cond b (ByName n) Nothing) r m
     go true = refl
     go false = refl
-renamed_one ByName p q n r m = refl
-renamed_one Every p q n r m = refl
-renamed_one Clashing p q n r m = go (near q p)
+renamed_one (ByName n) p r m = refl
+renamed_one Every p r m = refl
+renamed_one (Clashing q n) p r m = go (near q p)
   where
-    go : (b : Bool) → (b && eqb m n) ≡ hit (cond b ByName Nothing) q n r m
+    go : (b : Bool) → (b && eqb m n) ≡ hit (cond b (ByName n) Nothing) r m
     go true = refl
     go false = refl
-renamed_one Nothing p q n r m = refl
+renamed_one Nothing p r m = refl
 
 -- so an alias changes the question
-pub renamed : (asks : Question) (p q n : ℕ) (s : Schema) → counted (hits asks q n) (map (requalify p) s) ≡ counted (hits (under_alias p asks q) q n) s
+pub renamed : (asks : Question) (p : ℕ) (s : Schema) → counted (hits asks) (map (requalify p) s) ≡ counted (hits (under_alias p asks)) s
 unfolding counted requalify
-renamed asks p q n [] = refl
-renamed asks p q n (f ∷ s) = step f.name (renamed asks p q n s)
+renamed asks p [] = refl
+renamed asks p (f ∷ s) = step f.name (renamed asks p s)
   where
-    step : (x : Name) → counted (hits asks q n) (map (requalify p) s) ≡ counted (hits (under_alias p asks q) q n) s
-        → counted (hits asks q n) (map (requalify p) (record { name = x; ty = f.ty } ∷ s))
-        ≡ counted (hits (under_alias p asks q) q n) (record { name = x; ty = f.ty } ∷ s)
-    step (nm r m) e = rw (renamed_one asks p q n r m, e)
+    step : (x : Name) → counted (hits asks) (map (requalify p) s) ≡ counted (hits (under_alias p asks)) s
+        → counted (hits asks) (map (requalify p) (record { name = x; ty = f.ty } ∷ s))
+        ≡ counted (hits (under_alias p asks)) (record { name = x; ty = f.ty } ∷ s)
+    step (nm r m) e = rw (renamed_one asks p r m, e)
 
 -- ---- the fields of a plan by its role
 
@@ -275,11 +281,11 @@ few_held h {r} i f s b at k e =
     omega (arith, counted_le h (input i (inputs f)), total_input i (inputs f), enough f [], linked_size f s b at k)
 
 -- the question for every field counts them all
-pub counted_all : (q n : ℕ) (s : Schema) → counted (hits Every q n) s ≡ length s
+pub counted_all : (s : Schema) → counted (hits Every) s ≡ length s
 unfolding counted
-counted_all q n [] = refl
-counted_all q n (f ∷ s) = step f.name (counted_all q n s)
+counted_all [] = refl
+counted_all (f ∷ s) = step f.name (counted_all s)
   where
-    step : (x : Name) → counted (hits Every q n) s ≡ length s
-        → cond (hits Every q n x) (counted (hits Every q n) s + 1) (counted (hits Every q n) s) ≡ suc (length s)
+    step : (x : Name) → counted (hits Every) s ≡ length s
+        → cond (hits Every x) (counted (hits Every) s + 1) (counted (hits Every) s) ≡ suc (length s)
     step (nm r m) e = rw e (omega arith)

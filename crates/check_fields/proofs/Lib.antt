@@ -1,4 +1,4 @@
 pub mod Counting
-pub mod Scoping
 pub mod Seeking
 pub mod Typing
+pub mod Scoping

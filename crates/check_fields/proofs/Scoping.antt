@@ -17,24 +17,24 @@ use Rattle.plan.specs.Syntax.{Name, nm}
 use Rattle.check_fields.specs.declared.scopes.View.{View}
 use Rattle.check_fields.specs.declared.scopes.View.TheVariants.{Nothing, FirstInput, SecondInput, BothInputs, Parts, FirstInputAndParts}
 use Rattle.check_fields.specs.declared.questions.Question.TheVariants.{Exact}
-use Rattle.check_fields.specs.Fields.{Schema, input, made, inputs, type_in, names_in}
+use Rattle.check_fields.specs.Fields.{Schema, input, made, inputs, names_in}
 use Rattle.acceptance.specs.Names.{holders}
 use Rattle.check_fields.specs.Rules.{Scope, over, seen, hand, hand_by, hand_p}
-use Rattle.plan.proofs.Rebuilt.{kind_p, kind_w, kind_e}
-use Rattle.image.proofs.Stepping.{Step}
+use Rattle.plan.proofs.Rebuilt.{kind_w, kind_e}
+use Rattle.plan.specs.Siblings.{Says}
 use Rattle.check_fields.specs.Count.{hits, counted}
-use Rattle.check_fields.specs.Seek.{seek, told, type_found, passed_of, all_places}
-use Rattle.check_fields.specs.declared.fields.Sought.{Sought}
-use Rattle.check_fields.specs.declared.fields.Sought.TheVariants.{Known, Named, Left}
-use Rattle.check_fields.proofs.Seeking.{onward, seek-++, seek_name, seek_passed, told_same, type_told, passed_told}
+use Rattle.std.specs.declared.ops.ControlFlow.TheVariants.{Continue}
+use Rattle.check_fields.specs.Seek.{Sought, seek, told, type_found, passed_of, all_places}
+use Rattle.check_fields.specs.declared.fields.FieldType.{FieldType}
+use Rattle.check_fields.specs.declared.fields.FieldType.TheVariants.{Named}
+use Rattle.check_fields.proofs.Seeking.{onward, seek-++, seek_name, seek_passed}
 use Rattle.check_fields.proofs.Counting.{counted_le, enough, linked_size, total, total_input, total_two}
-use Rattle.plan.proofs.FieldSources.{of_kind}
 use Rattle.check_fields.specs.Scopes.{scope_of, view_p, view_w, left_of, right_of, first_view, rest_view}
 
 -- ---- counting
 
 -- a name's holders are the fields that have its qualifier and its name
-pub counted_name : (q n : ℕ) (s : Schema) → counted (hits Exact q n) s ≡ holders (names_in s) (nm q n)
+pub counted_name : (q n : ℕ) (s : Schema) → counted (hits (Exact q n)) s ≡ holders (names_in s) (nm q n)
 unfolding counted holders names_in ◌&◌
 counted_name q n [] = refl
 counted_name q n (f ∷ s) = step f.name (counted_name q n s)
@@ -44,34 +44,10 @@ counted_name q n (f ∷ s) = step f.name (counted_name q n s)
     and true false x = refl
     and false b x = refl
 
-    step : (x : Name) → counted (hits Exact q n) s ≡ holders (names_in s) (nm q n)
-        → cond (hits Exact q n x) (counted (hits Exact q n) s + 1) (counted (hits Exact q n) s)
+    step : (x : Name) → counted (hits (Exact q n)) s ≡ holders (names_in s) (nm q n)
+        → cond (hits (Exact q n) x) (counted (hits (Exact q n)) s + 1) (counted (hits (Exact q n)) s)
         ≡ cond (same x (nm q n)) (suc (holders (names_in s) (nm q n))) (holders (names_in s) (nm q n))
     step (nm r m) e = rw e (and (eqb r q) (eqb m n) (holders (names_in s) (nm q n)))
-
--- ---- the tables of the code
-
-module _ (n : ℕ) (a : n ≡ K.number_p K.TableScan → ⊥) (b : n ≡ K.number_p K.Join → ⊥) (d : n ≡ K.number_p K.Union → ⊥) where
-  view_rest : (w : What) → what_of n ≡ w → cond (plan_w w) FirstInput Nothing ≡ view_w w
-  view_rest (expr k) e = refl
-  view_rest (part k) e = refl
-  view_rest unknown e = refl
-  view_rest (plan K.TableScan) e = absurd (a (kind_p (of_kind n) K.TableScan e))
-  view_rest (plan K.Filter) e = refl
-  view_rest (plan K.Projection) e = refl
-  view_rest (plan K.Join) e = absurd (b (kind_p (of_kind n) K.Join e))
-  view_rest (plan K.SubqueryAlias) e = refl
-  view_rest (plan K.Union) e = absurd (d (kind_p (of_kind n) K.Union e))
-  view_rest (plan K.Distinct) e = refl
-  view_rest (plan K.Sort) e = refl
-  view_rest (plan K.Repartition) e = refl
-  view_rest (plan K.Limit) e = refl
-  view_rest (plan K.Aggregate) e = refl
-  view_rest (plan K.Window) e = refl
-
-  -- what is left of the kinds of plans sees the first input
-  pub view_last : (x : Bool) → plan_w (what_of n) ≡ x → cond x FirstInput Nothing ≡ view_w (what_of n)
-  view_last x e = rw (← e) (view_rest (what_of n) refl)
 
 -- ---- what is handed down
 
@@ -136,44 +112,28 @@ hand_q n g l cs (plan k) e z = let y : ◌≡◌ {A = ℕ} 0 1 = cc in absurd (o
 hand_q n g l cs unknown e z = rw (ne_eqb l.kind (K.number_q K.PairPart)
     (λ q. let k : what_of (K.number_q K.PairPart) ≡ unknown = ap what_of (sym q) ∙ e in no_pair k)) refl
 
-module _ {f : Forest} {s : List ℕ} {b at : ℕ} {part : List ℕ} {v : Node} (w : Step f s b at part v) where
+module _ {v : Node} {l : Label} (w : Says v l) (cs : Forest) where
   -- a plan hands its own scope to all its children
   pub hand_plan : (c : Scope) (r : View) → r ≡ view_w (what_of v.kind) → plan_w (what_of v.kind) ≡ true
-      → hand c w.label w.below ≡ (scope_of r w.below, scope_of r w.below)
+      → hand c l cs ≡ (scope_of r cs, scope_of r cs)
   unfolding hand
   hand_plan c r e z =
-      go (what w.label) (e ∙ ap (λ (k : ℕ). view_w (what_of k)) w.kind) (sym (ap (λ (k : ℕ). plan_w (what_of k)) w.kind) ∙ z)
+      go (what l) (e ∙ ap (λ (k : ℕ). view_w (what_of k)) w.kind) (sym (ap (λ (k : ℕ). plan_w (what_of k)) w.kind) ∙ z)
     where
-      go : (u : What) → r ≡ view_w u → plan_w u ≡ true → hand_by u c w.below ≡ (scope_of r w.below, scope_of r w.below)
+      go : (u : What) → r ≡ view_w u → plan_w u ≡ true → hand_by u c cs ≡ (scope_of r cs, scope_of r cs)
       go (expr k) q y = let x : ◌≡◌ {A = ℕ} 0 1 = cc in absurd (omega arith)
       go (K.part k) q y = let x : ◌≡◌ {A = ℕ} 0 1 = cc in absurd (omega arith)
       go unknown q y = let x : ◌≡◌ {A = ℕ} 0 1 = cc in absurd (omega arith)
-      go (plan k) q y = rw (q, hand_p_lem k w.below) refl
+      go (plan k) q y = rw (q, hand_p_lem k cs) refl
 
   -- another record hands on the scope that it has, and a key pair a part of it
   pub hand_part : (n : View) (g : Forest) {i j : View} → plan_w (what_of v.kind) ≡ false
-      → i ≡ first_view v.kind n → j ≡ rest_view v.kind n → hand (scope_of n g) w.label w.below ≡ (scope_of i g, scope_of j g)
+      → i ≡ first_view v.kind n → j ≡ rest_view v.kind n → hand (scope_of n g) l cs ≡ (scope_of i g, scope_of j g)
   unfolding hand
   hand_part n g {i} {j} z h k =
-      hand_q n g w.label w.below (what w.label) refl (sym (ap (λ (x : ℕ). plan_w (what_of x)) w.kind) ∙ z)
+      hand_q n g l cs (what l) refl (sym (ap (λ (x : ℕ). plan_w (what_of x)) w.kind) ∙ z)
       ∙ ap (λ (x : ℕ). (scope_of (first_view x n) g, scope_of (rest_view x n) g)) (sym w.kind)
       ∙ ap (λ (x : View). (scope_of x g, scope_of (rest_view v.kind n) g)) (sym h) ∙ ap (λ (x : View). (scope_of i g, scope_of x g)) (sym k)
-
--- the root stands over nothing
-pub hand_root : (l : Label) (cs : Forest) {r : View} → r ≡ view_w (what l) → hand (over [] []) l cs ≡ (scope_of r cs, scope_of r cs)
-unfolding hand
-hand_root l cs e = rw e (go (what l))
-  where
-    go : (w : What) → hand_by w (over [] []) cs ≡ (scope_of (view_w w) cs, scope_of (view_w w) cs)
-    go (expr k) = refl
-    go unknown = refl
-    go (part K.FieldPart) = refl
-    go (part K.EntryPart) = refl
-    go (part K.PairPart) = refl
-    go (part K.KeyPart) = refl
-    go (part K.AggPart) = refl
-    go (part K.WinPart) = refl
-    go (plan k) = rw (hand_p_lem k cs) refl
 
 -- ---- what is found in a scope
 
@@ -183,38 +143,17 @@ seek_one h k s = ap (seek h k) (sym (append-nil s))
 
 -- of two: the first has it
 pub seek_left : (h : Name → Bool) (k : ℕ) (s t : Schema) (x : Sought) → x ≡ seek h k s → ((g : ℕ → Sought) → onward x g ≡ x)
-    → told [] x ≡ seek h k (s ++ t)
+    → x ≡ seek h k (s ++ t)
 seek_left h k s t x e stop =
-    told_same h [] k (s ++ t)
-    (sym (stop (λ j. seek h j t)) ∙ ap (λ (u : Sought). onward u (λ j. seek h j t)) e ∙ sym (seek-++ h k s t))
+    sym (stop (λ j. seek h j t)) ∙ ap (λ (u : Sought). onward u (λ j. seek h j t)) e ∙ sym (seek-++ h k s t)
 
 -- it has it not
-pub seek_right : (h : Name → Bool) (k j : ℕ) (s t : Schema) {x : Sought} → Left j ≡ seek h k s → x ≡ seek h j t → told [] x ≡ seek h k (s ++ t)
-seek_right h k j s t e g =
-    told_same h [] k (s ++ t) (g ∙ ap (λ (u : Sought). onward u (λ i. seek h i t)) e ∙ sym (seek-++ h k s t))
+pub seek_right : (h : Name → Bool) (k j : ℕ) (s t : Schema) {x : Sought} → Continue j ≡ seek h k s → x ≡ seek h j t → x ≡ seek h k (s ++ t)
+seek_right h k j s t e g = g ∙ ap (λ (u : Sought). onward u (λ i. seek h i t)) e ∙ sym (seek-++ h k s t)
 
--- nor has a plan it, and the parts are asked
-pub seek_parts : (h : Name → Bool) (k j : ℕ) (s t : Schema) (x : Sought) → Left j ≡ seek h k s → told [] x ≡ seek h j t
-    → told [] x ≡ seek h k (s ++ t)
-seek_parts h k j s t x e g = g ∙ ap (λ (u : Sought). onward u (λ i. seek h i t)) e ∙ sym (seek-++ h k s t)
-
--- a name's type
-pub type_name : (q n : ℕ) (s : Schema) (x : Sought) → told [] x ≡ seek (hits Exact q n) 0 s → type_found x ≡ type_in s (nm q n)
-type_name q n s x e = sym (type_told x) ∙ ap type_found e ∙ seek_name q n s
-
--- an expression's type, by what was found of it
-module _ (d : Schema) {t : ℕ} {x : Sought} where
-  -- outright
-  pub type_known : {u : ℕ} → x ≡ Known u → told d x ≡ Known t → u ≡ t
-  type_known {u} e g = let z : Known u ≡ Known t = rw e at g in cc
-
-  -- as a name's
-  pub type_named : {q n : ℕ} → x ≡ Named q n → told d x ≡ Known t → type_in d (nm q n) ≡ t
-  type_named {q} {n} e g = let z : Known (type_in d (nm q n)) ≡ Known t = rw e at g in cc
-
-  -- it has one
-  pub type_left : {j u : ℕ} → x ≡ Left j → told d x ≡ Known t → u ≡ t
-  type_left e g = let z : ◌≡◌ {A = ℕ} 0 1 = cc (rw e at g) in absurd (omega arith)
+-- a type that is found by a name
+pub type_named : (d : Schema) {t : ℕ} {x : FieldType} {q n : ℕ} → x ≡ Named q n → told d x ≡ t → type_found (seek (hits (Exact q n)) 0 d) ≡ t
+type_named d {t} {x} {q} {n} e g = seek_name q n d ∙ sym (ap (told d) e) ∙ g
 
 -- a scope has no more fields than there are records
 few_seen : (h : Name → Bool) (v : View) (f : Forest) (s : List ℕ) (b at : ℕ) → Linked f s b at → 32 * counted h (seen (scope_of v f)) ≤ length s
@@ -233,6 +172,5 @@ few_seen h v f s b at k = omega (arith, counted_le h (seen (scope_of v f)), enou
 
 -- how many it has
 pub passed_seen : (h : Name → Bool) (n : View) (f : Forest) (s : List ℕ) (b at : ℕ) (x : Sought) → Linked f s b at → length s ≤ all_places
-    → told [] x ≡ seek h all_places (seen (scope_of n f)) → passed_of x ≡ counted h (seen (scope_of n f))
-passed_seen h n f s b at x k l e =
-    sym (passed_told [] x) ∙ seek_passed h (seen (scope_of n f)) (omega (arith, few_seen h n f s b at k)) e
+    → x ≡ seek h all_places (seen (scope_of n f)) → passed_of x ≡ counted h (seen (scope_of n f))
+passed_seen h n f s b at x k l e = seek_passed h (seen (scope_of n f)) (omega (arith, few_seen h n f s b at k)) e

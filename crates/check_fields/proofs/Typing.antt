@@ -1,45 +1,16 @@
 -- Laws of types: of an expression, of the field that a part makes.
 -- Assumes nothing.
 use mathlib.Core.Path.{◌≡◌, refl, sym, ap, ◌∙◌}
-use mathlib.Core.Bool.{Bool, true, cond}
-use mathlib.Core.List.{List}
-use Prim.Native.Nat.{ℕ, ◌-◌, ◌*◌}
-use native.Mathlib.Omega.{arith}
-use lib.ListN.{drop}
-use Rattle.image.specs.Tree.{Label, Forest, Linked, label_at, Node, node_of}
-use Rattle.image.specs.Word.{word}
-use Rattle.image.proofs.Walking.{turn, ended}
+use Prim.Native.Nat.{ℕ}
+use Rattle.image.specs.Tree.{Label, Forest, none, Node}
+use Rattle.plan.proofs.Fronts.{Front}
+use Rattle.plan.specs.Siblings.{Says}
 use Rattle.plan.specs.Kinds as K
 use Rattle.plan.specs.Kinds.{What, expr, plan, part, unknown, what, what_of, expr_w}
 use Rattle.plan.specs.Syntax.{nm}
-use Rattle.plan.proofs.Rebuilt.{kind_w, kind_e}
+use Rattle.plan.proofs.Rebuilt.{kind_e}
 use Rattle.check_fields.specs.Fields.{Schema, type_in, type_of, type_by, type_first}
-use Rattle.plan.specs.FieldSources.{makes}
 use Rattle.check_fields.specs.Typed.{plain_type, part_type}
-use Rattle.plan.proofs.FieldSources.{of_kind}
-
--- ---- the tables of the code
-
--- what is left of the kinds of expressions is boolean
-pub plain_other : (n : ℕ) (p r : ℕ) → (n ≡ K.number_e K.Integer → ⊥) → (n ≡ K.number_e K.Null → ⊥) → (n ≡ K.number_e K.Function → ⊥)
-    → (n ≡ K.number_e K.Column → ⊥) → (x : Bool) → expr_w (what_of n) ≡ x
-    → cond x 2 0 ≡ plain_type (what_of n) p r
-plain_other n p r a b c d x e = rw (← e) (go (what_of n) refl)
-  where
-    go : (w : What) → what_of n ≡ w → cond (expr_w w) 2 0 ≡ plain_type w p r
-    go (plan k) q = refl
-    go (part k) q = refl
-    go unknown q = refl
-    go (expr K.Column) q = absurd (d (kind_e (of_kind n) K.Column q))
-    go (expr K.Integer) q = absurd (a (kind_e (of_kind n) K.Integer q))
-    go (expr K.Boolean) q = refl
-    go (expr K.Null) q = absurd (b (kind_e (of_kind n) K.Null q))
-    go (expr K.Binary) q = refl
-    go (expr K.Not) q = refl
-    go (expr K.Test) q = refl
-    go (expr K.Between) q = refl
-    go (expr K.InList) q = refl
-    go (expr K.Function) q = absurd (c (kind_e (of_kind n) K.Function q))
 
 -- an expression that is no column has its type outright
 plain_by : (w : What) (d : Schema) (l : Label) → (w ≡ expr K.Column → ⊥) → plain_type w l.p l.r ≡ type_by w d l
@@ -57,57 +28,32 @@ plain_by (expr K.Between) d l z = refl
 plain_by (expr K.InList) d l z = refl
 plain_by (expr K.Function) d l z = refl
 
--- a column has the type of its field
-pub source_column : (s : List ℕ) (v : Node) (d : Schema) → v ≡ node_of s → v.kind ≡ K.number_e K.Column → type_in d (nm v.p v.q) ≡ type_of d (label_at s)
-unfolding type_of what_of K.among
-source_column s v d g e = let e2 : word s 0 ≡ 1 = ap (λ (x : Node). x.kind) (sym g) ∙ e in rw (g, e2) refl
+-- of what was looked at in an expression
+module _ {v : Node} {l : Label} (w : Says v l) (d : Schema) where
+  -- a column has the type of its field
+  pub source_column : v.kind ≡ K.number_e K.Column → type_in d (nm v.p v.q) ≡ type_of d l
+  unfolding type_of what_of K.among
+  source_column e = let z : l.kind ≡ 1 = sym w.kind ∙ e in rw (z, w.p, w.q) refl
 
--- another expression has it outright
-pub source_plain : (s : List ℕ) (v : Node) (d : Schema) {t : ℕ} → v ≡ node_of s → (v.kind ≡ K.number_e K.Column → ⊥)
-    → t ≡ plain_type (what_of v.kind) v.p v.r → t ≡ type_of d (label_at s)
-unfolding type_of
-source_plain s v d {t} g z e =
-    e ∙ ap (λ (x : Node). plain_type (what_of x.kind) x.p x.r) g
-    ∙ plain_by (what (label_at s)) d (label_at s) (λ q. z (ap (λ (x : Node). x.kind) g ∙ kind_e (label_at s) K.Column q))
+  -- another expression has it outright
+  pub source_plain : {t : ℕ} → (v.kind ≡ K.number_e K.Column → ⊥) → t ≡ plain_type (what_of v.kind) v.p v.r → t ≡ type_of d l
+  unfolding type_of
+  source_plain {t} z e =
+      e ∙ ap (λ (n : ℕ). plain_type (what_of n) v.p v.r) w.kind ∙ ap (λ (n : ℕ). plain_type (what l) n v.r) w.p
+      ∙ ap (λ (n : ℕ). plain_type (what l) l.p n) w.r ∙ plain_by (what l) d l (λ q. z (w.kind ∙ kind_e l K.Column q))
 
--- ---- the field that a part makes
+-- the type of the first expression
+pub first_typed : {f : Forest} {v : Node} (w : Front f v) (d : Schema) → type_of d w.label ≡ type_first d f
+unfolding type_first
+first_typed w d = sym (ap (type_first d) w.is)
 
-module _ (l : Label) (cs : Forest) (d : Schema) (v : Node) (same_kind : v.kind ≡ l.kind) where
-  -- a scan's field has its own type
-  pub of_field : v.r ≡ l.r → v.kind ≡ K.number_q K.FieldPart → v.r ≡ part_type (what l) d l cs
-  unfolding what_of K.among
-  of_field r e = r ∙ sym (ap (λ (k : ℕ). part_type (what_of k) d l cs) (sym same_kind ∙ e))
+pub first_untyped : (d : Schema) {f : Forest} → f ≡ none → 0 ≡ type_first d f
+unfolding type_first
+first_untyped d e = sym (ap (type_first d) e)
 
-  -- an entry has that of its expression
-  of_entry : v.kind ≡ K.number_q K.EntryPart → type_first d cs ≡ part_type (what l) d l cs
-  unfolding what_of K.among
-  of_entry e = sym (ap (λ (k : ℕ). part_type (what_of k) d l cs) (sym same_kind ∙ e))
-
-  module _ (s : List ℕ) (at : ℕ) (h : Linked cs s at v.first) where
-    -- an entry without one has none
-    pub of_no_entry : v.kind ≡ K.number_q K.EntryPart → v.first ≡ 0 → 0 ≡ part_type (what l) d l cs
-    unfolding type_first
-    of_no_entry e z = sym (ap (type_first d) (ended cs s at v.first h z)) ∙ of_entry e
-
-    -- read where the expression stands
-    pub of_an_entry : {part : List ℕ} → v.kind ≡ K.number_q K.EntryPart → (v.first ≡ 0 → ⊥) → part ≡ drop (32 * (v.first - at)) s
-        → type_of d (label_at part) ≡ part_type (what l) d l cs
-    unfolding type_first
-    of_an_entry e z g =
-        let u = turn cs h z in
-        ap (λ (x : List ℕ). type_of d (label_at x)) g ∙ ap (type_of d) u.here.head.label ∙ sym (ap (type_first d) u.is) ∙ of_entry e
-
-  -- counts and extremes are integers
-  pub of_other : makes (what l) ≡ true → (v.kind ≡ K.number_q K.FieldPart → ⊥) → (v.kind ≡ K.number_q K.EntryPart → ⊥) → 1 ≡ part_type (what l) d l cs
-  of_other m a b = go (what l) refl m
-    where
-      go : (u : What) → what l ≡ u → makes u ≡ true → 1 ≡ part_type u d l cs
-      go (expr k) q m = let z : ◌≡◌ {A = ℕ} 0 1 = cc in absurd (omega arith)
-      go (plan k) q m = let z : ◌≡◌ {A = ℕ} 0 1 = cc in absurd (omega arith)
-      go unknown q m = let z : ◌≡◌ {A = ℕ} 0 1 = cc in absurd (omega arith)
-      go (part K.FieldPart) q m = absurd (a (same_kind ∙ kind_w l K.FieldPart q))
-      go (part K.EntryPart) q m = absurd (b (same_kind ∙ kind_w l K.EntryPart q))
-      go (part K.PairPart) q m = let z : ◌≡◌ {A = ℕ} 0 1 = cc in absurd (omega arith)
-      go (part K.KeyPart) q m = let z : ◌≡◌ {A = ℕ} 0 1 = cc in absurd (omega arith)
-      go (part K.AggPart) q m = refl
-      go (part K.WinPart) q m = refl
+-- an entry's field has that of its expression
+pub of_entry : {v : Node} {l : Label} (w : Says v l) (cs : Forest) (d : Schema) → what_of v.kind ≡ part K.EntryPart
+    → type_first d cs ≡ part_type (what l) d l cs
+of_entry {l = l} w cs d e =
+    let z : what l ≡ part K.EntryPart = ap what_of (sym w.kind) ∙ e in
+    sym (ap (λ (u : What). part_type u d l cs) z)

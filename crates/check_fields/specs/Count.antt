@@ -12,16 +12,16 @@ abbrev pub near : ℕ → ℕ → Bool
 near q r = (eqb r q || eqb r 0) || eqb q 0
 
 -- the question finds the field with the qualifier r and the name m
-abbrev pub hit : Question → ℕ → ℕ → ℕ → ℕ → Bool
-hit Exact q n r m = eqb r q && eqb m n
-hit ByName q n r m = eqb m n
-hit Every q n r m = true
-hit Clashing q n r m = near q r && eqb m n
-hit Nothing q n r m = false
+abbrev pub hit : Question → ℕ → ℕ → Bool
+hit (Exact q n) r m = eqb r q && eqb m n
+hit (ByName n) r m = eqb m n
+hit Every r m = true
+hit (Clashing q n) r m = near q r && eqb m n
+hit Nothing r m = false
 
 -- the same of a name
-abbrev pub hits : Question → ℕ → ℕ → Name → Bool
-hits asks q n (nm r m) = hit asks q n r m
+abbrev pub hits : Question → Name → Bool
+hits asks (nm r m) = hit asks r m
 
 -- how many fields it finds
 unfoldable pub counted : (Name → Bool) → Schema → ℕ
@@ -29,13 +29,13 @@ counted h [] = 0
 counted h (f ∷ s) = cond (h f.name) (counted h s + 1) (counted h s)
 
 -- the question that is put to the input of an alias with the qualifier p: all its fields have that
-abbrev pub under_alias : ℕ → Question → ℕ → Question
-under_alias p Exact q = cond (eqb p q) ByName Nothing
-under_alias p ByName q = ByName
-under_alias p Every q = Every
-under_alias p Clashing q = cond (near q p) ByName Nothing
-under_alias p Nothing q = Nothing
+abbrev pub under_alias : ℕ → Question → Question
+under_alias p (Exact q n) = cond (eqb p q) (ByName n) Nothing
+under_alias p (ByName n) = ByName n
+under_alias p Every = Every
+under_alias p (Clashing q n) = cond (near q p) (ByName n) Nothing
+under_alias p Nothing = Nothing
 
 -- the question that is put to the input
-abbrev pub below : Role → ℕ → Question → ℕ → Question
-below r p asks q = cond (renames r) (under_alias p asks q) asks
+abbrev pub below : Role → ℕ → Question → Question
+below r p asks = cond (renames r) (under_alias p asks) asks

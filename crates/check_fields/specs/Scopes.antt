@@ -5,6 +5,8 @@ use Rattle.plan.specs.Kinds.{What, expr, plan, part, unknown, PlanKind, TableSca
 use Rattle.plan.specs.Kinds.{Sort, Repartition, Limit, Aggregate, Window, number_q, PairPart}
 use Rattle.check_fields.specs.Fields.{made, input, inputs}
 use Rattle.check_fields.specs.Rules.{Scope, over}
+use Rattle.plan.specs.Siblings.{forest}
+use Rattle.check_fields.specs.declared.scopes.Scope as declared
 use Rattle.check_fields.specs.declared.scopes.View.{View}
 use Rattle.check_fields.specs.declared.scopes.View.TheVariants.{Nothing, FirstInput, SecondInput, BothInputs, Parts}
 use Rattle.check_fields.specs.declared.scopes.View.TheVariants.{FirstInputAndParts}
@@ -16,6 +18,10 @@ scope_of SecondInput f = over (input 1 (inputs f)) []
 scope_of BothInputs f = over (input 0 (inputs f)) (input 1 (inputs f))
 scope_of Parts f = over (made [] f) []
 scope_of FirstInputAndParts f = over (input 0 (inputs f)) (made [] f)
+
+-- the scope that the code's is
+abbrev pub scope_at : declared.Scope → Scope
+scope_at s = scope_of s.view (forest s.trees)
 
 -- what a plan's children see
 abbrev pub view_p : PlanKind → View

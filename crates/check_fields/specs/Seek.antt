@@ -1,31 +1,43 @@
 -- The search for a field: of those that a question finds, the one with the place k.
-use Rattle.std.specs.Prelude.{◌≡◌, Bool, cond, List, [], ◌∷◌, ℕ, ◌-◌, ◌≤◌, eqb}
-use Rattle.image.specs.Tree.{Forest, Linked}
-use Rattle.image.specs.Places.{left}
-use Rattle.plan.specs.Inputs.{Begins}
+use Rattle.std.specs.Prelude.{◌≡◌, Bool, true, cond, [], ◌∷◌, ℕ, ◌-◌, ◌≤◌, eqb, Option, None, Some}
+use Rattle.std.specs.declared.ops.ControlFlow.{ControlFlow}
+use Rattle.std.specs.declared.ops.ControlFlow.TheVariants.{Break, Continue}
+use Rattle.image.specs.Tree.{Forest, size}
+use Rattle.plan.specs.Kinds.{is_plan}
+use Rattle.plan.specs.Siblings.{forest, First}
+use Rattle.plan.specs.declared.siblings.Siblings.{Siblings}
+use Rattle.plan.specs.declared.siblings.Branch.{Branch}
 use Rattle.plan.specs.Syntax.{Name, nm, no_type}
 use Rattle.check_fields.specs.Fields.{Schema, input, inputs, type_in}
 use Rattle.check_fields.specs.Count.{hits}
 use Rattle.check_fields.specs.declared.questions.Question.{Question}
-use Rattle.check_fields.specs.declared.fields.Sought.{Sought}
-use Rattle.check_fields.specs.declared.fields.Sought.TheVariants.{Known, Named, Left}
+use Rattle.check_fields.specs.declared.fields.FieldType.{FieldType}
+use Rattle.check_fields.specs.declared.fields.FieldType.TheVariants.{Known, Named}
+use Rattle.check_fields.specs.declared.fields.Maker.{Maker}
+
+-- a search ends with a type, or so many fields are still to be passed
+abbrev pub Sought : Type 0
+Sought = ControlFlow ℕ ℕ
 
 -- its type, or how many are still to be passed
 unfoldable pub seek : (Name → Bool) → ℕ → Schema → Sought
-seek h k [] = Left k
-seek h k (f ∷ s) = cond (h f.name) (cond (eqb k 0) (Known f.ty) (seek h (k - 1) s)) (seek h k s)
+seek h k [] = Continue k
+seek h k (f ∷ s) = cond (h f.name) (cond (eqb k 0) (Break f.ty) (seek h (k - 1) s)) (seek h k s)
+
+-- a type over the schema d
+abbrev pub told : Schema → FieldType → ℕ
+told d (Known t) = t
+told d (Named q n) = type_in d (nm q n)
 
 -- what was found, over the schema d
-abbrev pub told : Schema → Sought → Sought
-told d (Known t) = Known t
-told d (Named q n) = Known (type_in d (nm q n))
-told d (Left k) = Left k
+abbrev pub told_in : Schema → ControlFlow FieldType ℕ → Sought
+told_in d (Break x) = Break (told d x)
+told_in d (Continue k) = Continue k
 
 -- its type, or none
 abbrev pub type_found : Sought → ℕ
-type_found (Known t) = t
-type_found (Named q n) = no_type
-type_found (Left k) = no_type
+type_found (Break t) = t
+type_found (Continue k) = no_type
 
 -- more than any schema has fields: the largest number of the code
 abbrev pub all_places : ℕ
@@ -33,14 +45,22 @@ all_places = 18446744073709551615
 
 -- how many of them a search for that place has passed
 abbrev pub passed_of : Sought → ℕ
-passed_of (Known t) = 0
-passed_of (Named q n) = 0
-passed_of (Left j) = all_places - j
+passed_of (Break t) = 0
+passed_of (Continue j) = all_places - j
 
--- the trees at r begin with the plan that is asked, by the question m, for the fields of f's plan with the place `skip`
-pub record Makes (f : Forest) (s : List ℕ) (b at skip : ℕ) (asks : Question) (q r : ℕ) (m : Question) : Type 0 where
-  pub forest : Forest
-  pub linked : Linked forest s b r
-  pub begins : Begins forest
-  pub same : (n k : ℕ) → seek (hits m q n) k (input 0 (inputs forest)) ≡ seek (hits asks q n) k (input skip (inputs f))
-  pub less : left s b r ≤ left s b at
+-- t is the plan that is asked, by the question m, for the fields of f's plan with the place `skip`: the first of some trees
+pub record Makes (f : Forest) (skip : ℕ) (asks : Question) (t : Branch) (m : Question) : Type 0 where
+  pub trees : Siblings
+  pub first : First trees t
+  pub is : is_plan first.label ≡ true
+  pub same : (k : ℕ) → seek (hits m) k (input 0 (inputs (forest trees))) ≡ seek (hits asks) k (input skip (inputs f))
+  pub fewer : size (forest trees) ≤ size f
+
+-- no field is found in f's plan with the place `skip`
+abbrev pub Fieldless : Forest → ℕ → Question → Type 0
+Fieldless f skip asks = (k : ℕ) → Continue k ≡ seek (hits asks) k (input skip (inputs f))
+
+-- there is none to ask, or it is x
+abbrev pub Makers : Forest → ℕ → Question → Option Maker → Type 0
+Makers f skip asks None = Fieldless f skip asks
+Makers f skip asks (Some x) = Makes f skip asks x.plan x.asks

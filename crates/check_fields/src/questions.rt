@@ -1,14 +1,14 @@
-// What a search for fields asks for: by a qualifier and a name, both or neither of which may count.
-#[derive(Clone, Copy)]
+// What a search for fields asks for.
+#[derive(Clone, Copy, Debug, PartialEq, Eq, Hash)]
 pub enum Question {
     // The field with the qualifier and the name.
-    Exact,
+    Exact(usize, usize),
     // Those with the name, whatever their qualifiers.
-    ByName,
+    ByName(usize),
     // Every field.
     Every,
     // Those that clash with a field of the qualifier and the name.
-    Clashing,
+    Clashing(usize, usize),
     // None.
     Nothing,
 }

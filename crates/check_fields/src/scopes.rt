@@ -1,21 +1,25 @@
 // What an expression stands over: the scope is the chain of a plan's children and which of their fields are seen; no schema is stored.
-ghost use Rattle.std.specs.Prelude.{◌≡◌, [], ◌≤◌, length};
-ghost use Rattle.image.specs.Places.{Chained};
-ghost use Rattle.image.specs.Tree.{Forest, Linked, label_at};
+ghost use Rattle.std.specs.Prelude.{◌≡◌};
+ghost use Rattle.image.specs.Tree.{Label};
 ghost use Rattle.plan.specs.Kinds.{what_of};
+ghost use Rattle.plan.specs.Siblings.{Says, forest};
 ghost use Rattle.check_fields.specs.Count.{counted, hits};
 ghost use Rattle.check_fields.specs.Fields.{type_of};
-ghost use Rattle.check_fields.specs.Rules.{seen};
-ghost use Rattle.check_fields.specs.Scopes.{first_view, left_of, rest_view, right_of, scope_of, view_w};
-ghost use Rattle.check_fields.specs.Seek.{seek, told};
+ghost use Rattle.check_fields.specs.Rules.{hand, seen};
+ghost use Rattle.check_fields.specs.Scopes.{first_view, left_of, rest_view, right_of, scope_at, view_w};
+ghost use Rattle.check_fields.specs.Seek.{seek};
 
-use crate::fields::{ALL, Sought, passed, seek_field, seek_made, source_of, type_found};
+use crate::fields::{
+    ALL, FieldType, Sought, passed, seek_alone, seek_field, source_of, type_found,
+};
 use crate::questions::Question;
-use plan::kinds::{JOIN, PAIR, TABLE_SCAN, UNION, is_plan};
-use plan::words::NO_TYPE;
+use image::records::Node;
+use plan::kinds::{PAIR, PlanKind, What, is_plan, what_of};
+use plan::siblings::{Branch, Siblings};
+use std::ops::ControlFlow::Continue;
 
 // Which fields of a plan's children are seen.
-#[derive(Clone, Copy)]
+#[derive(Clone, Copy, Debug, PartialEq, Eq, Hash)]
 pub enum View {
     Nothing,
     FirstInput,
@@ -27,77 +31,59 @@ pub enum View {
     FirstInputAndParts,
 }
 
+// What an expression stands over: the children of a plan, of whose fields some are seen.
+#[derive(Clone, Copy)]
+pub struct Scope<'a> {
+    pub trees: Siblings<'a>,
+    pub view: View,
+}
+
+// What a record hands down: to its first child, and to the others.
+#[derive(Clone, Copy)]
+pub struct Handed<'a> {
+    pub first: Scope<'a>,
+    pub rest: Scope<'a>,
+}
+
 // Of the fields asked for in the scope, the one with the place k.
-fn seek_seen(
-    g: &[u8],
-    base: usize,
-    at: usize,
-    view: View,
-    asks: Question,
-    q: usize,
-    n: usize,
-    k: usize,
-) -> Sought
-    requires { Chained g.now base at }
-    ensures { (f : Forest) → Linked f g.now base at → told [] result ≡ seek (hits asks q n) k (seen (scope_of view f)) }
+pub fn seek_seen(here: Scope, asks: Question, k: usize) -> Sought
+    ensures { result ≡ seek (hits asks) k (seen (scope_at here.entry)) }
 {
-    match view {
-        View::Nothing => Sought::Left(k),
-        View::FirstInput => seek_field(g, base, at, 0, asks, q, n, k),
-        View::SecondInput => seek_field(g, base, at, 1, asks, q, n, k),
+    let trees = here.trees;
+    match here.view {
+        View::Nothing => Continue(k),
+        View::FirstInput => seek_field(trees, 0, asks, k),
+        View::SecondInput => seek_field(trees, 1, asks, k),
         View::BothInputs => {
-            let left = seek_field(g, base, at, 0, asks, q, n, k);
-            match left {
-                Sought::Known(t) => Sought::Known(t),
-                Sought::Named(a, b) => Sought::Named(a, b),
-                Sought::Left(j) => seek_field(g, base, at, 1, asks, q, n, j),
-            }
+            let left = seek_field(trees, 0, asks, k)?;
+            seek_field(trees, 1, asks, left)
         }
-        View::Parts => seek_made(g, base, at, asks, q, n, k),
+        View::Parts => seek_alone(trees, asks, k),
         View::FirstInputAndParts => {
-            let under = seek_field(g, base, at, 0, asks, q, n, k);
-            match under {
-                Sought::Known(t) => Sought::Known(t),
-                Sought::Named(a, b) => Sought::Named(a, b),
-                Sought::Left(j) => seek_made(g, base, at, asks, q, n, j),
-            }
+            let left = seek_field(trees, 0, asks, k)?;
+            seek_alone(trees, asks, left)
         }
     }
 }
 
 // How many fields that the question asks for are in the scope.
-pub fn held_in(
-    g: &[u8],
-    base: usize,
-    at: usize,
-    view: View,
-    asks: Question,
-    q: usize,
-    n: usize,
-) -> usize
-    requires { Chained g.now base at }
-    ensures { (f : Forest) → Linked f g.now base at → result ≡ counted (hits asks q n) (seen (scope_of view f)) }
+pub fn held_in(here: Scope, asks: Question) -> usize
+    ensures { result ≡ counted (hits asks) (seen (scope_at here.entry)) }
 {
-    passed(seek_seen(g, base, at, view, asks, q, n, ALL))
+    passed(seek_seen(here, asks, ALL))
 }
 
 // What a plan's children see; nothing of a record that is no plan.
 pub fn view_of(kind: usize) -> View
     ensures { result ≡ view_w (what_of kind) }
 {
-    if kind == TABLE_SCAN {
-        return View::Parts;
+    match what_of(kind) {
+        What::Plan(PlanKind::TableScan) => View::Parts,
+        What::Plan(PlanKind::Join) => View::BothInputs,
+        What::Plan(PlanKind::Union) => View::Nothing,
+        What::Plan(_) => View::FirstInput,
+        _ => View::Nothing,
     }
-    if kind == JOIN {
-        return View::BothInputs;
-    }
-    if kind == UNION {
-        return View::Nothing;
-    }
-    if is_plan(kind) {
-        return View::FirstInput;
-    }
-    View::Nothing
 }
 
 // The left half of a view.
@@ -105,12 +91,9 @@ fn left_of(view: View) -> View
     ensures { result ≡ left_of view }
 {
     match view {
-        View::Nothing => View::Nothing,
-        View::FirstInput => View::FirstInput,
-        View::SecondInput => View::SecondInput,
         View::BothInputs => View::FirstInput,
-        View::Parts => View::Parts,
         View::FirstInputAndParts => View::FirstInput,
+        whole => whole,
     }
 }
 
@@ -119,12 +102,9 @@ fn right_of(view: View) -> View
     ensures { result ≡ right_of view }
 {
     match view {
-        View::Nothing => View::Nothing,
-        View::FirstInput => View::Nothing,
-        View::SecondInput => View::Nothing,
         View::BothInputs => View::SecondInput,
-        View::Parts => View::Nothing,
         View::FirstInputAndParts => View::Parts,
+        _ => View::Nothing,
     }
 }
 
@@ -148,15 +128,40 @@ pub fn rest_view(kind: usize, view: View) -> View
     view
 }
 
-// The type of the expression at the start of s, in the scope.
-pub fn type_of(s: &[u8], g: &[u8], base: usize, at: usize, view: View) -> usize
-    requires { (32 ≤ length s.now) × Chained g.now base at }
-    ensures { (f : Forest) → Linked f g.now base at → result ≡ type_of (seen (scope_of view f)) (label_at s.now) }
+// What the tree, which stands over `here`, hands down to its children.
+pub fn hand<'a>(here: Scope<'a>, tree: Branch<'a>) -> Handed<'a>
+    ensures { (l : Label) → Says tree.entry.node l
+        → hand (scope_at here.entry) l (forest tree.entry.below) ≡ (scope_at result.first, scope_at result.rest) }
 {
-    let x = source_of(s);
-    match x {
-        Sought::Known(t) => t,
-        Sought::Named(q, n) => type_found(seek_seen(g, base, at, view, Question::Exact, q, n, 0)),
-        Sought::Left(_) => NO_TYPE,
+    let kind = tree.node.kind;
+    if is_plan(kind) {
+        let own = Scope {
+            trees: tree.below,
+            view: view_of(kind),
+        };
+        return Handed {
+            first: own,
+            rest: own,
+        };
+    }
+    Handed {
+        first: Scope {
+            trees: here.trees,
+            view: first_view(kind, here.view),
+        },
+        rest: Scope {
+            trees: here.trees,
+            view: rest_view(kind, here.view),
+        },
+    }
+}
+
+// The type of an expression in the scope.
+pub fn type_of(node: Node, here: Scope) -> usize
+    ensures { (l : Label) → Says node l → result ≡ type_of (seen (scope_at here.entry)) l }
+{
+    match source_of(node) {
+        FieldType::Known(t) => t,
+        FieldType::Named(q, n) => type_found(seek_seen(here, Question::Exact(q, n), 0)),
     }
 }

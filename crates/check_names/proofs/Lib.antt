@@ -4,7 +4,6 @@ pub mod TreeMarks
 pub mod TreeNames
 pub mod TreeScans
 pub mod TreeTypes
-pub mod Finding
 pub mod NameRule
 pub mod Singling
 pub mod Telling

@@ -9,7 +9,7 @@ use lib.Dec.{eqb, ltb}
 use borrow.Author.Tests.{ltb-true}
 use Rattle.check_fields.specs.declared.questions.Question.TheVariants.{Exact}
 use Rattle.image.specs.Tree.{Label, Forest, none, node, Node}
-use Rattle.image.proofs.Stepping.{Step}
+use Rattle.plan.proofs.Fronts.{Front}
 use Rattle.plan.specs.Lists.{◌&◌}
 use Rattle.plan.specs.Kinds as K
 use Rattle.plan.specs.Kinds.{What, expr, plan, part, unknown, what, what_of, plan_w}
@@ -67,7 +67,7 @@ module _ (c : Scope) (l : Label) (cs : Forest) where
   rule_column e = ap (λ (n : ℕ). name_by (what_of n) c l cs) (sym e)
 
   -- by the fields that are counted in its scope
-  pub rule_held : {kind p q k : ℕ} → kind ≡ l.kind → p ≡ l.p → q ≡ l.q → kind ≡ K.number_e K.Column → k ≡ counted (hits Exact p q) (seen c)
+  pub rule_held : {kind p q k : ℕ} → kind ≡ l.kind → p ≡ l.p → q ≡ l.q → kind ≡ K.number_e K.Column → k ≡ counted (hits (Exact p q)) (seen c)
       → eqb k 1 ≡ name_ok c l cs
   rule_held {kind} {p} {q} {k} hk hp hq one e =
       let same : nm p q ≡ name_of l = rw (hp, hq) in
@@ -157,7 +157,7 @@ sound_below c l cs {r} {n} R e g i m = go (what l) refl
 
 -- ---- what is known below and after a record
 
-module _ {f : Forest} {s : List ℕ} {b at : ℕ} {part : List ℕ} {v : Node} (w : Step f s b at part v) where
+module _ {f : Forest} {v : Node} (w : Front f v) where
   -- the record's own schema, where it is a plan
   pub sound_first : (n : ℕ) → ((i : ℕ) → i < n → sound (names_in (input i (inputs f))) ≡ true) → ltb 0 n ≡ true
       → sound (names_in (input 0 (inputs (node w.label w.below none)))) ≡ true
@@ -173,11 +173,20 @@ module _ {f : Forest} {s : List ℕ} {b at : ℕ} {part : List ℕ} {v : Node} (
       go (plan k) e = e
 
   module _ (n : ℕ) (known : (i : ℕ) → i < n → sound (names_in (input i (inputs f))) ≡ true) where
-    -- those of the plans which come next, where it is none
-    pub sound_rest : plan_w (what_of v.kind) ≡ false → (i : ℕ) → i < n → sound (names_in (input i (inputs w.after))) ≡ true
+    -- those of the plans which come next: where it is none
+    sound_rest : plan_w (what_of v.kind) ≡ false → (i : ℕ) → i < n → sound (names_in (input i (inputs w.after))) ≡ true
     sound_rest z i l = subst (λ (t : Schema). sound (names_in t) ≡ true) (ap (input i) (skip_part w z)) (known i l)
 
     -- where it is one
-    pub sound_next : {m : ℕ} → m ≡ n - 1 → plan_w (what_of v.kind) ≡ true → (i : ℕ) → i < m → sound (names_in (input i (inputs w.after))) ≡ true
+    sound_next : plan_w (what_of v.kind) ≡ true → (i : ℕ) → i < n - 1 → sound (names_in (input i (inputs w.after))) ≡ true
     unfolding input
-    sound_next e z i l = subst (λ (t : Schema). sound (names_in t) ≡ true) (ap (input (suc i)) (plan_first w z)) (known (suc i) (omega arith))
+    sound_next z i l = subst (λ (t : Schema). sound (names_in t) ≡ true) (ap (input (suc i)) (plan_first w z)) (known (suc i) (omega arith))
+
+    -- so of both
+    pub sound_after : {x : Bool} → x ≡ plan_w (what_of v.kind) → {j m : ℕ} → j ≡ cond x 1 0 → m ≡ n - j
+        → (i : ℕ) → i < m → sound (names_in (input i (inputs w.after))) ≡ true
+    sound_after {x} e {j} {m} g h i l = go x (sym e) g
+      where
+        go : (b : Bool) → plan_w (what_of v.kind) ≡ b → j ≡ cond b 1 0 → sound (names_in (input i (inputs w.after))) ≡ true
+        go true z q = sound_next z i (omega arith)
+        go false z q = sound_rest z i (omega arith)

@@ -13,6 +13,7 @@ use lib.ListN.{length, length-append}
 use borrow.Author.Tests.{eq-eqb, ne_eqb, le-leb, leb-true, eqb-true, eqb-false}
 use Rattle.check_fields.specs.declared.questions.Question.{Question}
 use Rattle.check_fields.specs.declared.questions.Question.TheVariants.{ByName, Clashing, Nothing}
+use Rattle.std.specs.Prelude.{Some}
 use Rattle.image.specs.Limits.{max_fields}
 use Rattle.image.specs.Tree.{Forest, none, node}
 use Rattle.plan.specs.Lists.{◌&◌, any}
@@ -28,7 +29,7 @@ use Rattle.acceptance.specs.Names.{clash, distinct_names, sound}
 use Rattle.check_fields.specs.Count.{counted, hits, near}
 use Rattle.check_fields.specs.Fields.{Fld, Schema, name_of, made, schema_made_by, inputs, requalify, join_fields, input, names_in}
 use Rattle.check_fields.specs.Rules.{sound_by}
-use Rattle.check_names.specs.Singles.{all_of, called, single, own_of, own_view, own_question, known_inputs, apart}
+use Rattle.check_names.specs.Singles.{all_of, called, single, own_of, own_view, by_name, clashing, own_question, known_inputs, apart}
 use Rattle.check_fields.proofs.Counting.{renamed, counted-++}
 
 -- ---- tests of all names
@@ -56,13 +57,13 @@ counted_cong h k e [] = refl
 counted_cong h k e (f ∷ s) = rw (e f.name, counted_cong h k e s) refl
 
 -- an alias calls all by one qualifier
-pub all_of_renamed : (h : Name → Bool) (p : ℕ) (s : Schema) → all_of h (map (requalify p) s) ≡ all_of (λ x. h (called true p x)) s
+pub all_of_renamed : (h : Name → Bool) (p : ℕ) (s : Schema) → all_of h (map (requalify p) s) ≡ all_of (λ x. h (called (Some p) x)) s
 unfolding all_of requalify
 all_of_renamed h p [] = refl
 all_of_renamed h p (f ∷ s) = step f.name (all_of_renamed h p s)
   where
-    step : (x : Name) → all_of h (map (requalify p) s) ≡ all_of (λ x. h (called true p x)) s
-        → all_of h (map (requalify p) (record { name = x; ty = f.ty } ∷ s)) ≡ h (called true p x) & all_of (λ x. h (called true p x)) s
+    step : (x : Name) → all_of h (map (requalify p) s) ≡ all_of (λ x. h (called (Some p) x)) s
+        → all_of h (map (requalify p) (record { name = x; ty = f.ty } ∷ s)) ≡ h (called (Some p) x) & all_of (λ x. h (called (Some p) x)) s
     step (nm r m) e = rw e refl
 
 -- ---- clashes
@@ -92,7 +93,7 @@ unfolding ◌&◌
 clash_self (nm q n) = rw (eq-eqb n n refl, eq-eqb q q refl)
 
 -- the question for clashes
-asks_clash : (q n : ℕ) (x : Name) → hits Clashing q n x ≡ clash (nm q n) x
+asks_clash : (q n : ℕ) (x : Name) → hits (Clashing q n) x ≡ clash (nm q n) x
 unfolding ◌&◌
 asks_clash q n (nm r m) = rw (eqb_sym m n, eqb_sym r q) (go (eqb q r) (eqb r 0) (eqb q 0) (eqb n m))
   where
@@ -150,11 +151,11 @@ distinct_once (f ∷ s) = go (any (clash f.name) (names_in s)) refl (distinct_on
     go false e r = rw (clash_self f.name, ← none_any f.name s, e) (r ∙ sym (same_all f s s e))
 
 -- and that is what the question for clashes finds
-distinct_single : (s : Schema) → distinct_names (names_in s) ≡ all_of (single s Clashing) s
-distinct_single s = distinct_once s ∙ all_of_cong (once s) (single s Clashing) agree s
+distinct_single : (s : Schema) → distinct_names (names_in s) ≡ all_of (single s clashing) s
+distinct_single s = distinct_once s ∙ all_of_cong (once s) (single s clashing) agree s
   where
-    agree : (x : Name) → once s x ≡ single s Clashing x
-    agree (nm q n) = ap (λ (k : ℕ). eqb k 1) (sym (counted_cong (hits Clashing q n) (clash (nm q n)) (asks_clash q n) s))
+    agree : (x : Name) → once s x ≡ single s clashing x
+    agree (nm q n) = ap (λ (k : ℕ). eqb k 1) (sym (counted_cong (hits (Clashing q n)) (clash (nm q n)) (asks_clash q n) s))
 
 -- ---- sound schemas
 
@@ -165,12 +166,12 @@ length_names [] = refl
 length_names (f ∷ s) = ap suc (length_names s)
 
 -- a schema is sound if the question tells its fields apart
-pub sound_apart : (s : Schema) → sound (names_in s) ≡ apart Clashing s
+pub sound_apart : (s : Schema) → sound (names_in s) ≡ apart clashing s
 unfolding sound
 sound_apart s = rw (distinct_single s, length_names s) refl
 
 -- below an alias two fields clash if they share the name
-pub renamed_apart : (p : ℕ) (s : Schema) → sound (names_in (map (requalify p) s)) ≡ apart ByName s
+pub renamed_apart : (p : ℕ) (s : Schema) → sound (names_in (map (requalify p) s)) ≡ apart by_name s
 unfolding sound
 renamed_apart p s =
     let t : Schema = map (requalify p) s in
@@ -178,26 +179,21 @@ renamed_apart p s =
       distinct_single t,
       length_names t,
       length_renamed s,
-      all_of_renamed (single t Clashing) p s,
-      all_of_cong (λ x. single t Clashing (called true p x)) (single s ByName) agree s,
+      all_of_renamed (single t clashing) p s,
+      all_of_cong (λ x. single t clashing (called (Some p) x)) (single s by_name) agree s,
     ) refl
   where
     length_renamed : (s : Schema) → length (map (requalify p) s) ≡ length s
     length_renamed [] = refl
     length_renamed (f ∷ s) = ap suc (length_renamed s)
 
-    by_name : (m r : ℕ) (x : Name) → hits ByName p m x ≡ hits ByName r m x
-    by_name m r (nm q n) = refl
-
     near_self : near p p ≡ true
     near_self = rw (eq-eqb p p refl)
 
-    agree : (x : Name) → single (map (requalify p) s) Clashing (called true p x) ≡ single s ByName x
+    agree : (x : Name) → single (map (requalify p) s) clashing (called (Some p) x) ≡ single s by_name x
     agree (nm r m) =
         ap (λ (k : ℕ). eqb k 1)
-        (renamed Clashing p p m s
-        ∙ ap (λ (b : Bool). counted (hits (cond b ByName Nothing) p m) s) near_self
-        ∙ counted_cong (hits ByName p m) (hits ByName r m) (by_name m r) s)
+        (renamed (Clashing p m) p s ∙ ap (λ (b : Bool). counted (hits (cond b (ByName m) Nothing)) s) near_self)
 
 -- the names that parts make do not depend on what they stand over
 names_made : (c d : Schema) (f : Forest) → names_in (made c f) ≡ names_in (made d f)
@@ -338,11 +334,11 @@ beside a b h e p q = all_intro h a (λ f m. e f.name ∙ eq-eqb _ 1 (one f m (co
 -- so of two schemas of which one is sound, the fields of the other tell
 module _ (s t : Schema) where
   abbrev both_in : Name → Bool
-  both_in = single (s ++ t) Clashing
+  both_in = single (s ++ t) clashing
 
   agree_both : (x : Name) → both_in x ≡ eqb (counted (clash x) s + counted (clash x) t) 1
   agree_both (nm q n) =
-      ap (λ (k : ℕ). eqb k 1) (counted_cong (hits Clashing q n) (clash (nm q n)) (asks_clash q n) (s ++ t) ∙ counted-++ (clash (nm q n)) s t)
+      ap (λ (k : ℕ). eqb k 1) (counted_cong (hits (Clashing q n)) (clash (nm q n)) (asks_clash q n) (s ++ t) ∙ counted-++ (clash (nm q n)) s t)
 
   once_of : (a : Schema) → sound (names_in a) ≡ true → all_of (once a) a ≡ true
   unfolding sound
@@ -374,8 +370,8 @@ module _ (s t : Schema) where
 
 -- the same by the number of the input that is sound
 pub beside_own : (i : ℕ) (ins : List Schema) → i ≤ 1 → sound (names_in (input i ins)) ≡ true
-    → all_of (single (input 0 ins ++ input 1 ins) Clashing) (input (1 - i) ins)
-    ≡ all_of (single (input 0 ins ++ input 1 ins) Clashing) (input 0 ins ++ input 1 ins)
+    → all_of (single (input 0 ins ++ input 1 ins) clashing) (input (1 - i) ins)
+    ≡ all_of (single (input 0 ins ++ input 1 ins) clashing) (input 0 ins ++ input 1 ins)
 beside_own zero ins l e = beside_left (input 0 ins) (input 1 ins) e
 beside_own (suc zero) ins l e = beside_right (input 0 ins) (input 1 ins) e
 beside_own (suc (suc i)) ins l e = absurd (omega arith)
@@ -391,44 +387,44 @@ own_few p = go (eqb p (join_number right_semi) || eqb p (join_number right_anti)
 -- ---- below an alias
 
 -- the names as an alias calls them
-names_renamed : (p : ℕ) (s : Schema) → names_in (map (requalify p) s) ≡ map (called true p) (names_in s)
+names_renamed : (p : ℕ) (s : Schema) → names_in (map (requalify p) s) ≡ map (called (Some p)) (names_in s)
 unfolding names_in requalify
 names_renamed p [] = refl
 names_renamed p (f ∷ s) = step f.name (names_renamed p s)
   where
-    step : (x : Name) → names_in (map (requalify p) s) ≡ map (called true p) (names_in s)
-        → names_in (map (requalify p) (record { name = x; ty = f.ty } ∷ s)) ≡ called true p x ∷ map (called true p) (names_in s)
+    step : (x : Name) → names_in (map (requalify p) s) ≡ map (called (Some p)) (names_in s)
+        → names_in (map (requalify p) (record { name = x; ty = f.ty } ∷ s)) ≡ called (Some p) x ∷ map (called (Some p)) (names_in s)
     step (nm r m) e = rw e refl
 
 -- what clashes below clashes above
-clash_renamed : (p : ℕ) (x y : Name) → clash x y ≡ true → clash (called true p x) (called true p y) ≡ true
+clash_renamed : (p : ℕ) (x y : Name) → clash x y ≡ true → clash (called (Some p) x) (called (Some p) y) ≡ true
 clash_renamed p (nm q n) (nm r m) e = and_intro (and_l _ _ e) (rw (eq-eqb p p refl) refl)
 
-any_renamed : (p : ℕ) (x : Name) (a : List Name) → not (any (clash (called true p x)) (map (called true p) a)) ≡ true
+any_renamed : (p : ℕ) (x : Name) (a : List Name) → not (any (clash (called (Some p) x)) (map (called (Some p)) a)) ≡ true
     → not (any (clash x) a) ≡ true
 unfolding any
 any_renamed p x [] h = refl
 any_renamed p x (y ∷ a) h =
-    go (clash x y) (clash (called true p x) (called true p y)) (clash_renamed p x y) (λ k. any_renamed p x a k) h
+    go (clash x y) (clash (called (Some p) x) (called (Some p) y)) (clash_renamed p x y) (λ k. any_renamed p x a k) h
   where
     go : (c d : Bool) → (c ≡ true → d ≡ true)
-        → (not (any (clash (called true p x)) (map (called true p) a)) ≡ true → not (any (clash x) a) ≡ true)
-        → not (d || any (clash (called true p x)) (map (called true p) a)) ≡ true → not (c || any (clash x) a) ≡ true
+        → (not (any (clash (called (Some p) x)) (map (called (Some p)) a)) ≡ true → not (any (clash x) a) ≡ true)
+        → not (d || any (clash (called (Some p) x)) (map (called (Some p)) a)) ≡ true → not (c || any (clash x) a) ≡ true
     go false false f r k = r k
     go false true f r k = let z : ◌≡◌ {A = ℕ} 0 1 = cc in absurd (omega arith)
     go true true f r k = k
     go true false f r k = let e : false ≡ true = f refl in let z : ◌≡◌ {A = ℕ} 0 1 = cc in absurd (omega arith)
 
-distinct_renamed : (p : ℕ) (a : List Name) → distinct_names (map (called true p) a) ≡ true → distinct_names a ≡ true
+distinct_renamed : (p : ℕ) (a : List Name) → distinct_names (map (called (Some p)) a) ≡ true → distinct_names a ≡ true
 distinct_renamed p [] h = refl
 distinct_renamed p (x ∷ a) h = and_intro (any_renamed p x a (and_l _ _ h)) (distinct_renamed p a (and_r _ _ h))
 
-length_map : (p : ℕ) (a : List Name) → length (map (called true p) a) ≡ length a
+length_map : (p : ℕ) (a : List Name) → length (map (called (Some p)) a) ≡ length a
 length_map p [] = refl
 length_map p (x ∷ a) = ap suc (length_map p a)
 
 -- where an alias is sound, its input is
-sound_renamed : (p : ℕ) (a : List Name) → sound (map (called true p) a) ≡ true → sound a ≡ true
+sound_renamed : (p : ℕ) (a : List Name) → sound (map (called (Some p)) a) ≡ true → sound a ≡ true
 unfolding sound
 sound_renamed p a h = and_intro (distinct_renamed p a (and_l _ _ h)) (rw length_map at (and_r _ _ h))
 
@@ -450,12 +446,12 @@ known_sound Passes p parts ins h (suc i) l = absurd (omega arith)
 -- ---- the rule of a plan
 
 -- what stands alone in a scope
-apart_alone : (asks : Question) (s : Schema) → apart asks s ≡ apart asks (s ++ [])
+apart_alone : (asks : Name → Question) (s : Schema) → apart asks s ≡ apart asks (s ++ [])
 apart_alone asks s = ap (apart asks) (sym (append-nil s))
 
 -- a schema that stands alone
-sound_alone : (s : Schema) → sound (names_in s) & true ≡ apart Clashing (s ++ [])
-sound_alone s = and_true _ ∙ sound_apart s ∙ apart_alone Clashing s
+sound_alone : (s : Schema) → sound (names_in s) & true ≡ apart clashing (s ++ [])
+sound_alone s = and_true _ ∙ sound_apart s ∙ apart_alone clashing s
 
 -- the rule of a plan is that the schema which the code reads off its children is told apart
 pub rule_by_role : (r : Role) (p : ℕ) (c : Schema) (cs : Forest)
@@ -469,7 +465,7 @@ rule_by_role r p c cs = sym (go r)
     go NoPlan = sound_alone s
     go Creates = ap (λ (xs : List Name). sound xs & true) (names_made c [] cs) ∙ sound_alone (made [] cs)
     go Joins = join_sound p s (input 1 (inputs cs)) ∙ sound_apart (s ++ input 1 (inputs cs))
-    go Renames = and_true _ ∙ renamed_apart p s ∙ apart_alone ByName s
+    go Renames = and_true _ ∙ renamed_apart p s ∙ apart_alone by_name s
     go Extends =
         and_true _
         ∙ ap sound (names-++ s (made c cs) ∙ ap (λ (xs : List Name). names_in s ++ xs) (names_made c [] cs) ∙ sym (names-++ s (made [] cs)))

@@ -7,25 +7,26 @@ use Prim.Native.Nat.{ℕ, ◌≤◌, ◌<◌}
 use native.Mathlib.Omega.{arith}
 use lib.ListN.{length}
 use borrow.Author.Tests.{le-leb, lt-leb}
-use Rattle.check_fields.specs.declared.scopes.View.{View}
-use Rattle.check_fields.specs.declared.scopes.View.TheVariants.{Nothing, FirstInput, SecondInput, BothInputs, Parts, FirstInputAndParts}
 use Rattle.check_fields.specs.declared.questions.Question.{Question}
 use Rattle.check_fields.specs.declared.questions.Question.TheVariants.{Every}
+use Rattle.std.specs.Prelude.{Option, None, Some, unwrap_or}
 use Rattle.image.specs.Tree.{Label, Forest, none, Node}
-use Rattle.image.proofs.Stepping.{Step}
+use Rattle.plan.proofs.Fronts.{Front}
 use Rattle.image.specs.Limits.{max_fields}
 use Rattle.plan.specs.Lists.{◌&◌}
 use Rattle.plan.proofs.Lists.{and_true, and_false}
 use Rattle.plan.specs.Kinds as K
-use Rattle.plan.specs.Kinds.{What, expr, plan, part, unknown, what, what_of}
+use Rattle.plan.specs.Kinds.{What, expr, plan, part, unknown, what, what_of, is_plan}
 use Rattle.plan.specs.FieldSources.{makes, role, creates, renames, extends, gives_both, own}
+use Rattle.plan.specs.Siblings.{forest}
+use Rattle.check_names.specs.declared.schemas.Whole.{Whole}
 use Rattle.plan.specs.declared.field_sources.Role.{Role}
-use Rattle.plan.specs.Inputs.{Begins}
-use Rattle.plan.proofs.Inputting.{at_plan}
+use Rattle.plan.specs.declared.field_sources.Role.TheVariants.{Joins, Extends}
+use Rattle.plan.proofs.Planning.{at_plan}
 use Rattle.plan.specs.Syntax.{Name, nm}
 use Rattle.check_fields.specs.Count.{counted, hits}
 use Rattle.check_fields.specs.Fields.{Schema, name_of, input, made, schema_made_by, inputs, parts_over}
-use Rattle.check_names.specs.Singles.{all_of, called, single, lone, own_of, apart}
+use Rattle.check_names.specs.Singles.{all_of, called, single, lone, whole_of, apart}
 use Rattle.check_fields.proofs.Counting.{fields_here, behind, by_parts, by_alias, by_input, counted_all}
 use Rattle.check_names.proofs.Singling.{all_of-++, all_of_renamed, all_of_cong}
 
@@ -51,7 +52,7 @@ module _ (h : Name → Bool) where
   one_made c l cs rest (plan k) = refl
   one_made c l cs rest unknown = refl
 
-  module _ {f : Forest} {s : List ℕ} {b at : ℕ} {part : List ℕ} {v : Node} (w : Step f s b at part v) (c : Schema) {x : Bool}
+  module _ {f : Forest} {v : Node} (w : Front f v) (c : Schema) {x : Bool}
       (e : x ≡ makes (what_of v.kind)) where
     made_by : all_of h (made c f) ≡ cond x (h (nm v.p v.q) & all_of h (made c w.after)) (all_of h (made c w.after))
     unfolding made
@@ -59,9 +60,9 @@ module _ (h : Name → Bool) where
         ap (λ (g : Forest). all_of h (made c g)) w.is
         ∙ one_made c w.label w.below (made c w.after) (what w.label)
         ∙ ap (λ (k : Bool). cond k (h (name_of w.label) & all_of h (made c w.after)) (all_of h (made c w.after)))
-        (sym (e ∙ ap (λ (k : ℕ). makes (what_of k)) w.kind))
-        ∙ ap (λ (k : ℕ). cond x (h (nm k w.label.q) & all_of h (made c w.after)) (all_of h (made c w.after))) (sym w.p)
-        ∙ ap (λ (k : ℕ). cond x (h (nm v.p k) & all_of h (made c w.after)) (all_of h (made c w.after))) (sym w.q)
+        (sym (e ∙ ap (λ (k : ℕ). makes (what_of k)) w.says.kind))
+        ∙ ap (λ (k : ℕ). cond x (h (nm k w.label.q) & all_of h (made c w.after)) (all_of h (made c w.after))) (sym w.says.p)
+        ∙ ap (λ (k : ℕ). cond x (h (nm v.p k) & all_of h (made c w.after)) (all_of h (made c w.after))) (sym w.says.q)
 
     -- a part that makes none
     pub made_other : x ≡ false → all_of h (made c w.after) ≡ all_of h (made c f)
@@ -78,6 +79,11 @@ module _ (h : Name → Bool) where
     unfolding ◌&◌
     made_passes z y = sym (made_by ∙ rw (z, y) refl)
 
+-- a name as it is called
+pub called_by : (h : Name → Bool) (to : Option ℕ) (q m : ℕ) {n : ℕ} → n ≡ unwrap_or to q → h (called to (nm q m)) ≡ h (nm n m)
+called_by h None q m e = rw e refl
+called_by h (Some i) q m e = rw e refl
+
 -- ---- the plans
 
 -- no plan has no field
@@ -86,7 +92,7 @@ unfolding all_of
 none_held h t e = rw e
 
 -- the schema of a plan, by its role, as the code goes
-module _ {f : Forest} {s : List ℕ} {b at : ℕ} {part : List ℕ} {v : Node} (w : Step f s b at part v) (z : Begins f) {r : Role}
+module _ {f : Forest} {v : Node} (w : Front f v) (z : is_plan w.label ≡ true) {r : Role}
     (R : r ≡ role (what_of v.kind)) where
   -- the schemas of its inputs, and the schema that its parts stand over
   abbrev ins : List Schema
@@ -100,15 +106,16 @@ module _ {f : Forest} {s : List ℕ} {b at : ℕ} {part : List ℕ} {v : Node} (
   held_parts c = sym (fields_here w (at_plan w z) R ∙ by_parts v.p (made over w.below) ins r c)
 
   -- an alias calls its fields by its own qualifier, unless another stands above
-  pub held_renamed : (t : Schema) (asks : Question) (renamed : Bool) (to : ℕ) → renames r ≡ true
-      → all_of (lone t asks true (cond renamed to v.p)) (input 0 ins) ≡ all_of (lone t asks renamed to) (input 0 (inputs f))
-  held_renamed t asks renamed to e =
-      sym (ap (all_of (lone t asks renamed to)) (fields_here w (at_plan w z) R ∙ by_alias v.p (made over w.below) ins r e)
-      ∙ all_of_renamed (lone t asks renamed to) v.p (input 0 ins)
-      ∙ all_of_cong (λ x. lone t asks renamed to (called true v.p x)) (lone t asks true (cond renamed to v.p)) agree (input 0 ins))
+  pub held_renamed : (t : Schema) (asks : Name → Question) (to : Option ℕ) {n : ℕ} → n ≡ unwrap_or to v.p → renames r ≡ true
+      → all_of (lone t asks (Some n)) (input 0 ins) ≡ all_of (lone t asks to) (input 0 (inputs f))
+  held_renamed t asks to {n} N e =
+      sym (ap (all_of (lone t asks to)) (fields_here w (at_plan w z) R ∙ by_alias v.p (made over w.below) ins r e)
+      ∙ all_of_renamed (lone t asks to) v.p (input 0 ins)
+      ∙ all_of_cong (λ x. lone t asks to (called (Some v.p) x)) (lone t asks (Some n)) (agree to N) (input 0 ins))
     where
-      agree : (x : Name) → lone t asks renamed to (called true v.p x) ≡ lone t asks true (cond renamed to v.p) x
-      agree (nm q n) = refl
+      agree : (to : Option ℕ) → n ≡ unwrap_or to v.p → (x : Name) → lone t asks to (called (Some v.p) x) ≡ lone t asks (Some n) x
+      agree None N (nm q m) = rw N refl
+      agree (Some i) N (nm q m) = rw N refl
 
   module _ (h : Name → Bool) (c : creates r ≡ false) (d : renames r ≡ false) where
     held : all_of h (input 0 (inputs f)) ≡ all_of h (input (own r v.p) ins) & all_of h (behind v.p (made over w.below) ins r)
@@ -137,13 +144,6 @@ module _ {f : Forest} {s : List ℕ} {b at : ℕ} {part : List ℕ} {v : Node} (
 
 -- ---- a whole schema
 
--- no alias stands above
-pub as_called : (t : Schema) (asks : Question) (s : Schema) → all_of (lone t asks false 0) s ≡ all_of (single t asks) s
-as_called t asks s = all_of_cong (lone t asks false 0) (single t asks) agree s
-  where
-    agree : (x : Name) → lone t asks false 0 x ≡ single t asks x
-    agree (nm q n) = refl
-
 module _ (h : Name → Bool) (s t : Schema) where
   -- of two schemas, one after the other, the first fails
   pub first_fails : all_of h s ≡ false → false ≡ all_of h (s ++ t)
@@ -155,36 +155,25 @@ module _ (h : Name → Bool) (s t : Schema) where
   unfolding ◌&◌
   first_passes e = sym (all_of-++ h s t ∙ rw e refl)
 
-pub none_fails : (h : Name → Bool) → true ≡ all_of h []
-unfolding all_of
-none_fails h = refl
+-- of one
+pub one_schema : (h : Name → Bool) (s : Schema) → all_of h s ≡ all_of h (s ++ [])
+one_schema h s = ap (all_of h) (sym (append-nil s))
 
-module _ (v : View) (f : Forest) where
-  pub own_none : v ≡ Nothing → [] ≡ own_of v f
-  own_none e = rw e refl
+-- the schemas of two parts
+module _ (w : Whole) where
+  pub whole_joins : w.role ≡ Joins → input 0 (inputs (forest w.trees)) ++ input 1 (inputs (forest w.trees)) ≡ whole_of w
+  whole_joins e = rw e refl
 
-  pub own_first_input : v ≡ FirstInput → input 0 (inputs f) ≡ own_of v f
-  own_first_input e = rw e (sym (append-nil (input 0 (inputs f))))
-
-  pub own_second_input : v ≡ SecondInput → input 1 (inputs f) ≡ own_of v f
-  own_second_input e = rw e (sym (append-nil (input 1 (inputs f))))
-
-  pub own_both_inputs : v ≡ BothInputs → input 0 (inputs f) ++ input 1 (inputs f) ≡ own_of v f
-  own_both_inputs e = rw e refl
-
-  pub own_parts : v ≡ Parts → made [] f ≡ own_of v f
-  own_parts e = rw e (sym (append-nil (made [] f)))
-
-  pub own_input_and_parts : v ≡ FirstInputAndParts → input 0 (inputs f) ++ made [] f ≡ own_of v f
-  own_input_and_parts e = rw e refl
+  pub whole_extends : w.role ≡ Extends → input 0 (inputs (forest w.trees)) ++ made [] (forest w.trees) ≡ whole_of w
+  whole_extends e = rw e refl
 
 -- ---- the number of fields
 
-module _ (asks : Question) (s : Schema) {k : ℕ} (e : k ≡ counted (hits Every 0 0) s) where
+module _ (asks : Name → Question) (s : Schema) {k : ℕ} (e : k ≡ counted (hits Every) s) where
   -- too many fields
   pub too_many : max_fields < k → false ≡ apart asks s
-  too_many l = sym (rw (lt-leb (length s) max_fields (omega (arith, counted_all 0 0 s))) (and_false (all_of (single s asks) s)))
+  too_many l = sym (rw (lt-leb (length s) max_fields (omega (arith, counted_all s))) (and_false (all_of (single s asks) s)))
 
   -- not too many: what is left is that they are told apart
   pub not_many : k ≤ max_fields → all_of (single s asks) s ≡ apart asks s
-  not_many l = sym (rw (le-leb (length s) max_fields (omega (arith, counted_all 0 0 s))) (and_true (all_of (single s asks) s)))
+  not_many l = sym (rw (le-leb (length s) max_fields (omega (arith, counted_all s))) (and_true (all_of (single s asks) s)))

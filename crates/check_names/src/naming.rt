@@ -1,53 +1,42 @@
 // Name (6): the lowest record whose reference does not name one field of what it stands over, or whose schema is not sound.
-ghost use Rattle.std.specs.Prelude.{◌≡◌, true, ◌-◌, ◌<◌, ℕ};
+ghost use Rattle.std.specs.Prelude.{◌≡◌, true, ◌<◌, ℕ};
 ghost use Rattle.image.specs.Lowest.{lowest};
-ghost use Rattle.image.specs.Places.{Chained};
-ghost use Rattle.image.specs.Tree.{At, Forest, Label, Linked, Tree, node, none};
-ghost use Rattle.plan.specs.Kinds.{what_of};
+ghost use Rattle.image.specs.Tree.{At, Label, Tree, node, none};
+ghost use Rattle.plan.specs.Siblings.{Says, forest};
 ghost use Rattle.acceptance.specs.Names.{sound};
 ghost use Rattle.check_fields.specs.Fields.{input, inputs, names_in};
 ghost use Rattle.check_fields.specs.Rules.{bad_names, hand, name_ok};
-ghost use Rattle.check_fields.specs.Scopes.{scope_of};
+ghost use Rattle.check_fields.specs.Scopes.{scope_at};
 ghost use Rattle.check_names.specs.Singles.{known_inputs};
-ghost use Rattle.plan.specs.FieldSources as Sources;
 
 use crate::schemas::{is_sound, is_sound_beside};
 use check_fields::questions::Question;
-use check_fields::scopes::{View, first_view, held_in, rest_view, view_of};
-use image::records::{Node, from_record, look};
-use plan::field_sources::{Role, gives_both, joins, role_of};
+use check_fields::scopes::{Scope, View, hand, held_in};
+use plan::field_sources::{Role, gives_both, role_of};
 use plan::kinds::{COLUMN, is_plan};
+use plan::siblings::{Branch, Siblings};
 
-// Whether the record keeps the rule: `part` begins there, v is what was looked at, the slice g and the view `here` are what it
-// stands over. A plan that is known to be sound is not tested again, but of a semi or anti join the other input.
-fn name_ok(
-    part: &[u8],
-    at: usize,
-    v: Node,
-    role: Role,
-    known: bool,
-    g: &[u8],
-    gb: usize,
-    ga: usize,
-    here: View,
-) -> bool
-    requires { Chained part.now at v.first × Chained g.now gb ga × (role ≡ Sources.role (what_of v.kind)) }
-    ensures { (l : Label) (cs e : Forest) → v.kind ≡ l.kind → v.p ≡ l.p → v.q ≡ l.q
-        → Linked cs part.now at v.first → Linked e g.now gb ga
-        → (known ≡ true → sound (names_in (input 0 (inputs (node l cs none)))) ≡ true)
-        → result ≡ name_ok (scope_of here e) l cs }
+// Whether the tree's record, which stands over `here`, keeps the rule. A plan that is known to be sound is not tested again, but of a
+// semi or anti join the other input.
+fn name_ok(tree: Branch, here: Scope, known: bool) -> bool
+    ensures { (l : Label) → Says tree.entry.node l
+        → (known ≡ true → sound (names_in (input 0 (inputs (node l (forest tree.entry.below) none)))) ≡ true)
+        → result ≡ name_ok (scope_at here.entry) l (forest tree.entry.below) }
 {
-    if v.kind == COLUMN {
-        return held_in(g, gb, ga, here, Question::Exact, v.p, v.q) == 1;
+    let kind = tree.node.kind;
+    let p = tree.node.p;
+    if kind == COLUMN {
+        return held_in(here, Question::Exact(p, tree.node.q)) == 1;
     }
-    if !is_plan(v.kind) {
+    if !is_plan(kind) {
         return true;
     }
+    let role = role_of(kind);
     if !known {
-        return is_sound(part, at, v.first, role);
+        return is_sound(tree.below, role);
     }
-    if joins(role) & !gives_both(role, v.p) {
-        return is_sound_beside(part, at, v.first, v.p);
+    if (role == Role::Joins) & !gives_both(role, p) {
+        return is_sound_beside(tree.below, p);
     }
     true
 }
@@ -57,78 +46,35 @@ fn known_inputs(role: Role) -> usize
     ensures { result ≡ known_inputs role }
 {
     match role {
-        Role::NoPlan => 0,
-        Role::Creates => 0,
+        Role::NoPlan | Role::Creates => 0,
         Role::Joins => 2,
-        Role::Renames => 1,
-        Role::Extends => 1,
-        Role::Passes => 1,
+        Role::Renames | Role::Extends | Role::Passes => 1,
     }
 }
 
-// One less, of plans that are known.
-fn but_one(known: usize) -> usize
-    ensures { result ≡ known - 1 }
-{
-    if known == 0 {
-        return 0;
-    }
-    known - 1
-}
-
-// The lowest record that breaks the rule, of the trees from record `at` on: the first stands over the view `here`, the others over
-// `after`.
+// The lowest record that breaks the rule, of the trees: the first stands over `here`, the others over `after`.
 // `known`: so many of the first plans among them are sound, since their fields are among those of their parent, which is.
-pub fn bad_name(
-    s: &[u8],
-    base: usize,
-    at: usize,
-    g: &[u8],
-    gb: usize,
-    ga: usize,
-    here: View,
-    after: View,
-    known: usize,
-) -> Option<usize>
-    requires { Chained s.now base at × Chained g.now gb ga }
-    ensures { (f e : Forest) → Linked f s.now base at → Linked e g.now gb ga
-        → ((i : ℕ) → i < known → sound (names_in (input i (inputs f))) ≡ true)
-        → result ≡ (lowest name_ok hand (scope_of here e) (scope_of after e) at f) }
+pub fn bad_name(trees: Siblings, here: Scope, after: Scope, known: usize) -> Option<usize>
+    ensures { ((i : ℕ) → i < known → sound (names_in (input i (inputs (forest trees.entry)))) ≡ true)
+        → result ≡ (lowest name_ok hand (scope_at here.entry) (scope_at after.entry) trees.entry.at (forest trees.entry)) }
 {
-    if at == 0 {
-        return None;
+    let tree = trees.first()?;
+    if !name_ok(tree, here, 0 < known) {
+        return Some(tree.number);
     }
-    let part = from_record(s, base, at);
-    let v = look(part);
-    let role = role_of(v.kind);
-    if !name_ok(part, at, v, role, 0 < known, g, gb, ga, here) {
-        return Some(at);
+    let kind = tree.node.kind;
+    let handed = hand(here, tree);
+    let below = bad_name(
+        tree.below,
+        handed.first,
+        handed.rest,
+        known_inputs(role_of(kind)),
+    );
+    if below.is_some() {
+        return below;
     }
-    if !is_plan(v.kind) {
-        let below = bad_name(
-            part,
-            at,
-            v.first,
-            g,
-            gb,
-            ga,
-            first_view(v.kind, here),
-            rest_view(v.kind, here),
-            0,
-        );
-        match below {
-            Some(r) => Some(r),
-            None => bad_name(s, base, v.next, g, gb, ga, after, after, known),
-        }
-    } else {
-        let own = view_of(v.kind);
-        let inputs = known_inputs(role);
-        let under = bad_name(part, at, v.first, part, at, v.first, own, own, inputs);
-        match under {
-            Some(r) => Some(r),
-            None => bad_name(s, base, v.next, g, gb, ga, after, after, but_one(known)),
-        }
-    }
+    let passed = if is_plan(kind) { 1 } else { 0 };
+    bad_name(tree.after, after, after, known.saturating_sub(passed))
 }
 
 // The lowest record of the image that breaks the rule.
@@ -136,11 +82,19 @@ pub fn bad_names(s: &[u8]) -> Option<usize>
     requires { (t : Tree) × At t s.now 0 }
     ensures { (t : Tree) → At t s.now 0 → result ≡ bad_names t }
 {
-    let v = look(s);
-    let role = role_of(v.kind);
-    if !name_ok(s, 0, v, role, false, s, 0, 0, View::Nothing) {
+    let root = Branch::alone(s, 0);
+    let nothing = Scope {
+        trees: root.after,
+        view: View::Nothing,
+    };
+    if !name_ok(root, nothing, false) {
         return Some(0);
     }
-    let own = view_of(v.kind);
-    bad_name(s, 0, v.first, s, 0, v.first, own, own, known_inputs(role))
+    let handed = hand(nothing, root);
+    bad_name(
+        root.below,
+        handed.first,
+        handed.rest,
+        known_inputs(role_of(root.node.kind)),
+    )
 }

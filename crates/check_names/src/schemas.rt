@@ -1,147 +1,99 @@
 // Whether a plan's schema is sound: each of its fields clashes with one field, itself, and there are not too many.
-ghost use Rattle.std.specs.Prelude.{◌≡◌, cond, true, ℕ};
-ghost use Rattle.image.specs.Places.{Chained};
-ghost use Rattle.image.specs.Tree.{Forest, Linked};
+ghost use Rattle.std.specs.Prelude.{◌≡◌, true, ℕ};
 ghost use Rattle.plan.specs.FieldSources.{own};
+ghost use Rattle.plan.specs.Siblings.{forest};
 ghost use Rattle.plan.specs.Syntax.{nm};
 ghost use Rattle.acceptance.specs.Names.{sound};
+ghost use Rattle.check_fields.specs.Count.{counted, hits};
 ghost use Rattle.check_fields.specs.Fields.{Schema, input, inputs, made, names_in};
 ghost use Rattle.check_fields.specs.Rules.{sound_by};
-ghost use Rattle.check_names.specs.Singles.{all_of, lone, own_of, own_question, own_view, single};
+ghost use Rattle.check_names.specs.Singles.{all_of, lone, own_question, own_view, single, whole_of};
 
 use check_fields::questions::Question;
-use check_fields::scopes::{View, held_in};
+use check_fields::scopes::{Scope, View, held_in};
 use image::limits::MAX_FIELDS;
-use image::records::{from_record, look};
-use plan::field_sources::{
-    Role, creates, extends, gives_both, makes_field, own_input, renames, role_of,
-};
-use plan::inputs::plan_at;
+use plan::field_sources::{Role, gives_both, makes_field, own_input, role_of};
+use plan::siblings::Siblings;
 
-// The schema whose fields are told apart: the children of its plan, which of their fields it has, and the question that tells them.
+// The schema whose fields are told apart: the children of its plan, and the plan's role.
 #[derive(Clone, Copy)]
-pub struct Whole {
-    pub base: usize,
-    pub at: usize,
-    pub view: View,
-    pub asks: Question,
+pub struct Whole<'a> {
+    pub trees: Siblings<'a>,
+    pub role: Role,
+}
+
+// How many fields of the schema the question finds.
+fn held_by(w: Whole, asks: Question) -> usize
+    ensures { result ≡ counted (hits asks) (whole_of w.entry) }
+{
+    let seen = Scope {
+        trees: w.trees,
+        view: own_view(w.role),
+    };
+    held_in(seen, asks)
 }
 
 // Whether the question finds one field.
-fn is_single(g: &[u8], w: Whole, q: usize, n: usize) -> bool
-    requires { Chained g.now w.base w.at }
-    ensures { (e : Forest) → Linked e g.now w.base w.at → result ≡ single (own_of w.view e) w.asks (nm q n) }
+fn is_single(w: Whole, q: usize, n: usize) -> bool
+    ensures { result ≡ single (whole_of w.entry) (own_question w.entry.role) (nm q n) }
 {
-    let view = w.view;
-    let asks = w.asks;
-    held_in(g, w.base, w.at, view, asks, q, n) == 1
+    held_by(w, own_question(w.role, q, n)) == 1
 }
 
-// The qualifier of a field where an alias with the qualifier `to` stands above, or none does.
-fn qualifier(renamed: bool, to: usize, p: usize) -> usize
-    ensures { result ≡ cond renamed to p }
+// Whether each field that the parts make is told apart; its qualifier is `to` where an alias with that stands above.
+fn all_made(w: Whole, parts: Siblings, to: Option<usize>) -> bool
+    ensures { (c : Schema) → result ≡ all_of (lone (whole_of w.entry) (own_question w.entry.role) to) (made c (forest parts.entry)) }
 {
-    if renamed {
-        return to;
-    }
-    p
-}
-
-// Whether each field that the parts from record `at` on make is told apart.
-fn all_made(g: &[u8], w: Whole, s: &[u8], base: usize, at: usize, renamed: bool, to: usize) -> bool
-    requires { Chained g.now w.base w.at × Chained s.now base at }
-    ensures { (e f : Forest) (c : Schema) → Linked e g.now w.base w.at → Linked f s.now base at
-        → result ≡ all_of (lone (own_of w.view e) w.asks renamed to) (made c f) }
-{
-    if at == 0 {
+    let Some(part) = parts.first() else {
         return true;
+    };
+    let node = part.node;
+    if !makes_field(node.kind) {
+        return all_made(w, part.after, to);
     }
-    let part = from_record(s, base, at);
-    let v = look(part);
-    if !makes_field(v.kind) {
-        return all_made(g, w, s, base, v.next, renamed, to);
-    }
-    if !is_single(g, w, qualifier(renamed, to, v.p), v.q) {
+    if !is_single(w, to.unwrap_or(node.p), node.q) {
         return false;
     }
-    all_made(g, w, s, base, v.next, renamed, to)
+    all_made(w, part.after, to)
 }
 
-// Whether each field of the plan with the place `skip` among the trees from record `at` on is told apart.
-fn all_held(
-    g: &[u8],
-    w: Whole,
-    s: &[u8],
-    base: usize,
-    at: usize,
-    skip: usize,
-    renamed: bool,
-    to: usize,
-) -> bool
-    requires { Chained g.now w.base w.at × Chained s.now base at }
-    ensures { (e f : Forest) → Linked e g.now w.base w.at → Linked f s.now base at
-        → result ≡ all_of (lone (own_of w.view e) w.asks renamed to) (input skip (inputs f)) }
+// Whether each field of the plan with the place `skip` is told apart.
+fn all_held(w: Whole, trees: Siblings, skip: usize, to: Option<usize>) -> bool
+    ensures { result ≡ all_of (lone (whole_of w.entry) (own_question w.entry.role) to) (input skip (inputs (forest trees.entry))) }
 {
-    let here = plan_at(s, base, at, skip);
-    if here == 0 {
+    let Some(plan) = trees.plan(skip) else {
         return true;
+    };
+    let p = plan.node.p;
+    let role = role_of(plan.node.kind);
+    if role == Role::Creates {
+        return all_made(w, plan.below, to);
     }
-    let part = from_record(s, base, here);
-    let v = look(part);
-    let role = role_of(v.kind);
-    if creates(role) {
-        return all_made(g, w, part, here, v.first, renamed, to);
+    if role == Role::Renames {
+        return all_held(w, plan.below, 0, Some(to.unwrap_or(p)));
     }
-    if renames(role) {
-        return all_held(
-            g,
-            w,
-            part,
-            here,
-            v.first,
-            0,
-            true,
-            qualifier(renamed, to, v.p),
-        );
-    }
-    if !all_held(g, w, part, here, v.first, own_input(role, v.p), renamed, to) {
+    if !all_held(w, plan.below, own_input(role, p), to) {
         return false;
     }
-    if gives_both(role, v.p) {
-        return all_held(g, w, part, here, v.first, 1, renamed, to);
+    if gives_both(role, p) {
+        return all_held(w, plan.below, 1, to);
     }
-    if extends(role) {
-        return all_made(g, w, part, here, v.first, renamed, to);
+    if role == Role::Extends {
+        return all_made(w, plan.below, to);
     }
     true
 }
 
 // Whether each field of the schema is told apart.
-fn all_single(g: &[u8], w: Whole) -> bool
-    requires { Chained g.now w.base w.at }
-    ensures { (e : Forest) → Linked e g.now w.base w.at
-        → result ≡ all_of (single (own_of w.view e) w.asks) (own_of w.view e) }
+fn all_single(w: Whole) -> bool
+    ensures { result ≡ all_of (single (whole_of w.entry) (own_question w.entry.role)) (whole_of w.entry) }
 {
-    let base = w.base;
-    let at = w.at;
-    let view = w.view;
-    match view {
-        View::Nothing => true,
-        View::FirstInput => all_held(g, w, g, base, at, 0, false, 0),
-        View::SecondInput => all_held(g, w, g, base, at, 1, false, 0),
-        View::BothInputs => {
-            if all_held(g, w, g, base, at, 0, false, 0) {
-                return all_held(g, w, g, base, at, 1, false, 0);
-            }
-            false
-        }
-        View::Parts => all_made(g, w, g, base, at, false, 0),
-        View::FirstInputAndParts => {
-            if all_held(g, w, g, base, at, 0, false, 0) {
-                return all_made(g, w, g, base, at, false, 0);
-            }
-            false
-        }
+    let trees = w.trees;
+    match w.role {
+        Role::Creates => all_made(w, trees, None),
+        Role::Joins => all_held(w, trees, 0, None) && all_held(w, trees, 1, None),
+        Role::Extends => all_held(w, trees, 0, None) && all_made(w, trees, None),
+        Role::NoPlan | Role::Renames | Role::Passes => all_held(w, trees, 0, None),
     }
 }
 
@@ -150,69 +102,49 @@ fn own_view(role: Role) -> View
     ensures { result ≡ own_view role }
 {
     match role {
-        Role::NoPlan => View::FirstInput,
         Role::Creates => View::Parts,
         Role::Joins => View::BothInputs,
-        Role::Renames => View::FirstInput,
         Role::Extends => View::FirstInputAndParts,
-        Role::Passes => View::FirstInput,
+        Role::NoPlan | Role::Renames | Role::Passes => View::FirstInput,
     }
 }
 
-// The question that tells its fields apart: under an alias the name alone.
-fn own_question(role: Role) -> Question
-    ensures { result ≡ own_question role }
+// The question that tells its field with the qualifier q and the name n apart: under an alias by the name alone.
+fn own_question(role: Role, q: usize, n: usize) -> Question
+    ensures { result ≡ own_question role (nm q n) }
 {
-    if renames(role) {
-        return Question::ByName;
+    if role == Role::Renames {
+        return Question::ByName(n);
     }
-    Question::Clashing
+    Question::Clashing(q, n)
 }
 
 // Whether the two inputs of a join of the kind p are sound together, where the one is whose fields a semi or anti join has: those of the
 // other are told apart.
-pub fn is_sound_beside(g: &[u8], base: usize, at: usize, p: usize) -> bool
-    requires { Chained g.now base at }
-    ensures { (cs : Forest) (c : Schema) → Linked cs g.now base at
-        → sound (names_in (input (own Role.Joins p) (inputs cs))) ≡ true → result ≡ sound_by Role.Joins p (made c cs) (inputs cs) }
+pub fn is_sound_beside(trees: Siblings, p: usize) -> bool
+    ensures { (c : Schema) → sound (names_in (input (own Role.Joins p) (inputs (forest trees.entry)))) ≡ true
+        → result ≡ sound_by Role.Joins p (made c (forest trees.entry)) (inputs (forest trees.entry)) }
 {
-    if MAX_FIELDS < held_in(g, base, at, View::BothInputs, Question::Every, 0, 0) {
+    let both = Whole {
+        trees: trees,
+        role: Role::Joins,
+    };
+    if MAX_FIELDS < held_by(both, Question::Every) {
         return false;
     }
-    let both = Whole {
-        base: base,
-        at: at,
-        view: View::BothInputs,
-        asks: Question::Clashing,
-    };
-    all_held(
-        g,
-        both,
-        g,
-        base,
-        at,
-        1 - own_input(Role::Joins, p),
-        false,
-        0,
-    )
+    all_held(both, trees, 1 - own_input(Role::Joins, p), None)
 }
 
-// Whether the schema of a plan of this role, whose children are from record `at` on, is sound, and for a join both inputs together.
-pub fn is_sound(g: &[u8], base: usize, at: usize, role: Role) -> bool
-    requires { Chained g.now base at }
-    ensures { (cs : Forest) (c : Schema) (p : ℕ) → Linked cs g.now base at → result ≡ sound_by role p (made c cs) (inputs cs) }
+// Whether the schema of a plan of this role is sound, and for a join both inputs together.
+pub fn is_sound(trees: Siblings, role: Role) -> bool
+    ensures { (c : Schema) (p : ℕ) → result ≡ sound_by role p (made c (forest trees.entry)) (inputs (forest trees.entry)) }
 {
-    let view = own_view(role);
-    if MAX_FIELDS < held_in(g, base, at, view, Question::Every, 0, 0) {
+    let whole = Whole {
+        trees: trees,
+        role: role,
+    };
+    if MAX_FIELDS < held_by(whole, Question::Every) {
         return false;
     }
-    all_single(
-        g,
-        Whole {
-            base: base,
-            at: at,
-            view: view,
-            asks: own_question(role),
-        },
-    )
+    all_single(whole)
 }

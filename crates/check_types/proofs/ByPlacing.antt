@@ -10,43 +10,44 @@ use mathlib.Core.List.{List, [], ◌∷◌}
 use Prim.Native.Nat.{ℕ, zero, suc, ◌+◌, ◌-◌, ◌<◌}
 use native.Mathlib.Omega.{arith}
 use lib.Dec.{ltb}
-use lib.ListN.{length}
+use lib.ListN.{length, drop}
 use borrow.Author.Tests.{eq-eqb, ne_eqb, eqb-true, ltb-true, ltb-false}
 use Rattle.check_fields.specs.declared.questions.Question.TheVariants.{Every}
 use Rattle.image.specs.Tree.{Forest, none, Node}
-use Rattle.image.proofs.Walking.{ended}
-use Rattle.image.proofs.Stepping.{Step}
+use Rattle.plan.proofs.Fronts.{Front, front}
 use Rattle.plan.specs.Lists.{◌&◌, all}
 use Rattle.plan.proofs.Lists.{and_intro, and_l, and_r}
 use Rattle.plan.specs.Kinds.{what_of, plan_w}
-use Rattle.plan.specs.Inputs.{Planned}
-use Rattle.plan.proofs.Inputting.{at_plan}
+use Rattle.plan.specs.Inputs.{plans_in}
+use Rattle.plan.specs.Siblings.{forest, PlanAt}
+use Rattle.plan.specs.declared.siblings.Branch.{Branch}
+use Rattle.plan.proofs.Planning.{at_plan}
 use Rattle.plan.specs.Syntax.{Name, nm}
 use Rattle.acceptance.specs.Types.{same_types}
 use Rattle.check_fields.specs.Fields.{Schema, input, inputs}
 use Rattle.check_fields.specs.Rules.{types_in, united}
 use Rattle.check_fields.specs.Count.{hits, counted}
 use Rattle.check_fields.specs.Seek.{seek, type_found}
-use Rattle.check_fields.proofs.Counting.{inputs_from, plan_first, skip_part, counted_all}
+use Rattle.check_fields.proofs.Counting.{inputs_from, inputs_none, plan_first, skip_part, counted_all}
 use Rattle.check_types.specs.ByPlace.{ty_at}
 
 -- ---- places
 
 -- the search for a place among all fields finds its type
-pub seek_place : (k : ℕ) (s : Schema) → type_found (seek (hits Every 0 0) k s) ≡ ty_at k s
+pub seek_place : (k : ℕ) (s : Schema) → type_found (seek (hits Every) k s) ≡ ty_at k s
 unfolding seek ty_at
 seek_place k [] = refl
 seek_place zero (f ∷ s) = go f.name
   where
-    go : (x : Name) → type_found (seek (hits Every 0 0) 0 (record { name = x; ty = f.ty } ∷ s)) ≡ f.ty
+    go : (x : Name) → type_found (seek (hits Every) 0 (record { name = x; ty = f.ty } ∷ s)) ≡ f.ty
     go (nm r m) = refl
 seek_place (suc k) (f ∷ s) = go f.name (seek_place k s)
   where
     back : suc k - 1 ≡ k
     back = omega arith
 
-    go : (x : Name) → type_found (seek (hits Every 0 0) k s) ≡ ty_at k s
-        → type_found (seek (hits Every 0 0) (suc k) (record { name = x; ty = f.ty } ∷ s)) ≡ ty_at k s
+    go : (x : Name) → type_found (seek (hits Every) k s) ≡ ty_at k s
+        → type_found (seek (hits Every) (suc k) (record { name = x; ty = f.ty } ∷ s)) ≡ ty_at k s
     go (nm r m) e = rw (ne_eqb (suc k) 0 (λ q. omega arith), back) e
 
 -- ---- the same types
@@ -76,14 +77,14 @@ refuted : (x : Bool) → (x ≡ true → ⊥) → false ≡ x
 refuted true n = absurd (n refl)
 refuted false n = refl
 
-module _ (a b : Schema) {n m : ℕ} (N : n ≡ counted (hits Every 0 0) a) (M : m ≡ counted (hits Every 0 0) b) where
+module _ (a b : Schema) {n m : ℕ} (N : n ≡ counted (hits Every) a) (M : m ≡ counted (hits Every) b) where
   -- widths that differ
   pub other_width : (n ≡ m → ⊥) → false ≡ same_types (types_in a) (types_in b)
-  other_width d = refuted _ (λ e. d (omega (arith, (same_true a b e).0, counted_all 0 0 a, counted_all 0 0 b)))
+  other_width d = refuted _ (λ e. d (omega (arith, (same_true a b e).0, counted_all a, counted_all b)))
 
   -- one width, and one type at each place below it
   pub same_all : n ≡ m → ((k : ℕ) → k < n → ty_at k a ≡ ty_at k b) → true ≡ same_types (types_in a) (types_in b)
-  same_all e h = sym (same_from a b (omega (arith, counted_all 0 0 a, counted_all 0 0 b)) (λ k l. h k (omega (arith, counted_all 0 0 a))))
+  same_all e h = sym (same_from a b (omega (arith, counted_all a, counted_all b)) (λ k l. h k (omega (arith, counted_all a))))
 
 -- a place with two types
 pub other_type : (a b : Schema) (k : ℕ) {x y : ℕ} → x ≡ ty_at k a → y ≡ ty_at k b → (x ≡ y → ⊥) → false ≡ same_types (types_in a) (types_in b)
@@ -99,17 +100,16 @@ one_more P k h p m l = go (ltb m k) refl
 
 -- ---- the inputs of a Union
 
-module _ {f : Forest} {s : List ℕ} {b at r : ℕ} (y : Planned f s b at 0 r) where
-  -- there are none
-  pub united_none : r ≡ 0 → true ≡ united (inputs f)
-  unfolding united inputs
-  united_none z = rw (inputs_from y ∙ ap inputs (ended y.forest s b r y.linked z))
+-- there are none
+pub united_none : (f : Forest) → drop 0 (plans_in f) ≡ [] → true ≡ united (inputs f)
+unfolding united
+united_none f e = rw (inputs_none f 0 e)
 
-  -- those after the first are compared with it
-  pub united_rest : {part : List ℕ} {v : Node} (w : Step y.forest s b r part v)
-      → all (λ t. same_types (types_in t) (types_in (input 0 (inputs f)))) (inputs w.after) ≡ united (inputs f)
-  unfolding united input
-  united_rest w = rw (inputs_from y ∙ plan_first w (at_plan w y.begins))
+-- those after the first are compared with it
+pub united_rest : {f : Forest} {t : Branch} (y : PlanAt f 0 t)
+    → all (λ s. same_types (types_in s) (types_in (input 0 (inputs f)))) (inputs (forest t.after)) ≡ united (inputs f)
+unfolding united input
+united_rest y = rw (inputs_from y ∙ plan_first (front y.first) (at_plan (front y.first) y.is))
 
 -- no inputs, no test
 pub all_none : (t : Schema → Bool) (f : Forest) → f ≡ none → true ≡ all t (inputs f)
@@ -121,7 +121,7 @@ cons_all : (t : Schema → Bool) (ins : List Schema) (g : Schema) (rest : List S
 unfolding all input
 cons_all t ins g rest e = rw e
 
-module _ {f : Forest} {s : List ℕ} {b at : ℕ} {part : List ℕ} {v : Node} (w : Step f s b at part v) {p : Bool}
+module _ {f : Forest} {v : Node} (w : Front f v) {p : Bool}
     (P : p ≡ plan_w (what_of v.kind)) (t : Schema → Bool) where
   -- the first record is a plan
   pub all_not : p ≡ true → {x : Bool} → x ≡ t (input 0 (inputs f)) → x ≡ false → false ≡ all t (inputs f)

@@ -12,9 +12,9 @@ use borrow.Author.Tests.{eq-eqb, ne_eqb, eqb-true, eqb-false, ltb-true, ltb-fals
 use Rattle.check_fields.specs.declared.questions.Question.TheVariants.{Every}
 use Rattle.plan.specs.Kinds as K
 use Rattle.image.specs.Word.{word}
-use Rattle.image.specs.Tree.{Label, Forest, none, node, size, link, Stands, Linked, Tree, At, Node, node_of, label_at}
+use Rattle.image.specs.Tree.{Label, Forest, none, node, size, Stands, Tree, At, Node, node_of, label_at}
 use Rattle.image.specs.Lowest.{alone}
-use Rattle.image.proofs.Walking.{linked_first, only}
+use Rattle.image.proofs.Walking.{only}
 use Rattle.plan.specs.Lists.{◌&◌}
 use Rattle.acceptance.specs.Types.{same_types}
 use Rattle.check_fields.specs.Fields.{Schema, made}
@@ -22,27 +22,6 @@ use Rattle.check_fields.specs.Rules.{types_in, scan_types}
 use Rattle.check_fields.specs.Count.{hits, counted}
 use Rattle.check_fields.proofs.Counting.{counted_all}
 use Rattle.check_types.specs.Standing.{Filled}
-
--- ---- a record that is looked at
-
--- t stands at the start of s, and v is what was looked at
-pub record Looked (t : Tree) (s : List ℕ) (b : ℕ) (v : Node) : Type 0 where
-  pub kind : v.kind ≡ t.label.kind
-  pub p : v.p ≡ t.label.p
-  pub r : v.r ≡ t.label.r
-  pub first : Linked t.below s b v.first
-  pub first_number : v.first ≡ link (b + 1) t.below
-
--- the record at the start of s is that tree's
-pub looked : {t : Tree} {s : List ℕ} {b : ℕ} {v : Node} → At t s b → v ≡ node_of s → Looked t s b v
-looked {t} {s} {b} {v} h g =
-    rw g (record {
-      kind = ap (λ (l : Label). l.kind) h.head.label;
-      p = ap (λ (l : Label). l.p) h.head.label;
-      r = ap (λ (l : Label). l.r) h.head.label;
-      first = linked_first t s b h;
-      first_number = h.head.first;
-    })
 
 -- ---- the first scan
 
@@ -95,15 +74,15 @@ module _ (t : ℕ) (s : List ℕ) where
 
   -- what the lowest scan of the table, at the record i, tells of the types
   pub record Lowest (ts : List ℕ) (i : ℕ) : Type 0 where
-    pub below : Forest
-    pub linked : Linked below (drop (32 * i) s) i (word (drop (32 * i) s) 24)
-    pub types : ts ≡ types_in (made [] below)
+    pub tree : Tree
+    pub at : At tree (drop (32 * i) s) i
+    pub types : ts ≡ types_in (made [] tree.below)
 
   -- a tree that is that scan
   here_lowest : (d : List ℕ) (l : Label) (cs ns : Forest) (b : ℕ) → At (record { label = l; below = cs }) (drop (32 * b) s) b → scans_at t s b ≡ true
       → Lowest (scan_types t d (node l cs ns)) b
   here_lowest d l cs ns b h e =
-      record { below = cs; linked = linked_first _ _ b h; types = scan_at d l cs ns b h.head.label e }
+      record { tree = record { label = l; below = cs }; at = h; types = scan_at d l cs ns b h.head.label e }
 
   -- it is among the records of a forest
   lowest_in : (d : List ℕ) (f : Forest) (b i : ℕ) → StandsAt f b → b ≤ i → i < b + size f → scans_at t s i ≡ true
@@ -169,12 +148,12 @@ module _ (s : List ℕ) {part : List ℕ} {v : Node} (i : ℕ) (e : part ≡ dro
   pub scan_test : (t : ℕ) {x : Bool} → (eqb v.kind (K.number_p K.TableScan) && eqb v.p t) ≡ x → scans_at t s i ≡ x
   scan_test t h = rw (← there) (rw g at h)
 
-  -- the scan's children
-  pub lowest_linked : (t : ℕ) (ts : List ℕ) (y : Lowest t s ts i) → Linked y.below part i v.first
-  lowest_linked t ts y = rw (g, there) y.linked
+  -- the scan's tree
+  pub lowest_at : (t : ℕ) (ts : List ℕ) (y : Lowest t s ts i) → At y.tree part i
+  lowest_at t ts y = rw there y.at
 
 -- a schema has no fields just where its types are none
-pub no_fields : (s : Schema) {n : ℕ} → n ≡ counted (hits Every 0 0) s → eqb n 0 ≡ same_types (types_in s) []
+pub no_fields : (s : Schema) {n : ℕ} → n ≡ counted (hits Every) s → eqb n 0 ≡ same_types (types_in s) []
 unfolding types_in
-no_fields [] {n} e = eq-eqb n 0 (e ∙ counted_all 0 0 [])
-no_fields (f ∷ s) {n} e = ne_eqb n 0 (λ q. omega (arith, counted_all 0 0 (f ∷ s)))
+no_fields [] {n} e = eq-eqb n 0 (e ∙ counted_all [])
+no_fields (f ∷ s) {n} e = ne_eqb n 0 (λ q. omega (arith, counted_all (f ∷ s)))

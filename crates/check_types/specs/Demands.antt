@@ -3,7 +3,6 @@ use Rattle.std.specs.Prelude.{Bool, true, cond, List, ℕ, eqb, leb}
 use Rattle.plan.specs.Kinds.{What, expr, plan, part, unknown, ExprKind, Column, Integer, Boolean, Null, Binary, Not, Test, Between, InList}
 use Rattle.plan.specs.Kinds.{Function, PlanKind, TableScan, Filter, Projection, Join, SubqueryAlias, Union, Distinct, Sort, Repartition}
 use Rattle.plan.specs.Kinds.{Limit, Aggregate, Window, PartKind, FieldPart, EntryPart, PairPart, KeyPart, AggPart, WinPart}
-use Rattle.plan.specs.Kinds.{number_e, number_p}
 use Rattle.plan.specs.Syntax.{no_type, integer_type, or, is_not_null, count}
 use Rattle.plan.specs.Trees.{op_number, test_number, agg_number}
 use Rattle.check_types.specs.declared.operands.Demand.{Demand}
@@ -54,12 +53,6 @@ demand_of (expr k) p r = demand_e k p
 demand_of (plan k) p r = demand_p k
 demand_of (part k) p r = demand_q k r
 demand_of unknown p r = Nothing
-
--- the kinds of Not and of the plans with predicates
-abbrev pub boolean_kind : ℕ → Demand
-boolean_kind n =
-    cond (eqb n (number_e Not)) Booleans
-    (cond (eqb n (number_p TableScan)) Booleans (cond (eqb n (number_p Filter)) Booleans (cond (eqb n (number_p Join)) Booleans Nothing)))
 
 -- whether types are as asked
 abbrev pub met : Demand → List ℕ → Bool

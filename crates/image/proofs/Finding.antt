@@ -2,13 +2,12 @@
 -- Assumes nothing.
 use mathlib.Core.Path.{◌≡◌, refl, sym, ap, ◌∙◌}
 use mathlib.Core.Bool.{Bool, true, false}
-use mathlib.Core.List.{List}
 use Prim.Native.Nat.{ℕ, ◌+◌}
-use Rattle.image.specs.Tree.{Label, Forest, none, node, size, link, Node}
-use Rattle.std.specs.Prelude.{None, Some}
-use Rattle.image.specs.Lowest.{Found, or_else, unless, lowest}
+use native.Mathlib.Omega.{arith}
+use Rattle.image.specs.Tree.{Label, Forest, none, node, Tree, size, link}
+use Rattle.std.specs.Prelude.{None, Some, is_some}
+use Rattle.image.specs.Lowest.{Found, or_else, unless, lowest, alone}
 use Rattle.image.proofs.Lowest.{lowest_link, lowest_none}
-use Rattle.image.proofs.Stepping.{Step}
 
 -- nothing found after
 pub or_nothing : (g : Found) → or_else g None ≡ g
@@ -32,16 +31,15 @@ module _ {C : Type 0} (rule : C → Label → Forest → Bool) (hand : C → Lab
   pub place_none : (c after : C) (at : ℕ) (f : Forest) → f ≡ none → None ≡ lowest rule hand c after at f
   place_none c after at f e = sym (lowest_none rule hand c after at f e)
 
-  module _ {f : Forest} {s : List ℕ} {b at : ℕ} {part : List ℕ} {v : Node} (w : Step f s b at part v) (c after x y : C)
-      (h : hand c w.label w.below ≡ (x, y)) {t : Bool} (T : t ≡ rule c w.label w.below) where
+  -- f's first record is `at`, and a and b are the links to what is below it and after it
+  module _ (at : ℕ) {f : Forest} {a b : ℕ} {l : Label} {cs ns : Forest} (is : f ≡ node l cs ns) (first : a ≡ link (at + 1) cs)
+      (next : b ≡ link (at + 1 + size cs) ns) (c after x y : C) (h : hand c l cs ≡ (x, y)) {t : Bool} (T : t ≡ rule c l cs) where
     -- the turn, by the rule's answer
     turned : lowest rule hand c after at f
-        ≡ or_else (unless t at) (or_else (lowest rule hand x y v.first w.below) (lowest rule hand after after v.next w.after))
+        ≡ or_else (unless t at) (or_else (lowest rule hand x y a cs) (lowest rule hand after after b ns))
     turned =
-        ap (lowest rule hand c after at) w.is
-        ∙ lowest_at c after at v.first v.next w.label w.below w.after x y w.first_number w.next_number h
-        ∙ ap (λ (k : Bool). or_else (unless k at)
-        (or_else (lowest rule hand x y v.first w.below) (lowest rule hand after after v.next w.after))) (sym T)
+        ap (lowest rule hand c after at) is ∙ lowest_at c after at a b l cs ns x y first next h
+        ∙ ap (λ (k : Bool). or_else (unless k at) (or_else (lowest rule hand x y a cs) (lowest rule hand after after b ns))) (sym T)
 
     -- the rule does not hold of the record
     pub place_here : t ≡ false → Some at ≡ lowest rule hand c after at f
@@ -49,18 +47,33 @@ module _ {C : Type 0} (rule : C → Label → Forest → Bool) (hand : C → Lab
     place_here e = let z : lowest rule hand c after at f ≡ Some at = turned ∙ rw e in sym z
 
     -- it holds, and not of a record below
-    pub place_below : (r : ℕ) → t ≡ true → Some r ≡ lowest rule hand x y v.first w.below
-        → Some r ≡ lowest rule hand c after at f
+    pub place_below : t ≡ true → (g : Found) → is_some g ≡ true → g ≡ lowest rule hand x y a cs → g ≡ lowest rule hand c after at f
     unfolding or_else unless
-    place_below r e g =
-        let z : lowest rule hand c after at f ≡ Some r = turned ∙ rw (e, sym g) in
-        sym z
+    place_below e None z g = let k : ◌≡◌ {A = ℕ} 0 1 = cc in absurd (omega arith)
+    place_below e (Some r) z g = let k : lowest rule hand c after at f ≡ Some r = turned ∙ rw (e, sym g) in sym k
 
     -- it holds, and of all below: the walk goes on
-    pub place_after : t ≡ true → None ≡ lowest rule hand x y v.first w.below
-        → lowest rule hand after after v.next w.after ≡ lowest rule hand c after at f
+    pub place_after : t ≡ true → (g : Found) → is_some g ≡ false → g ≡ lowest rule hand x y a cs
+        → lowest rule hand after after b ns ≡ lowest rule hand c after at f
     unfolding or_else unless
-    place_after e g =
-        let z : lowest rule hand c after at f ≡ lowest rule hand after after v.next w.after =
-        turned ∙ rw (e, sym g) in
+    place_after e (Some r) z g = let k : ◌≡◌ {A = ℕ} 0 1 = cc in absurd (omega arith)
+    place_after e None z g =
+        let k : lowest rule hand c after at f ≡ lowest rule hand after after b ns = turned ∙ rw (e, sym g) in
+        sym k
+
+  -- the root
+  module _ (c after : C) (t : Tree) where
+    pub root_here : rule c t.label t.below ≡ false → Some 0 ≡ lowest rule hand c after 0 (alone t)
+    unfolding lowest or_else unless
+    root_here e = rw e
+
+    pub root_below : (x y : C) (first : ℕ) → first ≡ link 1 t.below → hand c t.label t.below ≡ (x, y)
+        → rule c t.label t.below ≡ true
+        → (lowest rule hand x y first t.below) ≡ lowest rule hand c after 0 (alone t)
+    unfolding or_else unless lowest
+    root_below x y first g h e =
+        let z : lowest rule hand c after 0 (alone t) ≡ lowest rule hand x y first t.below
+        =
+        lowest_at c after 0 first 0 t.label t.below none x y g refl h
+        ∙ rw (e, or_nothing (lowest rule hand x y first t.below)) in
         sym z

@@ -23,7 +23,7 @@ part s a = take_all (length s - a) (drop a s) (omega (arith, length-drop a s))
 -- ---- one tree only stands somewhere
 
 -- one forest only stands somewhere, where the links to it are the same
-same : (f g : Forest) (s : List ℕ) (b : ℕ) → 0 < b → link b f ≡ link b g → Stands f s b → Stands g s b → f ≡ g
+pub same : (f g : Forest) (s : List ℕ) (b : ℕ) → 0 < b → link b f ≡ link b g → Stands f s b → Stands g s b → f ≡ g
 same none none s b pos e h k = refl
 same none (node l cs ns) s b pos e h k = absurd (omega arith)
 same (node l cs ns) none s b pos e h k = absurd (omega arith)

@@ -1,60 +1,54 @@
--- Laws of where a plan has its fields from: what is left of the tables of the code.
+-- Laws of where a plan has its fields from: what a test `role == Role::Creates` of the code tells.
 -- Assumes nothing.
-use mathlib.Core.Path.{◌≡◌, refl}
-use mathlib.Core.Bool.{Bool, true, false, cond}
-use Prim.Native.Nat.{ℕ}
-use lib.Dec.{eqb}
-use borrow.Author.Tests.{eqb-true, eqb-false}
-use Rattle.image.specs.Tree.{Label}
-use Rattle.plan.specs.Kinds as K
-use Rattle.plan.specs.Kinds.{What, expr, plan, part, unknown, what_of, plan_w}
-use Rattle.plan.specs.FieldSources.{makes, role}
-use Rattle.plan.specs.declared.field_sources.Role.TheVariants.{NoPlan, Passes}
-use Rattle.plan.proofs.Rebuilt.{kind_p, kind_w}
+use mathlib.Core.Path.{◌≡◌, refl, ◌∙◌}
+use mathlib.Core.Bool.{Bool}
+use denote.Enum.Bare.{sameb}
+use Rattle.plan.specs.contracts.field_sources.Role.{the_type}
+use Rattle.plan.specs.FieldSources.{creates, joins, renames, extends}
+use Rattle.plan.specs.declared.field_sources.Role.{Role}
+use Rattle.plan.specs.declared.field_sources.Role.TheVariants.{NoPlan, Creates, Joins, Renames, Extends, Passes}
 
-abbrev pub of_kind : ℕ → Label
-of_kind k = record { kind = k; p = 0; q = 0; r = 0; lo = 0; hi = 0 }
+same_creates : (r : Role) → sameb the_type r Creates ≡ creates r
+same_creates NoPlan = refl
+same_creates Creates = refl
+same_creates Joins = refl
+same_creates Renames = refl
+same_creates Extends = refl
+same_creates Passes = refl
 
--- the last of the parts that make a field
-module _ (n : ℕ) (a : n ≡ K.number_q K.FieldPart → ⊥) (b : n ≡ K.number_q K.EntryPart → ⊥) (c : n ≡ K.number_q K.AggPart → ⊥) where
-  none_left : (w : What) → what_of n ≡ w → (n ≡ K.number_q K.WinPart → ⊥) → false ≡ makes w
-  none_left (expr k) e d = refl
-  none_left (plan k) e d = refl
-  none_left unknown e d = refl
-  none_left (part K.FieldPart) e d = absurd (a (kind_w (of_kind n) K.FieldPart e))
-  none_left (part K.EntryPart) e d = absurd (b (kind_w (of_kind n) K.EntryPart e))
-  none_left (part K.PairPart) e d = refl
-  none_left (part K.KeyPart) e d = refl
-  none_left (part K.AggPart) e d = absurd (c (kind_w (of_kind n) K.AggPart e))
-  none_left (part K.WinPart) e d = absurd (d (kind_w (of_kind n) K.WinPart e))
+same_joins : (r : Role) → sameb the_type r Joins ≡ joins r
+same_joins NoPlan = refl
+same_joins Creates = refl
+same_joins Joins = refl
+same_joins Renames = refl
+same_joins Extends = refl
+same_joins Passes = refl
 
-  pub makes_last : eqb n (K.number_q K.WinPart) ≡ makes (what_of n)
-  unfolding what_of K.among
-  makes_last = go (eqb n (K.number_q K.WinPart)) refl
-    where
-      go : (x : Bool) → eqb n (K.number_q K.WinPart) ≡ x → x ≡ makes (what_of n)
-      go true e = rw (eqb-true n (K.number_q K.WinPart) e) refl
-      go false e = none_left (what_of n) refl (eqb-false n (K.number_q K.WinPart) e)
+same_renames : (r : Role) → sameb the_type r Renames ≡ renames r
+same_renames NoPlan = refl
+same_renames Creates = refl
+same_renames Joins = refl
+same_renames Renames = refl
+same_renames Extends = refl
+same_renames Passes = refl
 
--- the last of the kinds of plans pass their first input's fields on
-module _ (n : ℕ) (a : n ≡ K.number_p K.TableScan → ⊥) (b : n ≡ K.number_p K.Projection → ⊥) (c : n ≡ K.number_p K.Aggregate → ⊥)
-    (d : n ≡ K.number_p K.Join → ⊥) (g : n ≡ K.number_p K.SubqueryAlias → ⊥) (i : n ≡ K.number_p K.Window → ⊥) where
-  role_rest : (w : What) → what_of n ≡ w → cond (plan_w w) Passes NoPlan ≡ role w
-  role_rest (expr k) e = refl
-  role_rest (part k) e = refl
-  role_rest unknown e = refl
-  role_rest (plan K.TableScan) e = absurd (a (kind_p (of_kind n) K.TableScan e))
-  role_rest (plan K.Filter) e = refl
-  role_rest (plan K.Projection) e = absurd (b (kind_p (of_kind n) K.Projection e))
-  role_rest (plan K.Join) e = absurd (d (kind_p (of_kind n) K.Join e))
-  role_rest (plan K.SubqueryAlias) e = absurd (g (kind_p (of_kind n) K.SubqueryAlias e))
-  role_rest (plan K.Union) e = refl
-  role_rest (plan K.Distinct) e = refl
-  role_rest (plan K.Sort) e = refl
-  role_rest (plan K.Repartition) e = refl
-  role_rest (plan K.Limit) e = refl
-  role_rest (plan K.Aggregate) e = absurd (c (kind_p (of_kind n) K.Aggregate e))
-  role_rest (plan K.Window) e = absurd (i (kind_p (of_kind n) K.Window e))
+same_extends : (r : Role) → sameb the_type r Extends ≡ extends r
+same_extends NoPlan = refl
+same_extends Creates = refl
+same_extends Joins = refl
+same_extends Renames = refl
+same_extends Extends = refl
+same_extends Passes = refl
 
-  pub role_last : (x : Bool) → plan_w (what_of n) ≡ x → cond x Passes NoPlan ≡ role (what_of n)
-  role_last x e = rw (← e) (role_rest (what_of n) refl)
+module _ (r : Role) {x : Bool} where
+  pub is_creates : x ≡ sameb the_type r Creates → x ≡ creates r
+  is_creates e = e ∙ same_creates r
+
+  pub is_joins : x ≡ sameb the_type r Joins → x ≡ joins r
+  is_joins e = e ∙ same_joins r
+
+  pub is_renames : x ≡ sameb the_type r Renames → x ≡ renames r
+  is_renames e = e ∙ same_renames r
+
+  pub is_extends : x ≡ sameb the_type r Extends → x ≡ extends r
+  is_extends e = e ∙ same_extends r

@@ -11,5 +11,7 @@ pub mod Literals
 pub mod Rights
 pub mod PlanOf
 pub mod FieldSources
+pub mod Fronts
+pub mod Planning
 pub mod Inputting
 pub mod Nth

@@ -4,14 +4,11 @@ ghost use Rattle.plan.specs.Kinds.{what_of};
 ghost use Rattle.plan.specs.FieldSources.{gives_both, makes, own, role};
 ghost use Rattle.plan.specs.FieldSources as F;
 
-use crate::kinds::{
-    AGGREGATE, AGGREGATE_ENTRY, ENTRY, FIELD, JOIN, PROJECTION, SUBQUERY_ALIAS, TABLE_SCAN, WINDOW,
-    WINDOW_ENTRY, is_plan,
-};
+use crate::kinds::{PartKind, PlanKind, What, what_of};
 use crate::words::{FULL, RIGHT_ANTI, RIGHT_SEMI};
 
 // Where a record has its fields from.
-#[derive(Clone, Copy)]
+#[derive(Clone, Copy, Debug, PartialEq, Eq, Hash)]
 pub enum Role {
     // It is no plan.
     NoPlan,
@@ -31,100 +28,55 @@ pub enum Role {
 pub fn makes_field(kind: usize) -> bool
     ensures { result ≡ makes (what_of kind) }
 {
-    if kind == FIELD {
-        return true;
+    match what_of(kind) {
+        What::Part(PartKind::PairPart | PartKind::KeyPart) => false,
+        What::Part(_) => true,
+        _ => false,
     }
-    if kind == ENTRY {
-        return true;
-    }
-    if kind == AGGREGATE_ENTRY {
-        return true;
-    }
-    kind == WINDOW_ENTRY
 }
 
 // Where a record of the kind has its fields from.
 pub fn role_of(kind: usize) -> Role
     ensures { result ≡ role (what_of kind) }
 {
-    if kind == TABLE_SCAN {
-        return Role::Creates;
+    match what_of(kind) {
+        What::Plan(PlanKind::TableScan | PlanKind::Projection | PlanKind::Aggregate) => {
+            Role::Creates
+        }
+        What::Plan(PlanKind::Join) => Role::Joins,
+        What::Plan(PlanKind::SubqueryAlias) => Role::Renames,
+        What::Plan(PlanKind::Window) => Role::Extends,
+        What::Plan(_) => Role::Passes,
+        _ => Role::NoPlan,
     }
-    if kind == PROJECTION {
-        return Role::Creates;
-    }
-    if kind == AGGREGATE {
-        return Role::Creates;
-    }
-    if kind == JOIN {
-        return Role::Joins;
-    }
-    if kind == SUBQUERY_ALIAS {
-        return Role::Renames;
-    }
-    if kind == WINDOW {
-        return Role::Extends;
-    }
-    if is_plan(kind) {
-        return Role::Passes;
-    }
-    Role::NoPlan
 }
 
 // Whether all its fields are made by its parts.
 pub fn creates(role: Role) -> bool
     ensures { result ≡ F.creates role }
 {
-    match role {
-        Role::NoPlan => false,
-        Role::Creates => true,
-        Role::Joins => false,
-        Role::Renames => false,
-        Role::Extends => false,
-        Role::Passes => false,
-    }
+    role == Role::Creates
 }
 
 // Whether they are its inputs', as a join's.
 pub fn joins(role: Role) -> bool
     ensures { result ≡ F.joins role }
 {
-    match role {
-        Role::NoPlan => false,
-        Role::Creates => false,
-        Role::Joins => true,
-        Role::Renames => false,
-        Role::Extends => false,
-        Role::Passes => false,
-    }
+    role == Role::Joins
 }
 
 // Whether its fields get its qualifier.
 pub fn renames(role: Role) -> bool
     ensures { result ≡ F.renames role }
 {
-    match role {
-        Role::NoPlan => false,
-        Role::Creates => false,
-        Role::Joins => false,
-        Role::Renames => true,
-        Role::Extends => false,
-        Role::Passes => false,
-    }
+    role == Role::Renames
 }
 
 // Whether the fields that its parts make come behind its input's.
 pub fn extends(role: Role) -> bool
     ensures { result ≡ F.extends role }
 {
-    match role {
-        Role::NoPlan => false,
-        Role::Creates => false,
-        Role::Joins => false,
-        Role::Renames => false,
-        Role::Extends => true,
-        Role::Passes => false,
-    }
+    role == Role::Extends
 }
 
 // Whether the fields of its second input come behind those of its first: a join of the kind p that is no semi or anti join.

@@ -6,6 +6,7 @@ pub mod child_patterns;
 pub mod field_sources;
 pub mod inputs;
 pub mod kinds;
+pub mod siblings;
 pub mod values;
 pub mod word_ranges;
 pub mod words;

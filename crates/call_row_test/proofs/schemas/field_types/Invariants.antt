@@ -3,15 +3,15 @@ use mathlib.Core.Path.{◌≡◌}
 use Prim.Native.Nat.{ℕ, ◌≤◌, ◌<◌, ◌-◌}
 use lib.ListN.{length, get_or}
 use Rattle.image.specs.Limits.{max_fields}
-use Rattle.image.specs.Tree.{Forest, Linked}
-use Rattle.check_fields.specs.Fields.{input, inputs}
+use Rattle.check_fields.specs.Rules.{seen}
+use Rattle.check_fields.specs.Scopes.{scope_at}
 use Rattle.check_types.specs.ByPlace.{ty_at}
 use Rattle.call_row_test.proofs.schemas.field_types.Given as goal
 
 abbrev pub invariant-loop-k : goal.invariant-loop-k
 invariant-loop-k l =
-    (l.k ≤ l.n) × (length l.types ≡ max_fields) × ((f : Forest) → Linked f l.s l.base l.at → (m : ℕ) → m < l.k
-    → get_or l.types m 0 ≡ ty_at m (input 0 (inputs f)))
+    (l.k ≤ l.n) × (length l.types ≡ max_fields) × ((m : ℕ) → m < l.k
+    → get_or l.types m 0 ≡ ty_at m (seen (scope_at l.fields)))
 
 abbrev pub decreases-loop-k : goal.decreases-loop-k
 decreases-loop-k l = l.n - l.k

@@ -1,33 +1,23 @@
-use native.Mathlib.Omega.{arith}
-use Rattle.image.proofs.Stepping.{step, within_first, less_first}
-use Rattle.check_fields.proofs.Seeking.{makes_start, makes_step}
+use mathlib.Core.Path.{sym, subst, ◌∙◌}
+use mathlib.Core.Bool.{◌||◌}
+use Rattle.std.proofs.Common.{Option}
+use Rattle.plan.specs.declared.siblings.Branch.{Branch}
+use Rattle.plan.specs.Siblings.{forest}
+use Rattle.plan.proofs.Bools.{neither_left, neither_right}
+use Rattle.plan.proofs.FieldSources.{is_creates, is_extends}
+use Rattle.check_fields.proofs.Seeking.{Asked, asked_start, asked_next}
 use Rattle.check_fields.proofs.fields.find_maker.Goals as goal
 
-pub loop-here-init : goal.loop-here-init
-loop-here-init c =
-    λ f h. makes_start _ _ (c.plan_at-here.ensures f h)
+pub loop-next-init : goal.loop-next-init
+loop-next-init c = asked_start _ _ _ _ c.plan-next.ensures
 
-pub plan_at-here-requires-in-loop-here : goal.plan_at-here-requires-in-loop-here
-plan_at-here-requires-in-loop-here c =
-    let y = c.loop-here.invariant c.requires.forest c.requires.linked in
-    let w = step y.forest y.linked c.loop-here-test.true c.from_record.ensures c.look-v.ensures in record {
-      forest = w.below;
-      linked = within_first w c.from_record.ensures;
-    }
-
-pub loop-here-smaller : goal.loop-here-smaller
-loop-here-smaller c =
-    let y = c.loop-here.invariant c.requires.forest c.requires.linked in
-    let w = step y.forest y.linked c.loop-here-test.true c.from_record.ensures c.look-v.ensures in omega (
-      arith,
-      (c.plan_at-here-in-loop-here.ensures w.below (within_first w c.from_record.ensures)).less,
-      less_first w c.from_record.ensures y.linked c.loop-here-test.true,
-    )
-
-pub loop-here-preserved : goal.loop-here-preserved
-loop-here-preserved c =
-    λ f h. let y = c.loop-here.invariant f h in let w = step
-    y.forest y.linked c.loop-here-test.true c.from_record.ensures c.look-v.ensures in
-    makes_step y w c.role_of-role.ensures c.creates.ensures c.extends.ensures c.gives_both.ensures c.if-creates-extends.false
-    c.question-asked.ensures c.own_input.ensures (c.plan_at-here-in-loop-here.ensures w.below (within_first w c.from_record.ensures))
-    (less_first w c.from_record.ensures y.linked c.loop-here-test.true)
+pub loop-next-preserved : goal.loop-next-preserved
+loop-next-preserved c =
+    let y = subst (λ (n : Option Branch). Asked (forest c.args.trees) c.args.skip c.args.asks n c.loop-next.asked) c.in-Some.is c.loop-next.invariant in
+    let none = c.if-eq-gives_both.false in
+    let first = neither_left (c.eq.result || c.eq-in-Some.result) c.gives_both.result none in
+    asked_next y c.role_of-role.ensures
+    (sym (is_creates c.role_of-role.result c.eq.ensures) ∙ neither_left c.eq.result c.eq-in-Some.result first)
+    (sym (is_extends c.role_of-role.result c.eq-in-Some.ensures) ∙ neither_right c.eq.result c.eq-in-Some.result first)
+    (sym c.gives_both.ensures ∙ neither_right (c.eq.result || c.eq-in-Some.result) c.gives_both.result none)
+    c.question-asked.ensures c.own_input.ensures _ c.plan-next-in-Some.ensures

@@ -1,11 +1,10 @@
--- `fields::find_maker` meets its contract. The loop's invariant: the plan at `here` is to be asked. The measure is how many bytes are left.
-use Rattle.image.specs.Tree.{Forest, Linked}
-use Rattle.image.specs.Places.{left}
-use Rattle.check_fields.specs.Seek.{Makes}
+-- `fields::find_maker` meets its contract. The loop's invariant: the plan that is next is to be asked. The measure is what is below it.
+use Rattle.plan.specs.Siblings.{forest}
+use Rattle.check_fields.proofs.Seeking.{Asked, depth_left}
 use Rattle.check_fields.proofs.fields.find_maker.Given as goal
 
-abbrev pub invariant-loop-here : goal.invariant-loop-here
-invariant-loop-here l = (f : Forest) → Linked f l.s l.base l.at → Makes f l.s l.base l.at l.skip l.initial.asked l.q l.here l.asked
+abbrev pub invariant-loop-next : goal.invariant-loop-next
+invariant-loop-next l = Asked (forest l.trees) l.skip l.initial.asked l.next l.asked
 
-abbrev pub decreases-loop-here : goal.decreases-loop-here
-decreases-loop-here l = left l.s l.base l.here
+abbrev pub decreases-loop-next : goal.decreases-loop-next
+decreases-loop-next l = depth_left l.next

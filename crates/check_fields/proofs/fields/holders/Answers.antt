@@ -5,5 +5,4 @@ use Rattle.check_fields.proofs.Seeking.{passed_held}
 use Rattle.check_fields.proofs.fields.holders.Goals as goal
 
 pub returns : goal.returns
-returns c =
-    λ f h. c.passed.ensures ∙ passed_held _ f _ _ _ h (omega arith) _ (c.seek_field.ensures f h)
+returns c = c.passed.ensures ∙ passed_held _ _ _ _ _ c.args.trees.chained.linked (omega arith) _ c.seek_field.ensures

@@ -6,6 +6,5 @@ use Rattle.check_fields.proofs.scopes.held_in.Goals as goal
 
 pub returns : goal.returns
 returns c =
-    λ f h. c.passed.ensures ∙ passed_seen _ c.args.view f _ _ _ c.seek_seen.result h (omega
-    arith)
-    (c.seek_seen.ensures f h)
+    c.passed.ensures
+    ∙ passed_seen _ c.args.here.view _ _ _ _ _ c.args.here.trees.chained.linked (omega arith) c.seek_seen.ensures

@@ -1,9 +1,9 @@
 -- `scopes::type_of` meets its contract.
-use mathlib.Core.Path.{◌∙◌}
-use Rattle.check_fields.proofs.Scoping.{type_name, type_named}
+use mathlib.Core.Path.{ap, ◌∙◌}
+use Rattle.check_fields.specs.Seek.{type_found}
+use Rattle.check_fields.proofs.Scoping.{type_named}
 use Rattle.check_fields.proofs.scopes.type_of.Goals as goal
 
 pub returns-in-Named : goal.returns-in-Named
 returns-in-Named c =
-    λ f h. c.type_found.ensures ∙ type_name _ _ _ c.seek_seen.result (c.seek_seen.ensures f h)
-    ∙ type_named _ c.in-Named.is (c.source_of-x.ensures _)
+    λ l w. c.type_found.ensures ∙ ap type_found c.seek_seen.ensures ∙ type_named _ c.in-Named.is (c.source_of.ensures l _ w)

@@ -5,12 +5,10 @@ use Rattle.check_names.proofs.Singling.{rule_by_role}
 use Rattle.check_names.proofs.Telling.{too_many, not_many}
 use Rattle.check_names.proofs.schemas.is_sound.Goals as goal
 
-pub returns-then-held_in-gt-MAX_FIELDS : goal.returns-then-held_in-gt-MAX_FIELDS
-returns-then-held_in-gt-MAX_FIELDS c =
-    λ f d p h. rw (← rule_by_role _ p d f, ← c.own_view-view.ensures)
-    (too_many _ _ (c.held_in.ensures f h) c.if-held_in-gt-MAX_FIELDS.true)
+pub returns-then-held_by-gt-MAX_FIELDS : goal.returns-then-held_by-gt-MAX_FIELDS
+returns-then-held_by-gt-MAX_FIELDS c =
+    λ d p. too_many _ _ c.held_by.ensures c.if-held_by-gt-MAX_FIELDS.true ∙ rule_by_role c.args.role p d _
 
 pub returns : goal.returns
 returns c =
-    λ f d p h. rw (← rule_by_role _ p d f, ← c.own_view-view.ensures, ← c.own_question.ensures)
-    (c.all_single.ensures f h ∙ not_many _ _ (c.held_in.ensures f h) (omega arith))
+    λ d p. c.all_single.ensures ∙ not_many _ _ c.held_by.ensures (omega arith) ∙ rule_by_role c.args.role p d _

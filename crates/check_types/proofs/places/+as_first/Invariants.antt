@@ -1,6 +1,7 @@
--- `types::places::as_first` meets its contract. The measure is how many bytes are left.
-use Rattle.image.specs.Places.{left}
+-- `places::as_first` meets its contract. The measure is how many trees there are.
+use Rattle.image.specs.Tree.{size}
+use Rattle.plan.specs.Siblings.{forest}
 use Rattle.check_types.proofs.places.+as_first.Given as goal
 
 abbrev pub decreases-as_first : goal.decreases-as_first
-decreases-as_first l = left l.s.now l.base l.at
+decreases-as_first l = size (forest l.trees)

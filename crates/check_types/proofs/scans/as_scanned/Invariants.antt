@@ -1,14 +1,9 @@
 -- `scans::as_scanned` meets its contract. The loop's invariant: no record that was passed is a scan of the table.
 use mathlib.Core.Path.{◌≡◌}
 use mathlib.Core.Bool.{false}
-use Prim.Native.Nat.{ℕ, ◌+◌, ◌-◌, ◌*◌, ◌≤◌, ◌<◌}
-use lib.ListN.{length}
+use Prim.Native.Nat.{ℕ, ◌<◌}
 use Rattle.check_types.proofs.Scanning.{scans_at}
 use Rattle.check_types.proofs.scans.as_scanned.Given as goal
 
 abbrev pub invariant-loop-at : goal.invariant-loop-at
-invariant-loop-at l =
-    (32 * l.records ≤ length l.root) × (length l.root < 32 * l.records + 32) × ((i : ℕ) → i < l.at → scans_at l.table l.root i ≡ false)
-
-abbrev pub decreases-loop-at : goal.decreases-loop-at
-decreases-loop-at l = l.records - l.at
+invariant-loop-at l = (i : ℕ) → i < l.at → scans_at l.table l.root i ≡ false

@@ -1,6 +1,7 @@
--- `types::walk::bad_type` meets its contract. The measure is how many bytes are left.
-use Rattle.image.specs.Places.{left}
+-- `walk::bad_type` meets its contract. The measure is how many trees there are.
+use Rattle.image.specs.Tree.{size}
+use Rattle.plan.specs.Siblings.{forest}
 use Rattle.check_types.proofs.walk.+bad_type.Given as goal
 
 abbrev pub decreases-bad_type : goal.decreases-bad_type
-decreases-bad_type l = left l.s.now l.base l.at
+decreases-bad_type l = size (forest l.trees)

@@ -1,0 +1,55 @@
+-- A chain of siblings stands somewhere in one way: `Chained` has one proof at most.
+use mathlib.Core.HLevel.{is_prop→PathP, ×_prop, Unit-prop}
+use native.Mathlib.Bridge.{le_prop}
+use native.Mathlib.Nat.{ℕ_set}
+use mathlib.Core.Path.{◌≡◌, refl}
+use mathlib.Core.List.{List}
+use Prim.Native.Nat.{ℕ, ◌*◌, ◌-◌}
+use native.Mathlib.Omega.{arith}
+use lib.ListN.{drop}
+use Rattle.image.specs.Tree.{Label, Forest, none, node, Stands, Linked, Here}
+use Rattle.image.specs.Places.{Chained}
+use Rattle.image.proofs.Walking.{same}
+
+-- one forest is linked there
+pub one_chain : (f g : Forest) (s : List ℕ) (b at : ℕ) → Linked f s b at → Linked g s b at → f ≡ g
+one_chain none none s b at h k = refl
+one_chain none (node l cs ns) s b at h k = absurd (omega arith)
+one_chain (node l cs ns) none s b at h k = absurd (omega arith)
+one_chain (node l cs ns) (node m ds os) s b at h k =
+    same (node l cs ns) (node m ds os) (drop (32 * (at - b)) s) at (omega arith) refl h.1 k.1
+
+label_prop : (x y : Label) → IsProp (x ≡ y)
+label_prop x y p q = λ i j. record {
+  kind = ℕ_set _ _ (λ k. (p k).kind) (λ k. (q k).kind) i j;
+  p = ℕ_set _ _ (λ k. (p k).p) (λ k. (q k).p) i j;
+  q = ℕ_set _ _ (λ k. (p k).q) (λ k. (q k).q) i j;
+  r = ℕ_set _ _ (λ k. (p k).r) (λ k. (q k).r) i j;
+  lo = ℕ_set _ _ (λ k. (p k).lo) (λ k. (q k).lo) i j;
+  hi = ℕ_set _ _ (λ k. (p k).hi) (λ k. (q k).hi) i j;
+}
+
+here_prop : (l : Label) (cs : Forest) (s : List ℕ) (b : ℕ) → IsProp (Here l cs s b)
+here_prop l cs s b x y = λ i. record {
+  label = label_prop _ _ x.label y.label i;
+  first = ℕ_set _ _ x.first y.first i;
+  room = le_prop x.room y.room i;
+}
+
+stands_prop : (f : Forest) (s : List ℕ) (b : ℕ) → IsProp (Stands f s b)
+stands_prop none s b = Unit-prop
+stands_prop (node l cs ns) s b = λ x y i. record {
+  head = here_prop l cs s b x.head y.head i;
+  below = stands_prop cs _ _ x.below y.below i;
+  next = ℕ_set _ _ x.next y.next i;
+  after = stands_prop ns _ _ x.after y.after i;
+}
+
+linked_prop : (f : Forest) (s : List ℕ) (b at : ℕ) → IsProp (Linked f s b at)
+linked_prop none s b at = ℕ_set _ _
+linked_prop (node l cs ns) s b at = ×_prop le_prop (stands_prop (node l cs ns) _ _)
+
+pub Chained-prop : (s : List ℕ) (b at : ℕ) → IsProp (Chained s b at)
+Chained-prop s b at x y =
+    let e : x.forest ≡ y.forest = one_chain x.forest y.forest s b at x.linked y.linked in
+    λ i. record { forest = e i; linked = is_prop→PathP (λ j. Linked (e j) s b at) (λ j. linked_prop (e j) s b at) x.linked y.linked i }
