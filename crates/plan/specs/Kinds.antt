@@ -1,7 +1,6 @@
 -- The kinds of records, with their numbers.
 use Rattle.std.specs.Prelude.{Bool, true, false, cond, List, [], ◌∷◌, ℕ, eqb}
 use Rattle.image.specs.Tree.{Label}
-
 -- ---- the kinds, and what a record is: the enums of the code
 
 pub use Rattle.image.specs.declared.kinds.ExprKind.{ExprKind}
