@@ -1,11 +1,11 @@
 -- Laws of the lists of a plan and of the form of a record, for the code that counts along a chain.
 -- Assumes nothing.
-use mathlib.Core.Path.{◌≡◌, refl, sym, ap, ◌∙◌}
-use mathlib.Core.Bool.{Bool, true, false, not, cond, ◌&&◌}
+use mathlib.Core.Path.{◌≡◌, sym, ap, ◌∙◌}
+use mathlib.Core.Bool.{Bool, true, false, cond}
 use mathlib.Core.List.{List}
 use Prim.Native.Nat.{ℕ, suc, ◌+◌, ◌-◌, ◌*◌, ◌≤◌}
 use native.Mathlib.Omega.{arith}
-use lib.Dec.{eqb, leb}
+use lib.Dec.{leb}
 use lib.ListN.{length, drop, length-drop}
 use borrow.Author.Tests.{eq-eqb, ne_eqb, eqb-true}
 use Rattle.image.specs.Tree.{Label, Forest, none, node, size, Stands, Linked, Node, node_of}
@@ -16,7 +16,7 @@ use Rattle.plan.specs.Lists.{◌&◌}
 use Rattle.plan.specs.Kinds as K
 use Rattle.plan.specs.Kinds.{What, expr, plan, part, unknown, what, what_of, among, is_expr, is_plan}
 use Rattle.plan.specs.Form.{end, one, children_by, is_and, conjuncts, exprs_in, list_by, form_ok}
-use Rattle.plan.proofs.Lists.{and_l, and_true}
+use Rattle.plan.proofs.Lists.{and_l}
 use Rattle.check_form.specs.declared.sorts.Sort.TheVariants.{Expression}
 use Rattle.check_form.specs.Sorts.{sort_of}
 use Rattle.image.proofs.Along.{Along, along_start, along_end, along_step, here_in}

@@ -3,12 +3,12 @@
 use mathlib.Core.Path.{◌≡◌, refl, sym, ap, subst, ◌∙◌}
 use mathlib.Core.Bool.{Bool, true, false, cond, ◌&&◌}
 use mathlib.Core.List.{List, [], ◌∷◌}
-use Prim.Native.Nat.{ℕ, ◌-◌, ◌*◌, ◌/◌, ◌%◌}
+use Prim.Native.Nat.{ℕ, ◌-◌, ◌*◌}
 use native.Mathlib.Omega.{arith}
 use lib.Dec.{eqb}
 use lib.ListN.{get_or, drop}
 use borrow.Author.Tests.{eq-eqb, ne_eqb}
-use Rattle.std.specs.Prelude.{None, Some, ◌+◌, ◌≤◌, ◌<◌, length, take, slice_index_or}
+use Rattle.std.specs.Prelude.{None, Some, ◌≤◌, ◌<◌, length, take, slice_index_or}
 use Rattle.image.specs.Lowest.{Found}
 use Rattle.image.specs.Tree.{Label, Forest, none, node, Linked, Node, node_of}
 use Rattle.image.specs.Places.{Chained}

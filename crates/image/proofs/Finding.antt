@@ -4,7 +4,6 @@ use mathlib.Core.Path.{◌≡◌, refl, sym, ap, ◌∙◌}
 use mathlib.Core.Bool.{Bool, true, false}
 use mathlib.Core.List.{List}
 use Prim.Native.Nat.{ℕ, ◌+◌}
-use native.Mathlib.Omega.{arith}
 use Rattle.image.specs.Tree.{Label, Forest, none, node, size, link, Node}
 use Rattle.std.specs.Prelude.{None, Some}
 use Rattle.image.specs.Lowest.{Found, or_else, unless, lowest}

@@ -1,4 +1,4 @@
-use mathlib.Core.Path.{sym, ap, ◌∙◌}
+use mathlib.Core.Path.{sym, ◌∙◌}
 use Rattle.check_form.proofs.Rows.{bad_here, passed_one, passed_all}
 use Rattle.check_form.proofs.words.bad_words.Goals as goal
 
