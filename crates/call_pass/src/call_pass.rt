@@ -130,27 +130,7 @@ fn pass_in_output(
     Ok(clear_behind_walk(w, out))
 }
 
-// The pass over an accepted image, in the output if it has room for any image.
-fn pass_within(
-    image: &[u8],
-    budget: u64,
-    m: &mut [u8],
-    work: &mut [u8],
-    levels: &mut [u32],
-    out: &mut [u8],
-) -> Result<Answer, Refusal>
-    requires whole { Whole image.now }
-    requires scratch_map { ScratchMap m.old work.old levels.old }
-    ensures { Small result × (outcome_of (length out.old) result out.new
-        ≡ reported (length out.old) (pass_call budget (length out.old) (plan_in image.now))) }
-{
-    if out.len() < MAX_BYTES {
-        return pass_short(image, budget, m, work, levels, out);
-    }
-    pass_in_output(image, budget, m, work, levels, out)
-}
-
-// Lends the work space.
+// Lends the work space; the pass is made in the output if that has room for any image.
 fn pass_on(image: &[u8], budget: u64, out: &mut [u8]) -> Result<Answer, Refusal>
     requires { Whole image.now }
     ensures { Small result × (outcome_of (length out.old) result out.new
@@ -159,7 +139,10 @@ fn pass_on(image: &[u8], budget: u64, out: &mut [u8]) -> Result<Answer, Refusal>
     let mut m = [0u8; MAP_BYTES];
     let mut work = [0u8; MAX_BYTES];
     let mut levels = [0u32; MAX_RECORDS];
-    pass_within(image, budget, &mut m, &mut work, &mut levels, out)
+    if out.len() < MAX_BYTES {
+        return pass_short(image, budget, &mut m, &mut work, &mut levels, out);
+    }
+    pass_in_output(image, budget, &mut m, &mut work, &mut levels, out)
 }
 
 // The pass over any bytes; where it is refused, it leaves in the output what it likes.

@@ -115,26 +115,7 @@ fn rewrite_in_output(
     hand_over(image, image.len() / RECORD_BYTES, r.flag, out)
 }
 
-// The rewrite of the plan at record `node`, in the output if it has room for any image.
-fn rewrite_within(
-    image: &[u8],
-    node: usize,
-    m: &mut [u8],
-    levels: &mut [u32],
-    out: &mut [u8],
-) -> Result<Answer, Refusal>
-    requires here { Here image.now node }
-    requires map_bytes_in_bounds { (map_bytes ≤ length m.old) × (length levels.old ≡ max_records) }
-    ensures { outcome_of (length out.old) result out.new
-        ≡ rewritten (length out.old) (rewrite_call node (length out.old) (plan_in image.now)) }
-{
-    if out.len() < MAX_BYTES {
-        return rewrite_short(image, node, m, levels, out);
-    }
-    rewrite_in_output(image, node, m, levels, out)
-}
-
-// Lends the work space.
+// Lends the work space; the rewrite is written into the output if that has room for any image.
 fn rewrite_here(image: &[u8], node: usize, out: &mut [u8]) -> Result<Answer, Refusal>
     requires { Here image.now node }
     ensures { outcome_of (length out.old) result out.new
@@ -142,7 +123,10 @@ fn rewrite_here(image: &[u8], node: usize, out: &mut [u8]) -> Result<Answer, Ref
 {
     let mut m = [0u8; MAP_BYTES];
     let mut levels = [0u32; MAX_RECORDS];
-    rewrite_within(image, node, &mut m, &mut levels, out)
+    if out.len() < MAX_BYTES {
+        return rewrite_short(image, node, &mut m, &mut levels, out);
+    }
+    rewrite_in_output(image, node, &mut m, &mut levels, out)
 }
 
 // The rewrite at record `node` of an accepted image.

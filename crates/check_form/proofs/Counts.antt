@@ -1,11 +1,11 @@
 -- Laws of the lists of a plan and of the form of a record, for the code that counts along a chain.
 -- Assumes nothing.
-use mathlib.Core.Path.{◌≡◌, refl, sym, ap, ◌∙◌}
-use mathlib.Core.Bool.{Bool, true, false, not, cond, ◌&&◌}
+use mathlib.Core.Path.{◌≡◌, sym, ap, ◌∙◌}
+use mathlib.Core.Bool.{Bool, true, false, cond}
 use mathlib.Core.List.{List}
 use Prim.Native.Nat.{ℕ, suc, ◌+◌, ◌-◌, ◌*◌, ◌≤◌}
 use native.Mathlib.Omega.{arith}
-use lib.Dec.{eqb, leb}
+use lib.Dec.{leb}
 use lib.ListN.{length, drop, length-drop}
 use borrow.Author.Tests.{eq-eqb, ne_eqb, eqb-true}
 use Rattle.image.specs.Tree.{Label, Forest, none, node, size, Stands, Linked, Node, node_of}
@@ -16,46 +16,11 @@ use Rattle.plan.specs.Lists.{◌&◌}
 use Rattle.plan.specs.Kinds as K
 use Rattle.plan.specs.Kinds.{What, expr, plan, part, unknown, what, what_of, among, is_expr, is_plan}
 use Rattle.plan.specs.Form.{end, one, children_by, is_and, conjuncts, exprs_in, list_by, form_ok}
-use Rattle.plan.proofs.Lists.{and_l, and_true}
-use Rattle.plan.proofs.Rebuilt.{kind_p}
+use Rattle.plan.proofs.Lists.{and_l}
 use Rattle.check_form.specs.declared.sorts.Sort.TheVariants.{Expression}
 use Rattle.check_form.specs.Sorts.{sort_of}
-use Rattle.check_form.specs.Patterns.{item, last_item, meets, fitting}
-use Rattle.plan.proofs.Bools.{both}
 use Rattle.image.proofs.Along.{Along, along_start, along_end, along_step, here_in}
 use Rattle.check_form.proofs.Patterned.{sorted}
-
--- ---- children
-
--- the pattern of an input, and of two operands
-input_alone : (f : Forest) → meets 12000000 f ≡ one is_plan end f
-unfolding meets item last_item sort_of
-input_alone f = refl
-
-operands : (f : Forest) → meets 11110000 f ≡ one is_expr (one is_expr end) f
-unfolding meets item last_item sort_of
-operands f = refl
-
-pub fits_aggregate : (k p : ℕ) (f : Forest) {x y : Bool} → k ≡ K.number_p K.Aggregate → x ≡ meets p f → y ≡ meets 12000000 f → (x && not y) ≡ fitting k p f
-unfolding fitting ◌&◌
-fits_aggregate k p f {x} {y} e a b = rw (a, b, e, input_alone f) (both (meets p f) (not (one is_plan end f)))
-
-pub fits_other : (k p : ℕ) (f : Forest) {x : Bool} → (k ≡ K.number_p K.Aggregate → ⊥) → x ≡ meets p f → x ≡ fitting k p f
-unfolding fitting ◌&◌
-fits_other k p f {x} e a = rw (a, ne_eqb k (K.number_p K.Aggregate) e) (sym (and_true (meets p f)))
-
--- the pattern of a leaf
-no_children : (f : Forest) → meets 0 f ≡ end f
-unfolding meets item last_item sort_of
-no_children f = refl
-
-at_end : (f : Forest) (s : List ℕ) (b at : ℕ) → Linked f s b at → eqb at 0 ≡ end f
-unfolding end
-at_end none s b at h = eq-eqb at 0 h
-at_end (node l cs ns) s b at h = ne_eqb at 0 (λ z. omega (arith, h.0))
-
-pub leaf_meets : (p : ℕ) (f : Forest) (s : List ℕ) (b at : ℕ) → p ≡ 0 → Linked f s b at → eqb at 0 ≡ meets p f
-leaf_meets p f s b at e h = at_end f s b at h ∙ sym (no_children f) ∙ ap (λ n. meets n f) (sym e)
 
 -- ---- records are bytes
 
@@ -166,59 +131,20 @@ module _ (l : Label) (f : Forest) {kind p : ℕ} (k : kind ≡ l.kind) (q : p �
   unfolding is_and ◌&◌
   and_operator e z = rw (eq-eqb l.kind 5 (sym k ∙ e), ne_eqb l.p 1 (λ i. z (q ∙ i)))
 
-  pub and_two : {x : Bool} → kind ≡ K.number_e K.Binary → p ≡ 1 → x ≡ meets 11110000 f → x ≡ is_and l f
+  pub and_two : {x : Bool} → kind ≡ K.number_e K.Binary → p ≡ 1 → x ≡ one is_expr (one is_expr end) f → x ≡ is_and l f
   unfolding is_and ◌&◌
-  and_two e i m = m ∙ operands f ∙ rw (eq-eqb l.kind 5 (sym k ∙ e), eq-eqb l.p 1 (sym q ∙ i))
-
--- ---- the list of a plan
-
--- a label of the kind
-abbrev of_number : ℕ → Label
-of_number n = record { kind = n; p = 0; q = 0; r = 0; lo = 0; hi = 0 }
-
-module _ (f : Forest) (n : ℕ) where
-  pub list_scan : {x : ℕ} → n ≡ K.number_p K.TableScan → x ≡ exprs_in f → x ≡ list_by (what_of n) f
-  unfolding what_of among
-  list_scan e h = rw e h
-
-  pub list_filter : {x : ℕ} → n ≡ K.number_p K.Filter → x ≡ conjuncts f → x ≡ list_by (what_of n) f
-  unfolding what_of among
-  list_filter e h = rw e h
-
-  pub list_join : {x : ℕ} → n ≡ K.number_p K.Join → x ≡ conjuncts f → x ≡ list_by (what_of n) f
-  unfolding what_of among
-  list_join e h = rw e h
-
-  pub list_other : (n ≡ K.number_p K.TableScan → ⊥) → (n ≡ K.number_p K.Filter → ⊥) → (n ≡ K.number_p K.Join → ⊥) → 0 ≡ list_by (what_of n) f
-  list_other a b c = go (what_of n) refl
-    where
-      go : (w : What) → what_of n ≡ w → 0 ≡ list_by w f
-      go (expr k) e = refl
-      go (part k) e = refl
-      go unknown e = refl
-      go (plan K.TableScan) e = absurd (a (kind_p (of_number n) K.TableScan e))
-      go (plan K.Filter) e = absurd (b (kind_p (of_number n) K.Filter e))
-      go (plan K.Join) e = absurd (c (kind_p (of_number n) K.Join e))
-      go (plan K.Projection) e = refl
-      go (plan K.SubqueryAlias) e = refl
-      go (plan K.Union) e = refl
-      go (plan K.Distinct) e = refl
-      go (plan K.Sort) e = refl
-      go (plan K.Repartition) e = refl
-      go (plan K.Limit) e = refl
-      go (plan K.Aggregate) e = refl
-      go (plan K.Window) e = refl
+  and_two e i m = m ∙ rw (eq-eqb l.kind 5 (sym k ∙ e), eq-eqb l.p 1 (sym q ∙ i))
 
 -- ---- the form of a record
 
-module _ (l : Label) (f : Forest) {kind : ℕ} (k : kind ≡ l.kind) where
-  pub form_children : false ≡ children_by (what_of kind) f → false ≡ form_ok l f
-  unfolding form_ok ◌&◌
-  form_children h = rw (sym (h ∙ ap (λ (n : ℕ). children_by (what_of n) f) k))
+module _ (l : Label) (f : Forest) {kind : ℕ} (k : kind ≡ l.kind) {w : What} (is : w ≡ what_of kind) where
+  what_is : w ≡ what l
+  what_is = is ∙ ap what_of k
 
-  pub form_list : {n : ℕ} → true ≡ children_by (what_of kind) f → n ≡ list_by (what_of kind) f → leb n max_list ≡ form_ok l f
+  pub form_children : false ≡ children_by w f → false ≡ form_ok l f
   unfolding form_ok ◌&◌
-  form_list {n} h i =
-      let c : children_by (what l) f ≡ true = sym (h ∙ ap (λ (m : ℕ). children_by (what_of m) f) k) in
-      let e : n ≡ list_by (what l) f = i ∙ ap (λ (m : ℕ). list_by (what_of m) f) k in
-      rw (e, c)
+  form_children h = rw (← what_is, ← h)
+
+  pub form_list : {n : ℕ} → true ≡ children_by w f → n ≡ list_by w f → leb n max_list ≡ form_ok l f
+  unfolding form_ok ◌&◌
+  form_list {n} h i = rw (← what_is, ← h, i)

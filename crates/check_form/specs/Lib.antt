@@ -4,6 +4,5 @@ pub mod Linking
 pub mod Misformed
 pub mod Patterns
 pub mod Rooted
-pub mod Rows
 pub mod Sorts
 pub mod Sound

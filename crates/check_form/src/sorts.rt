@@ -5,7 +5,7 @@ ghost use Rattle.check_form.specs.Sorts.{sort_of};
 use plan::kinds::{is_expression, is_plan};
 
 // Which records a place in a pattern takes.
-#[derive(Clone, Copy)]
+#[derive(Clone, Copy, Debug, PartialEq, Eq, Hash)]
 pub enum Sort {
     Expression,
     Plan,

@@ -6,6 +6,7 @@ pub mod ends;
 pub mod kinds;
 pub mod limits;
 pub mod links;
+pub mod ranges;
 pub mod records;
 pub mod refusals;
 pub mod relink;

@@ -9,22 +9,13 @@ use Rattle.plan.specs.Kinds.{Between, InList, Function, PlanKind, TableScan, Fil
 use Rattle.plan.specs.Kinds.{Sort, Repartition, Limit, Aggregate, Window, PartKind, FieldPart, EntryPart, PairPart, KeyPart, AggPart}
 use Rattle.plan.specs.Kinds.{WinPart}
 use Rattle.plan.specs.Trees.{has_fetch}
-
-pub record Range : Type 0 where
-  pub low : ℕ
-  pub high : ℕ
+-- a range, and the ranges of the words p, q, r, lo, hi: the structs of the code
+pub use Rattle.image.specs.declared.ranges.Range.{Range}
+pub use Rattle.image.specs.declared.ranges.WordRow.{WordRow}
 
 infixl 20 ◌to◌
 abbrev pub ◌to◌ : ℕ → ℕ → Range
 a to b = record { low = a; high = b }
-
--- the ranges of the words p, q, r, lo, hi
-pub record WordRow : Type 0 where
-  pub p : Range
-  pub q : Range
-  pub r : Range
-  pub lo : Range
-  pub hi : Range
 
 abbrev pub row : Range → Range → Range → Range → Range → WordRow
 row p q r lo hi = record { p = p; q = q; r = r; lo = lo; hi = hi }

@@ -1,5 +1,5 @@
 // The kinds of records by name, all of them: those of specs/Kinds.antt. What their words hold is in words.rt.
-// A new kind is one number here, one row in each table of word_ranges.rt and child_patterns.rt, of a plan its role in field_sources.rt,
+// A new kind is one number here, one row in word_ranges.rt and one in children.rt of check_form, of a plan its role in field_sources.rt,
 // and a failed proof wherever it is not treated.
 ghost use Rattle.std.specs.Prelude.{◌≡◌};
 ghost use Rattle.plan.specs.Kinds.{expr_w, number_of, part_w, plan_w, what_of};

@@ -2,7 +2,6 @@
 // the value record, and where a plan has its fields and its inputs.
 #![tactic(auto)]
 
-pub mod child_patterns;
 pub mod field_sources;
 pub mod inputs;
 pub mod kinds;

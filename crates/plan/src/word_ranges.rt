@@ -1,52 +1,119 @@
-// Record (2): the range of each word of a record, a row for each kind, in the order of their numbers: those of specs/Words.antt.
+// Record (2): the range of each word of a record, by its kind: those of specs/Words.antt.
+ghost use Rattle.std.specs.Prelude.{◌≡◌};
+ghost use Rattle.plan.specs.Words.{row, row_e, row_p, row_q};
+
+use crate::kinds::{ExprKind, PartKind, PlanKind};
+use crate::words::{
+    AND, BOOLEAN, COUNT, FETCHES, GT_EQ, INNER, INTEGER, IS_NOT_UNKNOWN, IS_NULL, MAX, RIGHT_ANTI,
+    VOLATILE_LEAFWARD,
+};
+use image::ranges::{Range, WordRow};
+
 const MAX_WORD: usize = 4294967295;
 
-// The ranges have numbers: 0 unused; 1 any; 2 a name, or the qualifier of an alias; 3 a bit; 4 a type; 5 one of eight;
-// 6 the marks of a function; 7 Count, Min or Max; 8 and 9 have no number in them.
-pub const LOW: [usize; 10] = [0, 0, 1, 0, 1, 1, 0, 1, 1, 1];
+const UNUSED: Range = Range { low: 0, high: 0 };
 
-pub const HIGH: [usize; 10] = [0, MAX_WORD, MAX_WORD, 1, 2, 8, 3, 3, 0, 0];
+const ANY: Range = Range {
+    low: 0,
+    high: MAX_WORD,
+};
 
-// A row has five digits: the ranges of p, q, r, lo and hi. The rows of each kind, in the order of their numbers:
-pub const EXPRESSION_ROWS: [usize; 10] = [
-    12000, // Column
-    11, // integer
-    30000, // boolean
-    40000, // NULL
-    50000, // BinaryExpr
-    0, // Not
-    50000, // test
-    30000, // Between
-    30000, // InList
-    16400, // function
-];
+// A name, or the qualifier of an alias.
+const NAME: Range = Range {
+    low: 1,
+    high: MAX_WORD,
+};
 
-pub const PLAN_ROWS: [usize; 12] = [
-    10000, // TableScan
-    0, // Filter
-    0, // Projection
-    50000, // Join
-    20000, // SubqueryAlias
-    0, // Union
-    0, // Distinct
-    30000, // Sort without a fetch
-    0, // Repartition
-    11, // Limit
-    0, // Aggregate
-    0, // Window
-];
+const BIT: Range = Range { low: 0, high: 1 };
 
-pub const PART_ROWS: [usize; 6] = [
-    12430, // field
-    12000, // entry
-    0, // key pair
-    30000, // sort key
-    12700, // entry of an Aggregate
-    12700, // entry of a Window
-];
+const TYPE: Range = Range {
+    low: INTEGER,
+    high: BOOLEAN,
+};
 
-// A Sort with a fetch.
-pub const FETCHING: usize = 30010;
+const OPERATOR: Range = Range {
+    low: AND,
+    high: GT_EQ,
+};
 
-// A kind that is not known.
-pub const UNKNOWN: usize = 88888;
+const TEST: Range = Range {
+    low: IS_NULL,
+    high: IS_NOT_UNKNOWN,
+};
+
+const JOIN: Range = Range {
+    low: INNER,
+    high: RIGHT_ANTI,
+};
+
+const MARKS: Range = Range {
+    low: 0,
+    high: VOLATILE_LEAFWARD,
+};
+
+const AGGREGATE: Range = Range {
+    low: COUNT,
+    high: MAX,
+};
+
+fn row(p: Range, q: Range, r: Range, lo: Range, hi: Range) -> WordRow
+    ensures { result ≡ row p q r lo hi }
+{
+    WordRow { p, q, r, lo, hi }
+}
+
+pub fn row_e(kind: ExprKind) -> WordRow
+    ensures { result ≡ row_e kind }
+{
+    match kind {
+        ExprKind::Column => row(ANY, NAME, UNUSED, UNUSED, UNUSED),
+        ExprKind::Integer => row(UNUSED, UNUSED, UNUSED, ANY, ANY),
+        ExprKind::Boolean => row(BIT, UNUSED, UNUSED, UNUSED, UNUSED),
+        ExprKind::Null => row(TYPE, UNUSED, UNUSED, UNUSED, UNUSED),
+        ExprKind::Binary => row(OPERATOR, UNUSED, UNUSED, UNUSED, UNUSED),
+        ExprKind::Not => row(UNUSED, UNUSED, UNUSED, UNUSED, UNUSED),
+        ExprKind::Test => row(TEST, UNUSED, UNUSED, UNUSED, UNUSED),
+        ExprKind::Between => row(BIT, UNUSED, UNUSED, UNUSED, UNUSED),
+        ExprKind::InList => row(BIT, UNUSED, UNUSED, UNUSED, UNUSED),
+        ExprKind::Function => row(ANY, MARKS, TYPE, UNUSED, UNUSED),
+    }
+}
+
+// By p, which says whether a Sort has a fetch.
+pub fn row_p(kind: PlanKind, p: usize) -> WordRow
+    ensures { result ≡ row_p kind p }
+{
+    match kind {
+        PlanKind::TableScan => row(ANY, UNUSED, UNUSED, UNUSED, UNUSED),
+        PlanKind::Filter => row(UNUSED, UNUSED, UNUSED, UNUSED, UNUSED),
+        PlanKind::Projection => row(UNUSED, UNUSED, UNUSED, UNUSED, UNUSED),
+        PlanKind::Join => row(JOIN, UNUSED, UNUSED, UNUSED, UNUSED),
+        PlanKind::SubqueryAlias => row(NAME, UNUSED, UNUSED, UNUSED, UNUSED),
+        PlanKind::Union => row(UNUSED, UNUSED, UNUSED, UNUSED, UNUSED),
+        PlanKind::Distinct => row(UNUSED, UNUSED, UNUSED, UNUSED, UNUSED),
+        PlanKind::Sort => row(
+            BIT,
+            UNUSED,
+            UNUSED,
+            if p == FETCHES { ANY } else { UNUSED },
+            UNUSED,
+        ),
+        PlanKind::Repartition => row(UNUSED, UNUSED, UNUSED, UNUSED, UNUSED),
+        PlanKind::Limit => row(UNUSED, UNUSED, UNUSED, ANY, ANY),
+        PlanKind::Aggregate => row(UNUSED, UNUSED, UNUSED, UNUSED, UNUSED),
+        PlanKind::Window => row(UNUSED, UNUSED, UNUSED, UNUSED, UNUSED),
+    }
+}
+
+pub fn row_q(kind: PartKind) -> WordRow
+    ensures { result ≡ row_q kind }
+{
+    match kind {
+        PartKind::FieldPart => row(ANY, NAME, TYPE, BIT, UNUSED),
+        PartKind::EntryPart => row(ANY, NAME, UNUSED, UNUSED, UNUSED),
+        PartKind::PairPart => row(UNUSED, UNUSED, UNUSED, UNUSED, UNUSED),
+        PartKind::KeyPart => row(BIT, UNUSED, UNUSED, UNUSED, UNUSED),
+        PartKind::AggPart => row(ANY, NAME, AGGREGATE, UNUSED, UNUSED),
+        PartKind::WinPart => row(ANY, NAME, AGGREGATE, UNUSED, UNUSED),
+    }
+}

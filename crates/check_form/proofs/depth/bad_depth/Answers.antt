@@ -1,5 +1,5 @@
 -- `depth::bad_depth` meets its contract: the root's depth is 1, and its children stand at depth 2.
-use mathlib.Core.Path.{sym, ap, ◌∙◌}
+use mathlib.Core.Path.{sym, ◌∙◌}
 use lib.Dec.{leb}
 use Prim.Native.Nat.{◌+◌}
 use native.Mathlib.Omega.{arith}

@@ -1,17 +1,17 @@
-use mathlib.Core.Path.{sym, ap, ◌∙◌}
+use mathlib.Core.Path.{sym, ◌∙◌}
 use Rattle.check_form.proofs.Rows.{bad_here, passed_one, passed_all}
 use Rattle.check_form.proofs.words.bad_words.Goals as goal
 
 pub returns-then-not-words_ok : goal.returns-then-not-words_ok
 returns-then-not-words_ok c =
     sym ((bad_here _ _ _ c.loop-i.invariant
-    _ _ c.from_record.ensures c.label_at-label.ensures.0
+    _ _ c.from_record.ensures c.label_at.ensures.0
     c.loop-i-test.true (sym c.words_ok.ensures ∙ c.if-not-words_ok.true)))
 
 pub loop-i-preserved : goal.loop-i-preserved
 loop-i-preserved c =
     passed_one _ _ _ c.loop-i.invariant
-    _ _ c.from_record.ensures c.label_at-label.ensures.0
+    _ _ c.from_record.ensures c.label_at.ensures.0
     c.loop-i-test.true (sym c.words_ok.ensures ∙ c.if-not-words_ok.false)
 
 pub returns : goal.returns

@@ -1,0 +1,10 @@
+-- `children::children_p` meets its contract.
+use Rattle.plan.proofs.Bools.{both}
+use Rattle.check_form.specs.Patterns.{meets}
+use Rattle.check_form.specs.Sorts.{sort_of}
+use Rattle.check_form.proofs.children.children_p.Goals as goal
+
+pub returns-in-Aggregate : goal.returns-in-Aggregate
+unfolding meets sort_of
+returns-in-Aggregate c =
+    λ f h. rw (c.in-Aggregate.is, c.meets-in-Aggregate.ensures f h, c.meets-in-Aggregate-2.ensures f h) (both _ _)
