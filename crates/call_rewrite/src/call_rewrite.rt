@@ -69,15 +69,16 @@ fn rewrite_apart(
     ensures { rewritten_of result out.new
         ≡ rewritten (length out.old) (rewrite_call node (length out.old) (plan_in image.now)) }
 {
-    let r = rewrite_anew(image, node, m, work, levels);
-    if !r.fits {
-        clear(out);
-        return Answer::TooLarge(node);
+    match rewrite_anew(image, node, m, work, levels) {
+        Err(_) => {
+            clear(out);
+            Answer::TooLarge(node)
+        }
+        Ok(r) => match r.image {
+            Some(records) => hand_over(work, records, r.flag, out),
+            None => hand_over(image, image.len() / RECORD_BYTES, r.flag, out),
+        },
     }
-    if r.written {
-        return hand_over(work, r.records, r.flag, out);
-    }
-    hand_over(image, image.len() / RECORD_BYTES, r.flag, out)
 }
 
 // Lends that buffer.
@@ -110,15 +111,16 @@ fn rewrite_in_output(
     ensures { rewritten_of result out.new
         ≡ rewritten (length out.old) (rewrite_call node (length out.old) (plan_in image.now)) }
 {
-    let r = rewrite_anew(image, node, m, &mut out[..MAX_BYTES], levels);
-    if !r.fits {
-        clear(out);
-        return Answer::TooLarge(node);
+    match rewrite_anew(image, node, m, &mut out[..MAX_BYTES], levels) {
+        Err(_) => {
+            clear(out);
+            Answer::TooLarge(node)
+        }
+        Ok(r) => match r.image {
+            Some(records) => clear_behind(records, r.flag, out),
+            None => hand_over(image, image.len() / RECORD_BYTES, r.flag, out),
+        },
     }
-    if r.written {
-        return clear_behind(r.records, r.flag, out);
-    }
-    hand_over(image, image.len() / RECORD_BYTES, r.flag, out)
 }
 
 // The rewrite of the plan at record `node`, in the output if it has room for any image.
