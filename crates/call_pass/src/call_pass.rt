@@ -11,7 +11,7 @@ ghost use Rattle.call_pass.specs.Answer.{Small, passed_of};
 use answers::handing_out::{clear, clear_from, copy_bytes};
 use check_image::{Checked, check};
 use image::limits::{MAP_BYTES, MAX_BYTES, MAX_RECORDS, RECORD_BYTES};
-use pass::visits::{Walk, visit_all};
+use pass::visits::{TooLargeAt, Walk, visit_all};
 
 // Visits, flags raised, whether no plan is left to visit, and the number of records; or what stands against it: a test of the image, a
 // rewrite whose answer is too large, at this record of the plan as it then stood, an output that is too short.
@@ -31,7 +31,7 @@ fn walk_in(
     m: &mut [u8],
     work: &mut [u8],
     levels: &mut [u32],
-) -> Walk
+) -> Result<Walk, TooLargeAt>
     requires whole { Whole image.now }
     requires lent { Lent a.old m.old work.old levels.old }
     ensures { Ends a.new result (pass budget (plan_in image.now)) }
@@ -79,12 +79,13 @@ fn pass_apart(
     ensures { Small result × (passed_of result out.new
         ≡ reported (length out.old) (pass_call budget (length out.old) (plan_in image.now))) }
 {
-    let w = walk_in(image, budget, a, m, work, levels);
-    if !w.fits {
-        clear(out);
-        return Answer::Refused(w.next);
+    match walk_in(image, budget, a, m, work, levels) {
+        Ok(w) => hand_over_walk(a, w, out),
+        Err(e) => {
+            clear(out);
+            Answer::Refused(e.0)
+        }
     }
-    hand_over_walk(a, w, out)
 }
 
 // Lends that buffer.
@@ -119,12 +120,13 @@ fn pass_in_output(
     ensures { Small result × (passed_of result out.new
         ≡ reported (length out.old) (pass_call budget (length out.old) (plan_in image.now))) }
 {
-    let w = walk_in(image, budget, &mut out[..MAX_BYTES], m, work, levels);
-    if !w.fits {
-        clear(out);
-        return Answer::Refused(w.next);
+    match walk_in(image, budget, &mut out[..MAX_BYTES], m, work, levels) {
+        Ok(w) => clear_behind_walk(w, out),
+        Err(e) => {
+            clear(out);
+            Answer::Refused(e.0)
+        }
     }
-    clear_behind_walk(w, out)
 }
 
 // The pass over an accepted image, in the output if it has room for any image.
