@@ -12,7 +12,7 @@ use answers::handing_out::{clear, clear_from, copy_bytes};
 use check_image::check;
 use image::limits::{MAP_BYTES, MAX_BYTES, MAX_RECORDS, RECORD_BYTES};
 use image::refusals::Refusal;
-use pass::visits::{Walk, visit_all};
+use pass::visits::{TooLargeAt, Walk, visit_all};
 
 // How many plans were visited, how many visits raised the flag, whether no plan is left to visit, and how many records the plan has that is
 // handed out.
@@ -32,7 +32,7 @@ fn walk_in(
     m: &mut [u8],
     work: &mut [u8],
     levels: &mut [u32],
-) -> Walk
+) -> Result<Walk, TooLargeAt>
     requires whole { Whole image.now }
     requires lent { Lent a.old m.old work.old levels.old }
     ensures { Ends a.new result (pass budget (plan_in image.now)) }
@@ -84,11 +84,10 @@ fn pass_apart(
     ensures { Small result × (outcome_of (length out.old) result out.new
         ≡ reported (length out.old) (pass_call budget (length out.old) (plan_in image.now))) }
 {
-    let w = walk_in(image, budget, a, m, work, levels);
-    if !w.fits {
-        return Err(Refusal::TooLarge(w.next));
+    match walk_in(image, budget, a, m, work, levels) {
+        Ok(w) => hand_over_walk(a, w, out),
+        Err(e) => Err(Refusal::TooLarge(e.0)),
     }
-    hand_over_walk(a, w, out)
 }
 
 // Lends that buffer.
@@ -123,11 +122,10 @@ fn pass_in_output(
     ensures { Small result × (outcome_of (length out.old) result out.new
         ≡ reported (length out.old) (pass_call budget (length out.old) (plan_in image.now))) }
 {
-    let w = walk_in(image, budget, &mut out[..MAX_BYTES], m, work, levels);
-    if !w.fits {
-        return Err(Refusal::TooLarge(w.next));
+    match walk_in(image, budget, &mut out[..MAX_BYTES], m, work, levels) {
+        Ok(w) => Ok(clear_behind_walk(w, out)),
+        Err(e) => Err(Refusal::TooLarge(e.0)),
     }
-    Ok(clear_behind_walk(w, out))
 }
 
 // Lends the work space; the pass is made in the output if that has room for any image.

@@ -1,7 +1,7 @@
 -- The call on bytes: the tests 8, 11 and 12 in their order, and what is handed out.
 use Prim.Native.Nat.{ℕ, ◌*◌, ◌/◌, ◌≤◌, ◌<◌}
 use native.Mathlib.Omega.{arith}
-use mathlib.Core.Path.{◌≡◌, refl, sym, ap, ◌∙◌}
+use mathlib.Core.Path.{◌≡◌, sym, ap, ◌∙◌}
 use mathlib.Core.Bool.{Bool, true, false}
 use mathlib.Core.List.{List, []}
 use mathlib.Core.Option.{none, some}
@@ -92,8 +92,8 @@ module _ {s : List ℕ} (w : Whole s) where
 pub stayed : {s : List ℕ} {n : ℕ} {b : Bool} (room : ℕ) (h : Here s n) → Stays b h.spot.plan → b ≡ true
     → rewritten room (with_room room (granted false (plan_in s))) ≡ rewritten room (rewrite_call n room (plan_in s))
 stayed {s} {n} room h u t =
-    let o = stays_outcomes {work = []} {r = record { fits = true; flag = false; written = false; records = 0 }} h.inside u t refl refl refl in
-    granted_call room n (plan_in s) h.inside.there (sym o.fit) (o.flag refl) (sym (o.same refl refl))
+    let o = stays_outcomes {work = []} h.inside u t in
+    granted_call room n (plan_in s) h.inside.there (sym o.fit) o.flag (sym o.image)
 
 -- ---- the tests of the image
 

@@ -65,14 +65,13 @@ fn rewrite_apart(
     ensures { outcome_of (length out.old) result out.new
         ≡ rewritten (length out.old) (rewrite_call node (length out.old) (plan_in image.now)) }
 {
-    let r = rewrite_anew(image, node, m, work, levels);
-    if !r.fits {
-        return Err(Refusal::TooLarge(node));
+    match rewrite_anew(image, node, m, work, levels) {
+        Err(_) => Err(Refusal::TooLarge(node)),
+        Ok(r) => match r.image {
+            Some(records) => hand_over(work, records, r.flag, out),
+            None => hand_over(image, image.len() / RECORD_BYTES, r.flag, out),
+        },
     }
-    if r.written {
-        return hand_over(work, r.records, r.flag, out);
-    }
-    hand_over(image, image.len() / RECORD_BYTES, r.flag, out)
 }
 
 // Lends that buffer.
@@ -105,14 +104,13 @@ fn rewrite_in_output(
     ensures { outcome_of (length out.old) result out.new
         ≡ rewritten (length out.old) (rewrite_call node (length out.old) (plan_in image.now)) }
 {
-    let r = rewrite_anew(image, node, m, &mut out[..MAX_BYTES], levels);
-    if !r.fits {
-        return Err(Refusal::TooLarge(node));
+    match rewrite_anew(image, node, m, &mut out[..MAX_BYTES], levels) {
+        Err(_) => Err(Refusal::TooLarge(node)),
+        Ok(r) => match r.image {
+            Some(records) => Ok(clear_behind(records, r.flag, out)),
+            None => hand_over(image, image.len() / RECORD_BYTES, r.flag, out),
+        },
     }
-    if r.written {
-        return Ok(clear_behind(r.records, r.flag, out));
-    }
-    hand_over(image, image.len() / RECORD_BYTES, r.flag, out)
 }
 
 // Lends the work space; the rewrite is written into the output if that has room for any image.

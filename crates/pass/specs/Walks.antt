@@ -1,5 +1,5 @@
 -- Where a pass stands, in the code's numbers, and what it comes to from there.
-use Rattle.std.specs.Prelude.{◌≡◌, Bool, true, false, not, ◌&&◌, List, ℕ, suc, ◌+◌, ◌-◌, ◌≤◌, ◌<◌, eqb, leb, ltb, length}
+use Rattle.std.specs.Prelude.{◌≡◌, Bool, List, ℕ, suc, ◌+◌, ◌-◌, ◌≤◌, ◌<◌, leb, length, Result, Ok, MatchResult}
 use Rattle.std.proofs.Math.Option.{Option, none, some}
 use Rattle.image.specs.Limits.{work_bytes, max_records, map_bytes}
 use Rattle.plan.specs.Lists.{choose}
@@ -10,12 +10,18 @@ use Rattle.acceptance.specs.Accepted.{WellFormed}
 use Rattle.rewrite.specs.Pass.{PassAnswer, passed, pass_refused}
 use Rattle.rewrite.specs.RewriteAt.{Focus, focus}
 use Rattle.rewrite.specs.PassByRecords.{plan_from, visits}
+use Rattle.push_down_rewrite.specs.declared.node.Rewritten.{Rewritten}
 use Rattle.push_down_rewrite.specs.Outcomes.{Image, Outcome, Outcomes}
+use Rattle.pass.specs.declared.visits.TooLargeAt.{TooLargeAt}
 use Rattle.pass.specs.declared.visits.Walk as declared
 
 -- the struct of the code
 abbrev pub Walk : Type 0
 Walk = declared.Walk
+
+-- where a pass stands, or where it was refused
+abbrev pub Walked : Type 0
+Walked = Result Walk TooLargeAt
 
 -- record n, where it is one of so many
 unfoldable pub within : ℕ → ℕ → Option ℕ
@@ -63,7 +69,6 @@ pub record Standing (s : List ℕ) (w : Walk) : Type 0 where
 
 -- r is where a visit at w leaves the pass, which left q and raised the flag or not
 pub record Continues (s : List ℕ) (w : Walk) (flag : Bool) (r : Walk) (q : Plan) : Type 0 where
-  pub fits : r.fits ≡ true
   pub stands : Stands s r q
   pub comes : rest r q ≡ visits (w.left - 1) (plan_from (suc w.next) q) q (w.visits + 1) (w.changed + bit_of flag)
 
@@ -76,10 +81,10 @@ pub record Came (s work : List ℕ) (w : Walk) (r : Outcome) (q : Plan) : Type 0
   pub there : focus w.next q ≡ some spot
   pub outcomes : Outcomes work r q spot
 
--- with some plan
-pub record Comes (s work : List ℕ) (w : Walk) (r : Outcome) : Type 0 where
+-- to an answer, with some plan
+pub record Comes (s work : List ℕ) (w : Walk) (r : Rewritten) : Type 0 where
   pub plan : Plan
-  pub came : Came s work w r plan
+  pub came : Came s work w (Ok r) plan
 
 -- a pass that comes to x stands at w
 pub record Going (s : List ℕ) (w : Walk) (x : PassAnswer) : Type 0 where
@@ -87,15 +92,14 @@ pub record Going (s : List ℕ) (w : Walk) (x : PassAnswer) : Type 0 where
   pub stands : Stands s w plan
   pub comes : x ≡ rest w plan
 
--- .. or was refused there
-pub record Visited (s : List ℕ) (w : Walk) (x : PassAnswer) : Type 0 where
-  pub refused : w.fits ≡ false → x ≡ pass_refused 11 w.next
-  pub near : w.fits ≡ false → w.next < max_records
-  pub going : w.fits ≡ true → Going s w x
+-- the pass comes to x: it was refused at this record
+pub record Refused (e : TooLargeAt) (x : PassAnswer) : Type 0 where
+  pub refused : x ≡ pass_refused 11 e.0
+  pub near : e.0 < max_records
 
--- no rewrite was refused, a plan is left, and something of the budget
-abbrev pub goes_on : Walk → Bool
-goes_on w = (w.fits && ltb w.next w.records) && not (eqb w.left 0)
+-- a pass that comes to x goes on, or was refused
+abbrev pub Visited : List ℕ → Walked → PassAnswer → Type 0
+Visited s r x = MatchResult r (λ w. Going s w x) (λ e. Refused e x)
 
 -- the image of a well-formed plan is at the start of the bytes
 pub record Begins (s : List ℕ) (records : ℕ) : Type 0 where
@@ -109,8 +113,6 @@ pub record Left (s : List ℕ) (w : Walk) (x : PassAnswer) : Type 0 where
   pub image : Image s w.records plan
   pub is : x ≡ passed w.visits w.changed (bit_of (leb w.records w.next)) plan
 
--- .. or was refused there
-pub record Ends (s : List ℕ) (w : Walk) (x : PassAnswer) : Type 0 where
-  pub refused : w.fits ≡ false → x ≡ pass_refused 11 w.next
-  pub near : w.fits ≡ false → w.next < max_records
-  pub left : w.fits ≡ true → Left s w x
+-- .. or was refused
+abbrev pub Ends : List ℕ → Walked → PassAnswer → Type 0
+Ends s r x = MatchResult r (λ w. Left s w x) (λ e. Refused e x)

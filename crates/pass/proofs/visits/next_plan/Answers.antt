@@ -1,20 +1,14 @@
-use mathlib.Core.Path.{◌∙◌}
-use native.Mathlib.Omega.{arith}
-use Rattle.pass.proofs.Steps.{records_are, passes_by, stops_here, searched, no_more}
+-- `visits::next_plan` meets its contract.
+use Rattle.std.proofs.Common.{rules}
+use Rattle.std.proofs.lemmas.Iterator.{first_from_Range, serves_from_Range}
+use Rattle.pass.proofs.Steps.{searched}
 use Rattle.pass.proofs.visits.next_plan.Goals as goal
 
-pub returns-then-is_plan : goal.returns-then-is_plan
-returns-then-is_plan c =
-    λ q a. searched (c.loop-i.invariant q a)
-    (stops_here a (omega (arith, records_are a, c.loop-i-test.true)) c.record_at.ensures c.word_at.ensures.0
-    c.is_plan.ensures c.if-is_plan.true)
-
-pub loop-i-preserved : goal.loop-i-preserved
-loop-i-preserved c =
-    λ q a. c.loop-i.invariant q a
-    ∙ passes_by a (omega (arith, records_are a, c.loop-i-test.true)) c.record_at.ensures c.word_at.ensures.0
-    c.is_plan.ensures c.if-is_plan.false
+pub find-requires-clause-callable : goal.find-requires-clause-callable
+find-requires-clause-callable c =
+    serves_from_Range (λ x q k. search rules) (λ x l h. search rules)
 
 pub returns : goal.returns
 returns c =
-    λ q a. searched (c.loop-i.invariant q a) (no_more q (omega (arith, records_are a, c.loop-i-test.false)) (records_are a))
+    λ q a. rw c.unwrap_or.ensures (searched a c.args.from c.find.result
+    (first_from_Range _ _ _ _ _ _ c.find.ensures.ran (λ i f k. search rules) (λ i f k. search rules)))
