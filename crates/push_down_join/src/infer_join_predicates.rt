@@ -18,12 +18,12 @@ use image::words::word_at;
 use plan::kinds::{COLUMN, PAIR};
 use push_down_base::parting::select_side;
 use utils::schema_columns::{Fields, add_field, n_at, no_fields, place_in, q_at};
-use utils::sets::mark;
+use utils::sets::FieldSet;
 
 // infer_join_predicates: those that read a key, of an Inner join; with each key's partner in its place they are what is inferred.
-pub fn infer_join_predicates(s: &[u8], c: Conjuncts, sc: Scope, inner: bool) -> Conjuncts
-    requires { Asked s.now sc c }
-    ensures { (l r : List Name) (on : List Pair) (es : List Expr) → Scopes sc l r on → Reads s.now (l ++ r) c es →
+pub fn infer_join_predicates(s: &[u8], c: Conjuncts, sc: &Scope, inner: bool) -> Conjuncts
+    requires { Asked s.now sc.now c }
+    ensures { (l r : List Name) (on : List Pair) (es : List Expr) → Scopes sc.now l r on → Reads s.now (l ++ r) c es →
         Reads s.now (l ++ r) result (keyed inner on es) }
 {
     if inner {
@@ -134,7 +134,7 @@ fn add_partner(to: Fields, c: Column, q: usize, n: usize) -> Fields
 #[derive(Clone, Copy)]
 pub struct Swapped {
     pub to: Fields,
-    pub alone: u64,
+    pub alone: FieldSet,
 }
 
 // The partners of the fields by the keys of the join at the start of `part`.
@@ -145,30 +145,30 @@ pub fn swap_keys(part: &[u8], base: usize, fields: Fields) -> Swapped
 {
     let len = fields.len;
     let mut to = no_fields();
-    let mut alone = 0u64;
+    let mut alone = FieldSet::empty();
     let mut i = 0;
     while i < len {
         let q = q_at(fields, i);
         let n = n_at(fields, i);
         let c = partner(part, base, q, n);
         to = add_partner(to, c, q, n);
-        alone = mark(alone, i, is_nothing(c));
+        alone = alone.mark(i, is_nothing(c));
         i += 1;
     }
     Swapped { to, alone }
 }
 
 // The places of the names of `to` that are among the first k of the fields.
-pub fn places_among(fields: Fields, to: Fields, k: usize) -> u64
+pub fn places_among(fields: Fields, to: Fields, k: usize) -> FieldSet
     requires { (fields.len ≤ max_fields) × (to.len ≤ max_fields) }
     ensures { (ns ms : List Name) → Names fields ns → Names to ms → Masks result ms (λ y. ltb (place_in ns y) k) }
 {
     let len = to.len;
-    let mut set = 0u64;
+    let mut set = FieldSet::empty();
     let mut i = 0;
     while i < len {
         let place = place_in(fields, q_at(to, i), n_at(to, i));
-        set = mark(set, i, place < k);
+        set = set.mark(i, place < k);
         i += 1;
     }
     set
