@@ -16,7 +16,7 @@ ghost use Rattle.plan.specs.Types as Types;
 
 use crate::schemas::field_types;
 use check_image::{Checked, check};
-use conjuncts::volatility::has_function;
+use conjuncts::volatility::{Functions, has_function};
 use evaluate::cells::row_ok;
 use evaluate::expressions::evaluate;
 use evaluate::logic::{Truth, truth_of};
@@ -57,7 +57,7 @@ fn test_predicate(
     if !row_ok(types, values, marks) {
         return Answer::BadRow;
     }
-    if has_function(part, base, BELOW, false) {
+    if has_function(part, base, BELOW, Functions::All) {
         return Answer::HasFunction(node);
     }
     Answer::Is(truth_of(evaluate(part, base, BELOW, fields, types, values, marks)))

@@ -8,7 +8,7 @@ ghost use Rattle.utils.specs.Fields.{Names};
 ghost use Rattle.utils.specs.Masks.{Masks};
 ghost use Rattle.push_down_arms.specs.Movable.{fixed, is_named, leaf_here, lets, lets_all, may_move, partition_in};
 
-use conjuncts::volatility::has_function;
+use conjuncts::volatility::{Functions, has_function};
 use image::records::{FIRST_LINK, KIND, NEXT_LINK, P, Q, from_record};
 use image::words::word_at;
 use plan::kinds::{AGGREGATE, FUNCTION, WINDOW_ENTRY};
@@ -31,7 +31,7 @@ fn is_fixed(part: &[u8], base: usize, depth: usize) -> bool
     requires { Readable depth part.now base }
     ensures { (t : Tree) → At t part.now base → result ≡ fixed t }
 {
-    if has_function(part, base, depth, true) {
+    if has_function(part, base, depth, Functions::Volatile) {
         return true;
     }
     let x = word_at(part, FIRST_LINK);

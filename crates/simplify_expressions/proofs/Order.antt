@@ -11,6 +11,7 @@ use Rattle.rewrite.specs.Utils.{any_fn}
 use Rattle.rewrite.specs.ReorderPredicates.{is_cheap_predicate, needs_reorder}
 use Rattle.conjuncts.specs.Items.{FALSE}
 use Rattle.conjuncts.specs.Functions.{marked}
+use Rattle.conjuncts.specs.declared.volatility.Functions.TheVariants.{All}
 use Rattle.conjuncts.proofs.Listed.{next}
 use Rattle.simplify_expressions.specs.Cost.{of_cost}
 
@@ -34,11 +35,11 @@ not_not true = refl
 not_not false = refl
 
 -- the one at i is expensive, or not
-pub after_next : (es : List Expr) (i : ℕ) → i < length es → (b v : Bool) → v ≡ any_fn (marked false) (get_or es i FALSE)
+pub after_next : (es : List Expr) (i : ℕ) → i < length es → (b v : Bool) → v ≡ any_fn (marked All) (get_or es i FALSE)
     → after_cost b (drop i es) ≡ ((b & not v) || after_cost v (drop (i + 1) es))
 after_next es i h b v e = rw (next es i h, needs_one (get_or es i FALSE) (drop (i + 1) es), not_not, e)
 
-pub cost_is : (costly v : Bool) (e : Expr) → v ≡ any_fn (marked false) e → of_cost costly e ≡ beq v costly
+pub cost_is : (costly v : Bool) (e : Expr) → v ≡ any_fn (marked All) e → of_cost costly e ≡ beq v costly
 cost_is true true e h = rw (← h)
 cost_is true false e h = rw (← h)
 cost_is false true e h = rw (← h)

@@ -8,7 +8,7 @@ ghost use Rattle.conjuncts.specs.Items.{Known, Lists};
 ghost use Rattle.simplify_expressions.specs.Cost.{of_cost};
 
 use conjuncts::lists::{Conjuncts, add_if, empty, item_at};
-use conjuncts::volatility::function_at;
+use conjuncts::volatility::{Functions, function_at};
 
 #[derive(Clone, Copy)]
 pub struct Reordered {
@@ -24,7 +24,7 @@ fn any_volatile(s: &[u8], c: Conjuncts) -> bool
     let n = c.len;
     let mut i = 0;
     while i < n {
-        if function_at(s, c, i, true) {
+        if function_at(s, c, i, Functions::Volatile) {
             return true;
         }
         i += 1;
@@ -41,7 +41,7 @@ fn needs_reorder(s: &[u8], c: Conjuncts) -> bool
     let mut costly = false;
     let mut i = 0;
     while i < n {
-        let now = function_at(s, c, i, false);
+        let now = function_at(s, c, i, Functions::All);
         if costly & !now {
             return true;
         }
@@ -62,7 +62,7 @@ fn pick(s: &[u8], c: Conjuncts, into: Conjuncts, costly: bool) -> Conjuncts
     let mut i = 0;
     while i < n {
         let x = item_at(c, i);
-        let yes = function_at(s, c, i, false) == costly;
+        let yes = function_at(s, c, i, Functions::All) == costly;
         r = add_if(r, x, yes);
         i += 1;
     }
