@@ -46,19 +46,6 @@ impl<T: Copy, const N: usize> Bounded<T, N> {
         }
     }
 
-    // How many there are, or N + 1.
-    pub fn len(&self) -> usize
-        ensures { result ≡ self.now.len }
-    {
-        self.len
-    }
-
-    pub fn is_empty(&self) -> bool
-        ensures { IsTrue result ↔ (self.now.len ≡ 0) }
-    {
-        self.len == 0
-    }
-
     // Whether more was pushed than there is room for.
     pub fn is_too_long(&self) -> bool
         ensures len { IsTrue result ↔ (N < self.now.len) }

@@ -17,7 +17,7 @@ ghost use Rattle.plan.specs.Types as Types;
 
 use crate::schemas::field_types;
 use check_image::check;
-use conjuncts::volatility::has_function;
+use conjuncts::volatility::{Functions, has_function};
 use evaluate::cells::Row;
 use evaluate::expressions::evaluate;
 use evaluate::logic::Truth;
@@ -55,7 +55,7 @@ fn test_predicate(
     if !row.is_ok() {
         return Err(Refusal::Row);
     }
-    if has_function(part, base, BELOW, false) {
+    if has_function(part, base, BELOW, Functions::All) {
         return Err(Refusal::Function(node));
     }
     Ok(Truth::of(evaluate(part, base, BELOW, &row)))

@@ -15,6 +15,7 @@ use native.Mathlib.Omega.{arith}
 use native.Mathlib.Numerals.{add-one}
 use lib.ListN.{length, get_or, drop, drop_of_length-le}
 use lib.Seq.{drop-cons}
+use Rattle.std.specs.Prelude.{if◌then◌else◌}
 use Rattle.bounded.proofs.Laws.{fits, holds_full, none_of}
 pub use Rattle.bounded.proofs.Laws.{count_is, whole}
 use Rattle.image.specs.Limits.{max_list}
@@ -50,6 +51,14 @@ module _ {s : List ℕ} where
   pub lists_add : {c r : Conjuncts} {es : List Expr} {e : Expr} (n : ℕ) → Lists s c es → Item s n e
       → ((xs : List ℕ) → Holds c xs → Holds r (xs ++ (n ∷ []))) → Lists s r (es ++ (e ∷ []))
   lists_add n h k f = record { numbers = h.numbers ++ (n ∷ []); holds = f h.numbers h.holds; items = items_add h.items k }
+
+  -- an item is appended, or none
+  pub lists_put : {c r : Conjuncts} {es : List Expr} {e : Expr} (n : ℕ) (b : Bool) → Lists s c es → Item s n e
+      → ((xs : List ℕ) → Holds c xs → Holds r (xs ++ (if b then n ∷ [] else []))) → Lists s r (es ++ put b e [])
+  unfolding put
+  lists_put n true h k f = lists_add n h k f
+  lists_put {es = es} n false h k f =
+      rw (append-nil es) (record { numbers = h.numbers; holds = rw (append-nil h.numbers) at (f h.numbers h.holds); items = h.items })
 
   -- an item or none is appended to a list that is too long, by doing nothing
   pub lists_full : {c : Conjuncts} {es : List Expr} {e : Expr} {n : ℕ} (b : Bool) → Lists s c es → Item s n e → max_list < c.len

@@ -3,11 +3,13 @@ use Rattle.std.specs.Prelude.{Bool, true, false, ◌&&◌, ◌||◌, ℕ, eqb}
 use Rattle.image.specs.Tree.{Label, Forest, none, node, Tree}
 use Rattle.plan.specs.Kinds.{Function, number_e}
 use Rattle.plan.specs.Syntax.{is_volatile}
+use Rattle.conjuncts.specs.declared.volatility.Functions.{Functions}
+use Rattle.conjuncts.specs.declared.volatility.Functions.TheVariants.{All, Volatile}
 
 -- which functions, by their marks: the volatile ones alone, or all
-abbrev pub marked : Bool → ℕ → Bool
-marked true = is_volatile
-marked false = λ q. true
+abbrev pub marked : Functions → ℕ → Bool
+marked Volatile = is_volatile
+marked All = λ q. true
 
 -- the record is a function whose marks pass the test
 abbrev pub fn_here : (ℕ → Bool) → Label → Bool

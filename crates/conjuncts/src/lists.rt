@@ -31,10 +31,9 @@ pub fn add_if(c: Conjuncts, x: usize, yes: bool) -> Conjuncts
     requires { x < max_records }
     ensures { (s : List ℕ) (es : List Expr) (e : Expr) → Lists s c es → Item s x e → Lists s result (es ++ put yes e []) }
 {
-    if yes {
-        return add(c, x);
-    }
-    c
+    let mut r = c;
+    r.push_if(x as u16, yes);
+    r
 }
 
 // The item i of a list.

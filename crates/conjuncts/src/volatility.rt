@@ -14,33 +14,45 @@ use image::words::word_at;
 use plan::kinds::FUNCTION;
 use plan::words::{VOLATILE, VOLATILE_LEAFWARD};
 
-// Whether the record at the start of `part` is a function; a volatile one, if only those are asked for.
-fn is_function(part: &[u8], volatile: bool) -> bool
+// Which functions are asked for.
+#[derive(Clone, Copy, Debug, PartialEq, Eq, Hash)]
+pub enum Functions {
+    All,
+    Volatile,
+}
+
+impl Functions {
+    // Whether a function with these marks is one of them.
+    fn include(self, marks: usize) -> bool
+        ensures { result ≡ marked self marks }
+    {
+        match self {
+            Functions::All => true,
+            Functions::Volatile => (marks == VOLATILE) | (marks == VOLATILE_LEAFWARD),
+        }
+    }
+}
+
+// Whether the record at the start of `part` is a function that is asked for.
+fn is_function(part: &[u8], asked: Functions) -> bool
     requires { 32 ≤ length part.now }
-    ensures { result ≡ fn_here (marked volatile) (label_at part.now) }
+    ensures { result ≡ fn_here (marked asked) (label_at part.now) }
 {
-    if word_at(part, KIND) != FUNCTION {
-        return false;
-    }
-    if volatile {
-        let marks = word_at(part, Q);
-        return (marks == VOLATILE) | (marks == VOLATILE_LEAFWARD);
-    }
-    true
+    (word_at(part, KIND) == FUNCTION) & asked.include(word_at(part, Q))
 }
 
 // Whether the tree at the start of `part` holds such a function.
-pub fn has_function(part: &[u8], base: usize, depth: usize, volatile: bool) -> bool
+pub fn has_function(part: &[u8], base: usize, depth: usize, asked: Functions) -> bool
     requires { Readable depth part.now base }
-    ensures { (t : Tree) → At t part.now base → result ≡ fn_in (marked volatile) t }
+    ensures { (t : Tree) → At t part.now base → result ≡ fn_in (marked asked) t }
 {
-    if is_function(part, volatile) {
+    if is_function(part, asked) {
         return true;
     }
     let mut at = word_at(part, FIRST_LINK);
     while at != 0 {
         let child = from_record(part, base, at);
-        if has_function(child, at, depth - 1, volatile) {
+        if has_function(child, at, depth - 1, asked) {
             return true;
         }
         at = word_at(child, NEXT_LINK);
@@ -49,16 +61,16 @@ pub fn has_function(part: &[u8], base: usize, depth: usize, volatile: bool) -> b
 }
 
 // Whether the conjunct i of c holds such a function.
-pub fn function_at(s: &[u8], c: Conjuncts, i: usize, volatile: bool) -> bool
+pub fn function_at(s: &[u8], c: Conjuncts, i: usize, asked: Functions) -> bool
     requires known { Known s.now c }
     requires i_lt_len { i < c.len }
-    ensures { (es : List Expr) → Lists s.now c es → result ≡ any_fn (marked volatile) (get_or es i FALSE) }
+    ensures { (es : List Expr) → Lists s.now c es → result ≡ any_fn (marked asked) (get_or es i FALSE) }
 {
     let n = item_at(c, i);
     if n == FALSE_ITEM {
         return false;
     }
-    has_function(record_at(s, n), n, MAX_DEPTH, volatile)
+    has_function(record_at(s, n), n, MAX_DEPTH, asked)
 }
 
 // Whether the item n holds a volatile function.
@@ -69,5 +81,5 @@ pub fn is_volatile(s: &[u8], n: usize) -> bool
     if n == FALSE_ITEM {
         return false;
     }
-    has_function(record_at(s, n), n, MAX_DEPTH, true)
+    has_function(record_at(s, n), n, MAX_DEPTH, Functions::Volatile)
 }

@@ -5,6 +5,7 @@ use Rattle.plan.specs.Kinds.{number_e, number_p, number_q, Function, Aggregate, 
 use Rattle.plan.specs.Syntax.{Name, is_leafward}
 use Rattle.plan.specs.Trees.{qualifier, ident}
 use Rattle.conjuncts.specs.Functions.{marked, fn_in}
+use Rattle.conjuncts.specs.declared.volatility.Functions.TheVariants.{Volatile}
 use Rattle.writing.specs.Replaced.{is_entry, lookup}
 
 -- ---- an entry of a Projection
@@ -20,7 +21,7 @@ leaf_first (node l cs ns) = leaf_here l
 
 -- the entry's expression is volatile or leafward
 abbrev pub fixed : Tree → Bool
-fixed t = fn_in (marked true) t || leaf_first t.below
+fixed t = fn_in (marked Volatile) t || leaf_first t.below
 
 -- ---- an entry of a Window
 

@@ -8,13 +8,13 @@ ghost use Rattle.utils.specs.Fields.{Names};
 ghost use Rattle.utils.specs.Masks.{Masks};
 ghost use Rattle.push_down_arms.specs.Movable.{fixed, is_named, leaf_here, lets, lets_all, may_move, partition_in};
 
-use conjuncts::volatility::has_function;
+use conjuncts::volatility::{Functions, has_function};
 use image::records::{FIRST_LINK, KIND, NEXT_LINK, P, Q, from_record};
 use image::words::word_at;
 use plan::kinds::{AGGREGATE, FUNCTION, WINDOW_ENTRY};
 use plan::words::{LEAFWARD, VOLATILE_LEAFWARD};
 use utils::schema_columns::{Fields, n_at, q_at};
-use utils::sets::mark;
+use utils::sets::FieldSet;
 use writing::replace_cols_by_name::{find, is_entry};
 
 // Whether the record at the start of `part` is a function that moves towards the leaves.
@@ -31,7 +31,7 @@ fn is_fixed(part: &[u8], base: usize, depth: usize) -> bool
     requires { Readable depth part.now base }
     ensures { (t : Tree) → At t part.now base → result ≡ fixed t }
 {
-    if has_function(part, base, depth, true) {
+    if has_function(part, base, depth, Functions::Volatile) {
         return true;
     }
     let x = word_at(part, FIRST_LINK);
@@ -111,17 +111,17 @@ fn may_move(part: &[u8], base: usize, depth: usize, q: usize, n: usize) -> bool
 }
 
 // The places of the fields with which a conjunct may move below the plan at the start of `part`.
-pub fn movable(part: &[u8], base: usize, depth: usize, fields: Fields) -> u64
+pub fn movable(part: &[u8], base: usize, depth: usize, fields: Fields) -> FieldSet
     requires readable { Readable depth part.now base }
     requires len_le_max_fields { fields.len ≤ max_fields }
     ensures { (t : Tree) (ns : List Name) → At t part.now base → Names fields ns → Masks result ns (may_move t) }
 {
     let len = fields.len;
-    let mut set = 0u64;
+    let mut set = FieldSet::empty();
     let mut i = 0;
     while i < len {
         let yes = may_move(part, base, depth, q_at(fields, i), n_at(fields, i));
-        set = mark(set, i, yes);
+        set = set.mark(i, yes);
         i += 1;
     }
     set

@@ -36,11 +36,11 @@ use plan::words::MARKED;
 use push_down_base::predicates::{Predicate, Written};
 use utils::has_all_column_refs::columns_at;
 use utils::schema_columns::{Fields, no_fields, schema_columns};
-use utils::sets::{is_within, mark};
+use utils::sets::FieldSet;
 use writing::conjunction::{copy_item, copy_joined};
 
 // The scan's answer to the conjunct n: it takes one that has a column if all its columns are marked.
-pub fn supports_filters_pushdown(s: &[u8], n: usize, fields: Fields, marked: u64) -> bool
+pub fn supports_filters_pushdown(s: &[u8], n: usize, fields: Fields, marked: FieldSet) -> bool
     requires present { Present s.now n }
     requires len_le_max_fields { fields.len ≤ max_fields }
     ensures { (e : Expr) (ns : List Name) (t : Name → Bool) → Item s.now n e → Names fields ns →
@@ -48,10 +48,10 @@ pub fn supports_filters_pushdown(s: &[u8], n: usize, fields: Fields, marked: u64
         Masks marked ns t → result ≡ supports t e }
 {
     let columns = columns_at(s, n, fields);
-    if is_within(columns, 0) {
+    if columns.is_within(FieldSet::empty()) {
         return false;
     }
-    is_within(columns, marked)
+    columns.is_within(marked)
 }
 
 // Appends to `into` the conjuncts of c that are volatile, or those that are not.
@@ -73,7 +73,7 @@ fn add_volatile(s: &[u8], into: Conjuncts, c: Conjuncts, volatile: bool) -> Conj
 }
 
 // The conjuncts of c that the scan takes, or those that it leaves.
-fn select_supported(s: &[u8], c: Conjuncts, fields: Fields, marked: u64, taken: bool) -> Conjuncts
+fn select_supported(s: &[u8], c: Conjuncts, fields: Fields, marked: FieldSet, taken: bool) -> Conjuncts
     requires known { Known s.now c }
     requires len_le_max_fields { fields.len ≤ max_fields }
     ensures { (es : List Expr) (ns : List Name) (t : Name → Bool) → Lists s.now c es → Names fields ns →
@@ -92,16 +92,16 @@ fn select_supported(s: &[u8], c: Conjuncts, fields: Fields, marked: u64, taken: 
 }
 
 // The marked fields of the scan, which has k: each is one record.
-fn marked_fields(part: &[u8], x: usize, k: usize) -> u64
+fn marked_fields(part: &[u8], x: usize, k: usize) -> FieldSet
     requires { ScanHere part.now x k }
     ensures { (s : List ℕ) (t : ℕ) (fs : List Field) (es : List Expr) → Stretch s x part.now →
         Placed s x (scan t fs es) → k ≡ length fs → Masks result (schema (scan t fs es)) (marked fs) }
 {
-    let mut set = 0u64;
+    let mut set = FieldSet::empty();
     let mut i = 0;
     while i < k {
         let field = from_record(part, x, x + 1 + i);
-        set = mark(set, i, word_at(field, LO) == MARKED);
+        set = set.mark(i, word_at(field, LO) == MARKED);
         i += 1;
     }
     set

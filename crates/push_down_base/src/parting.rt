@@ -14,21 +14,21 @@ ghost use Rattle.push_down_base.specs.Parting.{Reads, agrees};
 use conjuncts::lists::{Conjuncts, add_if, empty, item_at};
 use utils::has_all_column_refs::columns_at;
 use utils::schema_columns::Fields;
-use utils::sets::is_within;
+use utils::sets::FieldSet;
 
 // Whether the item n refers to fields of the side alone.
-fn is_inside(s: &[u8], n: usize, fields: Fields, side: u64) -> bool
+fn is_inside(s: &[u8], n: usize, fields: Fields, side: FieldSet) -> bool
     requires present { Present s.now n }
     requires len_le_max_fields { fields.len ≤ max_fields }
     ensures { (e : Expr) (ns : List Name) (t : Name → Bool) → Item s.now n e → Names fields ns →
         on_cols (has ns) e ≡ true →
         Masks side ns t → result ≡ on_cols t e }
 {
-    is_within(columns_at(s, n, fields), side)
+    columns_at(s, n, fields).is_within(side)
 }
 
 // The conjuncts of c that refer to fields of the side alone, or those that do not.
-pub fn select_side(s: &[u8], c: Conjuncts, fields: Fields, side: u64, inside: bool) -> Conjuncts
+pub fn select_side(s: &[u8], c: Conjuncts, fields: Fields, side: FieldSet, inside: bool) -> Conjuncts
     requires known { Known s.now c }
     requires len_le_max_fields { fields.len ≤ max_fields }
     ensures { (es : List Expr) (ns : List Name) (t : Name → Bool) → Lists s.now c es → Names fields ns →
@@ -47,7 +47,7 @@ pub fn select_side(s: &[u8], c: Conjuncts, fields: Fields, side: u64, inside: bo
 }
 
 // Of the conjuncts c those that move to a side, if it is preserved.
-pub fn push_to(s: &[u8], c: Conjuncts, fields: Fields, side: u64, preserved: bool) -> Conjuncts
+pub fn push_to(s: &[u8], c: Conjuncts, fields: Fields, side: FieldSet, preserved: bool) -> Conjuncts
     requires known { Known s.now c }
     requires len_le_max_fields { fields.len ≤ max_fields }
     ensures { (es : List Expr) (ns names : List Name) → Reads s.now ns c es → Names fields ns →
@@ -61,7 +61,7 @@ pub fn push_to(s: &[u8], c: Conjuncts, fields: Fields, side: u64, preserved: boo
 }
 
 // Those that do not.
-pub fn push_not(s: &[u8], c: Conjuncts, fields: Fields, side: u64, preserved: bool) -> Conjuncts
+pub fn push_not(s: &[u8], c: Conjuncts, fields: Fields, side: FieldSet, preserved: bool) -> Conjuncts
     requires known { Known s.now c }
     requires len_le_max_fields { fields.len ≤ max_fields }
     ensures { (es : List Expr) (ns names : List Name) → Reads s.now ns c es → Names fields ns →

@@ -14,7 +14,7 @@ use crate::infer_join_predicates::{Swapped, places_among, swap_keys};
 use image::limits::MAX_DEPTH;
 use image::records::from_record;
 use utils::schema_columns::{Fields, no_fields, schema_columns};
-use utils::sets::{all_but, low_places};
+use utils::sets::FieldSet;
 
 // The fields of both inputs of a join, the left one's first; the same with each key's partner in its place; and sets of them: those of each
 // input, those that have no partner by the keys, and those whose partner, or where they have none they themselves, are of each input.
@@ -22,11 +22,11 @@ use utils::sets::{all_but, low_places};
 pub struct Scope {
     pub fields: Fields,
     pub to: Fields,
-    pub left: u64,
-    pub right: u64,
-    pub alone: u64,
-    pub leftward: u64,
-    pub rightward: u64,
+    pub left: FieldSet,
+    pub right: FieldSet,
+    pub alone: FieldSet,
+    pub leftward: FieldSet,
+    pub rightward: FieldSet,
 }
 
 // The sets of fields of which the first k are the left input's, by the partners of the keys.
@@ -38,16 +38,16 @@ pub fn scope_of(fields: Fields, k: usize, swapped: Swapped) -> Scope
 {
     let n = fields.len;
     let to = swapped.to;
-    let left = low_places(k);
+    let left = FieldSet::low_places(k);
     let leftward = places_among(fields, to, k);
     Scope {
         fields,
         to,
         left,
-        right: all_but(left, n),
+        right: left.all_but(n),
         alone: swapped.alone,
         leftward,
-        rightward: all_but(leftward, n),
+        rightward: leftward.all_but(n),
     }
 }
 

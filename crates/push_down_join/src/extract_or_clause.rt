@@ -27,9 +27,10 @@ use plan::kinds::BINARY_EXPR;
 use plan::words::{AND, OR};
 use utils::has_all_column_refs::has_all_column_refs;
 use utils::schema_columns::Fields;
+use utils::sets::FieldSet;
 
 // Appends the clause of the conjunct n for a side, if it yields one.
-fn add_clause(s: &[u8], to: Conjuncts, n: usize, fields: Fields, side: u64) -> Conjuncts
+fn add_clause(s: &[u8], to: Conjuncts, n: usize, fields: Fields, side: FieldSet) -> Conjuncts
     requires present { Present s.now n }
     requires s_len_bound { (length s.now ≤ work_bytes) × (fields.len ≤ max_fields) }
     ensures { (σ : Name → Expr) (ns : List Name) (t : Name → Bool) (es : List Expr) (e : Expr) →
@@ -49,7 +50,7 @@ pub fn extract_or_clauses_for_join(
     to: Conjuncts,
     c: Conjuncts,
     fields: Fields,
-    side: u64,
+    side: FieldSet,
 ) -> Conjuncts
     requires known { Known s.now c }
     requires s_len_bound { (length s.now ≤ work_bytes) × (fields.len ≤ max_fields) }
@@ -89,7 +90,13 @@ pub fn operator(part: &[u8]) -> Option<Connective>
 
 // Whether the expression at the start of `part` yields a clause that reads fields of the side only; `copy_clause` writes it.
 // An AND keeps each operand that yields, an OR yields only if both its operands do.
-pub fn extract_or_clause(part: &[u8], base: usize, depth: usize, f: Fields, side: u64) -> bool
+pub fn extract_or_clause(
+    part: &[u8],
+    base: usize,
+    depth: usize,
+    f: Fields,
+    side: FieldSet,
+) -> bool
     requires readable_e { ReadableE depth part.now base }
     requires len_le_max_fields { f.len ≤ max_fields }
     ensures { (e : Expr) (ns : List Name) (c : Name → Bool) → At (expr_tree e) part.now base → Names f ns
@@ -115,7 +122,14 @@ pub fn extract_or_clause(part: &[u8], base: usize, depth: usize, f: Fields, side
 }
 
 // Whether an operand is part of the clause of an AND or OR that yields one: of an OR each is, of an AND each that yields.
-fn is_kept(op: Connective, part: &[u8], base: usize, depth: usize, f: Fields, side: u64) -> bool
+fn is_kept(
+    op: Connective,
+    part: &[u8],
+    base: usize,
+    depth: usize,
+    f: Fields,
+    side: FieldSet,
+) -> bool
     requires readable_e { ReadableE depth part.now base }
     requires len_le_max_fields { f.len ≤ max_fields }
     ensures { (e : Expr) (ns : List Name) (c : Name → Bool) → At (expr_tree e) part.now base → Names f ns
@@ -133,7 +147,7 @@ pub fn copy_clause(
     base: usize,
     depth: usize,
     f: Fields,
-    side: u64,
+    side: FieldSet,
     out: &mut [u8],
     at: usize,
     level: usize,
@@ -169,7 +183,7 @@ pub fn copy_clause(
 }
 
 // Whether the conjunct at record n, if it is an OR at its top, yields one: 0 stands for FALSE, which is none.
-pub fn or_clause_at(s: &[u8], n: usize, f: Fields, side: u64) -> bool
+pub fn or_clause_at(s: &[u8], n: usize, f: Fields, side: FieldSet) -> bool
     requires present { Present s.now n }
     requires s_len_bound { length s.now ≤ work_bytes }
     requires len_le_max_fields { f.len ≤ max_fields }
@@ -191,7 +205,7 @@ pub fn copy_or_clause(
     s: &[u8],
     n: usize,
     f: Fields,
-    side: u64,
+    side: FieldSet,
     out: &mut [u8],
     at: usize,
     level: usize,

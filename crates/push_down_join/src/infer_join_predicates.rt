@@ -21,12 +21,12 @@ use plan::kinds::{COLUMN, PAIR};
 use plan::words::JoinKind;
 use push_down_base::parting::select_side;
 use utils::schema_columns::{ColumnReference, Fields, no_fields, place_in};
-use utils::sets::mark;
+use utils::sets::FieldSet;
 
 // infer_join_predicates: those that read a key, of an Inner join; with each key's partner in its place they are what is inferred.
-pub fn infer_join_predicates(s: &[u8], c: Conjuncts, sc: Scope, kind: JoinKind) -> Conjuncts
-    requires { Asked s.now sc c }
-    ensures { (l r : List Name) (on : List Pair) (es : List Expr) → Scopes sc l r on → Reads s.now (l ++ r) c es →
+pub fn infer_join_predicates(s: &[u8], c: Conjuncts, sc: &Scope, kind: JoinKind) -> Conjuncts
+    requires { Asked s.now sc.now c }
+    ensures { (l r : List Name) (on : List Pair) (es : List Expr) → Scopes sc.now l r on → Reads s.now (l ++ r) c es →
         Reads s.now (l ++ r) result (keyed (is_inner (join_of kind)) on es) }
 {
     if is_inner(kind) {
@@ -107,7 +107,7 @@ fn partner(part: &[u8], base: usize, x: ColumnReference) -> Option<ColumnReferen
 #[derive(Clone, Copy)]
 pub struct Swapped {
     pub to: Fields,
-    pub alone: u64,
+    pub alone: FieldSet,
 }
 
 // The partners of the fields by the keys of the join at the start of `part`.
@@ -117,24 +117,24 @@ pub fn swap_keys(part: &[u8], base: usize, fields: Fields) -> Swapped
     ensures { (t : Tree) (ns : List Name) → At t part.now base → Names fields ns → Swaps result t.below ns }
 {
     let mut to = no_fields();
-    let mut alone = 0u64;
+    let mut alone = FieldSet::empty();
     for (i, x) in fields.items().iter().enumerate() {
         let found = partner(part, base, *x);
         to.push(found.unwrap_or(*x));
-        alone = mark(alone, i, found.is_none());
+        alone = alone.mark(i, found.is_none());
     }
     Swapped { to, alone }
 }
 
 // The places of the names of `to` that are among the first k of the fields.
-pub fn places_among(fields: Fields, to: Fields, k: usize) -> u64
+pub fn places_among(fields: Fields, to: Fields, k: usize) -> FieldSet
     requires { (fields.len ≤ max_fields) × (to.len ≤ max_fields) }
     ensures { (ns ms : List Name) → Names fields ns → Names to ms → Masks result ms (λ y. ltb (place_in ns y) k) }
 {
-    let mut set = 0u64;
+    let mut set = FieldSet::empty();
     for (i, x) in to.items().iter().enumerate() {
         let place = place_in(fields, wide(x.q), wide(x.n));
-        set = mark(set, i, place < k);
+        set = set.mark(i, place < k);
     }
     set
 }

@@ -36,6 +36,7 @@ use push_down_base::inputs::last_child;
 use push_down_base::parting::{push_not, push_to, select_side};
 use push_down_base::predicates::{Predicate, Written};
 use utils::schema_columns::Fields;
+use utils::sets::FieldSet;
 use writing::renames::write_renames;
 
 // Appends the items of c, each with so much more.
@@ -60,7 +61,7 @@ pub struct Part {
 }
 
 // The list of a side, in the source's order.
-pub fn side_push(s: &[u8], above: Part, own: Part, fields: Fields, side: u64) -> Conjuncts
+pub fn side_push(s: &[u8], above: Part, own: Part, fields: Fields, side: FieldSet) -> Conjuncts
     requires wholes { Wholes s.now above × Wholes s.now own }
     requires s_len_bound { (length s.now ≤ work_bytes) × (fields.len ≤ max_fields) }
     ensures { (σ : Name → Expr) (ns : List Name) (t : Name → Bool) (a i u b j v : List Expr) →
@@ -96,9 +97,9 @@ pub struct Parts {
 
 // The parts of the list c, by the sides that are preserved; others are inferred of it if the join is Inner. What moves to the left input
 // does not move to the right one as well.
-fn parts_of(s: &[u8], c: Conjuncts, sc: Scope, sides: Preserved, kind: JoinKind) -> Parts
-    requires { Asked s.now sc c }
-    ensures { (l r : List Name) (on : List Pair) (es : List Expr) → Scopes sc l r on → Reads s.now (l ++ r) c es →
+fn parts_of(s: &[u8], c: Conjuncts, sc: &Scope, sides: Preserved, kind: JoinKind) -> Parts
+    requires { Asked s.now sc.now c }
+    ensures { (l r : List Name) (on : List Pair) (es : List Expr) → Scopes sc.now l r on → Reads s.now (l ++ r) c es →
         PartsOf s.now sides.left sides.right (is_inner (join_of kind)) l r on es result }
 {
     let stay = push_not(s, c, sc.fields, sc.left, sides.left);
@@ -120,11 +121,11 @@ fn parts_of(s: &[u8], c: Conjuncts, sc: Scope, sides: Preserved, kind: JoinKind)
 
 // The lists of a join of this kind, of the predicates p above it and those of its own filter, g. What moves to no input becomes a condition
 // of an Inner join, and stays above any other.
-pub fn moves_of(s: &[u8], p: Conjuncts, g: Conjuncts, sc: Scope, kind: JoinKind) -> Moves
-    requires asked { Asked s.now sc p × Asked s.now sc g }
+pub fn moves_of(s: &[u8], p: Conjuncts, g: Conjuncts, sc: &Scope, kind: JoinKind) -> Moves
+    requires asked { Asked s.now sc.now p × Asked s.now sc.now g }
     requires s_len_bound { length s.now ≤ work_bytes }
     ensures { (k : Kind) (l r : List Name) (on : List Pair) (P G : List Expr) (σ : Name → Expr) → join_of kind ≡ k →
-        Scopes sc l r on → Reads s.now (l ++ r) p P → Reads s.now (l ++ r) g G → Swapper σ (l ++ r) on →
+        Scopes sc.now l r on → Reads s.now (l ++ r) p P → Reads s.now (l ++ r) g G → Swapper σ (l ++ r) on →
         Moved s.now σ result k l r on P G }
 {
     let inner = is_inner(kind);
@@ -217,7 +218,7 @@ fn push_down_all_join(
     let z = right_input(part, x);
     let sc = join_scope(part, x, z);
     let kind = join_kind(part, x);
-    let v = moves_of(s, c, g, sc, kind);
+    let v = moves_of(s, c, g, &sc, kind);
     // A list that is too long is written nowhere.
     if !fits(v) {
         return Written {
@@ -228,7 +229,7 @@ fn push_down_all_join(
     let fields = sc.fields;
     let to = sc.to;
     write_renames(fields, to, m);
-    let next = write_kept(s, part, m, x, z, v, sc, out, at, level);
+    let next = write_kept(s, part, m, x, z, v, &sc, out, at, level);
     Written { next, flag: v.flag }
 }
 

@@ -33,6 +33,7 @@ use image::words::word_at;
 use plan::kinds::{BINARY_EXPR, FILTER, PAIR};
 use plan::words::AND;
 use utils::schema_columns::Fields;
+use utils::sets::FieldSet;
 use writing::conjunction::{copy_item, copy_joined};
 
 // The lists of a join: what moves to each input, what becomes its filter, and what stays above it; and whether anything moves.
@@ -53,7 +54,7 @@ pub fn copy_sided(
     room: usize,
     n: usize,
     fields: Fields,
-    side: u64,
+    side: FieldSet,
     out: &mut [u8],
     at: usize,
     level: usize,
@@ -79,7 +80,7 @@ fn copy_sided_first(
     c: Conjuncts,
     k: usize,
     fields: Fields,
-    side: u64,
+    side: FieldSet,
     out: &mut [u8],
     at: usize,
     level: usize,
@@ -109,7 +110,7 @@ fn copy_sided_joined(
     m: &[u8],
     c: Conjuncts,
     fields: Fields,
-    side: u64,
+    side: FieldSet,
     out: &mut [u8],
     at: usize,
     level: usize,
@@ -133,7 +134,7 @@ pub fn copy_sided_filtered(
     m: &[u8],
     c: Conjuncts,
     fields: Fields,
-    side: u64,
+    side: FieldSet,
     input: &[u8],
     x: usize,
     out: &mut [u8],
@@ -231,16 +232,16 @@ fn write_join(
     x: usize,
     z: usize,
     v: Moves,
-    sc: Scope,
+    sc: &Scope,
     out: &mut [u8],
     at: usize,
     level: usize,
 ) -> usize
     requires stretch { Stretch s.now x part.now }
-    requires carried { Carried s.now m.now x z sc v }
+    requires carried { Carried s.now m.now x z sc.now v }
     requires buffer { Buffer 5 level out.old }
     ensures { (k : Kind) (l r : Plan) (on : List Pair) (f : Option Expr) (P G : List Expr) (σ : Name → Expr) →
-        Carries s.now m.now x z sc v k l r on f P G σ →
+        Carries s.now m.now x z sc.now v k l r on f P G σ →
         Wrote out.old out.new at level result (plan_tree (join_over k l r on P G)) }
 {
     let left = v.left;
@@ -266,16 +267,16 @@ pub fn write_kept(
     x: usize,
     z: usize,
     v: Moves,
-    sc: Scope,
+    sc: &Scope,
     out: &mut [u8],
     at: usize,
     level: usize,
 ) -> usize
     requires stretch { Stretch s.now x part.now }
-    requires carried { Carried s.now m.now x z sc v }
+    requires carried { Carried s.now m.now x z sc.now v }
     requires buffer { Buffer 6 level out.old }
     ensures { (k : Kind) (l r : Plan) (on : List Pair) (f : Option Expr) (P G : List Expr) (σ : Name → Expr) →
-        Carries s.now m.now x z sc v k l r on f P G σ →
+        Carries s.now m.now x z sc.now v k l r on f P G σ →
         Wrote out.old out.new at level result
         (plan_tree (with_filters (keep_predicates k (schema l) (schema r) on P G) (join_over k l r on P G))) }
 {

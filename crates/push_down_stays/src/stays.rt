@@ -61,7 +61,7 @@ fn nothing_moves(s: &[u8], part: &[u8], x: usize, c: Conjuncts, g: Conjuncts) ->
     let z = right_input(part, x);
     let sc = join_scope(part, x, z);
     let kind = join_kind(part, x);
-    let v = moves_of(s, c, g, sc, kind);
+    let v = moves_of(s, c, g, &sc, kind);
     !v.flag
 }
 

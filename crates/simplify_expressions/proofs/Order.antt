@@ -11,6 +11,7 @@ use Rattle.rewrite.specs.Utils.{any_fn, is_volatile_expr}
 use Rattle.rewrite.specs.ReorderPredicates.{is_cheap_predicate, needs_reorder, unchanged, cheap_first, reorder_predicates}
 use Rattle.conjuncts.specs.Items.{FALSE}
 use Rattle.conjuncts.specs.Functions.{marked}
+use Rattle.conjuncts.specs.declared.volatility.Functions.TheVariants.{All}
 use Rattle.conjuncts.proofs.Listed.{next}
 
 -- whether a list needs reordering, by whether the one before it is expensive
@@ -33,7 +34,7 @@ not_not true = refl
 not_not false = refl
 
 -- the one at i is expensive, or not
-pub after_next : (es : List Expr) (i : ℕ) → i < length es → (b v : Bool) → v ≡ any_fn (marked false) (get_or es i FALSE)
+pub after_next : (es : List Expr) (i : ℕ) → i < length es → (b v : Bool) → v ≡ any_fn (marked All) (get_or es i FALSE)
     → after_cost b (drop i es) ≡ ((b & not v) || after_cost v (drop (i + 1) es))
 after_next es i h b v e = rw (next es i h, needs_one (get_or es i FALSE) (drop (i + 1) es), not_not, e)
 

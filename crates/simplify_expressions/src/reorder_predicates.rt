@@ -8,14 +8,14 @@ ghost use Rattle.conjuncts.specs.Items.{FALSE, Known, Lists};
 ghost use Rattle.simplify_expressions.specs.Cost.{Reorders};
 
 use conjuncts::lists::{Conjuncts, add_if, empty, item_at};
-use conjuncts::volatility::function_at;
+use conjuncts::volatility::{Functions, function_at};
 
 // Whether a predicate of c is volatile.
 fn any_volatile(s: &[u8], c: Conjuncts) -> bool
     requires { Known s.now c }
     ensures { (es : List Expr) → Lists s.now c es → result ≡ any is_volatile_expr es }
 {
-    (0..c.len).any(|i| function_at(s, c, i, true))
+    (0..c.len).any(|i| function_at(s, c, i, Functions::Volatile))
 }
 
 // Whether an expensive predicate of c stands right before a cheap one.
@@ -25,7 +25,7 @@ fn needs_reorder(s: &[u8], c: Conjuncts) -> bool
 {
     let mut costly = false;
     for i in 0..c.len {
-        let now = function_at(s, c, i, false);
+        let now = function_at(s, c, i, Functions::All);
         if costly & !now {
             return true;
         }

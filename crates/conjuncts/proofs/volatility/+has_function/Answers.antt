@@ -19,9 +19,9 @@ has_function-requires t c =
 pub returns-then-has_function : goal.returns-then-has_function
 returns-then-has_function t c =
     let u = round _ c.loop-at.invariant c.loop-at-test.true in
-    let e : true ≡ fn_in (marked c.args.volatile) u.turn.child =
+    let e : true ≡ fn_in (marked c.args.asked) u.turn.child =
     sym c.if-has_function.true ∙ c.has_function.ensures u.turn.child (rw c.from_record-child.ensures u.turn.here) in
-    for_all (λ t. _ ≡ fn_in (marked c.args.volatile) t)
+    for_all (λ t. _ ≡ fn_in (marked c.args.asked) t)
     c.loop-at.invariant.stands (rw (u.so_far, ← e))
 
 pub word_at-at-requires-in-loop-at : goal.word_at-at-requires-in-loop-at
@@ -37,7 +37,7 @@ loop-at-smaller t c =
 pub loop-at-preserved : goal.loop-at-preserved
 loop-at-preserved t c =
     let u = round _ c.loop-at.invariant c.loop-at-test.true in
-    let e : false ≡ fn_in (marked c.args.volatile) u.turn.child =
+    let e : false ≡ fn_in (marked c.args.asked) u.turn.child =
     sym c.if-has_function.false ∙ c.has_function.ensures u.turn.child
     (rw c.from_record-child.ensures u.turn.here) in
     rw (c.word_at-at-in-loop-at.ensures.0, c.from_record-child.ensures)
@@ -46,5 +46,5 @@ loop-at-preserved t c =
 pub returns : goal.returns
 returns t c =
     let k = c.loop-at.invariant in
-    for_all (λ t. _ ≡ fn_in (marked c.args.volatile) t) k.stands
+    for_all (λ t. _ ≡ fn_in (marked c.args.asked) t) k.stands
     (sym (done _ k c.loop-at-test.false))

@@ -11,7 +11,7 @@ use Rattle.push_down_arms.proofs.contain.movable.Goals as goal
 
 pub loop-i-init : goal.loop-i-init
 loop-i-init c =
-    (omega arith, λ t ns h k. masks_start ns _)
+    (omega arith, λ t ns h k. rw c.empty-set.ensures (masks_start ns _))
 
 pub loop-i-preserved : goal.loop-i-preserved
 loop-i-preserved c = (

@@ -9,7 +9,7 @@ use Rattle.push_down_arms.proofs.table_scan.marked_fields.Goals as goal
 
 pub loop-i-init : goal.loop-i-init
 loop-i-init c =
-    (omega arith, λ s t fs es j h e. passed_start h)
+    (omega arith, λ s t fs es j h e. rw c.empty-set.ensures (passed_start h))
 
 pub overflow_add-x-in-loop-i : goal.overflow_add-x-in-loop-i
 overflow_add-x-in-loop-i c =

@@ -11,7 +11,7 @@ use Rattle.push_down_join.proofs.Growing.{items_at, items_count}
 use Rattle.push_down_join.proofs.infer_join_predicates.places_among.Goals as goal
 
 pub loop-i-init : goal.loop-i-init
-loop-i-init c = λ ns ms h k. masks_start ms _
+loop-i-init c = λ ns ms h k. rw c.empty-set.ensures (masks_start ms _)
 
 pub loop-i-preserved : goal.loop-i-preserved
 loop-i-preserved c =

@@ -5,7 +5,7 @@ use Rattle.push_down_join.proofs.Growing.{items_at, items_count, swap_start, swa
 use Rattle.push_down_join.proofs.infer_join_predicates.swap_keys.Goals as goal
 
 pub loop-i-init : goal.loop-i-init
-loop-i-init c = λ t ns h k. swap_start c.no_fields-to.ensures
+loop-i-init c = λ t ns h k. rw c.empty-alone.ensures (swap_start c.no_fields-to.ensures)
 
 pub loop-i-preserved : goal.loop-i-preserved
 loop-i-preserved c =
