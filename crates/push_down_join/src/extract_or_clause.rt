@@ -102,7 +102,13 @@ fn either_and(a: Clause, b: Clause) -> Clause
 
 // The clause of the expression at the start of `part` that reads fields of the side only, or nothing.
 // An OR yields one only if both its operands do.
-pub fn extract_or_clause(part: &[u8], base: usize, depth: usize, f: Fields, side: FieldSet) -> Clause
+pub fn extract_or_clause(
+    part: &[u8],
+    base: usize,
+    depth: usize,
+    f: Fields,
+    side: FieldSet,
+) -> Clause
     requires readable_e { ReadableE depth part.now base }
     requires len_le_max_fields { f.len ≤ max_fields }
     ensures { (e : Expr) (ns : List Name) (c : Name → Bool) → At (expr_tree e) part.now base → Names f ns
