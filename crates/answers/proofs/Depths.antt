@@ -135,4 +135,5 @@ flat_shallow t n out rest e small f =
       leb-true (word out (32 * j + 24)) max_depth (h j (omega arith) (omega arith)),
       depth_at t j out rest f small (omega arith),
     )))
-    (λ j le lt k. failed t j (omega arith) (omega (arith, leb-false (word out (32 * j + 24)) max_depth k, depth_at t j out rest f small (omega arith))))
+    (λ j le lt k. failed t j (omega arith)
+    (omega (arith, leb-false (word out (32 * j + 24)) max_depth k, depth_at t j out rest f small (omega arith))))

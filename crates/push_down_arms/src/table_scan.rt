@@ -73,7 +73,13 @@ fn add_volatile(s: &[u8], into: Conjuncts, c: Conjuncts, volatile: bool) -> Conj
 }
 
 // The conjuncts of c that the scan takes, or those that it leaves.
-fn select_supported(s: &[u8], c: Conjuncts, fields: Fields, marked: FieldSet, taken: bool) -> Conjuncts
+fn select_supported(
+    s: &[u8],
+    c: Conjuncts,
+    fields: Fields,
+    marked: FieldSet,
+    taken: bool,
+) -> Conjuncts
     requires known { Known s.now c }
     requires len_le_max_fields { fields.len ≤ max_fields }
     ensures { (es : List Expr) (ns : List Name) (t : Name → Bool) → Lists s.now c es → Names fields ns →

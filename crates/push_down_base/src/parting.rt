@@ -28,7 +28,13 @@ fn is_inside(s: &[u8], n: usize, fields: Fields, side: FieldSet) -> bool
 }
 
 // The conjuncts of c that refer to fields of the side alone, or those that do not.
-pub fn select_side(s: &[u8], c: Conjuncts, fields: Fields, side: FieldSet, inside: bool) -> Conjuncts
+pub fn select_side(
+    s: &[u8],
+    c: Conjuncts,
+    fields: Fields,
+    side: FieldSet,
+    inside: bool,
+) -> Conjuncts
     requires known { Known s.now c }
     requires len_le_max_fields { fields.len ≤ max_fields }
     ensures { (es : List Expr) (ns : List Name) (t : Name → Bool) → Lists s.now c es → Names fields ns →
@@ -61,7 +67,13 @@ pub fn push_to(s: &[u8], c: Conjuncts, fields: Fields, side: FieldSet, preserved
 }
 
 // Those that do not.
-pub fn push_not(s: &[u8], c: Conjuncts, fields: Fields, side: FieldSet, preserved: bool) -> Conjuncts
+pub fn push_not(
+    s: &[u8],
+    c: Conjuncts,
+    fields: Fields,
+    side: FieldSet,
+    preserved: bool,
+) -> Conjuncts
     requires known { Known s.now c }
     requires len_le_max_fields { fields.len ≤ max_fields }
     ensures { (es : List Expr) (ns names : List Name) → Reads s.now ns c es → Names fields ns →

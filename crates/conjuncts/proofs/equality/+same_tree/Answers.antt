@@ -15,7 +15,11 @@ loop-i-init t c =
     sym (label_eq c.label_at.result c.label_at-2.result) ∙ told (sym c.ne.ensures ∙ c.if-ne.false) in
     rw (c.word_at-i.ensures.0, c.word_at-j.ensures.0)
     (chain _ c.requires.readable (chain (Q c.requires.readable.tree c.requires.readable.tree.below) c.requires.readable_2
-    (rw (← c.requires.readable.at.head.label, ← c.requires.readable_2.at.head.label, rw (c.label_at.ensures.0, c.label_at-2.ensures.0) at e))))
+    (rw (
+      ← c.requires.readable.at.head.label,
+      ← c.requires.readable_2.at.head.label,
+      rw (c.label_at.ensures.0, c.label_at-2.ensures.0) at e,
+    ))))
 
 pub returns-then-j-eq0 : goal.returns-then-j-eq0
 returns-then-j-eq0 t c =

@@ -21,7 +21,8 @@ pub same_item-requires : goal.same_item-requires
 same_item-requires c =
     let a = c.requires.known in
     let b = c.requires.known_2 in
-    let t = zip_turn (listed c.args.a) (listed c.args.b) c.loop-x.yielded _ _ c.next.new.self _ (search rules) (search rules) c.loop-x.yielded_by
+    let t = zip_turn (listed c.args.a) (listed c.args.b) c.loop-x.yielded _ _ c.next.new.self _
+    (search rules) (search rules) c.loop-x.yielded_by
     (c.in-Some.x, c.in-Some.y) c.in-Some.is c.next.ensures.steps in
     record {
       present = record {
@@ -39,7 +40,8 @@ returns-then-not-same_item c =
     λ xs ys h k. let p = c.requires.known.most in
     let q = c.requires.known_2.most in
     let i = length c.loop-x.yielded in
-    let t = zip_turn (listed c.args.a) (listed c.args.b) c.loop-x.yielded _ _ c.next.new.self _ (search rules) (search rules) c.loop-x.yielded_by
+    let t = zip_turn (listed c.args.a) (listed c.args.b) c.loop-x.yielded _ _ c.next.new.self _
+    (search rules) (search rules) c.loop-x.yielded_by
     (c.in-Some.x, c.in-Some.y) c.in-Some.is c.next.ensures.steps in
     let s = c.same_item.ensures _ _ (lists_at h p i _ (omega (arith, t.0, lists_room h p)) (c.from.ensures ∙ t.2 0))
     (lists_at k q i _ (omega (arith, t.1, lists_room k q)) (c.from-in-loop-x.ensures ∙ t.3 0)) in
@@ -50,7 +52,8 @@ loop-x-preserved c =
     λ xs ys h k e. let p = c.requires.known.most in
     let q = c.requires.known_2.most in
     let i = length c.loop-x.yielded in
-    let t = zip_turn (listed c.args.a) (listed c.args.b) c.loop-x.yielded _ _ c.next.new.self _ (search rules) (search rules) c.loop-x.yielded_by
+    let t = zip_turn (listed c.args.a) (listed c.args.b) c.loop-x.yielded _ _ c.next.new.self _
+    (search rules) (search rules) c.loop-x.yielded_by
     (c.in-Some.x, c.in-Some.y) c.in-Some.is c.next.ensures.steps in
     let s = c.same_item.ensures _ _ (lists_at h p i _ (omega (arith, t.0, lists_room h p)) (c.from.ensures ∙ t.2 0))
     (lists_at k q i _ (omega (arith, t.1, lists_room k q)) (c.from-in-loop-x.ensures ∙ t.3 0)) in
@@ -63,7 +66,8 @@ returns c =
     λ xs ys h k. let p = c.requires.known.most in
     let q = c.requires.known_2.most in
     let i = length c.loop-x.yielded in
-    let e = zip_end (listed c.args.a) (listed c.args.b) c.loop-x.yielded _ _ c.next.new.self _ (search rules) (search rules) c.loop-x.yielded_by
+    let e = zip_end (listed c.args.a) (listed c.args.b) c.loop-x.yielded _ _ c.next.new.self _
+    (search rules) (search rules) c.loop-x.yielded_by
     c.in-None.is c.next.ensures.steps in
     record {
       yes = λ y. c.loop-x.invariant xs ys h k
