@@ -1,19 +1,21 @@
 -- Laws of the partners of columns.
 --     pair_is                         the partner in a pair of columns
+--     at_some, at_none                where a link leads
 --     key_none, key_is, pair_empty,   the partner in a record: it is no pair, it has too few below it, or both keys
 --     pair_one, pair_two
 --     partner_stop, partner_step      the partner along the children of a record
 -- Assumes nothing.
-use mathlib.Core.Path.{◌≡◌, refl}
-use mathlib.Core.Bool.{Bool, true, false, ◌&&◌, cond}
+use mathlib.Core.Path.{◌≡◌, refl, sym, ◌∙◌}
+use mathlib.Core.Bool.{Bool, true, false, not, ◌&&◌, cond}
 use mathlib.Core.List.{List}
 use mathlib.Core.Option as O
 use mathlib.Core.Option.{Option, some}
 use Prim.Native.Nat.{ℕ}
 use lib.Dec.{eqb}
-use borrow.Author.Tests.{eq-eqb, ne_eqb}
+use borrow.Author.Tests.{eq-eqb, eqb-false, eqb-true, ne_eqb}
 use Rattle.std.specs.Prelude as P
 use Rattle.std.specs.Option.{is_some}
+use Rattle.std.specs.Bool.{then_some}
 use Rattle.image.specs.Tree.{Label, Forest, none, node}
 use Rattle.image.proofs.Walking.{Turn}
 use Rattle.plan.specs.Lists.{◌&◌}
@@ -35,6 +37,22 @@ pub pair_is : (x y z : ColumnReference) → pair_of (named x) (some (named y)) (
     ≡ cond (eqb y.q x.q && eqb y.n x.n) (some (named z)) (cond (eqb z.q x.q && eqb z.n x.n) (some (named y)) O.none)
 unfolding pair_of
 pair_is x y z = rw (both (eqb y.q x.q) (eqb y.n x.n), both (eqb z.q x.q) (eqb z.n x.n))
+
+-- ---- where a link leads
+
+pub at_some : (w n : ℕ) → then_some (not (eqb w 0)) w ≡ P.Some n → (n ≡ w) × (n ≡ 0 → ⊥)
+at_some w n e = go (eqb w 0) refl e
+  where
+    go : (b : Bool) → eqb w 0 ≡ b → then_some (not b) w ≡ P.Some n → (n ≡ w) × (n ≡ 0 → ⊥)
+    go true k e = absurd (cc)
+    go false k e = let i : n ≡ w = cc in (i, λ z. eqb-false w 0 k (sym i ∙ z))
+
+pub at_none : (w : ℕ) → then_some (not (eqb w 0)) w ≡ P.None → w ≡ 0
+at_none w e = go (eqb w 0) refl e
+  where
+    go : (b : Bool) → eqb w 0 ≡ b → then_some (not b) w ≡ P.None → w ≡ 0
+    go true k e = eqb-true w 0 k
+    go false k e = absurd (cc)
 
 -- ---- the partner in a record
 

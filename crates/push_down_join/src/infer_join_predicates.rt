@@ -1,8 +1,10 @@
 // infer_join_predicates and what it calls (574 to 770), for Inner joins (D5): the partner of a column by the keys of a join.
-ghost use Rattle.std.specs.Prelude.{◌≡◌, ◌++◌, List, ◌≤◌, ℕ, ltb, length};
+ghost use Rattle.std.specs.Prelude.{◌≡◌, not, ◌++◌, List, ◌+◌, ◌≤◌, ℕ, eqb, ltb, length};
 ghost use Rattle.std.proofs.Math.Option.{none};
+ghost use Rattle.std.specs.Bool.{then_some};
 ghost use Rattle.image.specs.Limits.{max_fields};
 ghost use Rattle.image.specs.Tree.{At, Readable, Tree, label_at};
+ghost use Rattle.image.specs.Word.{word};
 ghost use Rattle.plan.specs.Syntax.{Expr, Name, Pair};
 ghost use Rattle.plan.specs.WordValues.{join_of};
 ghost use Rattle.rewrite.specs.PushDownFilter.{is_inner, pair_of};
@@ -65,6 +67,15 @@ fn pair_of(
     None
 }
 
+// The record that a link of the record at the start of `part` leads to, if it leads to one.
+fn linked(part: &[u8], link: usize) -> Option<usize>
+    requires { link + 4 ≤ length part.now }
+    ensures { result ≡ then_some (not (eqb (word part.now link) 0)) (word part.now link) }
+{
+    let n = word_at(part, link);
+    (n != 0).then_some(n)
+}
+
 // The partner of the column x in the record at the start of `part`, if that is a pair of keys.
 fn partner_in(part: &[u8], base: usize, x: ColumnReference) -> Option<ColumnReference>
     requires { (d : ℕ) × Readable d part.now base }
@@ -73,15 +84,9 @@ fn partner_in(part: &[u8], base: usize, x: ColumnReference) -> Option<ColumnRefe
     if word_at(part, KIND) != PAIR {
         return None;
     }
-    let left = word_at(part, FIRST_LINK);
-    if left == 0 {
-        return None;
-    }
+    let left = linked(part, FIRST_LINK)?;
     let lhs = from_record(part, base, left);
-    let right = word_at(lhs, NEXT_LINK);
-    if right == 0 {
-        return None;
-    }
+    let right = linked(lhs, NEXT_LINK)?;
     let rhs = from_record(part, base, right);
     pair_of(as_column(lhs), as_column(rhs), x)
 }

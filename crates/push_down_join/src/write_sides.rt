@@ -36,7 +36,8 @@ use utils::schema_columns::Fields;
 use utils::sets::FieldSet;
 use writing::conjunction::{copy_item, copy_joined};
 
-// The lists of a join: what moves to each input, what becomes its filter, and what stays above it; and whether anything moves.
+// The lists of a join: what moves to each input, what becomes its filter, and what stays above it; and whether anything moves, which the
+// lists do not tell: what its own filter keeps is among the conditions.
 #[derive(Clone, Copy)]
 pub struct Moves {
     pub left: Conjuncts,
