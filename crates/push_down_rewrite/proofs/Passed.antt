@@ -1,4 +1,4 @@
--- The match on a plan's kind: the number that it stands for, and what the last arm takes.
+-- The match on a plan's kind: what the last arm takes.
 use Prim.Native.Nat.{ℕ}
 use mathlib.Core.Path.{◌≡◌, refl, sym, ap, ◌∙◌}
 use mathlib.Core.Bool.{Bool, true, false}
@@ -7,14 +7,8 @@ use Rattle.plan.specs.Kinds.{What, PlanKind, expr, plan, part, unknown, what_of,
 use Rattle.plan.specs.Syntax.{Plan, scan, filter, project, join, alias, union, distinct, sort, repartition, limit, aggregate, window}
 use Rattle.plan.specs.Trees.{label_p}
 use Rattle.plan.proofs.Bools.{no_yes}
-use Rattle.plan.proofs.FieldSources.{of_kind}
-use Rattle.plan.proofs.Rebuilt.{kind_p}
 use Rattle.push_down_arms.specs.Through.{through}
 use Rattle.push_down_merge.specs.Merging.{is_filter}
-
--- the number of a plan's kind
-pub numbered : {n : ℕ} {w : What} {j : PlanKind} (k : PlanKind) → w ≡ what_of n → w ≡ plan j → j ≡ k → n ≡ number_p k
-numbered {n} k told is same = kind_p (of_kind n) k (sym told ∙ is ∙ ap plan same)
 
 -- no arm of its own is for these
 abbrev pub passes : What → Bool

@@ -3,9 +3,9 @@ use mathlib.Core.Path.{◌≡◌}
 use mathlib.Core.Bool.{true}
 use Rattle.std.proofs.Common.{rules}
 use Rattle.plan.specs.Kinds.{TableScan, Projection, Join, SubqueryAlias, Union, Aggregate, Window}
-use Rattle.push_down_stays.proofs.Dispatches.{read_kind, over_scan, over_project, over_join, over_alias, over_union, over_aggregate, over_window}
+use Rattle.push_down_stays.proofs.Dispatches.{read_kind, numbered, over_scan, over_project, over_join, over_alias, over_union, over_aggregate, over_window}
 use Rattle.push_down_stays.proofs.Dispatches.{by_scan, by_project, by_join, by_alias, by_union, by_aggregate, by_window}
-use Rattle.push_down_rewrite.proofs.Passed.{numbered, passes, is_through}
+use Rattle.push_down_rewrite.proofs.Passed.{passes, is_through}
 use Rattle.push_down_rewrite.proofs.input.rewrite_input.Goals as goal
 
 pub rewrite_table_scan-requires-clause-over_scan : goal.rewrite_table_scan-requires-clause-over_scan
