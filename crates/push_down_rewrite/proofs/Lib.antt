@@ -5,3 +5,4 @@ pub mod Again
 pub mod Outcoming
 pub mod Images
 pub mod Fronts
+pub mod Passed

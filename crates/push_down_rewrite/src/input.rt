@@ -13,7 +13,7 @@ use image::copying::copy_tree;
 use image::limits::MAX_DEPTH;
 use image::records::KIND;
 use image::words::word_at;
-use plan::kinds::{AGGREGATE, JOIN, PROJECTION, SUBQUERY_ALIAS, TABLE_SCAN, UNION, WINDOW};
+use plan::kinds::{PlanKind, What, what_of};
 use push_down_arms::aggregate::rewrite_aggregate;
 use push_down_arms::projection::rewrite_projection;
 use push_down_arms::subquery_alias::rewrite_subquery_alias;
@@ -41,29 +41,28 @@ fn rewrite_input(
     ensures { (e : Expr) (q : Plan) → Rests s.now x p e q → is_filter q ≡ false →
         Answers out.old out.new at level result (rewrite_filter e q) }
 {
-    let kind = word_at(input, KIND);
-    if kind == TABLE_SCAN {
-        return rewrite_table_scan(s, input, x, p, out, at, level);
+    match what_of(word_at(input, KIND)) {
+        What::Plan(PlanKind::TableScan) => rewrite_table_scan(s, input, x, p, out, at, level),
+        What::Plan(PlanKind::Projection) => rewrite_projection(s, input, x, p, out, at, level),
+        What::Plan(PlanKind::Join) => rewrite_join(s, input, x, p, m, out, at, level),
+        What::Plan(PlanKind::SubqueryAlias) => rewrite_subquery_alias(
+            s, input, x, p, m, out, at, level,
+        ),
+        What::Plan(PlanKind::Union) => rewrite_union(s, input, x, p, m, out, at, level),
+        What::Plan(PlanKind::Aggregate) => rewrite_aggregate(s, input, x, p, out, at, level),
+        What::Plan(PlanKind::Window) => rewrite_window(s, input, x, p, out, at, level),
+        // No Filter comes here.
+        What::Plan(
+            PlanKind::Distinct
+            | PlanKind::Sort
+            | PlanKind::Repartition
+            | PlanKind::Limit
+            | PlanKind::Filter,
+        )
+        | What::Expr(_)
+        | What::Part(_)
+        | What::Unknown => rewrite_through(s, input, x, p, out, at, level),
     }
-    if kind == PROJECTION {
-        return rewrite_projection(s, input, x, p, out, at, level);
-    }
-    if kind == JOIN {
-        return rewrite_join(s, input, x, p, m, out, at, level);
-    }
-    if kind == SUBQUERY_ALIAS {
-        return rewrite_subquery_alias(s, input, x, p, m, out, at, level);
-    }
-    if kind == UNION {
-        return rewrite_union(s, input, x, p, m, out, at, level);
-    }
-    if kind == AGGREGATE {
-        return rewrite_aggregate(s, input, x, p, out, at, level);
-    }
-    if kind == WINDOW {
-        return rewrite_window(s, input, x, p, out, at, level);
-    }
-    rewrite_through(s, input, x, p, out, at, level)
 }
 
 // What is done with the predicate p that is left over `input`, the plan at record x: the plan alone where none is (819 to 823), else the

@@ -5,9 +5,12 @@ use mathlib.Core.List.{List}
 use mathlib.Core.Option.{Option}
 use lib.ListN.{drop}
 use Rattle.image.specs.Word.{word}
+use Rattle.plan.specs.Kinds.{What, PlanKind, plan, what_of, number_p}
 use Rattle.plan.specs.Syntax.{Expr, Field, Entry, AggEntry, WinEntry, Kind, Pair, Plan, Plans}
 use Rattle.plan.specs.Syntax.{scan, project, join, alias, union, aggregate, window}
 use Rattle.plan.specs.Trees.{label_p}
+use Rattle.plan.proofs.FieldSources.{of_kind}
+use Rattle.plan.proofs.Rebuilt.{kind_p}
 use Rattle.rewrite.specs.PushDownFilter.{rewrite_filter}
 use Rattle.conjuncts.specs.Standing.{StandingP}
 use Rattle.push_down_base.specs.Predicates.{Predicate}
@@ -21,6 +24,10 @@ use Rattle.push_down_stays.proofs.KindOf.{kind_there, when_scan, when_project, w
 -- the number that is read at a record
 pub read_kind : {s part : List ℕ} {x k : ℕ} {q : Plan} → part ≡ drop (32 * x) s → k ≡ word part 0 → StandingP s x q → k ≡ (label_p q).kind
 read_kind e f h = f ∙ ap (λ t. word t 0) e ∙ kind_there h
+
+-- the number of its kind
+pub numbered : {n : ℕ} {w : What} {j : PlanKind} (k : PlanKind) → w ≡ what_of n → w ≡ plan j → j ≡ k → n ≡ number_p k
+numbered {n} k told is same = kind_p (of_kind n) k (sym told ∙ is ∙ ap plan same)
 
 -- the arm that is asked
 module _ {s : List ℕ} {x : ℕ} {p : Predicate} (r : OnInput s x p) {n : ℕ} (is : n ≡ (label_p r.plan).kind) where

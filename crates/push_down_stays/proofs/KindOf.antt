@@ -1,8 +1,7 @@
 -- What kind of plan stands at a record: by the number in its first word.
 use Prim.Native.Nat.{ℕ, ◌*◌}
 use native.Mathlib.Omega.{arith}
-use mathlib.Core.Path.{◌≡◌, refl, sym, ap}
-use mathlib.Core.Bool.{true, false}
+use mathlib.Core.Path.{◌≡◌, ap}
 use mathlib.Core.List.{List}
 use mathlib.Core.Option.{Option}
 use lib.ListN.{drop}
@@ -11,8 +10,6 @@ use Rattle.plan.specs.Syntax.{Expr, Field, Entry, AggEntry, WinEntry, Kind, Pair
 use Rattle.plan.specs.Syntax.{scan, filter, project, join, alias, union, distinct, sort, repartition, limit, aggregate, window}
 use Rattle.plan.specs.Trees.{label_p}
 use Rattle.conjuncts.specs.Standing.{StandingP}
-use Rattle.push_down_merge.specs.Merging.{is_filter}
-use Rattle.push_down_arms.specs.Through.{through}
 
 -- the number at a record is that of the plan that stands there
 pub kind_there : {s : List ℕ} {x : ℕ} {q : Plan} → StandingP s x q → (label_at (drop (32 * x) s)).kind ≡ (label_p q).kind
@@ -139,20 +136,3 @@ module _ (P : Plan → Type 0) where
   when_window f' (limit n k p) h = absurd (omega arith)
   when_window f' (aggregate gs ags p) h = absurd (omega arith)
   when_window f' (window ws p) h = f' ws p
-
--- what is none of the others is one that a Filter passes, or stays above, as it is
-pub when_through : (q : Plan) → is_filter q ≡ false → ((label_p q).kind ≡ 32 → ⊥) → ((label_p q).kind ≡ 34 → ⊥) → ((label_p q).kind ≡ 35 → ⊥) → ((label_p
-    q).kind ≡ 36 → ⊥) → ((label_p q).kind ≡ 37 → ⊥) → ((label_p q).kind ≡ 42 → ⊥) → ((label_p q).kind ≡ 43 → ⊥) → through q ≡ true
-unfolding label_p
-when_through (scan t fs es) h n1 n2 n3 n4 n5 n6 n7 = absurd (n1 refl)
-when_through (filter e p) h n1 n2 n3 n4 n5 n6 n7 = sym h
-when_through (project es p) h n1 n2 n3 n4 n5 n6 n7 = absurd (n2 refl)
-when_through (join k l r on f) h n1 n2 n3 n4 n5 n6 n7 = absurd (n3 refl)
-when_through (alias i p) h n1 n2 n3 n4 n5 n6 n7 = absurd (n4 refl)
-when_through (union ps) h n1 n2 n3 n4 n5 n6 n7 = absurd (n5 refl)
-when_through (distinct p) h n1 n2 n3 n4 n5 n6 n7 = refl
-when_through (sort f ks p) h n1 n2 n3 n4 n5 n6 n7 = refl
-when_through (repartition p) h n1 n2 n3 n4 n5 n6 n7 = refl
-when_through (limit n k p) h n1 n2 n3 n4 n5 n6 n7 = refl
-when_through (aggregate gs ags p) h n1 n2 n3 n4 n5 n6 n7 = absurd (n6 refl)
-when_through (window ws p) h n1 n2 n3 n4 n5 n6 n7 = absurd (n7 refl)

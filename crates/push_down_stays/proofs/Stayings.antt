@@ -12,6 +12,8 @@ use Rattle.std.specs.Prelude as P
 use Rattle.image.proofs.Walking.{only}
 use Rattle.plan.specs.Columns.{on_cols}
 use Rattle.plan.specs.Schema.{schema}
+use Rattle.plan.specs.Kinds as K
+use Rattle.plan.specs.Kinds.{What, expr, plan, part, unknown, what_of}
 use Rattle.plan.specs.Syntax.{Expr, Field, Entry, AggEntry, WinEntry, Pair, Kind, Plan}
 use Rattle.plan.specs.Syntax.{scan, filter, project, join, alias, union, distinct, sort, repartition, limit, aggregate, window}
 use Rattle.plan.specs.Trees.{label_p, plan_tree}
@@ -172,23 +174,44 @@ module _ (e : Expr) (ws : List WinEntry) (q : Plan) where
 abbrev pub stays_over : List ℕ → ℕ → Predicate → Expr → Bool → Plan → Type 0
 stays_over s x p e b q = Rests s x p e q → Kept b (rewrite_filter e q) (filter e q)
 
-pub through_kept : {b : Bool} (e : Expr) (q : Plan) → is_filter q ≡ false → ((label_p q).kind ≡ 32 → ⊥) → ((label_p q).kind ≡ 34 → ⊥)
-    → ((label_p q).kind ≡ 35 → ⊥) → ((label_p q).kind ≡ 42 → ⊥) → ((label_p q).kind ≡ 43 → ⊥) → b ≡ takes_none (label_p q)
+-- over these takes_none alone decides
+abbrev pub decided : What → Bool
+decided (plan K.TableScan) = false
+decided (plan K.Projection) = false
+decided (plan K.Join) = false
+decided (plan K.Aggregate) = false
+decided (plan K.Window) = false
+decided (plan K.SubqueryAlias) = true
+decided (plan K.Union) = true
+decided (plan K.Distinct) = true
+decided (plan K.Sort) = true
+decided (plan K.Repartition) = true
+decided (plan K.Limit) = true
+decided (plan K.Filter) = true
+decided (expr k) = true
+decided (part k) = true
+decided unknown = true
+
+kept_over : {b : Bool} (e : Expr) (q : Plan) → is_filter q ≡ false → decided (what_of (label_p q).kind) ≡ true → b ≡ takes_none (label_p q)
     → Kept b (rewrite_filter e q) (filter e q)
-unfolding label_p rewrite_filter
-through_kept e (scan t fs es) o n₁ n₂ n₃ n₄ n₅ h = absurd (n₁ refl)
-through_kept e (filter b p) o n₁ n₂ n₃ n₄ n₅ h = no_yes (sym o)
-through_kept e (project es p) o n₁ n₂ n₃ n₄ n₅ h = absurd (n₂ refl)
-through_kept e (join k l r on f) o n₁ n₂ n₃ n₄ n₅ h = absurd (n₃ refl)
-through_kept e (alias q p) o n₁ n₂ n₃ n₄ n₅ h = rw h (kept_not (λ k. let z : ◌≡◌ {A = ℕ} 0 1 = cc in absurd (omega arith)))
-through_kept e (union ps) o n₁ n₂ n₃ n₄ n₅ h = rw h (kept_not (λ k. let z : ◌≡◌ {A = ℕ} 0 1 = cc in absurd (omega arith)))
-through_kept e (distinct p) o n₁ n₂ n₃ n₄ n₅ h = rw h (kept_not (λ k. let z : ◌≡◌ {A = ℕ} 0 1 = cc in absurd (omega arith)))
-through_kept e (sort none ks p) o n₁ n₂ n₃ n₄ n₅ h = rw h (kept_not (λ k. let z : ◌≡◌ {A = ℕ} 0 1 = cc in absurd (omega arith)))
-through_kept e (sort (some n) ks p) o n₁ n₂ n₃ n₄ n₅ h = rw h (kept_so refl)
-through_kept e (repartition p) o n₁ n₂ n₃ n₄ n₅ h = rw h (kept_not (λ k. let z : ◌≡◌ {A = ℕ} 0 1 = cc in absurd (omega arith)))
-through_kept e (limit n k p) o n₁ n₂ n₃ n₄ n₅ h = rw h (kept_so refl)
-through_kept e (aggregate gs ags p) o n₁ n₂ n₃ n₄ n₅ h = absurd (n₄ refl)
-through_kept e (window ws p) o n₁ n₂ n₃ n₄ n₅ h = absurd (n₅ refl)
+unfolding label_p rewrite_filter what_of K.among
+kept_over e (scan t fs es) o d h = no_yes d
+kept_over e (filter b p) o d h = no_yes (sym o)
+kept_over e (project es p) o d h = no_yes d
+kept_over e (join k l r on f) o d h = no_yes d
+kept_over e (alias q p) o d h = rw h (kept_not (λ k. let z : ◌≡◌ {A = ℕ} 0 1 = cc in absurd (omega arith)))
+kept_over e (union ps) o d h = rw h (kept_not (λ k. let z : ◌≡◌ {A = ℕ} 0 1 = cc in absurd (omega arith)))
+kept_over e (distinct p) o d h = rw h (kept_not (λ k. let z : ◌≡◌ {A = ℕ} 0 1 = cc in absurd (omega arith)))
+kept_over e (sort none ks p) o d h = rw h (kept_not (λ k. let z : ◌≡◌ {A = ℕ} 0 1 = cc in absurd (omega arith)))
+kept_over e (sort (some n) ks p) o d h = rw h (kept_so refl)
+kept_over e (repartition p) o d h = rw h (kept_not (λ k. let z : ◌≡◌ {A = ℕ} 0 1 = cc in absurd (omega arith)))
+kept_over e (limit n k p) o d h = rw h (kept_so refl)
+kept_over e (aggregate gs ags p) o d h = no_yes d
+kept_over e (window ws p) o d h = no_yes d
+
+pub through_kept : {n : ℕ} {w : What} {b : Bool} (e : Expr) (q : Plan) → is_filter q ≡ false → n ≡ (label_p q).kind → w ≡ what_of n
+    → decided w ≡ true → b ≡ takes_none (label_p q) → Kept b (rewrite_filter e q) (filter e q)
+through_kept e q o is told d h = kept_over e q o (ap (λ m. decided (what_of m)) (sym is) ∙ ap decided (sym told) ∙ d) h
 
 -- ---- the Filter
 

@@ -26,7 +26,9 @@ use conjuncts::lists::{Conjuncts, empty};
 use conjuncts::split_conjunction::{left_deep_at, split_at};
 use image::records::{KIND, P, from_record, record_at};
 use image::words::word_at;
-use plan::kinds::{AGGREGATE, FILTER, JOIN, PROJECTION, TABLE_SCAN, WINDOW};
+use plan::kinds::{
+    AGGREGATE, FILTER, JOIN, PROJECTION, PlanKind, TABLE_SCAN, WINDOW, What, what_of,
+};
 use plan::words::INNER;
 use push_down_arms::aggregate::divide_groups;
 use push_down_arms::push_some::divide;
@@ -161,23 +163,26 @@ fn over_stays(s: &[u8], part: &[u8], x: usize, p: Predicate) -> bool
     ensures { (e : Expr) (q : Plan) → Rests s.now x p e q → is_filter q ≡ false →
         Kept result (rewrite_filter e q) (filter e q) }
 {
-    let kind = word_at(part, KIND);
-    if kind == TABLE_SCAN {
-        return over_scan_stays(s, part, x, p);
+    match what_of(word_at(part, KIND)) {
+        What::Plan(PlanKind::TableScan) => over_scan_stays(s, part, x, p),
+        What::Plan(PlanKind::Projection) => over_projection_stays(s, part, x, p),
+        What::Plan(PlanKind::Join) => over_join_stays(s, part, x, p),
+        What::Plan(PlanKind::Aggregate) => over_aggregate_stays(s, part, x, p),
+        What::Plan(PlanKind::Window) => over_window_stays(s, part, x, p),
+        // No Filter comes here.
+        What::Plan(
+            PlanKind::SubqueryAlias
+            | PlanKind::Union
+            | PlanKind::Distinct
+            | PlanKind::Sort
+            | PlanKind::Repartition
+            | PlanKind::Limit
+            | PlanKind::Filter,
+        )
+        | What::Expr(_)
+        | What::Part(_)
+        | What::Unknown => takes_none(part),
     }
-    if kind == PROJECTION {
-        return over_projection_stays(s, part, x, p);
-    }
-    if kind == JOIN {
-        return over_join_stays(s, part, x, p);
-    }
-    if kind == AGGREGATE {
-        return over_aggregate_stays(s, part, x, p);
-    }
-    if kind == WINDOW {
-        return over_window_stays(s, part, x, p);
-    }
-    takes_none(part)
 }
 
 // Whether a Filter may stay over the plan at the start of `part`; else it merges with it or goes below it, whatever it says.
