@@ -61,7 +61,8 @@ impl<T: Copy, const N: usize> Bounded<T, N> {
 
     // Whether more was pushed than there is room for.
     pub fn is_too_long(&self) -> bool
-        ensures { (xs : List T) → Holds self.now xs → IsTrue result ↔ (N < length xs) }
+        ensures len { IsTrue result ↔ (N < self.now.len) }
+        ensures holds { (xs : List T) → Holds self.now xs → IsTrue result ↔ (N < length xs) }
     {
         N < self.len
     }

@@ -1,6 +1,7 @@
 -- Laws of lists of conjuncts. A user of a list needs these, and never the numbers inside:
 --     lists_none, lists_add, item_false  an empty list, an item appended, the item 0
 --     lists_length, -room, -at           of a whole list: how many, that each can be read, what the number read at i stands for
+--     walk_item, -in, -end               of a loop over the items: what the item met stands for, that it is in the list, that none is left
 --     known_of                           a list of few enough expressions is whole
 --     lists_full                         past the end nothing changes
 --     next, next_back, same_next, at_end a walk along a list of expressions, and for a test of each:
@@ -71,6 +72,21 @@ module _ {s : List ℕ} where
 
     pub lists_at : (i n : ℕ) → i < c.len → n ≡ get_or (listed c) i 0 → Item s n (get_or es i FALSE)
     lists_at i n lt e = rw (e, whole h.holds small) (items_at i h.items (omega (arith, count_is h.holds small)))
+
+  -- .. and of a walk along its items
+  module _ {c : Conjuncts} {es : List Expr} (h : Lists s c es) (small : c.len ≤ max_list) {items : List ℕ} (is : items ≡ listed c) where
+    items_all : length items ≡ length es
+    items_all = ap length is ∙ (lists_room h small ∙ sym (lists_length h small))
+
+    -- the item that is met at i
+    pub walk_item : (i n : ℕ) → i < length items → n ≡ get_or items i 0 → Item s n (get_or es i FALSE)
+    walk_item i n lt e = lists_at h small i n (omega (arith, items_all, lists_length h small)) (e ∙ ap (λ xs. get_or xs i 0) is)
+
+    pub walk_in : {i : ℕ} → i < length items → i < length es
+    walk_in lt = omega (arith, items_all)
+
+    pub walk_end : {i : ℕ} → length items ≤ i → drop i es ≡ []
+    walk_end {i} le = drop_of_length-le es (omega (arith, items_all))
 
 -- ---- a walk along a list
 

@@ -90,16 +90,13 @@ pub fn same_items(s: &[u8], a: Conjuncts, b: Conjuncts) -> bool
     requires known_2 { Known s.now b }
     ensures { (xs ys : List Expr) → Lists s.now a xs → Lists s.now b ys → Says result (xs ≡ ys) }
 {
-    let n = a.len;
-    if n != b.len {
+    if a.len != b.len {
         return false;
     }
-    let mut i = 0;
-    while i < n {
-        if !same_item(s, item_at(a, i), item_at(b, i)) {
+    for (x, y) in a.items().iter().zip(b.items()) {
+        if !same_item(s, usize::from(*x), usize::from(*y)) {
             return false;
         }
-        i += 1;
     }
     true
 }

@@ -16,13 +16,10 @@ fn contains(s: &[u8], c: Conjuncts, x: usize) -> bool
     requires present { Present s.now x }
     ensures { (es : List Expr) (e : Expr) → Lists s.now c es → Item s.now x e → result ≡ is_in es e }
 {
-    let n = c.len;
-    let mut i = 0;
-    while i < n {
-        if same_item(s, item_at(c, i), x) {
+    for y in c.items() {
+        if same_item(s, usize::from(*y), x) {
             return true;
         }
-        i += 1;
     }
     false
 }
@@ -34,7 +31,7 @@ fn add_new(s: &[u8], c: Conjuncts, x: usize) -> Conjuncts
     ensures { (es : List Expr) (e : Expr) → Lists s.now c es → Item s.now x e →
         Lists s.now result (es ++ put (not (is_in es e)) e []) }
 {
-    if MAX_LIST < c.len {
+    if c.is_too_long() {
         return c;
     }
     add_if(c, x, !contains(s, c, x))
@@ -47,12 +44,9 @@ fn unique_onto(s: &[u8], into: Conjuncts, c: Conjuncts) -> Conjuncts
     ensures { (fs es : List Expr) → Lists s.now into fs → Lists s.now c es →
         Lists s.now result (onto fs es) }
 {
-    let n = c.len;
     let mut r = into;
-    let mut i = 0;
-    while i < n {
-        r = add_new(s, r, item_at(c, i));
-        i += 1;
+    for x in c.items() {
+        r = add_new(s, r, usize::from(*x));
     }
     r
 }

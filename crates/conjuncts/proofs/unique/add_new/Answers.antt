@@ -1,7 +1,8 @@
 -- `unique::add_new` meets its contract.
+use borrow.Author.Rules.{rules}
 use Rattle.conjuncts.proofs.Listed.{lists_full}
 use Rattle.conjuncts.proofs.unique.add_new.Goals as goal
 
-pub returns-then-c-gt-MAX_LIST : goal.returns-then-c-gt-MAX_LIST
-returns-then-c-gt-MAX_LIST c =
-    λ es e h k. lists_full _ h k c.if-c-gt-MAX_LIST.true
+pub returns-then-is_too_long : goal.returns-then-is_too_long
+returns-then-is_too_long c =
+    λ es e h k. lists_full _ h k (c.is_too_long.ensures.len.0 (search rules))

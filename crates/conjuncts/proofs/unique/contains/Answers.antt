@@ -1,47 +1,36 @@
 use mathlib.Core.Path.{sym, ◌∙◌}
 use mathlib.Core.Bool.{true, false}
-use native.Mathlib.Omega.{arith}
 use Rattle.plan.specs.Lists.{any}
 use Rattle.rewrite.specs.Utils.{same_e}
-use Rattle.conjuncts.proofs.Listed.{lists_at, lists_length, any_next, at_end}
+use Rattle.conjuncts.proofs.Listed.{any_next, walk_end, walk_in, walk_item}
 use Rattle.conjuncts.proofs.unique.contains.Goals as goal
 
-pub same_item-requires : goal.same_item-requires
-unfolding any
-same_item-requires c =
-    record {
-      present = record {
-        expr = _;
-        item = lists_at c.requires.known.lists c.requires.known.most _ _ c.loop-i-test.true
-            c.item_at.ensures;
-      };
-      present_2 = c.requires.present;
-    }
+pub same_item-requires-clause-present : goal.same_item-requires-clause-present
+same_item-requires-clause-present c =
+    let p = c.requires.known in
+    record { expr = _; item = walk_item p.lists p.most c.items-y-items.ensures _ _ c.loop-y-test.true c.from.ensures }
 
 pub returns-then-same_item : goal.returns-then-same_item
 unfolding any
 returns-then-same_item c =
     λ es e h k. let p = c.requires.known in
-    let i = c.loop-i.i in
-    sym (c.loop-i.invariant.1 es e h k
-    ∙ any_next (λ x. same_e x e) es i (omega (arith, lists_length h p.most, c.loop-i-test.true)) true
-    (sym (c.same_item.ensures _ e
-    (lists_at h p.most i _ c.loop-i-test.true c.item_at.ensures) k) ∙ c.if-same_item.true))
+    let is = c.items-y-items.ensures in
+    let i = c.loop-y.y-index in
+    sym (c.loop-y.invariant es e h k
+    ∙ any_next (λ x. same_e x e) es i (walk_in h p.most is c.loop-y-test.true) true
+    (sym (c.same_item.ensures _ e (walk_item h p.most is i _ c.loop-y-test.true c.from.ensures) k) ∙ c.if-same_item.true))
 
-pub loop-i-preserved : goal.loop-i-preserved
+pub loop-y-preserved : goal.loop-y-preserved
 unfolding any
-loop-i-preserved c = (
-  omega arith,
-  λ es e h k. let p = c.requires.known in
-      let i = c.loop-i.i in
-      c.loop-i.invariant.1 es e h k
-      ∙ any_next (λ x. same_e x e) es i (omega (arith, lists_length h p.most, c.loop-i-test.true)) false
-      (sym (c.same_item.ensures _ e
-      (lists_at h p.most i _ c.loop-i-test.true c.item_at.ensures) k) ∙ c.if-same_item.false),
-)
+loop-y-preserved c =
+    λ es e h k. let p = c.requires.known in
+    let is = c.items-y-items.ensures in
+    let i = c.loop-y.y-index in
+    c.loop-y.invariant es e h k
+    ∙ any_next (λ x. same_e x e) es i (walk_in h p.most is c.loop-y-test.true) false
+    (sym (c.same_item.ensures _ e (walk_item h p.most is i _ c.loop-y-test.true c.from.ensures) k) ∙ c.if-same_item.false)
 
 pub returns : goal.returns
 unfolding any
 returns c =
-    λ es e h k. let p = c.requires.known in
-    sym (c.loop-i.invariant.1 es e h k ∙ rw (at_end es c.loop-i.i (omega (arith, lists_length h p.most, c.loop-i-test.false))))
+    λ es e h k. sym (c.loop-y.invariant es e h k ∙ rw (walk_end h c.requires.known.most c.items-y-items.ensures c.loop-y-test.false))

@@ -13,8 +13,5 @@ pub record Done (s : List ℕ) (r : Conjuncts) (fs es : List Expr) (i : ℕ) : T
   pub lists : Lists s r done
   pub is : onto done (drop i es) ≡ onto fs es
 
-abbrev pub invariant-loop-i : goal.invariant-loop-i
-invariant-loop-i l = (l.i ≤ l.n) × ((fs es : List Expr) → Lists l.s l.initial.r fs → Lists l.s l.c es → Done l.s l.r fs es l.i)
-
-abbrev pub decreases-loop-i : goal.decreases-loop-i
-decreases-loop-i l = l.n - l.i
+abbrev pub invariant-loop-x : goal.invariant-loop-x
+invariant-loop-x l = (fs es : List Expr) → Lists l.s l.initial.r fs → Lists l.s l.fn.c es → Done l.s l.r fs es l.x-index
