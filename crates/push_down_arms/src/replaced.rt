@@ -10,7 +10,7 @@ ghost use Rattle.push_down_base.specs.Arms.{Shaped, Shapely};
 ghost use Rattle.push_down_base.specs.Predicates.{Listing, Perhaps};
 
 use conjuncts::items::REPLACED;
-use conjuncts::lists::{Conjuncts, add, empty, item_at};
+use conjuncts::lists::{Conjuncts, add, empty};
 use push_down_base::predicates::Predicate;
 
 // The items of a list, their columns to be replaced.
@@ -18,12 +18,9 @@ pub fn changed(c: Conjuncts) -> Conjuncts
     requires { Listing c }
     ensures { (s : List ℕ) (σ : Name → Expr) (es : List Expr) → Lists s c es → Pushes s σ result (map (replace_cols σ) es) }
 {
-    let n = c.len;
     let mut r = empty();
-    let mut i = 0;
-    while i < n {
-        r = add(r, item_at(c, i) + REPLACED);
-        i += 1;
+    for n in c.items() {
+        r = add(r, usize::from(*n) + REPLACED);
     }
     r
 }

@@ -27,7 +27,8 @@ pub fn infer_join_predicates(s: &[u8], c: Conjuncts, sc: Scope, inner: bool) -> 
         Reads s.now (l ++ r) result (keyed inner on es) }
 {
     if inner {
-        return select_side(s, c, sc.fields, sc.alone, false);
+        let (_, keyed) = select_side(s, c, sc.fields, sc.alone);
+        return keyed;
     }
     empty()
 }

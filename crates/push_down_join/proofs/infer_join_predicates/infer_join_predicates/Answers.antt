@@ -5,7 +5,7 @@ use Rattle.push_down_join.proofs.infer_join_predicates.infer_join_predicates.Goa
 pub returns-then-inner : goal.returns-then-inner
 returns-then-inner c =
     λ l r on es k h. rw (keyed_inner _ on es c.if-inner.true)
-    (reads_keep _ h (c.select_side.ensures es _ _ h.lists k.names h.over k.alone))
+    (reads_keep _ h (c.select_side.ensures es _ _ h.lists k.names h.over k.alone).1)
 
 pub returns : goal.returns
 returns c =
