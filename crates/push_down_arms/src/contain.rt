@@ -22,8 +22,7 @@ fn is_leafward(part: &[u8]) -> bool
     requires { 32 ≤ length part.now }
     ensures { result ≡ leaf_here (label_at part.now) }
 {
-    let marks = word_at(part, Q);
-    (word_at(part, KIND) == FUNCTION) & ((marks == LEAFWARD) | (marks == VOLATILE_LEAFWARD))
+    (word_at(part, KIND) == FUNCTION) & matches!(word_at(part, Q), LEAFWARD | VOLATILE_LEAFWARD)
 }
 
 // Whether the expression of the entry at the start of `part` is volatile or leafward.

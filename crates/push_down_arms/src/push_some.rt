@@ -111,14 +111,8 @@ pub fn push_some(
         };
     }
     let y = last_child(part, x);
-    let above = Predicate {
-        written: 0,
-        list: kept,
-    };
-    let below = Predicate {
-        written: 0,
-        list: changed(moved),
-    };
+    let above = Predicate::joined(kept);
+    let below = Predicate::joined(changed(moved));
     let next = write_over(s, part, x, above, below, y, out, at, level);
     Written { next, flag }
 }

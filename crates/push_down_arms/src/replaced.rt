@@ -32,14 +32,11 @@ pub fn changed_predicate(p: Predicate) -> Predicate
         Perhaps s σ result (some (replace_cols σ e))) }
 {
     let list = p.list;
-    if p.written == 0 {
-        return Predicate {
-            written: 0,
-            list: changed(list),
-        };
-    }
-    Predicate {
-        written: p.written + REPLACED,
-        list,
+    match p.written {
+        Some(n) => Predicate {
+            written: Some(n + REPLACED),
+            list,
+        },
+        None => Predicate::joined(changed(list)),
     }
 }

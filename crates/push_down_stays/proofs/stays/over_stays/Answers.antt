@@ -8,7 +8,7 @@ use Rattle.push_down_stays.proofs.stays.over_stays.Goals as goal
 
 pub over_scan_stays-requires-clause-over_scan : goal.over_scan_stays-requires-clause-over_scan
 over_scan_stays-requires-clause-over_scan c =
-    let r = c.requires.on_input.0 in over_scan r (read_kind c.requires.stretch
+    let r = c.requires.on_input in over_scan r (read_kind c.requires.stretch
     c.word_at-kind.ensures.0 r.rests.placed.standing) c.if-kind-eq-TABLE_SCAN.true
 
 pub returns-then-kind-eq-TABLE_SCAN : goal.returns-then-kind-eq-TABLE_SCAN
@@ -19,7 +19,7 @@ returns-then-kind-eq-TABLE_SCAN c =
 
 pub over_projection_stays-requires-clause-over_projection : goal.over_projection_stays-requires-clause-over_projection
 over_projection_stays-requires-clause-over_projection c =
-    let r = c.requires.on_input.0 in over_project r (read_kind c.requires.stretch c.word_at-kind.ensures.0
+    let r = c.requires.on_input in over_project r (read_kind c.requires.stretch c.word_at-kind.ensures.0
     r.rests.placed.standing) c.if-kind-eq-PROJECTION.true
 
 pub returns-then-kind-eq-PROJECTION : goal.returns-then-kind-eq-PROJECTION
@@ -30,11 +30,8 @@ returns-then-kind-eq-PROJECTION c =
 
 pub over_join_stays-requires-clause-over_join : goal.over_join_stays-requires-clause-over_join
 over_join_stays-requires-clause-over_join c =
-    let r = c.requires.on_input.0 in (
-      over_join r (read_kind c.requires.stretch c.word_at-kind.ensures.0
-          r.rests.placed.standing) c.if-kind-eq-JOIN.true,
-      c.requires.on_input.1,
-    )
+    let r = c.requires.on_input in over_join r (read_kind c.requires.stretch c.word_at-kind.ensures.0
+    r.rests.placed.standing) c.if-kind-eq-JOIN.true
 
 pub returns-then-kind-eq-JOIN : goal.returns-then-kind-eq-JOIN
 returns-then-kind-eq-JOIN c =
@@ -44,12 +41,9 @@ returns-then-kind-eq-JOIN c =
 
 pub over_aggregate_stays-requires-clause-over_aggregate : goal.over_aggregate_stays-requires-clause-over_aggregate
 over_aggregate_stays-requires-clause-over_aggregate c =
-    let r = c.requires.on_input.0 in (
-      over_aggregate r (read_kind c.requires.stretch
-          c.word_at-kind.ensures.0 r.rests.placed.standing)
-          c.if-kind-eq-AGGREGATE.true,
-      c.requires.on_input.1,
-    )
+    let r = c.requires.on_input in over_aggregate r (read_kind c.requires.stretch
+    c.word_at-kind.ensures.0 r.rests.placed.standing)
+    c.if-kind-eq-AGGREGATE.true
 
 pub returns-then-kind-eq-AGGREGATE : goal.returns-then-kind-eq-AGGREGATE
 returns-then-kind-eq-AGGREGATE c =
@@ -59,12 +53,9 @@ returns-then-kind-eq-AGGREGATE c =
 
 pub over_window_stays-requires-clause-over_window : goal.over_window_stays-requires-clause-over_window
 over_window_stays-requires-clause-over_window c =
-    let r = c.requires.on_input.0 in (
-      over_window r (read_kind c.requires.stretch
-          c.word_at-kind.ensures.0 r.rests.placed.standing)
-          c.if-kind-eq-WINDOW.true,
-      c.requires.on_input.1,
-    )
+    let r = c.requires.on_input in over_window r (read_kind c.requires.stretch
+    c.word_at-kind.ensures.0 r.rests.placed.standing)
+    c.if-kind-eq-WINDOW.true
 
 pub returns-then-kind-eq-WINDOW : goal.returns-then-kind-eq-WINDOW
 returns-then-kind-eq-WINDOW c =
