@@ -10,7 +10,8 @@ use Rattle.image.specs.Limits.{max_records, max_list}
 use Rattle.plan.specs.Syntax.{Name, Expr, bin, and}
 use Rattle.rewrite.specs.Utils.{replace_cols, split_conjunction, conjoin, conjunction}
 use Rattle.conjuncts.specs.Items.{Conjuncts, most}
-use Rattle.writing.specs.Pushed.{Pushes, Each, nil, cons}
+use Rattle.std.specs.Prelude.{Some, None}
+use Rattle.writing.specs.Pushed.{Pushed, Pushes, Each, nil, cons}
 use Rattle.writing.proofs.Pushing.{pushes_length, pushed_changed}
 use Rattle.push_down_base.specs.Predicates.{Predicate, Perhaps, left}
 use Rattle.push_down_base.specs.Arms.{Shaped}
@@ -44,22 +45,24 @@ map_count f [] = refl
 map_count f (x ∷ xs) = ap suc (map_count f xs)
 
 -- a predicate joined anew, its columns replaced
-pub changed_list : {s : List ℕ} {p : Predicate} {c : Conjuncts} (σ : Name → Expr) (e : Expr) → Shaped s p e → p.written ≡ 0
-    → Pushes s σ c (map (replace_cols σ) (split_conjunction e)) → Perhaps s σ (record { written = 0; list = c }) (some (replace_cols σ e))
+pub changed_list : {s : List ℕ} {p : Predicate} {c : Conjuncts} (σ : Name → Expr) (e : Expr) → Shaped s p e → p.written ≡ None
+    → Pushes s σ c (map (replace_cols σ) (split_conjunction e)) → Perhaps s σ (record { written = None; list = c }) (some (replace_cols σ e))
 changed_list {s} {p} {c} σ e h z k = go (split_conjunction e) (h.joined z) k (split_some e) (few h)
   where
     go : (es : List Expr) → conjunction es ≡ some e → Pushes s σ c (map (replace_cols σ) es) → 1 ≤ length es → length es ≤ max_list
-        → Perhaps s σ (record { written = 0; list = c }) (some (replace_cols σ e))
+        → Perhaps s σ (record { written = None; list = c }) (some (replace_cols σ e))
     go [] j k m f = absurd (omega arith)
     go (x ∷ xs) j k m f =
         let i = ap (replace_cols σ) (joins_back x xs j) ∙ changed_conjoin σ x xs in
         let l = pushes_small k (le_trans (le_of_eq (map_count (replace_cols σ) (x ∷ xs))) f) in
-        left (record { item = λ nz. absurd (nz refl); list = λ z. record { first = replace_cols σ x; others = map (replace_cols σ) xs; pushes = k; is = i } })
+        left (record { item = λ n i. cc; list = λ z. record { first = replace_cols σ x; others = map (replace_cols σ) xs; pushes = k; is = i } })
         (λ z. omega (arith, pushes_length k l))
 
 -- a predicate as it is written, its columns replaced
-pub changed_written : {s : List ℕ} {p : Predicate} (σ : Name → Expr) (e : Expr) (n : ℕ) → Shaped s p e → (p.written ≡ 0 → ⊥) → n ≡ p.written + max_records
-    → Perhaps s σ (record { written = n; list = p.list }) (some (replace_cols σ e))
-changed_written σ e n h nz i =
-    left {e = replace_cols σ e} (record { item = λ f. rw i (pushed_changed (standing_item (h.stands nz) nz)); list = λ z. absurd (omega arith) })
-    (λ z. absurd (omega arith))
+pub changed_written : {s : List ℕ} {p : Predicate} (σ : Name → Expr) (e : Expr) (n : ℕ) → Shaped s p e → p.written ≡ Some n
+    → Perhaps s σ (record { written = Some (n + max_records); list = p.list }) (some (replace_cols σ e))
+changed_written {s} σ e n h i =
+    let k = h.stands n i in
+    let item : Pushed s σ (n + max_records) (replace_cols σ e) = pushed_changed (standing_item k.1 (λ z. omega (arith, k.0))) in
+    left {e = replace_cols σ e} (record { item = λ m j. let r : n + max_records ≡ m = cc in rw (← r) item; list = λ z. cc })
+    (λ z. cc)

@@ -10,6 +10,8 @@ use native.Mathlib.Omega.{arith}
 use mathlib.Core.Path.{◌≡◌, refl, sym, ap, ◌∙◌}
 use mathlib.Core.Bool.{Bool, true, false, cond}
 use mathlib.Core.List.{List, [], ◌∷◌, ◌++◌}
+use borrow.Author.Rules.{rules}
+use Rattle.std.specs.Prelude.{IsTrue, ◌↔◌}
 use lib.Dec.{ltb}
 use lib.ListN.{length, get_or, drop, length-drop, length-append}
 use borrow.Author.Tests.{ltb-true, ltb-false}
@@ -178,19 +180,22 @@ module _ {s : List ℕ} {σ : Name → Expr} {es : List Expr} where
       record { done = _; counts = k; is = omega (arith, h.is) }
 
   -- it is too long exactly if the count is
-  pub counted_all : {r : Conjuncts} (i : ℕ) → length es ≤ i → Counted s r σ es i → ltb max_list r.len ≡ ltb max_list (parts σ es)
+  pub counted_all : {r : Conjuncts} {b : Bool} (i : ℕ) → length es ≤ i → (IsTrue b ↔ (max_list < r.len)) → Counted s r σ es i
+      → b ≡ ltb max_list (parts σ es)
   unfolding flatten
-  counted_all {r} i le h =
+  counted_all {r} {b} i le long h =
       let z : parts σ (drop i es) ≡ 0 = ap (parts σ) (at_end es i le) in
       let n : length h.counts.exprs ≡ parts σ es = omega (arith, h.counts.count, h.is) in
-      go (ltb max_list r.len) (ltb max_list (parts σ es)) refl refl n
+      go b (ltb max_list (parts σ es)) refl refl n
     where
-      go : (a b : Bool) → ltb max_list r.len ≡ a → ltb max_list (parts σ es) ≡ b → length h.counts.exprs ≡ parts σ es → a ≡ b
+      go : (a c : Bool) → b ≡ a → ltb max_list (parts σ es) ≡ c → length h.counts.exprs ≡ parts σ es → a ≡ c
       go true true e f n = refl
       go false false e f n = refl
       go true false e f n =
           let m = ltb-false max_list (parts σ es) f in
-          absurd (omega (arith, ltb-true max_list r.len e, (known_of h.counts.lists (omega arith)).most))
+          let l : max_list < r.len = long.0 (search (rules, e)) in
+          absurd (omega (arith, l, (known_of h.counts.lists (omega arith)).most))
       go false true e f n =
-          let m = ltb-false max_list r.len e in
+          let no : max_list < r.len → ⊥ = λ l. let t : IsTrue b = long.1 l in search (rules, e) in
+          let m : r.len ≤ max_list = omega (arith, no) in
           absurd (omega (arith, ltb-true max_list (parts σ es) f, lists_length h.counts.lists m))

@@ -2,6 +2,7 @@
 --     filters_list     the lists of a plan under a list of conjuncts
 --     pushed_few, -many   the lists of the answer: only what moved can be too long, once its columns are replaced
 -- Assumes nothing.
+use Rattle.std.specs.Prelude.{None}
 use Prim.Native.Nat.{ℕ, suc, ◌≤◌, ◌<◌, max as larger}
 use native.Mathlib.Omega.{arith}
 use native.Mathlib.Nat.{max-le, le_trans, le_of_eq, le-max_left, le-max_right}
@@ -79,7 +80,7 @@ some_moved {c = c} (e ∷ es) h m = ap not (ne_eqb c.len 0 (λ z. omega (arith, 
 -- ---- what is written
 
 module _ {s : List ℕ} {d : Divided} {us ds : List Expr} (k : Divides s d us ds) (σ : Name → Expr) where
-  pub kept_perhaps : Perhaps s σ (record { written = 0; list = d.kept }) (conjunction us)
+  pub kept_perhaps : Perhaps s σ (record { written = None; list = d.kept }) (conjunction us)
   kept_perhaps = list_perhaps d.kept us k.kept_most (pushes_of k.kept)
 
   module _ {c : Conjuncts} (h : Pushes s σ c (map (replace_cols σ) ds)) where
@@ -87,7 +88,7 @@ module _ {s : List ℕ} {d : Divided} {us ds : List Expr} (k : Divides s d us ds
     moved_small =
         pushes_small h (le_trans (le_of_eq (map_count (replace_cols σ) ds ∙ lists_length k.moved k.moved_most)) k.moved_most)
 
-    pub moved_perhaps : Perhaps s σ (record { written = 0; list = c }) (conjunction (map (replace_cols σ) ds))
+    pub moved_perhaps : Perhaps s σ (record { written = None; list = c }) (conjunction (map (replace_cols σ) ds))
     moved_perhaps = list_perhaps c (map (replace_cols σ) ds) moved_small h
 
 pub pushed_is : (f : Plan → Plan) (q : Plan) (us ds : List Expr)

@@ -1,6 +1,6 @@
 -- The conjuncts over a plan, divided: which move over each kind, and that the definition moves the same.
 --     takes-..         the input of each kind of plan
---     divides_of       the lists that `select` makes
+--     divides_of       the lists that `select_side` makes
 --     ..-groups        over an Aggregate
 --     ..-pushed, project_kept   what the definition answers
 -- Assumes nothing.
@@ -32,7 +32,6 @@ use Rattle.conjuncts.specs.Standing.{StandingP}
 use Rattle.conjuncts.proofs.Listed.{lists_none, known_of}
 use Rattle.writing.proofs.Maps.{plan_none}
 use Rattle.push_down_base.specs.Predicates.{Predicate}
-use Rattle.push_down_base.specs.Parting.{agrees}
 use Rattle.push_down_base.specs.Arms.{Shaped, Placed, Takes}
 use Rattle.push_down_arms.specs.Divided.{Divided, Singles, Divides, pushed}
 use Rattle.push_down_arms.specs.Movable.{may_move, entry_first}
@@ -92,15 +91,15 @@ module _ {s : List ℕ} {p : Predicate} {e : Expr} (h : Shaped s p e) where
   kept_small : {c : Conjuncts} (f : Expr → Bool) → Lists s c (keep f (split_conjunction e)) → c.len ≤ max_list
   kept_small f l = (known_of l (omega (arith, keep_length f (split_conjunction e), few h))).most
 
-  pub divides_of : {d : Divided} (t : Name → Bool) → Lists s d.kept (keep (agrees false t) (split_conjunction e))
-      → Lists s d.moved (keep (agrees true t) (split_conjunction e)) → Divides s d (stay (on_cols t) e) (move (on_cols t) e)
+  pub divides_of : {d : Divided} (t : Name → Bool) → Lists s d.kept (keep (λ a. not (on_cols t a)) (split_conjunction e))
+      → Lists s d.moved (keep (on_cols t) (split_conjunction e)) → Divides s d (stay (on_cols t) e) (move (on_cols t) e)
   divides_of t k m = record {
     kept = k;
-    kept_most = kept_small (agrees false t) k;
-    kept_single = All-keep (agrees false t) (singles e);
+    kept_most = kept_small (λ a. not (on_cols t a)) k;
+    kept_single = All-keep (λ a. not (on_cols t a)) (singles e);
     moved = m;
-    moved_most = kept_small (agrees true t) m;
-    moved_single = All-keep (agrees true t) (singles e);
+    moved_most = kept_small (on_cols t) m;
+    moved_single = All-keep (on_cols t) (singles e);
   }
 
 -- ---- over an Aggregate

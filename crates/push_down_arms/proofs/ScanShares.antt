@@ -80,6 +80,9 @@ module _ {s : List ℕ} {x : ℕ} {p : Predicate} {e : Expr} {t : ℕ} {fs : Lis
   pub lasting_few : length (non_volatile_filters e) ≤ max_list
   lasting_few = omega (arith, few h.shaped, keep_length (λ a. not (is_volatile_expr a)) (split_conjunction e))
 
+  pub volatile_few : length (volatile_filters e) ≤ max_list
+  volatile_few = omega (arith, few h.shaped, keep_length (λ a. is_volatile_expr a) (split_conjunction e))
+
   pub taken_few : length (supported_filters fs e) ≤ max_list
   taken_few = omega (arith, lasting_few, keep_length (λ a. supports_pushdown fs a) (non_volatile_filters e))
 

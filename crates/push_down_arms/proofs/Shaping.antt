@@ -5,6 +5,7 @@ use mathlib.Core.Path.{◌≡◌, refl, sym}
 use mathlib.Core.List.{List, [], ◌∷◌}
 use mathlib.Core.Option.{some}
 use lib.ListN.{length}
+use Rattle.std.specs.Prelude.{None}
 use Rattle.image.specs.Limits.{max_list}
 use Rattle.plan.specs.Syntax.{Name, Expr, Plan}
 use Rattle.rewrite.specs.Utils.{split_conjunction, conjoin, conjunction, with_filters}
@@ -26,11 +27,11 @@ under_list (e ∷ es) p = refl
 
 -- a list that is joined anew
 pub list_perhaps : {s : List ℕ} {σ : Name → Expr} (c : Conjuncts) (es : List Expr) → c.len ≤ max_list → Pushes s σ c es
-    → Perhaps s σ (record { written = 0; list = c }) (conjunction es)
+    → Perhaps s σ (record { written = None; list = c }) (conjunction es)
 unfolding conjunction
 list_perhaps c [] small h = gone refl (sym (pushes_length h small))
 list_perhaps c (e ∷ es) small h =
-    left (record { item = λ nz. absurd (nz refl); list = λ z. record { first = e; others = es; pushes = h; is = refl } })
+    left (record { item = λ n i. cc; list = λ z. record { first = e; others = es; pushes = h; is = refl } })
     (λ z. omega (arith, pushes_length h small))
 
 -- an expression that stands at a record that is not the first is an item
@@ -44,7 +45,10 @@ joins_back x xs h = cc
 -- a predicate in its shape, its columns as they are
 pub shaped_predicate : {s : List ℕ} {p : Predicate} {e : Expr} (σ : Name → Expr) → Shaped s p e → W.Predicate s σ p.written p.list e
 shaped_predicate {s} {p} {e} σ h =
-    record { item = λ nz. pushed_plain (standing_item (h.stands nz) nz); list = λ z. go (split_conjunction e) h.listed (h.joined z) (split_some e) }
+    record {
+      item = λ n i. let k = h.stands n i in pushed_plain (standing_item k.1 (λ z. omega (arith, k.0)));
+      list = λ z. go (split_conjunction e) h.listed (h.joined z) (split_some e);
+    }
   where
     go : (es : List Expr) → Lists s p.list es → conjunction es ≡ some e → 1 ≤ length es → Joined s σ p.list e
     go [] l k m = absurd (omega arith)

@@ -1,12 +1,11 @@
 -- Which conjuncts a scan takes, and what its fields' records say of that.
---     told_is                      the code's test of one item
 --     supports_none, -some         a conjunct without columns, and one with columns
 --     field_room, field_bit        the record of a field, and its mark
 --     marked_place                 a column is marked exactly if its field is: no field's name is repeated
 --     scan_fields, ..              of a scan that stands in an image: where its fields stand, that they are few, and their set
 -- Assumes nothing.
 use mathlib.Core.Path.{◌≡◌, refl, sym, ap, ◌∙◌}
-use mathlib.Core.Bool.{Bool, true, false, not, ◌||◌, beq}
+use mathlib.Core.Bool.{Bool, true, false, not, ◌||◌}
 use mathlib.Core.List.{List, [], ◌∷◌, map}
 use Prim.Native.Nat.{ℕ, zero, suc, ◌+◌, ◌*◌, ◌≤◌, ◌<◌}
 use native.Mathlib.Omega.{arith}
@@ -29,17 +28,11 @@ use Rattle.rewrite.specs.PushDownFilter.{marked}
 use Rattle.utils.specs.Masks.{name_at, Masks}
 use Rattle.utils.proofs.Marking.{has_at}
 use Rattle.push_down_base.specs.Arms.{Placed}
-use Rattle.push_down_arms.specs.Scans.{told, supports}
+use Rattle.push_down_arms.specs.Scans.{supports}
 use Rattle.push_down_base.proofs.Masking.{Marks, masks_start, masks_step, masks_end}
 use Rattle.push_down_base.proofs.Steps.{On, rest_trees, children}
 
 -- ---- one conjunct
-
-pub told_is : (yes v : Bool) (f : Expr → Bool) (e : Expr) → v ≡ f e → told yes f e ≡ beq v yes
-told_is true true f e h = sym h
-told_is true false f e h = sym h
-told_is false true f e h = ap not (sym h)
-told_is false false f e h = ap not (sym h)
 
 module _ (t : Name → Bool) (e : Expr) where
   pub supports_none : {b : Bool} → b ≡ on_cols (λ x. false) e → b ≡ true → false ≡ supports t e

@@ -1,5 +1,5 @@
 -- A Filter over a TableScan: which of its conjuncts the scan takes.
-use Rattle.std.specs.Prelude.{◌≡◌, Bool, true, false, not, List, [], ◌∷◌, ◌++◌, ℕ, length}
+use Rattle.std.specs.Prelude.{◌≡◌, Bool, not, List, [], ◌∷◌, ◌++◌, ℕ, length}
 use Rattle.image.specs.Tree.{Label}
 use Rattle.plan.specs.Kinds.{number_q, FieldPart}
 use Rattle.plan.specs.Columns.{on_cols}
@@ -12,11 +12,6 @@ use Rattle.conjuncts.specs.Items.{Conjuncts, Item, Lists}
 use Rattle.conjuncts.specs.Standing.{Stretch}
 use Rattle.push_down_base.specs.Predicates.{Predicate}
 use Rattle.push_down_base.specs.Arms.{Placed, Rests}
-
--- those that pass the test, or those that do not
-abbrev pub told : Bool → (Expr → Bool) → Expr → Bool
-told true f = f
-told false f = λ e. not (f e)
 
 -- it has a column, and all its columns pass the test: `supports_pushdown fs` is `supports (marked fs)`
 abbrev pub supports : (Name → Bool) → Expr → Bool

@@ -18,9 +18,9 @@ ghost use Rattle.push_down_arms.specs.Movable.{may_move};
 use crate::contain::movable;
 use crate::replaced::changed;
 use crate::with_filters::write_over;
-use conjuncts::lists::{Conjuncts, add, empty, item_at};
+use conjuncts::lists::{Conjuncts, add, empty};
 use conjuncts::split_conjunction::split_at;
-use image::limits::{MAX_DEPTH, MAX_LIST, NO_ROOM};
+use image::limits::{MAX_DEPTH, NO_ROOM};
 use image::records::record_at;
 use push_down_base::inputs::last_child;
 use push_down_base::parting::select_side;
@@ -62,15 +62,11 @@ fn is_over(s: &[u8], part: &[u8], x: usize, c: Conjuncts) -> bool
     ensures { (es : List Expr) (p : Plan) → Lists s.now c es → Singles es → StandingP s.now x p →
         result ≡ ltb max_list (parts (map_of p) es) }
 {
-    let n = c.len;
     let mut r = empty();
-    let mut i = 0;
-    while i < n {
-        r = add_replaced(s, part, x, item_at(c, i), r);
-        i += 1;
+    for n in c.items() {
+        r = add_replaced(s, part, x, usize::from(*n), r);
     }
-    let total = r.len;
-    MAX_LIST < total
+    r.is_too_long()
 }
 
 // Parts the conjuncts of the predicate over the plan at record x by whether they may move below it.
@@ -83,10 +79,8 @@ pub fn divide(s: &[u8], part: &[u8], x: usize, p: Predicate) -> Divided
     let list = p.list;
     let fields = schema_columns(part, x, MAX_DEPTH, no_fields());
     let side = movable(part, x, MAX_DEPTH, fields);
-    Divided {
-        kept: select_side(s, list, fields, side, false),
-        moved: select_side(s, list, fields, side, true),
-    }
+    let (moved, kept) = select_side(s, list, fields, side);
+    Divided { kept, moved }
 }
 
 // A Filter over a plan with one input: what moves goes below, over the expressions that the plan's entries name, and what stays is joined
@@ -117,14 +111,8 @@ pub fn push_some(
         };
     }
     let y = last_child(part, x);
-    let above = Predicate {
-        written: 0,
-        list: kept,
-    };
-    let below = Predicate {
-        written: 0,
-        list: changed(moved),
-    };
+    let above = Predicate::joined(kept);
+    let below = Predicate::joined(changed(moved));
     let next = write_over(s, part, x, above, below, y, out, at, level);
     Written { next, flag }
 }

@@ -10,7 +10,7 @@ ghost use Rattle.push_down_base.specs.Arms.{Shaped, Shapely};
 ghost use Rattle.push_down_base.specs.Predicates.{Listing, Perhaps};
 
 use conjuncts::items::REPLACED;
-use conjuncts::lists::{Conjuncts, add, empty, item_at};
+use conjuncts::lists::{Conjuncts, add, empty};
 use push_down_base::predicates::Predicate;
 
 // The items of a list, their columns to be replaced.
@@ -18,12 +18,9 @@ pub fn changed(c: Conjuncts) -> Conjuncts
     requires { Listing c }
     ensures { (s : List ℕ) (σ : Name → Expr) (es : List Expr) → Lists s c es → Pushes s σ result (map (replace_cols σ) es) }
 {
-    let n = c.len;
     let mut r = empty();
-    let mut i = 0;
-    while i < n {
-        r = add(r, item_at(c, i) + REPLACED);
-        i += 1;
+    for n in c.items() {
+        r = add(r, usize::from(*n) + REPLACED);
     }
     r
 }
@@ -35,14 +32,11 @@ pub fn changed_predicate(p: Predicate) -> Predicate
         Perhaps s σ result (some (replace_cols σ e))) }
 {
     let list = p.list;
-    if p.written == 0 {
-        return Predicate {
-            written: 0,
-            list: changed(list),
-        };
-    }
-    Predicate {
-        written: p.written + REPLACED,
-        list,
+    match p.written {
+        Some(n) => Predicate {
+            written: Some(n + REPLACED),
+            list,
+        },
+        None => Predicate::joined(changed(list)),
     }
 }

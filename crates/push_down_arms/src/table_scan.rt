@@ -1,6 +1,6 @@
 // The arm TableScan (1118 to 1195): the conjuncts that the scan takes join its filters, the rest stays above, volatile ones last.
 // `part` is the scan at record x, as its stretch of the image.
-ghost use Rattle.std.specs.Prelude.{◌≡◌, Bool, true, ◌++◌, List, ◌<◌, ◌≤◌, ℕ, length};
+ghost use Rattle.std.specs.Prelude.{◌≡◌, Bool, true, not, ◌++◌, List, ◌<◌, ◌≤◌, ℕ, length};
 ghost use Rattle.image.specs.Buffers.{BufferAt};
 ghost use Rattle.image.specs.Limits.{max_fields, max_records};
 ghost use Rattle.image.specs.Records.{recs_any};
@@ -20,11 +20,12 @@ ghost use Rattle.utils.specs.Masks.{Masks};
 ghost use Rattle.writing.specs.Plans.{ThereP};
 ghost use Rattle.push_down_base.specs.Arms.{Answers, Arm, Placed, Rests};
 ghost use Rattle.push_down_base.specs.Around.{WroteAll};
-ghost use Rattle.push_down_arms.specs.Scans.{Adds, OverScan, ScanHere, Shares, SomeScan, supports, told};
+ghost use Rattle.push_down_base.specs.Predicates.{Listing};
+ghost use Rattle.push_down_arms.specs.Scans.{Adds, OverScan, ScanHere, Shares, SomeScan, supports};
 
 use crate::through::keep_filter;
 use crate::with_filters::copy_some;
-use conjuncts::lists::{Conjuncts, add, add_if, empty, item_at};
+use conjuncts::lists::{Conjuncts, add, empty};
 use conjuncts::unique::unique;
 use conjuncts::volatility::is_volatile;
 use image::copying::put_kind;
@@ -33,6 +34,7 @@ use image::records::{FIRST_LINK, KIND, LO, NEXT_LINK, from_record};
 use image::words::word_at;
 use plan::kinds::{FIELD, FILTER};
 use plan::words::MARKED;
+use push_down_base::parting::partition;
 use push_down_base::predicates::{Predicate, Written};
 use utils::has_all_column_refs::columns_at;
 use utils::schema_columns::{Fields, no_fields, schema_columns};
@@ -54,45 +56,39 @@ pub fn supports_filters_pushdown(s: &[u8], n: usize, fields: Fields, marked: Fie
     columns.is_within(marked)
 }
 
-// Appends to `into` the conjuncts of c that are volatile, or those that are not.
-fn add_volatile(s: &[u8], into: Conjuncts, c: Conjuncts, volatile: bool) -> Conjuncts
+// The conjuncts of c that are volatile, and those that are not.
+fn part_volatile(s: &[u8], c: Conjuncts) -> (Conjuncts, Conjuncts)
     requires { Known s.now c }
-    ensures { (ds es : List Expr) → Lists s.now into ds → Lists s.now c es →
-        Lists s.now result (ds ++ keep (told volatile is_volatile_expr) es) }
+    ensures { (es : List Expr) → Lists s.now c es →
+        Lists s.now result.0 (keep is_volatile_expr es) × Lists s.now result.1 (keep (λ e. not (is_volatile_expr e)) es) }
 {
-    let n = c.len;
-    let mut r = into;
-    let mut i = 0;
-    while i < n {
-        let x = item_at(c, i);
-        let yes = is_volatile(s, x) == volatile;
-        r = add_if(r, x, yes);
-        i += 1;
-    }
-    r
+    partition(c, |n| is_volatile(s, n))
 }
 
-// The conjuncts of c that the scan takes, or those that it leaves.
-fn select_supported(
+// The conjuncts of c that the scan takes, and those that it leaves.
+fn part_supported(
     s: &[u8],
     c: Conjuncts,
     fields: Fields,
     marked: FieldSet,
-    taken: bool,
-) -> Conjuncts
+) -> (Conjuncts, Conjuncts)
     requires known { Known s.now c }
     requires len_le_max_fields { fields.len ≤ max_fields }
     ensures { (es : List Expr) (ns : List Name) (t : Name → Bool) → Lists s.now c es → Names fields ns →
-        All (λ e. on_cols (has ns) e ≡ true) es → Masks marked ns t → Lists s.now result (keep (told taken (supports t)) es) }
+        All (λ e. on_cols (has ns) e ≡ true) es → Masks marked ns t →
+        Lists s.now result.0 (keep (supports t) es) × Lists s.now result.1 (keep (λ e. not (supports t e)) es) }
 {
-    let n = c.len;
-    let mut r = empty();
-    let mut i = 0;
-    while i < n {
-        let x = item_at(c, i);
-        let yes = supports_filters_pushdown(s, x, fields, marked) == taken;
-        r = add_if(r, x, yes);
-        i += 1;
+    partition(c, |n| supports_filters_pushdown(s, n, fields, marked))
+}
+
+// Appends the conjuncts of c.
+fn extend(into: Conjuncts, c: Conjuncts) -> Conjuncts
+    requires { Listing c }
+    ensures { (s : List ℕ) (ds es : List Expr) → Lists s into ds → Lists s c es → Lists s result (ds ++ es) }
+{
+    let mut r = into;
+    for n in c.items() {
+        r = add(r, usize::from(*n));
     }
     r
 }
@@ -104,11 +100,9 @@ fn marked_fields(part: &[u8], x: usize, k: usize) -> FieldSet
         Placed s x (scan t fs es) → k ≡ length fs → Masks result (schema (scan t fs es)) (marked fs) }
 {
     let mut set = FieldSet::empty();
-    let mut i = 0;
-    while i < k {
+    for i in 0..k {
         let field = from_record(part, x, x + 1 + i);
         set = set.mark(i, word_at(field, LO) == MARKED);
-        i += 1;
     }
     set
 }
@@ -132,14 +126,12 @@ pub fn share_of(s: &[u8], part: &[u8], x: usize, p: Predicate) -> Share
     let fields = schema_columns(part, x, MAX_DEPTH, no_fields());
     let k = fields.len;
     let marked = marked_fields(part, x, k);
-    let lasting = add_volatile(s, empty(), list, false);
-    let taken = select_supported(s, lasting, fields, marked, true);
-    let rest = select_supported(s, lasting, fields, marked, false);
-    let left = add_volatile(s, rest, list, true);
+    let (volatile, lasting) = part_volatile(s, list);
+    let (taken, rest) = part_supported(s, lasting, fields, marked);
     Share {
         fields: k,
         taken,
-        left,
+        left: extend(rest, volatile),
     }
 }
 
@@ -186,12 +178,9 @@ fn copy_items(
     ensures { (es : List Expr) → Lists s.now c es →
         WroteAll out.old out.new at result (recs_any level (each label_e kids_e es none)) }
 {
-    let n = c.len;
     let mut to = at;
-    let mut i = 0;
-    while i < n {
-        to = copy_item(s, part, x, MAX_DEPTH, item_at(c, i), out, to, level);
-        i += 1;
+    for n in c.items() {
+        to = copy_item(s, part, x, MAX_DEPTH, usize::from(*n), out, to, level);
     }
     to
 }

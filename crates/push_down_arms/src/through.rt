@@ -60,10 +60,7 @@ pub fn push_filter(
         Answers out.old out.new at level result (transformed_yes (f (filter e q))) }
 {
     let y = last_child(part, x);
-    let nothing = Predicate {
-        written: 0,
-        list: empty(),
-    };
+    let nothing = Predicate::joined(empty());
     let next = write_over(s, part, x, nothing, p, y, out, at, level);
     Written { next, flag: true }
 }

@@ -22,7 +22,7 @@ use image::limits::MAX_DEPTH;
 use image::records::{FIRST_LINK, NEXT_LINK, from_record};
 use image::words::word_at;
 use plan::kinds::FILTER;
-use push_down_base::predicates::{Predicate, is_gone};
+use push_down_base::predicates::Predicate;
 use writing::conjunction::copy_predicate;
 use writing::make_filter::make_filter;
 
@@ -74,7 +74,7 @@ fn with_filters(
         (q : Plan) → At (plan_tree q) input.now y →
         Wrote out.old out.new at level result (plan_tree (under o q)) }
 {
-    if is_gone(p) {
+    if p.is_gone() {
         return copy_tree(input, y, MAX_DEPTH, out, at, level);
     }
     let list = p.list;
@@ -129,7 +129,7 @@ pub fn write_over(
         StandingP s.now x (f q) → StandingP s.now y q →
         Wrote out.old out.new at level result (plan_tree (under a (f (under b q)))) }
 {
-    if is_gone(above) {
+    if above.is_gone() {
         return write_below(s, part, x, below, y, out, at, level);
     }
     let list = above.list;

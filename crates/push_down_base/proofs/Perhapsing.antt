@@ -6,13 +6,20 @@ use mathlib.Core.Bool.{Bool, true, false, ◌&&◌}
 use mathlib.Core.List.{List}
 use mathlib.Core.Option.{Option, none, some}
 use lib.Dec.{eqb}
+use Rattle.std.specs.Prelude.{Option as Maybe, Some, None}
+use Rattle.std.specs.Option.{is_none}
 use borrow.Author.Tests.{eqb-true}
 use Rattle.plan.specs.Syntax.{Name, Expr}
 use Rattle.writing.specs.Pushed as W
 use Rattle.push_down_base.specs.Predicates.{Predicate, Perhaps, gone, left, Writable}
 
 abbrev pub is_gone : Predicate → Bool
-is_gone p = eqb p.written 0 && eqb p.list.len 0
+is_gone p = is_none p.written && eqb p.list.len 0
+
+-- there is none, or one
+pub none_is : (o : Maybe ℕ) → is_none o ≡ true → o ≡ None
+none_is None h = refl
+none_is (Some n) h = cc
 
 pub both : (a b : Bool) → (a && b) ≡ true → (a ≡ true) × (b ≡ true)
 both true b h = (refl, h)
@@ -32,8 +39,8 @@ module _ {s : List ℕ} {σ : Name → Expr} {p : Predicate} where
   pub none_left : {o : Option Expr} → Perhaps s σ p o → is_gone p ≡ true → o ≡ none
   none_left (gone w l) h = refl
   none_left (left x f) h =
-      let k = both (eqb p.written 0) (eqb p.list.len 0) h in
-      let w = eqb-true p.written 0 k.0 in
+      let k = both (is_none p.written) (eqb p.list.len 0) h in
+      let w = none_is p.written k.0 in
       let l = eqb-true p.list.len 0 k.1 in
       absurd (omega (arith, f w))
 

@@ -1,18 +1,19 @@
 -- A list parted, item by item.
-use Prim.Native.Nat.{ℕ, zero, suc, ◌<◌}
+use Prim.Native.Nat.{ℕ, zero, suc, ◌<◌, ◌≤◌}
 use native.Mathlib.Omega.{arith}
-use mathlib.Core.Path.{◌≡◌, refl, sym, ap}
-use mathlib.Core.Bool.{Bool, true, false, not, beq}
-use mathlib.Core.List.{List, [], ◌∷◌, ◌++◌}
-use lib.ListN.{length, get_or, drop}
+use mathlib.Core.Path.{◌≡◌, refl, ap}
+use mathlib.Core.Bool.{Bool, true, false, not}
+use mathlib.Core.List.{List, [], ◌∷◌}
+use lib.ListN.{length, get_or}
 use Rattle.plan.specs.Syntax.{Name, Expr}
 use Rattle.plan.specs.Columns.{on_cols}
 use Rattle.plan.specs.Lists.{put, keep, All, anil, acons}
 use Rattle.plan.specs.Schema.{has}
 use Rattle.plan.proofs.Lists.{keep_all}
 use Rattle.rewrite.specs.PushDownFilter.{push_to, push_not}
-use Rattle.conjuncts.specs.Items.{FALSE, Conjuncts, Lists}
-use Rattle.push_down_base.specs.Parting.{agrees}
+use Rattle.conjuncts.specs.Items.{FALSE, Conjuncts, Lists, listed}
+use Rattle.conjuncts.proofs.Listed.{lists_length, lists_room}
+use Rattle.image.specs.Limits.{max_list}
 
 -- what holds of all holds at a place
 pub all_at : {P : Expr → Type 0} {es : List Expr} (i : ℕ) → All P es → i < length es → P (get_or es i FALSE)
@@ -20,18 +21,10 @@ all_at i anil lt = absurd (omega arith)
 all_at zero (acons h hs) lt = h
 all_at (suc i) (acons h hs) lt = all_at i hs (omega arith)
 
--- the code's test of one item
-pub agrees_is : (inside v : Bool) (t : Name → Bool) (e : Expr) → v ≡ on_cols t e → agrees inside t e ≡ beq v inside
-agrees_is true true t e h = sym h
-agrees_is true false t e h = sym h
-agrees_is false true t e h = ap not (sym h)
-agrees_is false false t e h = ap not (sym h)
-
--- so much is listed, and the rest completes it
-pub record Kept (s : List ℕ) (r : Conjuncts) (test : Expr → Bool) (es : List Expr) (i : ℕ) : Type 0 where
-  pub done : List Expr
-  pub lists : Lists s r done
-  pub is : done ++ keep test (drop i es) ≡ keep test es
+-- a walk along the items of a list that has met them all has met each expression
+pub walk_past : {s : List ℕ} {c : Conjuncts} {es : List Expr} → Lists s c es → c.len ≤ max_list → {items : List ℕ} → items ≡ listed c
+    → {i : ℕ} → length items ≤ i → length es ≤ i
+walk_past h small is le = omega (arith, le, ap length is, lists_room h small, lists_length h small)
 
 -- ---- what moves to a side that is preserved, or not
 

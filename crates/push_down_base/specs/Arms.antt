@@ -1,5 +1,5 @@
 -- What the code of a rewrite is asked and answers: a predicate that rests on a plan of the image, and the plan that is written for both.
-use Rattle.std.specs.Prelude.{◌≡◌, true, List, ℕ, ◌+◌, ◌≤◌, ◌<◌, length}
+use Rattle.std.specs.Prelude.{◌≡◌, true, Some, None, List, ℕ, ◌+◌, ◌≤◌, ◌<◌, length}
 use Rattle.std.proofs.Math.Option.{some}
 use Rattle.image.specs.Limits.{Shallow, map_bytes, max_list, no_room, work_bytes}
 use Rattle.image.specs.Buffers.{BufferAt}
@@ -22,8 +22,8 @@ use Rattle.push_down_base.specs.declared.predicates.Written as declared
 pub record Shaped (s : List ℕ) (p : Predicate) (e : Expr) : Type 0 where
   pub listed : Lists s p.list (split_conjunction e)
   pub most : p.list.len ≤ max_list
-  pub stands : (p.written ≡ 0 → ⊥) → Standing s p.written e
-  pub joined : p.written ≡ 0 → conjunction (split_conjunction e) ≡ some e
+  pub stands : (n : ℕ) → p.written ≡ Some n → (0 < n) × Standing s n e
+  pub joined : p.written ≡ None → conjunction (split_conjunction e) ≡ some e
 
 -- p is some predicate of some image
 pub record Shapely (p : Predicate) : Type 0 where

@@ -1,5 +1,5 @@
 -- What the code's predicates stand for.
-use Rattle.std.specs.Prelude.{◌≡◌, List, ℕ, ◌≤◌, ◌<◌}
+use Rattle.std.specs.Prelude.{◌≡◌, None, List, ℕ, ◌≤◌, ◌<◌}
 use Rattle.std.proofs.Math.Option.{Option, none, some}
 use Rattle.image.specs.Limits.{max_list}
 use Rattle.plan.specs.Syntax.{Name, Expr}
@@ -14,8 +14,8 @@ Predicate = declared.Predicate
 
 -- what is written for a predicate, where columns are replaced by σ: nothing, or an expression
 pub data Perhaps (s : List ℕ) (σ : Name → Expr) (p : Predicate) : Option Expr → Type 0 where
-  gone : p.written ≡ 0 → p.list.len ≡ 0 → Perhaps s σ p none
-  left : {e : Expr} → W.Predicate s σ p.written p.list e → (p.written ≡ 0 → 0 < p.list.len) → Perhaps s σ p (some e)
+  gone : p.written ≡ None → p.list.len ≡ 0 → Perhaps s σ p none
+  left : {e : Expr} → W.Predicate s σ p.written p.list e → (p.written ≡ None → 0 < p.list.len) → Perhaps s σ p (some e)
 
 -- something or nothing is written for a predicate by way of the map at m, and its list is whole
 pub record Writable (s m : List ℕ) (of room : ℕ) (p : Predicate) : Type 0 where

@@ -32,7 +32,8 @@ pub fn infer_join_predicates(s: &[u8], c: Conjuncts, sc: &Scope, kind: JoinKind)
         Reads s.now (l ++ r) result (keyed (is_inner (join_of kind)) on es) }
 {
     if is_inner(kind) {
-        return select_side(s, c, sc.fields, sc.alone, false);
+        let (_, keyed) = select_side(s, c, sc.fields, sc.alone);
+        return keyed;
     }
     empty()
 }

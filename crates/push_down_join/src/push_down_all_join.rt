@@ -33,7 +33,7 @@ use image::words::word_at;
 use plan::kinds::FIRST_PLAN;
 use plan::words::JoinKind;
 use push_down_base::inputs::last_child;
-use push_down_base::parting::{push_not, push_to, select_side};
+use push_down_base::parting::{push_to, select_side};
 use push_down_base::predicates::{Predicate, Written};
 use utils::schema_columns::Fields;
 use utils::sets::FieldSet;
@@ -102,18 +102,19 @@ fn parts_of(s: &[u8], c: Conjuncts, sc: &Scope, sides: Preserved, kind: JoinKind
     ensures { (l r : List Name) (on : List Pair) (es : List Expr) → Scopes sc.now l r on → Reads s.now (l ++ r) c es →
         PartsOf s.now sides.left sides.right (is_inner (join_of kind)) l r on es result }
 {
-    let stay = push_not(s, c, sc.fields, sc.left, sides.left);
-    let rest = push_not(s, stay, sc.fields, sc.right, sides.right);
+    let (to_left, stay) = push_to(s, c, sc.fields, sc.left, sides.left);
+    let (to_right, rest) = push_to(s, stay, sc.fields, sc.right, sides.right);
     let keyed = infer_join_predicates(s, c, sc, kind);
-    let keyed_stay = select_side(s, keyed, sc.fields, sc.leftward, false);
+    let (keyed_left, keyed_stay) = select_side(s, keyed, sc.fields, sc.leftward);
+    let (keyed_right, _) = select_side(s, keyed_stay, sc.fields, sc.rightward);
     let left = Part {
-        moved: push_to(s, c, sc.fields, sc.left, sides.left),
-        keyed: select_side(s, keyed, sc.fields, sc.leftward, true),
+        moved: to_left,
+        keyed: keyed_left,
         rest: if_list(sides.left, rest),
     };
     let right = Part {
-        moved: push_to(s, stay, sc.fields, sc.right, sides.right),
-        keyed: select_side(s, keyed_stay, sc.fields, sc.rightward, true),
+        moved: to_right,
+        keyed: keyed_right,
         rest: if_list(sides.right, rest),
     };
     Parts { left, right, rest }

@@ -1,4 +1,5 @@
 -- Laws of predicates that are read, simplified and merged.
+use Rattle.std.specs.Prelude.{Some, None}
 use mathlib.Core.Path.{◌≡◌, refl, sym, ap, subst, ◌∙◌}
 use mathlib.Core.Bool.{Bool, true, false, not, ◌||◌}
 use mathlib.Core.List.{List}
@@ -44,16 +45,16 @@ module _ {s : List ℕ} where
 
   -- a predicate as it is written
   pub shaped_written : {n : ℕ} {c : Conjuncts} {e : Expr} → 0 < n → Standing s n e → Lists s c (split_conjunction e)
-      → length (split_conjunction e) ≤ max_list → Shaped s (record { written = n; list = c }) e
-  shaped_written past h l few =
-      record { listed = l; most = (known_of l few).most; stands = λ f. h; joined = λ z. absurd (omega arith) }
+      → length (split_conjunction e) ≤ max_list → Shaped s (record { written = Some n; list = c }) e
+  shaped_written {n} past h l few =
+      record { listed = l; most = (known_of l few).most; stands = λ m i. let z : n ≡ m = cc in rw (← z) (past, h); joined = λ z. cc }
 
   -- a predicate made of a list, if there is any
-  pub made_of : {c : Conjuncts} {es : List Expr} {e : Expr} → Joins es e → Lists s c es → Made s (record { written = 0; list = c }) e
+  pub made_of : {c : Conjuncts} {es : List Expr} {e : Expr} → Joins es e → Lists s c es → Made s (record { written = None; list = c }) e
   made_of j l = record { anew = refl; listed = rw j.parts l; joined = rw j.parts j.whole }
 
   pub made_shaped : {p : Predicate} {e : Expr} → Made s p e → p.list.len ≤ max_list → Shaped s p e
-  made_shaped h few = record { listed = h.listed; most = few; stands = λ f. absurd (f h.anew); joined = λ z. h.joined }
+  made_shaped h few = record { listed = h.listed; most = few; stands = λ n i. let z = sym h.anew ∙ i in cc; joined = λ z. h.joined }
 
   -- ---- simplified
 
@@ -65,19 +66,19 @@ module _ {s : List ℕ} where
     few : length (renewed e).predicates ≤ max_list
     few = omega (arith, new_few (split_conjunction e), lists_length h.listed h.most, h.most)
 
-    new_remains : {c : Conjuncts} → Lists s c (renewed e).predicates → Remains s (record { written = 0; list = c }) (conjunction (renewed e).predicates)
+    new_remains : {c : Conjuncts} → Lists s c (renewed e).predicates → Remains s (record { written = None; list = c }) (conjunction (renewed e).predicates)
     new_remains {c} l = go (joined? (renewed e).predicates (new_plain e))
       where
         k : c.len ≤ max_list
         k = (known_of l few).most
 
-        go : {o : Option Expr} → Joined? (renewed e).predicates o → Remains s (record { written = 0; list = c }) o
+        go : {o : Option Expr} → Joined? (renewed e).predicates o → Remains s (record { written = None; list = c }) o
         go (none_left z) = nothing refl (sym (lists_length l k) ∙ ap length z)
         go (some_left j) = something (made_shaped (made_of j l) k)
 
     -- a new order
     pub simplified_moved : {c : Conjuncts} → Lists s c (renewed e).predicates × ((renewed e).changed ≡ true)
-        → Remains s (record { written = 0; list = c }) (simplify_filter e)
+        → Remains s (record { written = None; list = c }) (simplify_filter e)
     unfolding simplify_filter choose
     simplified_moved l = rw (l.1, or_true) (new_remains l.0)
 
@@ -92,7 +93,7 @@ module _ {s : List ℕ} where
       test_is = rw (lists_length h.listed h.most, lists_length there (known_of there few).most)
 
       -- fewer predicates
-      pub simplified_new : (p.list.len ≡ c.len → ⊥) → Remains s (record { written = 0; list = c }) (simplify_filter e)
+      pub simplified_new : (p.list.len ≡ c.len → ⊥) → Remains s (record { written = None; list = c }) (simplify_filter e)
       unfolding simplify_filter choose
       simplified_new n = rw (← test_is, ne_eqb _ _ n) (new_remains there)
 
@@ -104,12 +105,12 @@ module _ {s : List ℕ} where
   -- ---- merged
 
   pub merge_made : {c : Conjuncts} (e b : Expr) {m : Expr} → conjunction (merged e b) ≡ some m → Lists s c (merged e b)
-      → Made s (record { written = 0; list = c }) m
+      → Made s (record { written = None; list = c }) m
   merge_made {c} e b {m} i l = go (joined? (merged e b) (merged_plain e b)) i
     where
-      go : {o : Option Expr} → Joined? (merged e b) o → o ≡ some m → Made s (record { written = 0; list = c }) m
+      go : {o : Option Expr} → Joined? (merged e b) o → o ≡ some m → Made s (record { written = None; list = c }) m
       go (none_left z) i = let z : ◌≡◌ {A = ℕ} 0 1 = cc in absurd (omega arith)
-      go (some_left {e = x} j) i = let k : x ≡ m = cc in subst (λ y. Made s (record { written = 0; list = c }) y) k (made_of j l)
+      go (some_left {e = x} j) i = let k : x ≡ m = cc in subst (λ y. Made s (record { written = None; list = c }) y) k (made_of j l)
 
   -- ---- the parts of a Filter
 

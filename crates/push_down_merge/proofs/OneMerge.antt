@@ -1,4 +1,5 @@
 -- One merge of two Filters.
+use Rattle.std.specs.Option.{is_none}
 use mathlib.Core.Path.{◌≡◌, refl, sym, ap, subst, ◌∙◌}
 use mathlib.Core.Bool.{Bool, true, false}
 use mathlib.Core.List.{List, [], ◌∷◌, ◌++◌}
@@ -44,7 +45,7 @@ module _ {s : List ℕ} {p : Predicate} where
   pub leaves_none : {o : Option Expr} → Remains s p o → is_gone p ≡ true → o ≡ none
   leaves_none (nothing w l) h = refl
   leaves_none (something {e = e} x) h =
-      let z = eqb-true p.list.len 0 (both (eqb p.written 0) (eqb p.list.len 0) h).1 in
+      let z = eqb-true p.list.len 0 (both (is_none p.written) (eqb p.list.len 0) h).1 in
       absurd (omega (arith, lists_length x.listed x.most, split_some e))
 
   pub leaves_some : {o : Option Expr} → Remains s p o → is_gone p ≡ false → Leaves s p o

@@ -37,7 +37,7 @@ use Rattle.push_down_base.proofs.Steps.{stands_there}
 pub made_predicate : {s : List ℕ} {p : Predicate} {e : Expr} (σ : Name → Expr) → Made s p e → W.Predicate s σ p.written p.list e
 unfolding conjunction
 made_predicate {s} {p} {e} σ h =
-    record { item = λ f. absurd (f h.anew); list = λ z. go (split_conjunction e) h.joined h.listed }
+    record { item = λ n i. let z = sym h.anew ∙ i in cc; list = λ z. go (split_conjunction e) h.joined h.listed }
   where
     go : (es : List Expr) → conjunction es ≡ some e → Lists s p.list es → W.Joined s σ p.list e
     go [] i l = let z : ◌≡◌ {A = ℕ} 0 1 = cc in absurd (omega arith)

@@ -1,5 +1,5 @@
 -- What the merging of Filters is asked and answers: predicates that are simplified and merged, and the plan after a merge.
-use Rattle.std.specs.Prelude.{◌≡◌, Bool, true, false, List, ℕ, ◌+◌, ◌*◌, ◌≤◌, length, drop}
+use Rattle.std.specs.Prelude.{◌≡◌, None, Bool, true, false, List, ℕ, ◌+◌, ◌*◌, ◌≤◌, length, drop}
 use Rattle.std.proofs.Math.Option.{Option, none, some}
 use Rattle.image.specs.Word.{word}
 use Rattle.image.specs.Limits.{work_bytes, max_list}
@@ -17,12 +17,12 @@ use Rattle.push_down_base.specs.Arms.{Shaped}
 
 -- what is left of a predicate: nothing, and then no conjunct; or an expression
 pub data Remains (s : List ℕ) (p : Predicate) : Option Expr → Type 0 where
-  nothing : p.written ≡ 0 → p.list.len ≡ 0 → Remains s p none
+  nothing : p.written ≡ None → p.list.len ≡ 0 → Remains s p none
   something : {e : Expr} → Shaped s p e → Remains s p (some e)
 
 -- the code's predicate p is e, its conjuncts joined anew; perhaps there are too many of them
 pub record Made (s : List ℕ) (p : Predicate) (e : Expr) : Type 0 where
-  pub anew : p.written ≡ 0
+  pub anew : p.written ≡ None
   pub listed : Lists s p.list (split_conjunction e)
   pub joined : conjunction (split_conjunction e) ≡ some e
 

@@ -1,6 +1,6 @@
 // What PushDownFilter::rewrite does of a Filter before the match (799 to 832), and the arm Filter (835 to 850) up to where it calls the
 // rewrite again: a predicate is simplified, and merged with that of the Filter below.
-ghost use Rattle.std.specs.Prelude.{◌≡◌, List, ◌<◌, ◌≤◌, ℕ, is_ok, length};
+ghost use Rattle.std.specs.Prelude.{◌≡◌, true, is_some, List, ◌<◌, ◌≤◌, ℕ, is_ok, length};
 ghost use Rattle.std.proofs.Math.Option.{some};
 ghost use Rattle.image.specs.Buffers.{Scratch};
 ghost use Rattle.image.specs.Limits.{max_list, work_bytes};
@@ -49,25 +49,25 @@ pub fn predicate_at(s: &[u8], n: usize) -> Predicate
     ensures { (e : Expr) → Standing s.now n e → length (split_conjunction e) ≤ max_list → Shaped s.now result e }
 {
     let list = split_at(s, n, empty());
-    Predicate { written: n, list }
+    Predicate {
+        written: Some(n),
+        list,
+    }
 }
 
 // A Filter's predicate, simplified and reordered; as it is written where neither the count nor the order asks for a new one.
 pub fn simplify_filter(s: &[u8], p: Predicate) -> Predicate
     requires { Formed s.now p }
     ensures remains { (e : Expr) → Shaped s.now p e → Remains s.now result (simplify_filter e) }
-    ensures value { (result.written ≡ 0 → ⊥) → result ≡ p }
+    ensures value { is_some result.written ≡ true → result ≡ p }
 {
     let old = p.list;
     let simplified = simplify_predicates(s, old);
     if let Some(list) = reorder_predicates(s, simplified) {
-        return Predicate { written: 0, list };
+        return Predicate::joined(list);
     }
     if old.len != simplified.len {
-        return Predicate {
-            written: 0,
-            list: simplified,
-        };
+        return Predicate::joined(simplified);
     }
     p
 }
@@ -80,10 +80,7 @@ pub fn merge(s: &[u8], upper: Predicate, lower: Conjuncts) -> Predicate
         conjunction (merged e b) ≡ some m → Made s.now result m }
 {
     let list = upper.list;
-    Predicate {
-        written: 0,
-        list: unique(s, lower, list),
-    }
+    Predicate::joined(unique(s, lower, list))
 }
 
 // The record of the input of the Filter at the start of `part`, which is record x: what follows its predicate, right behind the Filter.

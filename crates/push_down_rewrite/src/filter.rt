@@ -19,7 +19,7 @@ use conjuncts::split_conjunction::split_at;
 use image::records::{KIND, from_record};
 use image::words::word_at;
 use plan::kinds::FILTER;
-use push_down_base::predicates::{Predicate, is_gone};
+use push_down_base::predicates::Predicate;
 use push_down_merge::filter::{TooLarge, filter_input, merge, merge_fits, simplify_filter};
 
 // What is left of a predicate, p, over `input`, the plan at record x, written in the place of record `node`.
@@ -64,7 +64,7 @@ pub fn rewrite_filter(
         Finishes work.new result c (merges (filter e q)) (rewrite (filter e q)) }
 {
     let left = simplify_filter(s, p);
-    if is_gone(left) {
+    if left.is_gone() {
         return resume_in_place(s, node, left, input, x, m, work, levels);
     }
     if word_at(input, KIND) == FILTER {

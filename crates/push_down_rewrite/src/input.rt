@@ -21,7 +21,7 @@ use push_down_arms::table_scan::rewrite_table_scan;
 use push_down_arms::through::rewrite_through;
 use push_down_arms::union::rewrite_union;
 use push_down_arms::window::rewrite_window;
-use push_down_base::predicates::{Predicate, Written, is_gone};
+use push_down_base::predicates::{Predicate, Written};
 use push_down_join::push_down_all_join::rewrite_join;
 
 // A predicate that rests on `input`, the plan at record x, which is no Filter.
@@ -83,7 +83,7 @@ pub fn resume(
     ensures { (o : Option Expr) (q : Plan) → Left s.now x p o q →
         Answers out.old out.new at level result (resume o (λ e. rewrite_filter e q) q) }
 {
-    if is_gone(p) {
+    if p.is_gone() {
         let next = copy_tree(input, x, MAX_DEPTH, out, at, level);
         return Written { next, flag: true };
     }

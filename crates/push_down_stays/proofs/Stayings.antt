@@ -1,7 +1,8 @@
 -- Why a plan that stays does: the laws that the decision cites.
+use Rattle.std.specs.Prelude.{Option as Maybe, Some, None, is_some}
 use Prim.Native.Nat.{ℕ}
 use native.Mathlib.Omega.{arith}
-use mathlib.Core.Path.{◌≡◌, refl, sym, ap, subst, ◌∙◌}
+use mathlib.Core.Path.{◌≡◌, refl, sym, ap, ◌∙◌}
 use mathlib.Core.Bool.{Bool, true, false, not}
 use mathlib.Core.List.{List, []}
 use mathlib.Core.Option.{Option, none, some}
@@ -277,18 +278,24 @@ same_standing {a = a} {b} h k = same_e_eq a b (sym (same_exprs a b h.fits k.fits
 -- x is left of it
 module _ {s : List ℕ} {p r : Predicate} {e x : Expr} (h : Shaped s p e) (i : simplify_filter e ≡ some x) (k : Shaped s r x) where
   -- as it is written
-  pub simple_written : (p.written ≡ 0 → ⊥) → r ≡ p → Says true (simplify_filter e ≡ some e)
-  simple_written nz same =
-      let at : Standing s p.written x = subst (λ (z : Predicate). Standing s z.written x) same
-      (k.stands (λ z. nz (ap (λ (q : Predicate). q.written) (sym same) ∙ z))) in
-      says_so (i ∙ ap some (same_standing at (h.stands nz)))
+  pub simple_written : is_some r.written ≡ true → r ≡ p → Says true (simplify_filter e ≡ some e)
+  simple_written w same = go r.written refl w
+    where
+      go : (o : Maybe ℕ) → r.written ≡ o → is_some o ≡ true → Says true (simplify_filter e ≡ some e)
+      go None m t = cc
+      go (Some n) m t =
+          says_so (i ∙ ap some (same_standing (k.stands n m).1 (h.stands n (ap (λ (q : Predicate). q.written) (sym same) ∙ m)).1))
 
   -- joined anew, of the same conjuncts
-  pub simple_joined : {b : Bool} → r.written ≡ 0 → split_conjunction x ≡ split_conjunction e → Says b (LeftDeep e)
+  pub simple_joined : {b : Bool} → is_some r.written ≡ false → split_conjunction x ≡ split_conjunction e → Says b (LeftDeep e)
       → Says b (simplify_filter e ≡ some e)
   simple_joined z same deep =
-      let j : conjunction (split_conjunction e) ≡ some x = ap conjunction (sym same) ∙ k.joined z in
+      let j : conjunction (split_conjunction e) ≡ some x = ap conjunction (sym same) ∙ k.joined (go r.written z) in
       record { yes = λ y. let d = deep.yes y in cc; no = λ n m. deep.no n (cc) }
+    where
+      go : (o : Maybe ℕ) → is_some o ≡ false → o ≡ None
+      go None f = refl
+      go (Some n) f = cc
 
   -- of others
   pub simple_other : (split_conjunction x ≡ split_conjunction e → ⊥) → Says false (simplify_filter e ≡ some e)

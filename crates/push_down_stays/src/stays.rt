@@ -10,7 +10,7 @@ ghost use Rattle.plan.specs.Syntax.{window};
 ghost use Rattle.rewrite.specs.PushDownFilter.{nothing_moves, push_down_join, rewrite_filter, simplify_filter};
 ghost use Rattle.rewrite.specs.RewriteAt.{Focus};
 ghost use Rattle.rewrite.specs.Utils.{conjunction, split_conjunction?};
-ghost use Rattle.conjuncts.specs.Says.{Says};
+ghost use Rattle.conjuncts.specs.Says.{LeftDeep, Says};
 ghost use Rattle.conjuncts.specs.Standing.{Stretch};
 ghost use Rattle.push_down_base.specs.Arms.{Placed, Rests, Shaped};
 ghost use Rattle.push_down_base.specs.Parting.{Reads};
@@ -34,7 +34,7 @@ use push_down_arms::aggregate::divide_groups;
 use push_down_arms::push_some::divide;
 use push_down_arms::table_scan::share_of;
 use push_down_arms::through::takes_none;
-use push_down_base::predicates::{Predicate, is_gone};
+use push_down_base::predicates::Predicate;
 use push_down_join::column_checker::join_scope;
 use push_down_join::push_down_all_join::{filter_of, join_kind, moves_of, own_filter, right_input};
 use push_down_merge::filter::{filter_input, simplify_filter};
@@ -84,15 +84,26 @@ fn join_stays(s: &[u8], part: &[u8], x: usize) -> bool
     false
 }
 
-// The predicate p, as it is written, over the Join at record x: what stays above it and in it is joined anew.
+// Whether the predicate p is joined left-deep: one that is joined anew is.
+fn is_left_deep(s: &[u8], p: Predicate) -> bool
+    requires { Formed s.now p × (length s.now ≤ work_bytes) }
+    ensures { (e : Expr) → Shaped s.now p e → Says result (LeftDeep e) }
+{
+    match p.written {
+        Some(n) => left_deep_at(s, n),
+        None => true,
+    }
+}
+
+// The predicate p over the Join at record x: what stays above it and in it is joined anew.
 fn over_join_stays(s: &[u8], part: &[u8], x: usize, p: Predicate) -> bool
     requires stretch { Stretch s.now x part.now }
-    requires over_join { OverJoin s.now x p × (p.written ≡ 0 → ⊥) }
+    requires over_join { OverJoin s.now x p }
     ensures { (e : Expr) (k : Kind) (l r : Plan) (on : List Pair) (f : Option Expr) →
         Rests s.now x p e (join k l r on f) →
         Kept result (rewrite_filter e (join k l r on f)) (filter e (join k l r on f)) }
 {
-    if !left_deep_at(s, p.written) {
+    if !is_left_deep(s, p) {
         return false;
     }
     if own_left_deep(s, part, x) {
@@ -129,14 +140,14 @@ fn over_projection_stays(s: &[u8], part: &[u8], x: usize, p: Predicate) -> bool
 // .. over the Aggregate at record x: even where nothing moves, what stays is joined anew.
 fn over_aggregate_stays(s: &[u8], part: &[u8], x: usize, p: Predicate) -> bool
     requires stretch { Stretch s.now x part.now }
-    requires over_aggregate { OverAggregate s.now x p × (p.written ≡ 0 → ⊥) }
+    requires over_aggregate { OverAggregate s.now x p }
     ensures { (e : Expr) (gs : List Entry) (ags : List AggEntry) (q : Plan) → Rests s.now x p e (aggregate gs ags q) →
         Kept result (rewrite_filter e (aggregate gs ags q)) (filter e (aggregate gs ags q)) }
 {
     let d = divide_groups(s, part, x, p);
     let moved = d.moved;
     if moved.len == 0 {
-        return left_deep_at(s, p.written);
+        return is_left_deep(s, p);
     }
     false
 }
@@ -144,14 +155,14 @@ fn over_aggregate_stays(s: &[u8], part: &[u8], x: usize, p: Predicate) -> bool
 // .. over the Window at record x, likewise.
 fn over_window_stays(s: &[u8], part: &[u8], x: usize, p: Predicate) -> bool
     requires stretch { Stretch s.now x part.now }
-    requires over_window { OverWindow s.now x p × (p.written ≡ 0 → ⊥) }
+    requires over_window { OverWindow s.now x p }
     ensures { (e : Expr) (ws : List WinEntry) (q : Plan) → Rests s.now x p e (window ws q) →
         Kept result (rewrite_filter e (window ws q)) (filter e (window ws q)) }
 {
     let d = divide(s, part, x, p);
     let moved = d.moved;
     if moved.len == 0 {
-        return left_deep_at(s, p.written);
+        return is_left_deep(s, p);
     }
     false
 }
@@ -159,7 +170,7 @@ fn over_window_stays(s: &[u8], part: &[u8], x: usize, p: Predicate) -> bool
 // .. over the plan at record x, which is no Filter.
 fn over_stays(s: &[u8], part: &[u8], x: usize, p: Predicate) -> bool
     requires stretch { Stretch s.now x part.now }
-    requires on_input { OnInput s.now x p × (p.written ≡ 0 → ⊥) }
+    requires on_input { OnInput s.now x p }
     ensures { (e : Expr) (q : Plan) → Rests s.now x p e q → is_filter q ≡ false →
         Kept result (rewrite_filter e q) (filter e q) }
 {
@@ -198,23 +209,23 @@ fn may_stay(part: &[u8]) -> bool
         | takes_none(part)
 }
 
-// Whether simplifying leaves the predicate p, which is written at a record, as it is.
+// Whether simplifying leaves the predicate p as it is.
 fn is_simple(s: &[u8], p: Predicate) -> bool
-    requires { Formed s.now p × (p.written ≡ 0 → ⊥) × (length s.now ≤ work_bytes) }
+    requires { Formed s.now p × (length s.now ≤ work_bytes) }
     ensures { (e : Expr) → Shaped s.now p e → Says result (simplify_filter e ≡ some e) }
 {
     let simple = simplify_filter(s, p);
-    if is_gone(simple) {
+    if simple.is_gone() {
         return false;
     }
-    if simple.written != 0 {
+    if simple.written.is_some() {
         return true;
     }
     // Its conjuncts are joined anew, but they may be the same, in the same order.
     let list = p.list;
     let new = simple.list;
     if same_items(s, new, list) {
-        return left_deep_at(s, p.written);
+        return is_left_deep(s, p);
     }
     false
 }
@@ -232,7 +243,7 @@ fn filter_stays(s: &[u8], part: &[u8], node: usize) -> bool
     }
     let n = node + 1;
     let p = Predicate {
-        written: n,
+        written: Some(n),
         list: split_at(s, n, empty()),
     };
     if over_stays(s, input, x, p) {

@@ -1,5 +1,5 @@
 -- What is written for the items of a list: an expression as it stands, or with its columns replaced.
-use Rattle.std.specs.Prelude.{◌≡◌, List, [], ◌∷◌, ℕ, ◌-◌, ◌≤◌, ◌<◌}
+use Rattle.std.specs.Prelude.{◌≡◌, Option, Some as just, None as nothing, List, [], ◌∷◌, ℕ, ◌-◌, ◌≤◌, ◌<◌}
 use Rattle.image.specs.Limits.{max_list}
 use Rattle.plan.specs.Syntax.{Name, Expr}
 use Rattle.rewrite.specs.Utils.{replace_cols, conjoin}
@@ -35,10 +35,10 @@ pub record Joined (s : List ℕ) (σ : Name → Expr) (c : Conjuncts) (e : Expr)
   pub pushes : Pushes s σ c (first ∷ others)
   pub is : e ≡ conjoin first others
 
--- e is written for the item `written`, or where that is 0 for the list c
-pub record Predicate (s : List ℕ) (σ : Name → Expr) (written : ℕ) (c : Conjuncts) (e : Expr) : Type 0 where
-  pub item : (written ≡ 0 → ⊥) → Pushed s σ written e
-  pub list : written ≡ 0 → Joined s σ c e
+-- e is written for the item `written`, or where there is none for the list c
+pub record Predicate (s : List ℕ) (σ : Name → Expr) (written : Option ℕ) (c : Conjuncts) (e : Expr) : Type 0 where
+  pub item : (n : ℕ) → written ≡ just n → Pushed s σ n e
+  pub list : written ≡ nothing → Joined s σ c e
 
 -- ---- what functions ask for
 
@@ -56,7 +56,7 @@ pub record Some (s : List ℕ) (c : Conjuncts) : Type 0 where
   pub most : c.len ≤ max_list
 
 -- a predicate is written
-pub record Predicated (s : List ℕ) (written : ℕ) (c : Conjuncts) : Type 0 where
+pub record Predicated (s : List ℕ) (written : Option ℕ) (c : Conjuncts) : Type 0 where
   pub mapping : Name → Expr
   pub expr : Expr
   pub predicate : Predicate s mapping written c expr

@@ -133,13 +133,13 @@ pub fn copy_joined(
     copy_first(s, m, of, room, c, n, out, at, level)
 }
 
-// Writes a predicate: the item `written` as it is, or where that is 0 the items of a list, joined left-deep.
+// Writes a predicate: the item `written` as it is, or where there is none the items of a list, joined left-deep.
 pub fn copy_predicate(
     s: &[u8],
     m: &[u8],
     of: usize,
     room: usize,
-    written: usize,
+    written: Option<usize>,
     c: Conjuncts,
     out: &mut [u8],
     at: usize,
@@ -151,8 +151,8 @@ pub fn copy_predicate(
     ensures { (σ : Name → Expr) → Maps m.now of room σ → (e : Expr) → Predicate s.now σ written c e →
         Wrote out.old out.new at level result (expr_tree e) }
 {
-    if written != 0 {
-        return copy_item(s, m, of, room, written, out, at, level);
+    match written {
+        Some(n) => copy_item(s, m, of, room, n, out, at, level),
+        None => copy_joined(s, m, of, room, c, out, at, level),
     }
-    copy_joined(s, m, of, room, c, out, at, level)
 }

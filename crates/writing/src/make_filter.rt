@@ -21,7 +21,7 @@ pub fn make_filter(
     m: &[u8],
     of: usize,
     room: usize,
-    written: usize,
+    written: Option<usize>,
     c: Conjuncts,
     input: &[u8],
     x: usize,

@@ -3,7 +3,7 @@ use mathlib.Core.Bool.{true, false}
 use native.Mathlib.Omega.{arith}
 use lib.ListN.{length-drop}
 use Rattle.image.proofs.Walking.{chain, round, again, done, for_all}
-use Rattle.plan.specs.Syntax.{nm}
+use Rattle.utils.specs.Fields.{named}
 use Rattle.push_down_arms.specs.Movable.{lets, lets_all}
 use Rattle.push_down_arms.proofs.Moves.{lets_stop, lets_step}
 use Rattle.push_down_arms.proofs.contain.all_let_pass.Goals as goal
@@ -24,11 +24,11 @@ returns-then-not-lets_pass c =
     let k = c.loop-at.invariant in
     let u = round _ k c.loop-at-test.true in
     let g = c.args in
-    let e : lets (nm g.q g.n) u.turn.child ≡ false =
+    let e : lets (named g.c) u.turn.child ≡ false =
     sym (c.lets_pass.ensures u.turn.child (rw c.from_record-child.ensures u.turn.here))
     ∙ c.if-not-lets_pass.true in
-    for_all (λ t. false ≡ lets_all (nm g.q g.n) t.below) k.stands
-    (rw u.so_far (lets_stop (nm g.q g.n) u.turn.child.label u.turn.child.below u.turn.after e))
+    for_all (λ t. false ≡ lets_all (named g.c) t.below) k.stands
+    (rw u.so_far (lets_stop (named g.c) u.turn.child.label u.turn.child.below u.turn.after e))
 
 pub word_at-at-requires-in-loop-at : goal.word_at-at-requires-in-loop-at
 unfolding lets_all
@@ -48,15 +48,15 @@ loop-at-preserved c =
     let k = c.loop-at.invariant in
     let u = round _ k c.loop-at-test.true in
     let g = c.args in
-    let e : lets (nm g.q g.n) u.turn.child ≡ true =
+    let e : lets (named g.c) u.turn.child ≡ true =
     sym (c.lets_pass.ensures u.turn.child (rw c.from_record-child.ensures u.turn.here))
     ∙ c.if-not-lets_pass.false in
     rw (c.word_at-at-in-loop-at.ensures.0, c.from_record-child.ensures)
-    (again _ k u (u.so_far ∙ lets_step (nm g.q g.n) u.turn.child.label u.turn.child.below u.turn.after e))
+    (again _ k u (u.so_far ∙ lets_step (named g.c) u.turn.child.label u.turn.child.below u.turn.after e))
 
 pub returns : goal.returns
 unfolding lets_all
 returns c =
     let k = c.loop-at.invariant in
     let g = c.args in
-    for_all (λ t. true ≡ lets_all (nm g.q g.n) t.below) k.stands (sym (done _ k c.loop-at-test.false))
+    for_all (λ t. true ≡ lets_all (named g.c) t.below) k.stands (sym (done _ k c.loop-at-test.false))

@@ -3,7 +3,7 @@ use mathlib.Core.Bool.{true, false}
 use native.Mathlib.Omega.{arith}
 use lib.ListN.{length-drop}
 use Rattle.image.proofs.Walking.{round, again, done, for_all}
-use Rattle.plan.specs.Syntax.{nm}
+use Rattle.utils.specs.Fields.{named}
 use Rattle.push_down_arms.specs.Movable.{is_named, named_in, partition_in}
 use Rattle.push_down_base.proofs.FirstChild.{first_turn, none_below}
 use Rattle.push_down_arms.proofs.Moves.{named_stop, named_step, partition_chain}
@@ -31,7 +31,7 @@ unfolding partition_in named_in
 loop-at-init c =
     let p = c.requires in (
       p.0,
-      partition_chain (nm c.args.q c.args.n) p.1 c.word_at-first.ensures.0 c.if-first-eq0.false c.from_record.ensures
+      partition_chain (named c.args.c) p.1 c.word_at-first.ensures.0 c.if-first-eq0.false c.from_record.ensures
           c.word_at-at.ensures.0,
     )
 
@@ -41,10 +41,10 @@ returns-then-is_named c =
     let k = c.loop-at.invariant.1 in
     let u = round _ k c.loop-at-test.true in
     let g = c.args in
-    let e : is_named (nm g.q g.n) u.turn.child.label ≡ true = rw (← u.turn.here.head.label, ← c.from_record-child.ensures)
+    let e : is_named (named g.c) u.turn.child.label ≡ true = rw (← u.turn.here.head.label, ← c.from_record-child.ensures)
     (sym c.is_named.ensures ∙ c.if-is_named.true) in
-    for_all (λ t. true ≡ partition_in (nm g.q g.n) t.below) k.stands
-    (rw u.so_far (named_stop (nm g.q g.n) u.turn.child.label u.turn.child.below u.turn.after e))
+    for_all (λ t. true ≡ partition_in (named g.c) t.below) k.stands
+    (rw u.so_far (named_stop (named g.c) u.turn.child.label u.turn.child.below u.turn.after e))
 
 pub loop-at-preserved : goal.loop-at-preserved
 unfolding partition_in named_in
@@ -52,15 +52,15 @@ loop-at-preserved c =
     let k = c.loop-at.invariant.1 in
     let u = round _ k c.loop-at-test.true in
     let g = c.args in
-    let e : is_named (nm g.q g.n) u.turn.child.label ≡ false =
+    let e : is_named (named g.c) u.turn.child.label ≡ false =
     rw (← u.turn.here.head.label, ← c.from_record-child.ensures)
     (sym c.is_named.ensures ∙ c.if-is_named.false) in (
       c.loop-at.invariant.0,
       rw (c.word_at-at-in-loop-at.ensures.0, c.from_record-child.ensures)
-          (again _ k u (u.so_far ∙ named_step (nm g.q g.n) u.turn.child.label u.turn.child.below u.turn.after e)),
+          (again _ k u (u.so_far ∙ named_step (named g.c) u.turn.child.label u.turn.child.below u.turn.after e)),
     )
 
 pub returns : goal.returns
 unfolding partition_in named_in
 returns c =
-    let k = c.loop-at.invariant.1 in for_all (λ t. false ≡ partition_in (nm c.args.q c.args.n) t.below) k.stands (sym (done _ k c.loop-at-test.false))
+    let k = c.loop-at.invariant.1 in for_all (λ t. false ≡ partition_in (named c.args.c) t.below) k.stands (sym (done _ k c.loop-at-test.false))

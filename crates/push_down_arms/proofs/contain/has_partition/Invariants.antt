@@ -3,13 +3,13 @@ use mathlib.Core.Path.{◌≡◌}
 use Prim.Native.Nat.{ℕ}
 use Rattle.image.proofs.Walking.{Chain}
 use Rattle.image.specs.Places.{left}
-use Rattle.plan.specs.Syntax.{nm}
+use Rattle.utils.specs.Fields.{named}
 use Rattle.push_down_arms.specs.Movable.{named_in, partition_in}
 use Rattle.push_down_arms.proofs.contain.has_partition.Given as goal
 
 abbrev pub invariant-loop-at : goal.invariant-loop-at
 invariant-loop-at l =
-    (d : ℕ) × Chain (λ t rest. partition_in (nm l.q l.n) t.below ≡ named_in (nm l.q l.n) rest) d l.part l.base l.at
+    (d : ℕ) × Chain (λ t rest. partition_in (named l.c) t.below ≡ named_in (named l.c) rest) d l.part l.base l.at
 
 abbrev pub decreases-loop-at : goal.decreases-loop-at
 decreases-loop-at l = left l.part l.base l.at

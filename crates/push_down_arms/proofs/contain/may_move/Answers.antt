@@ -5,7 +5,7 @@ use Rattle.push_down_arms.proofs.contain.may_move.Goals as goal
 
 pub returns-then-word_at-eq-AGGREGATE : goal.returns-then-word_at-eq-AGGREGATE
 returns-then-word_at-eq-AGGREGATE c =
-    λ t h. some_linked _ (c.find.ensures t h)
+    λ t h. some_linked _ (rw (c.wide.ensures.0, c.wide-then-word_at-eq-AGGREGATE.ensures.0) at (c.find.ensures t h))
     ∙ sym (move_group _ t (sym (kind_at h c.word_at.ensures.0) ∙ c.if-word_at-eq-AGGREGATE.true))
 
 pub returns : goal.returns

@@ -21,14 +21,6 @@ select_side-requires-clause-len_le_max_fields c =
     let f = c.schema_columns-fields.ensures c.requires.resting.plan [] (rw c.requires.stretch h.standing.here) c.no_fields.ensures in
     names_fit f (fields_few h)
 
-pub select_side-requires-2-clause-len_le_max_fields : goal.select_side-requires-2-clause-len_le_max_fields
-select_side-requires-2-clause-len_le_max_fields c =
-    let h = c.requires.resting.rests.placed in
-    let k = c.requires.resting.rests.shaped in
-    let f = c.schema_columns-fields.ensures c.requires.resting.plan [] (rw c.requires.stretch h.standing.here)
-    c.no_fields.ensures in
-    names_fit f (fields_few h)
-
 pub returns : goal.returns
 returns c =
     λ e q h. let i = c.requires.stretch in
@@ -37,5 +29,5 @@ returns c =
     let f = c.schema_columns-fields.ensures q [] (rw i k.here) c.no_fields.ensures in
     let m = c.movable-side.ensures (plan_tree q) (schema q) (rw i k.here) f in
     let o = split_cols (has (schema q)) e h.scope in
-    divides_of h.shaped t (c.select_side.ensures (split_conjunction e) (schema q) t h.shaped.listed f o m)
-    (c.select_side-2.ensures (split_conjunction e) (schema q) t h.shaped.listed f o m)
+    let w = c.select_side.ensures (split_conjunction e) (schema q) t h.shaped.listed f o m in
+    divides_of h.shaped t w.1 w.0

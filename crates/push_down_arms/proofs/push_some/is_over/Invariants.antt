@@ -1,6 +1,5 @@
 -- `push_some::is_over` meets its contract. The loop's invariant: what is counted, and then the rest, is all.
 use mathlib.Core.List.{List}
-use Prim.Native.Nat.{◌-◌, ◌≤◌}
 use Rattle.plan.specs.Syntax.{Expr, Plan}
 use Rattle.conjuncts.specs.Items.{Lists}
 use Rattle.conjuncts.specs.Standing.{StandingP}
@@ -9,9 +8,6 @@ use Rattle.push_down_arms.specs.Divided.{Singles}
 use Rattle.push_down_arms.proofs.Counting.{Counted}
 use Rattle.push_down_arms.proofs.push_some.is_over.Given as goal
 
-abbrev pub invariant-loop-i : goal.invariant-loop-i
-invariant-loop-i l =
-    (l.i ≤ l.n) × ((es : List Expr) (p : Plan) → Lists l.s l.c es → Singles es → StandingP l.s l.x p → Counted l.s l.r (map_of p) es l.i)
-
-abbrev pub decreases-loop-i : goal.decreases-loop-i
-decreases-loop-i l = l.n - l.i
+abbrev pub invariant-loop-n : goal.invariant-loop-n
+invariant-loop-n l =
+    (es : List Expr) (p : Plan) → Lists l.s l.fn.c es → Singles es → StandingP l.s l.x p → Counted l.s l.r (map_of p) es l.n-index

@@ -37,15 +37,15 @@ write_over-next-requires-clause-writable c =
         mapping = map_of q;
         maps = rw c.requires.stretch (plan_maps h);
         expr = conjunction o.stay;
-        perhaps = kept_perhaps k (map_of q);
-        most = k.kept_most;
+        perhaps = rw c.joined-above.ensures (kept_perhaps k (map_of q));
+        most = rw c.joined-above.ensures k.kept_most;
       },
       record {
         mapping = map_of q;
         maps = rw c.requires.stretch (plan_maps h);
         expr = conjunction (map (replace_cols (map_of q)) o.move);
-        perhaps = moved_perhaps k (map_of q) w;
-        most = moved_small k (map_of q) w;
+        perhaps = rw c.joined-below.ensures (moved_perhaps k (map_of q) w);
+        most = rw c.joined-below.ensures (moved_small k (map_of q) w);
       },
     )
 
@@ -69,6 +69,6 @@ returns c =
     answers (some_moved ds k.moved k.moved_most) (pushed_few h t k o)
     (rw (← pushed_is f q us ds)
     (c.write_over-next.ensures (map_of (f q)) (rw i (plan_maps h.standing)) (conjunction us)
-    (conjunction (map (replace_cols (map_of (f q))) ds)) (kept_perhaps k (map_of (f q))) (moved_perhaps k (map_of (f q)) w) f q t.own t.frame y
+    (conjunction (map (replace_cols (map_of (f q))) ds)) (rw c.joined-above.ensures (kept_perhaps k (map_of (f q)))) (rw c.joined-below.ensures (moved_perhaps k (map_of (f q)) w)) f q t.own t.frame y
     h.standing
     (rw y t.input)))

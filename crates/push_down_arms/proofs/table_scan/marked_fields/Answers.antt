@@ -9,7 +9,7 @@ use Rattle.push_down_arms.proofs.table_scan.marked_fields.Goals as goal
 
 pub loop-i-init : goal.loop-i-init
 loop-i-init c =
-    (omega arith, λ s t fs es j h e. rw c.empty-set.ensures (passed_start h))
+    λ s t fs es j h e. rw c.empty-set.ensures (passed_start h)
 
 pub overflow_add-x-in-loop-i : goal.overflow_add-x-in-loop-i
 overflow_add-x-in-loop-i c =
@@ -37,20 +37,18 @@ mark-set-requires c =
     omega (arith, scan_few p.placed, p.count, c.loop-i-test.true)
 
 pub loop-i-preserved : goal.loop-i-preserved
-loop-i-preserved c = (
-  omega arith,
-  λ s t fs es j h e. let i = c.loop-i.i in
-      let x = c.args.x in
-      passed_next h i c.mark-set.ensures (omega (arith, c.loop-i-test.true))
-      (rw (
-        c.word_at.ensures.0,
-        c.from_record-field.ensures,
-        part_of s
-            c.args.part.now x (x + 1 + i) j (omega arith),
-      ))
-      (c.loop-i.invariant.1 s t fs es j h e),
-)
+loop-i-preserved c =
+    λ s t fs es j h e. let i = c.loop-i.i in
+    let x = c.args.x in
+    passed_next h i c.mark-set.ensures (omega (arith, c.loop-i-test.true))
+    (rw (
+      c.word_at.ensures.0,
+      c.from_record-field.ensures,
+      part_of s
+          c.args.part.now x (x + 1 + i) j (omega arith),
+    ))
+    (c.loop-i.invariant s t fs es j h e)
 
 pub returns : goal.returns
 returns c =
-    λ s t fs es j h e. passed_end h c.loop-i.i (omega (arith, c.loop-i-test.false)) (c.loop-i.invariant.1 s t fs es j h e)
+    λ s t fs es j h e. passed_end h c.loop-i.i (omega (arith, c.loop-i-test.false)) (c.loop-i.invariant s t fs es j h e)

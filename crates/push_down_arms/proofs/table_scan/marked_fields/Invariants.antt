@@ -1,7 +1,7 @@
 -- `table_scan::marked_fields` meets its contract. The loop's invariant: the set of the marked fields among those passed.
 use mathlib.Core.Path.{◌≡◌}
 use mathlib.Core.List.{List}
-use Prim.Native.Nat.{ℕ, ◌-◌, ◌≤◌}
+use Prim.Native.Nat.{ℕ}
 use lib.ListN.{length}
 use Rattle.plan.specs.Syntax.{Expr, Field, scan}
 use Rattle.push_down_base.specs.Arms.{Placed}
@@ -11,8 +11,5 @@ use Rattle.push_down_arms.proofs.table_scan.marked_fields.Given as goal
 
 abbrev pub invariant-loop-i : goal.invariant-loop-i
 invariant-loop-i l =
-    (l.i ≤ l.k) × ((s : List ℕ) (t : ℕ) (fs : List Field) (es : List Expr) → Stretch s l.x l.part → (h : Placed s l.x (scan t fs es)) → l.k ≡ length fs
-    → Passed h l.set l.i)
-
-abbrev pub decreases-loop-i : goal.decreases-loop-i
-decreases-loop-i l = l.k - l.i
+    (s : List ℕ) (t : ℕ) (fs : List Field) (es : List Expr) → Stretch s l.x l.part → (h : Placed s l.x (scan t fs es)) → l.fn.k ≡ length fs
+    → Passed h l.set l.i

@@ -27,8 +27,8 @@ write_over-next-requires-clause-writable c =
         mapping = map_of q;
         maps = rw c.requires.stretch (plan_maps k);
         expr = none;
-        perhaps = gone refl c.empty.ensures.1;
-        most = omega (arith, c.empty.ensures.1);
+        perhaps = rw c.joined-nothing.ensures (gone refl c.empty.ensures.1);
+        most = rw c.joined-nothing.ensures (omega (arith, c.empty.ensures.1));
       },
       record {
         mapping = map_of q;
@@ -55,5 +55,5 @@ returns c =
     let y = c.last_child-y.ensures (plan_tree (f q)) (rw i k.here) ∙ t.last in
     answers refl (taken_few t h)
     (c.write_over-next.ensures (map_of (f q)) (rw i (plan_maps k)) none (some e)
-    (gone refl c.empty.ensures.1)
+    (rw c.joined-nothing.ensures (gone refl c.empty.ensures.1))
     (shaped_perhaps (map_of (f q)) h.shaped) f q t.own t.frame y k (rw y t.input))

@@ -6,7 +6,7 @@ use Rattle.push_down_join.proofs.infer_join_predicates.infer_join_predicates.Goa
 pub returns-then-is_inner : goal.returns-then-is_inner
 returns-then-is_inner c =
     λ l r on es k h. rw (keyed_inner _ on es (sym c.is_inner.ensures ∙ c.if-is_inner.true))
-    (reads_keep _ h (c.select_side.ensures es _ _ h.lists k.names h.over k.alone))
+    (reads_keep _ h (c.select_side.ensures es _ _ h.lists k.names h.over k.alone).1)
 
 pub returns : goal.returns
 returns c =

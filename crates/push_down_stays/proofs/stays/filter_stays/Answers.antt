@@ -64,15 +64,12 @@ over_stays-requires c =
     let k = shaped_written (omega arith) pred (c.split_at.ensures p.expr [] pred (lists_none c.empty.ensures))
     (own_few _ _ (placed_inside p.inside p.is).lists) in record {
       stretch = input_at st.standing c.requires.stretch st.after c.from_record-input.ensures;
-      on_input = (
-        record {
-          expr = p.expr;
-          plan = p.plan;
-          rests = rests_written p.expr p.plan (placed_inside p.inside p.is) k st.standing;
-          other = may_stay_other p.plan (sym m ∙ c.if-not-may_stay.false);
-        },
-        λ z. omega arith,
-      );
+      on_input = record {
+        expr = p.expr;
+        plan = p.plan;
+        rests = rests_written p.expr p.plan (placed_inside p.inside p.is) k st.standing;
+        other = may_stay_other p.plan (sym m ∙ c.if-not-may_stay.false);
+      };
     }
 
 pub is_simple-requires : goal.is_simple-requires
@@ -85,7 +82,6 @@ is_simple-requires c =
             c.empty.ensures))
             (own_few _ _ (placed_inside p.inside p.is).lists);
       },
-      λ z. omega arith,
       p.inside.short,
     )
 

@@ -10,12 +10,12 @@ pub returns-then-is_gone : goal.returns-then-is_gone
 returns-then-is_gone c =
     λ e h. simple_gone (leaves_none (c.simplify_filter-simple.ensures.remains e h) (sym c.is_gone.ensures ∙ c.if-is_gone.true))
 
-pub returns-then-simple-ne0 : goal.returns-then-simple-ne0
-returns-then-simple-ne0 c =
+pub returns-then-is_some : goal.returns-then-is_some
+returns-then-is_some c =
     λ e h. let g = leaves_some (c.simplify_filter-simple.ensures.remains e h) (sym
     c.is_gone.ensures ∙ c.if-is_gone.false) in
-    simple_written h g.is g.shaped c.requires.1
-    (c.simplify_filter-simple.ensures.value c.if-simple-ne0.true)
+    let t = sym c.is_some.ensures ∙ c.if-is_some.true in
+    simple_written h g.is g.shaped t (c.simplify_filter-simple.ensures.value t)
 
 pub same_items-requires-clause-known : goal.same_items-requires-clause-known
 same_items-requires-clause-known c =
@@ -29,8 +29,8 @@ returns-then-same_items c =
     λ e h. let g = leaves_some (c.simplify_filter-simple.ensures.remains e h)
     (sym c.is_gone.ensures ∙ c.if-is_gone.false) in
     let s = c.same_items.ensures (split_conjunction g.expr) (split_conjunction e) g.shaped.listed h.listed in
-    simple_joined h g.is g.shaped c.if-simple-ne0.false (s.yes c.if-same_items.true)
-    (c.left_deep_at.ensures e (h.stands c.requires.1))
+    simple_joined h g.is g.shaped (sym c.is_some.ensures ∙ c.if-is_some.false) (s.yes c.if-same_items.true)
+    (c.is_left_deep.ensures e h)
 
 pub returns : goal.returns
 returns c =

@@ -4,14 +4,18 @@ use Rattle.push_down_join.proofs.JoinsUnder.{over_reads}
 use Rattle.push_down_stays.proofs.Stayings.{says_as, over_join_kept, over_join_shallow, above_join_shallow}
 use Rattle.push_down_stays.proofs.stays.over_join_stays.Goals as goal
 
-pub returns-then-not-left_deep_at : goal.returns-then-not-left_deep_at
-returns-then-not-left_deep_at c =
+pub returns-then-not-is_left_deep : goal.returns-then-not-is_left_deep
+returns-then-not-is_left_deep c =
     λ e k l r on f h. above_join_shallow k l r on f e
-    (says_as (c.if-not-left_deep_at.true) (c.left_deep_at.ensures e (h.shaped.stands c.requires.over_join.1)))
+    (says_as (c.if-not-is_left_deep.true) (c.is_left_deep.ensures e h.shaped))
+
+pub is_left_deep-requires : goal.is_left_deep-requires
+is_left_deep-requires c =
+    let r = c.requires.over_join.rests in (record { expr = _; shaped = r.shaped }, r.placed.short)
 
 pub nothing_moves-requires-clause-join_between : goal.nothing_moves-requires-clause-join_between
 nothing_moves-requires-clause-join_between c =
-    let p = c.requires.over_join.0 in
+    let p = c.requires.over_join in
     let h = p.rests in record {
       kind = p.kind;
       lhs = p.lhs;
@@ -29,9 +33,7 @@ pub returns-then-own_left_deep : goal.returns-then-own_left_deep
 returns-then-own_left_deep c =
     λ e k l r on f h. over_join_kept k l r on f e (says_as c.if-own_left_deep.true
     (c.own_left_deep.ensures k l r on f h.placed))
-    (says_as (c.if-not-left_deep_at.false)
-    (c.left_deep_at.ensures e (h.shaped.stands
-    c.requires.over_join.1)))
+    (says_as (c.if-not-is_left_deep.false) (c.is_left_deep.ensures e h.shaped))
     (c.nothing_moves.ensures k l r on f (split_conjunction e) (split_conjunction? f) h.placed (over_reads h)
     (c.own_filter.ensures k l r on f h.placed))
 

@@ -11,7 +11,7 @@ use Rattle.push_down_stays.proofs.stays.over_stays.Goals as goal
 
 pub over_scan_stays-requires-clause-over_scan : goal.over_scan_stays-requires-clause-over_scan
 over_scan_stays-requires-clause-over_scan c =
-    let r = c.requires.on_input.0 in
+    let r = c.requires.on_input in
     let a = c.in-Plan-TableScan in
     over_scan r (read_kind c.requires.stretch c.word_at.ensures.0 r.rests.placed.standing) (numbered TableScan c.what_of.ensures a.is a.field-0-is)
 
@@ -23,7 +23,7 @@ returns-in-Plan-TableScan c =
 
 pub over_projection_stays-requires-clause-over_projection : goal.over_projection_stays-requires-clause-over_projection
 over_projection_stays-requires-clause-over_projection c =
-    let r = c.requires.on_input.0 in
+    let r = c.requires.on_input in
     let a = c.in-Plan-Projection in
     over_project r (read_kind c.requires.stretch c.word_at.ensures.0 r.rests.placed.standing) (numbered Projection c.what_of.ensures a.is a.field-0-is)
 
@@ -35,9 +35,9 @@ returns-in-Plan-Projection c =
 
 pub over_join_stays-requires-clause-over_join : goal.over_join_stays-requires-clause-over_join
 over_join_stays-requires-clause-over_join c =
-    let r = c.requires.on_input.0 in
+    let r = c.requires.on_input in
     let a = c.in-Plan-Join in
-    (over_join r (read_kind c.requires.stretch c.word_at.ensures.0 r.rests.placed.standing) (numbered Join c.what_of.ensures a.is a.field-0-is), c.requires.on_input.1)
+    over_join r (read_kind c.requires.stretch c.word_at.ensures.0 r.rests.placed.standing) (numbered Join c.what_of.ensures a.is a.field-0-is)
 
 pub returns-in-Plan-Join : goal.returns-in-Plan-Join
 returns-in-Plan-Join c =
@@ -47,9 +47,9 @@ returns-in-Plan-Join c =
 
 pub over_aggregate_stays-requires-clause-over_aggregate : goal.over_aggregate_stays-requires-clause-over_aggregate
 over_aggregate_stays-requires-clause-over_aggregate c =
-    let r = c.requires.on_input.0 in
+    let r = c.requires.on_input in
     let a = c.in-Plan-Aggregate in
-    (over_aggregate r (read_kind c.requires.stretch c.word_at.ensures.0 r.rests.placed.standing) (numbered Aggregate c.what_of.ensures a.is a.field-0-is), c.requires.on_input.1)
+    over_aggregate r (read_kind c.requires.stretch c.word_at.ensures.0 r.rests.placed.standing) (numbered Aggregate c.what_of.ensures a.is a.field-0-is)
 
 pub returns-in-Plan-Aggregate : goal.returns-in-Plan-Aggregate
 returns-in-Plan-Aggregate c =
@@ -59,7 +59,7 @@ returns-in-Plan-Aggregate c =
 
 pub over_window_stays-requires-clause-over_window : goal.over_window_stays-requires-clause-over_window
 over_window_stays-requires-clause-over_window c =
-    let r = c.requires.on_input.0 in
+    let r = c.requires.on_input in
     let a = c.in-Plan-Window in
     (over_window r (read_kind c.requires.stretch c.word_at.ensures.0 r.rests.placed.standing) (numbered Window c.what_of.ensures a.is a.field-0-is), c.requires.on_input.1)
 
