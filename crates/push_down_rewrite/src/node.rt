@@ -97,6 +97,7 @@ pub fn rewrite_anew(
     ensures { (w : Plan) (c : Focus) → Inside s.now node w c → Outcomes work.new result w c }
 {
     let part = record_at(s, node);
+    // Two kinds of twelve: a match is no shorter.
     let kind = word_at(part, KIND);
     if kind == FILTER {
         let p = predicate_at(s, node + 1);

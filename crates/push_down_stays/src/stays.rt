@@ -201,6 +201,7 @@ fn may_stay(part: &[u8]) -> bool
     requires { 32 ≤ length part.now }
     ensures { result ≡ may_stay (label_at part.now) }
 {
+    // Kinds by number, as the definition tests them: a match is no shorter, since a Join depends on its sort.
     let kind = word_at(part, KIND);
     (kind == TABLE_SCAN)
         | (kind == PROJECTION)
@@ -258,6 +259,7 @@ pub fn stays(s: &[u8], node: usize) -> bool
     ensures { (w : Plan) (c : Focus) → Inside s.now node w c → Stays result c.plan }
 {
     let part = record_at(s, node);
+    // Two kinds of twelve: a match is no shorter.
     let kind = word_at(part, KIND);
     if kind == FILTER {
         return filter_stays(s, part, node);
