@@ -59,6 +59,6 @@ pub fn reorder_predicates(s: &[u8], c: Conjuncts) -> Option<Conjuncts>
     if !needs_reorder(s, c) {
         return None;
     }
-    let cheap = pick(c, empty(), |i| !function_at(s, c, i, false));
-    Some(pick(c, cheap, |i| function_at(s, c, i, false)))
+    let cheap = pick(c, empty(), |i| !function_at(s, c, i, Functions::All));
+    Some(pick(c, cheap, |i| function_at(s, c, i, Functions::All)))
 }
