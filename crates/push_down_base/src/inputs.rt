@@ -7,6 +7,7 @@ use image::records::{FIRST_LINK, NEXT_LINK, from_record};
 use image::words::word_at;
 
 // The record of the last child of the record at the start of `part`, or 0 where it has none.
+// No Option: each caller's plan has a child, and would only unwrap it.
 pub fn last_child(part: &[u8], base: usize) -> usize
     requires { (d : ℕ) × Readable d part.now base }
     ensures { (t : Tree) → At t part.now base → result ≡ last_of 0 (base + 1) t.below }
