@@ -1,12 +1,12 @@
 -- The call on bytes: the pass on the plan in an accepted image, test 12, and what is handed out.
 use Prim.Native.Nat.{ℕ, ◌*◌, ◌/◌, ◌≤◌, ◌<◌}
 use native.Mathlib.Omega.{arith}
-use mathlib.Core.Path.{◌≡◌, refl, sym, ap, subst, ◌∙◌}
+use mathlib.Core.Path.{◌≡◌, refl, subst}
 use mathlib.Core.Bool.{true, false}
 use mathlib.Core.List.{List, ◌++◌}
 use lib.Dec.{leb}
 use lib.ListN.{length, take}
-use borrow.Author.Tests.{le-leb, lt-leb, eq-eqb, ne_eqb}
+use borrow.Author.Tests.{le-leb, lt-leb, ne_eqb}
 use Rattle.image.specs.Limits.{work_bytes, max_records}
 use Rattle.plan.specs.Lists.{choose}
 use Rattle.plan.specs.Measure.{size_p}

@@ -1,6 +1,5 @@
 -- `call_pass::pass_bytes` meets its contract.
 use mathlib.Core.Path.{sym, ap, ◌∙◌}
-use Rattle.std.specs.Prelude.{length}
 use Rattle.rewrite.specs.OnBytes.{zeros}
 use Rattle.call_pass.proofs.Reports.{cleared, kept}
 use Rattle.call_pass.proofs.call_pass.pass_bytes.Goals as goal

@@ -1,6 +1,5 @@
 -- `call_rewrite::rewrite_bytes` meets its contract.
 use mathlib.Core.Path.{sym, ap, ◌∙◌}
-use Rattle.std.specs.Prelude.{length}
 use Rattle.rewrite.specs.OnBytes.{zeros}
 use Rattle.call_rewrite.proofs.Calls.{cleared, kept}
 use Rattle.call_rewrite.proofs.call_rewrite.rewrite_bytes.Goals as goal

@@ -1,10 +1,9 @@
 -- `call_rewrite::rewrite_or_refuse` meets its contract.
-use mathlib.Core.Path.{◌≡◌, ◌∙◌, ap}
+use mathlib.Core.Path.{◌≡◌, ◌∙◌}
 use native.Mathlib.Omega.{arith}
-use Rattle.std.specs.Prelude.{Err, length}
+use Rattle.std.specs.Prelude.{Err}
 use Rattle.check_image.proofs.Accepting.{is_accepted, is_refused}
 use Rattle.push_down_rewrite.proofs.Images.{whole}
-use Rattle.call_rewrite.specs.Answer.{outcome_of}
 use Rattle.call_rewrite.proofs.Calls.{refused_image, accepted_image}
 use Rattle.call_rewrite.proofs.call_rewrite.rewrite_or_refuse.Goals as goal
 

@@ -1,9 +1,8 @@
 -- `testing::row_test` meets its contract.
 use native.Mathlib.Omega.{arith}
-use mathlib.Core.Path.{◌≡◌, ap, ◌∙◌}
+use mathlib.Core.Path.{◌≡◌, ◌∙◌}
 use Rattle.std.specs.Prelude.{Err}
 use Rattle.check_image.proofs.Accepting.{is_accepted, is_refused}
-use Rattle.call_row_test.specs.Answer.{tested_of}
 use Rattle.call_row_test.proofs.RowTesting.{whole, refused_image, accepted_image}
 use Rattle.call_row_test.proofs.testing.row_test.Goals as goal
 
