@@ -9,7 +9,6 @@ use Rattle.plan.specs.Kinds.{What, PlanKind, plan, what_of, number_p}
 use Rattle.plan.specs.Syntax.{Expr, Field, Entry, AggEntry, WinEntry, Kind, Pair, Plan, Plans}
 use Rattle.plan.specs.Syntax.{scan, project, join, alias, union, aggregate, window}
 use Rattle.plan.specs.Trees.{label_p}
-use Rattle.plan.proofs.FieldSources.{of_kind}
 use Rattle.plan.proofs.Rebuilt.{kind_p}
 use Rattle.rewrite.specs.PushDownFilter.{rewrite_filter}
 use Rattle.conjuncts.specs.Standing.{StandingP}
@@ -27,7 +26,7 @@ read_kind e f h = f ∙ ap (λ t. word t 0) e ∙ kind_there h
 
 -- the number of its kind
 pub numbered : {n : ℕ} {w : What} {j : PlanKind} (k : PlanKind) → w ≡ what_of n → w ≡ plan j → j ≡ k → n ≡ number_p k
-numbered {n} k told is same = kind_p (of_kind n) k (sym told ∙ is ∙ ap plan same)
+numbered {n} k told is same = kind_p (record { kind = n; p = 0; q = 0; r = 0; lo = 0; hi = 0 }) k (sym told ∙ is ∙ ap plan same)
 
 -- the arm that is asked
 module _ {s : List ℕ} {x : ℕ} {p : Predicate} (r : OnInput s x p) {n : ℕ} (is : n ≡ (label_p r.plan).kind) where

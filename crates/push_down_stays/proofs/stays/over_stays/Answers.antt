@@ -61,7 +61,7 @@ pub over_window_stays-requires-clause-over_window : goal.over_window_stays-requi
 over_window_stays-requires-clause-over_window c =
     let r = c.requires.on_input in
     let a = c.in-Plan-Window in
-    (over_window r (read_kind c.requires.stretch c.word_at.ensures.0 r.rests.placed.standing) (numbered Window c.what_of.ensures a.is a.field-0-is), c.requires.on_input.1)
+    over_window r (read_kind c.requires.stretch c.word_at.ensures.0 r.rests.placed.standing) (numbered Window c.what_of.ensures a.is a.field-0-is)
 
 pub returns-in-Plan-Window : goal.returns-in-Plan-Window
 returns-in-Plan-Window c =
