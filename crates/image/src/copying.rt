@@ -23,10 +23,9 @@ impl<'a> Writer<'a> {
         ensures same { self.new.bytes.ghost_name ≡ self.old.bytes.ghost_name }
         ensures put { Put self.old.bytes.now self.new.bytes.now self.old.next level self.new.next label }
     {
-        let at = self.next;
-        if at < MAX_RECORDS {
-            put_record(self.bytes, at, label, level, 0);
-            self.next = at + 1;
+        if self.next < MAX_RECORDS {
+            put_record(self.bytes, self.next, label, level, 0);
+            self.next += 1;
         } else {
             self.next = NO_ROOM;
         }

@@ -20,7 +20,10 @@ loop-from-init t c =
 pub copy_tree-requires : goal.copy_tree-requires
 copy_tree-requires t c =
     let u = round _ c.loop-from.invariant.1 c.loop-from-test.true in
-    (omega (arith, c.loop-from.invariant.1.some, c.decreases), (rw c.from_record-part.ensures u.readable, omega (arith, c.requires.depth_bound, c.loop-from.invariant.1.some)))
+    (
+      omega (arith, c.loop-from.invariant.1.some, c.decreases),
+      (rw c.from_record-part.ensures u.readable, omega (arith, c.requires.depth_bound, c.loop-from.invariant.1.some)),
+    )
 
 pub word_at-from-requires-in-loop-from : goal.word_at-from-requires-in-loop-from
 word_at-from-requires-in-loop-from t c =
@@ -38,7 +41,10 @@ loop-from-preserved t c =
     let u = round _ k c.loop-from-test.true in
     let part = c.from_record-part.ensures in
     let e = c.copy_tree.ensures.wrote u.turn.child (rw part u.turn.here) in
-    (c.copy_tree.ensures.same ∙ c.loop-from.invariant.0, rw (c.word_at-from-in-loop-from.ensures.0, part) (again _ k u (left_next u.turn.child u.so_far e)))
+    (
+      c.copy_tree.ensures.same ∙ c.loop-from.invariant.0,
+      rw (c.word_at-from-in-loop-from.ensures.0, part) (again _ k u (left_next u.turn.child u.so_far e)),
+    )
 
 pub returns-clause-wrote : goal.returns-clause-wrote
 returns-clause-wrote t c =
