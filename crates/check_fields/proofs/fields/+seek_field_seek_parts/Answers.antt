@@ -7,7 +7,8 @@ use Rattle.check_fields.proofs.fields.+seek_field_seek_parts.Goals as goal
 pub seek_field-returns-then-eq : goal.seek_field-returns-then-eq
 seek_field-returns-then-eq t c =
     let y = c.in-Some.ensures in
-    c.seek_parts.ensures ∙ of_parts _ _ (front y.first) y.is c.role_of-role.ensures (sym (is_creates c.role_of-role.result c.eq.ensures) ∙ c.if-eq.true) ∙ y.same _
+    c.seek_parts.ensures ∙ of_parts _ _ (front y.first) y.is c.role_of-role.ensures
+    (sym (is_creates c.role_of-role.result c.eq.ensures) ∙ c.if-eq.true) ∙ y.same _
 
 pub seek_field-returns-in_err-left : goal.seek_field-returns-in_err-left
 seek_field-returns-in_err-left t c =

@@ -14,10 +14,12 @@ returns-then-not-makes_field t c =
 pub returns-then-not-is_single : goal.returns-then-not-is_single
 returns-then-not-is_single t c =
     λ d. made_fails _ (front c.in-Some.ensures) d c.makes_field.ensures c.if-not-makes_field.false
-    (called_by (single (whole_of c.args.w) (own_question c.args.w.role)) c.args.to c.in-Some.part.node.p c.in-Some.part.node.q c.unwrap_or.ensures ∙ sym c.is_single.ensures ∙ c.if-not-is_single.true)
+    (called_by (single (whole_of c.args.w) (own_question c.args.w.role)) c.args.to c.in-Some.part.node.p c.in-Some.part.node.q c.unwrap_or.ensures
+    ∙ sym c.is_single.ensures ∙ c.if-not-is_single.true)
 
 pub returns : goal.returns
 returns t c =
     λ d. c.all_made-2.ensures d
     ∙ made_passes _ (front c.in-Some.ensures) d c.makes_field.ensures c.if-not-makes_field.false
-    (called_by (single (whole_of c.args.w) (own_question c.args.w.role)) c.args.to c.in-Some.part.node.p c.in-Some.part.node.q c.unwrap_or.ensures ∙ sym c.is_single.ensures ∙ c.if-not-is_single.false)
+    (called_by (single (whole_of c.args.w) (own_question c.args.w.role)) c.args.to c.in-Some.part.node.p c.in-Some.part.node.q c.unwrap_or.ensures
+    ∙ sym c.is_single.ensures ∙ c.if-not-is_single.false)

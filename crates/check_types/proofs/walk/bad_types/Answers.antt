@@ -26,7 +26,8 @@ unfolding bad_types
 returns c =
     λ t h. let w = c.alone-root.ensures t h in
     c.bad_type.ensures t h
-    ∙ ap (λ (f : Forest). lowest (type_ok (alone t)) hand (scope_at c.hand-handed.result.first) (scope_at c.hand-handed.result.rest) c.alone-root.result.below.at f) w.is
+    ∙ ap (λ (f : Forest). lowest (type_ok (alone t)) hand (scope_at c.hand-handed.result.first) (scope_at c.hand-handed.result.rest)
+    c.alone-root.result.below.at f) w.is
     ∙ root_below (type_ok (alone t)) hand nothing nothing t _ _ _ w.below
     (ap (hand nothing t.label) (sym w.is) ∙ c.hand-handed.ensures t.label w.says)
     (ap (type_ok (alone t) nothing t.label) (sym w.is)

@@ -69,6 +69,7 @@ returns c =
     answers (some_moved ds k.moved k.moved_most) (pushed_few h t k o)
     (rw (← pushed_is f q us ds)
     (c.write_over-next.ensures (map_of (f q)) (rw i (plan_maps h.standing)) (conjunction us)
-    (conjunction (map (replace_cols (map_of (f q))) ds)) (rw c.joined-above.ensures (kept_perhaps k (map_of (f q)))) (rw c.joined-below.ensures (moved_perhaps k (map_of (f q)) w)) f q t.own t.frame y
+    (conjunction (map (replace_cols (map_of (f q))) ds))
+    (rw c.joined-above.ensures (kept_perhaps k (map_of (f q)))) (rw c.joined-below.ensures (moved_perhaps k (map_of (f q)) w)) f q t.own t.frame y
     h.standing
     (rw y t.input)))

@@ -103,5 +103,6 @@ returns c =
     let g = spliced w _ f h.there (filter e q)
     (c.write_before-spot.auto.out ∙ c.requires.scratch.0) (few_records h) b v a in
     let few = c.if-records-gt-MAX_RECORDS.false in
-    sym c.if-not-is_shallow.false ∙ c.is_shallow.ensures (plan_tree (f.back (filter e q))) g.rest (begun_count g few) (g.bytes few) ∙ fits_is (f.back (filter e q)) g few
+    sym c.if-not-is_shallow.false ∙ c.is_shallow.ensures (plan_tree (f.back (filter e q))) g.rest (begun_count g few) (g.bytes few)
+    ∙ fits_is (f.back (filter e q)) g few
     (few_lists h m q l c.if-list-gt-MAX_LIST.false)
