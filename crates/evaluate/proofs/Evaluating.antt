@@ -2,19 +2,16 @@
 --     at_column, at_literal, at_operator
 --     type_column, type_literal, type_operator
 -- Assumes nothing.
-use mathlib.Core.Path.{◌≡◌, refl, sym, ap, ◌∙◌}
-use mathlib.Core.Bool.{Bool, true, false}
+use mathlib.Core.Path.{◌≡◌, refl}
 use Rattle.std.specs.Prelude.{Some, None}
 use Prim.Native.Nat.{ℕ}
-use native.Mathlib.Omega.{arith}
-use lib.Dec.{eqb}
 use lib.ListN.{drop}
 use Rattle.image.specs.Tree.{Label}
 use Rattle.plan.specs.Kinds as K
 use Rattle.plan.specs.Kinds.{What, expr, plan, part, unknown, what, what_of, among}
 use Rattle.plan.specs.Read.{signed, expr_by, head_e, tail_e}
 use Rattle.plan.specs.Trees.{is_set}
-use Rattle.plan.specs.Syntax.{Value, null, nm, Exprs, enil, econs}
+use Rattle.plan.specs.Syntax.{Value, nm, Exprs, enil, econs}
 use Rattle.plan.specs.Types.{Types, type_of_expr}
 use Rattle.plan.specs.Values.{ValueRecord, integer, boolean, null_of, literal_at, literal_of}
 use Rattle.plan.proofs.Rebuilt.{kind_e}

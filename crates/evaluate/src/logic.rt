@@ -20,8 +20,7 @@ pub enum Truth {
 impl From<bool> for Truth {
     ghost from_gives = { λ b t. value_of t ≡ truth b };
 
-    fn from(b: bool) -> Truth
-    {
+    fn from(b: bool) -> Truth {
         if b { Truth::True } else { Truth::False }
     }
 }

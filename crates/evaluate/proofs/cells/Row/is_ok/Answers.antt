@@ -31,7 +31,7 @@ returns-then-not-cell_ok c =
     let i = c.loop-i.i in
     let k = c.loop-i.invariant in
     let e : c.cell_ok.result ≡ cell_ok (get_or r.types.now i 0) (get_or r.values.now i (pos 0)) (get_or r.marks.now i 0)
-        = c.cell_ok.ensures ∙ held_ok _ _ (search rules) in
+    = c.cell_ok.ensures ∙ held_ok _ _ (search rules) in
     failed _ e c.if-not-cell_ok.true
     (row_step r.types.now r.values.now r.marks.now i c.loop-i-test.true (omega (arith, k.0)) (omega (arith, k.1))) ∙ k.2
 
@@ -41,7 +41,7 @@ loop-i-preserved c =
     let i = c.loop-i.i in
     let k = c.loop-i.invariant in
     let e : c.cell_ok.result ≡ cell_ok (get_or r.types.now i 0) (get_or r.values.now i (pos 0)) (get_or r.marks.now i 0)
-        = c.cell_ok.ensures ∙ held_ok _ _ (search rules) in (
+    = c.cell_ok.ensures ∙ held_ok _ _ (search rules) in (
       k.0,
       k.1,
       passed _ e c.if-not-cell_ok.false

@@ -1,6 +1,5 @@
 -- `cells::Row::is_ok` meets its contract.
 use mathlib.Core.Path.{◌≡◌}
-use Prim.Native.Nat.{◌≤◌, ◌-◌}
 use lib.ListN.{length, drop}
 use Rattle.rewrite.specs.RowTest.{row_ok}
 use Rattle.evaluate.proofs.cells.Row.is_ok.Given as goal
