@@ -45,12 +45,7 @@ pub fn partition<F: Fn(usize) -> bool>(c: Conjuncts, test: F) -> (Conjuncts, Con
 }
 
 // The conjuncts of c that refer to fields of the side alone, and those that do not.
-pub fn select_side(
-    s: &[u8],
-    c: Conjuncts,
-    fields: Fields,
-    side: FieldSet,
-) -> (Conjuncts, Conjuncts)
+pub fn select_side(s: &[u8], c: Conjuncts, fields: Fields, side: FieldSet) -> (Conjuncts, Conjuncts)
     requires known { Known s.now c }
     requires len_le_max_fields { fields.len ≤ max_fields }
     ensures { (es : List Expr) (ns : List Name) (t : Name → Bool) → Lists s.now c es → Names fields ns →

@@ -90,13 +90,7 @@ pub fn operator(part: &[u8]) -> Option<Connective>
 
 // Whether the expression at the start of `part` yields a clause that reads fields of the side only; `copy_clause` writes it.
 // An AND keeps each operand that yields, an OR yields only if both its operands do.
-pub fn extract_or_clause(
-    part: &[u8],
-    base: usize,
-    depth: usize,
-    f: Fields,
-    side: FieldSet,
-) -> bool
+pub fn extract_or_clause(part: &[u8], base: usize, depth: usize, f: Fields, side: FieldSet) -> bool
     requires readable_e { ReadableE depth part.now base }
     requires len_le_max_fields { f.len ≤ max_fields }
     ensures { (e : Expr) (ns : List Name) (c : Name → Bool) → At (expr_tree e) part.now base → Names f ns
