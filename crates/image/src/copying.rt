@@ -1,5 +1,5 @@
 // Records and trees written flat into a work buffer, each record with its depth in the place of its first link.
-// `Writer` is what writers take; the functions below it, on a buffer and a record, stand until the last of them does.
+// `Writer` has the buffer and the record that is written next; the functions below it take both, and hand that record back.
 ghost use Rattle.std.specs.Prelude.{◌≡◌, ◌+◌, ◌<◌, ◌≤◌, length};
 ghost use Rattle.image.specs.Limits.{max_level, no_room, work_bytes};
 ghost use Rattle.image.specs.Room.{Put, Wrote};

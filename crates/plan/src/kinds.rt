@@ -1,6 +1,6 @@
 // The kinds of records by name, all of them: those of specs/Kinds.antt. What their words hold is in words.rt.
-// A new kind is one number here, one row in word_ranges.rt and one in children.rt of check_form, of a plan its role in field_sources.rt,
-// and a failed proof wherever it is not treated.
+// A new kind is a variant in image/src/kinds.rt, one number and one arm here, a row in word_ranges.rt and in children.rt of check_form, of a
+// plan its role in field_sources.rt, and a failed proof wherever it is not treated.
 ghost use Rattle.std.specs.Prelude.{◌≡◌};
 ghost use Rattle.plan.specs.Kinds.{expr_w, number_of, part_w, plan_w, what_of};
 
@@ -12,34 +12,34 @@ pub fn what_of(kind: usize) -> What
     ensures { result ≡ what_of kind }
 {
     match kind {
-        1 => What::Expr(ExprKind::Column),
-        2 => What::Expr(ExprKind::Integer),
-        3 => What::Expr(ExprKind::Boolean),
-        4 => What::Expr(ExprKind::Null),
-        5 => What::Expr(ExprKind::Binary),
-        6 => What::Expr(ExprKind::Not),
-        7 => What::Expr(ExprKind::Test),
-        8 => What::Expr(ExprKind::Between),
-        9 => What::Expr(ExprKind::InList),
-        10 => What::Expr(ExprKind::Function),
-        32 => What::Plan(PlanKind::TableScan),
-        33 => What::Plan(PlanKind::Filter),
-        34 => What::Plan(PlanKind::Projection),
-        35 => What::Plan(PlanKind::Join),
-        36 => What::Plan(PlanKind::SubqueryAlias),
-        37 => What::Plan(PlanKind::Union),
-        38 => What::Plan(PlanKind::Distinct),
-        39 => What::Plan(PlanKind::Sort),
-        40 => What::Plan(PlanKind::Repartition),
-        41 => What::Plan(PlanKind::Limit),
-        42 => What::Plan(PlanKind::Aggregate),
-        43 => What::Plan(PlanKind::Window),
-        48 => What::Part(PartKind::FieldPart),
-        49 => What::Part(PartKind::EntryPart),
-        50 => What::Part(PartKind::PairPart),
-        51 => What::Part(PartKind::KeyPart),
-        52 => What::Part(PartKind::AggPart),
-        53 => What::Part(PartKind::WinPart),
+        COLUMN => What::Expr(ExprKind::Column),
+        INTEGER_LITERAL => What::Expr(ExprKind::Integer),
+        BOOLEAN_LITERAL => What::Expr(ExprKind::Boolean),
+        NULL_LITERAL => What::Expr(ExprKind::Null),
+        BINARY_EXPR => What::Expr(ExprKind::Binary),
+        NOT => What::Expr(ExprKind::Not),
+        TEST => What::Expr(ExprKind::Test),
+        BETWEEN => What::Expr(ExprKind::Between),
+        IN_LIST => What::Expr(ExprKind::InList),
+        FUNCTION => What::Expr(ExprKind::Function),
+        TABLE_SCAN => What::Plan(PlanKind::TableScan),
+        FILTER => What::Plan(PlanKind::Filter),
+        PROJECTION => What::Plan(PlanKind::Projection),
+        JOIN => What::Plan(PlanKind::Join),
+        SUBQUERY_ALIAS => What::Plan(PlanKind::SubqueryAlias),
+        UNION => What::Plan(PlanKind::Union),
+        DISTINCT => What::Plan(PlanKind::Distinct),
+        SORT => What::Plan(PlanKind::Sort),
+        REPARTITION => What::Plan(PlanKind::Repartition),
+        LIMIT => What::Plan(PlanKind::Limit),
+        AGGREGATE => What::Plan(PlanKind::Aggregate),
+        WINDOW => What::Plan(PlanKind::Window),
+        FIELD => What::Part(PartKind::FieldPart),
+        ENTRY => What::Part(PartKind::EntryPart),
+        PAIR => What::Part(PartKind::PairPart),
+        SORT_KEY => What::Part(PartKind::KeyPart),
+        AGGREGATE_ENTRY => What::Part(PartKind::AggPart),
+        WINDOW_ENTRY => What::Part(PartKind::WinPart),
         _ => What::Unknown,
     }
 }

@@ -20,6 +20,14 @@ impl Model for FieldSet {
     ghost inverse = { λ n. record { 0 = n } };
 }
 
+impl From<u64> for FieldSet {
+    ghost from_gives = { λ bits set. set ≡ bits };
+
+    fn from(bits: u64) -> FieldSet {
+        FieldSet(bits)
+    }
+}
+
 impl FieldSet {
     pub fn empty() -> Self
         ensures { result ≡ 0 }
