@@ -10,17 +10,15 @@ returns-then-self-ge-MAX_RECORDS-clause-wrote t c =
     λ t h. wrote_past _ _ _ t c.args.self.now.long c.if-self-ge-MAX_RECORDS.true
 
 pub loop-from-init : goal.loop-from-init
-loop-from-init t c =
-    (
-      c.put.ensures.same,
-      rw c.word_at-from.ensures.0
+loop-from-init t c = (
+  c.put.ensures.same,
+  rw c.word_at-from.ensures.0
       (chain _ c.requires.readable (put_start c.args.self.now.long c.put.ensures.put _)),
-    )
+)
 
 pub copy_tree-requires : goal.copy_tree-requires
 copy_tree-requires t c =
-    let u = round _ c.loop-from.invariant.1 c.loop-from-test.true in
-    (
+    let u = round _ c.loop-from.invariant.1 c.loop-from-test.true in (
       omega (arith, c.loop-from.invariant.1.some, c.decreases),
       (rw c.from_record-part.ensures u.readable, omega (arith, c.requires.depth_bound, c.loop-from.invariant.1.some)),
     )
@@ -40,8 +38,7 @@ loop-from-preserved t c =
     let k = c.loop-from.invariant.1 in
     let u = round _ k c.loop-from-test.true in
     let part = c.from_record-part.ensures in
-    let e = c.copy_tree.ensures.wrote u.turn.child (rw part u.turn.here) in
-    (
+    let e = c.copy_tree.ensures.wrote u.turn.child (rw part u.turn.here) in (
       c.copy_tree.ensures.same ∙ c.loop-from.invariant.0,
       rw (c.word_at-from-in-loop-from.ensures.0, part) (again _ k u (left_next u.turn.child u.so_far e)),
     )
