@@ -18,7 +18,7 @@ ghost use Rattle.plan.specs.Types as Types;
 use crate::schemas::field_types;
 use check_image::check;
 use conjuncts::volatility::{Functions, has_function};
-use evaluate::cells::Row;
+use evaluate::cells::{NamedRow, Row};
 use evaluate::expressions::evaluate;
 use evaluate::logic::Truth;
 use image::limits::{MAX_DEPTH, RECORD_BYTES};
@@ -47,7 +47,6 @@ fn test_predicate(
         → types.now ≡ Types.types p → tested_of result ≡ test_predicate node e p values.now marks.now }
 {
     let row = Row {
-        fields,
         types,
         values,
         marks,
@@ -58,7 +57,8 @@ fn test_predicate(
     if has_function(part, base, BELOW, Functions::All) {
         return Err(Refusal::Function(node));
     }
-    Ok(Truth::of(evaluate(part, base, BELOW, &row)))
+    let named = NamedRow { row, fields };
+    Ok(Truth::of(evaluate(part, base, BELOW, &named)))
 }
 
 // The Filter at the start of `part`.

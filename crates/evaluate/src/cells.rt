@@ -18,13 +18,19 @@ const HELD: u8 = 0;
 
 const NULL: u8 = 1;
 
-// A row over the fields with these names and types: what is lent for each.
+// A row over fields with these types: what is lent for each.
 #[derive(Drop)]
 pub struct Row<'a> {
-    pub fields: Fields,
     pub types: &'a [usize],
     pub values: &'a [i64],
     pub marks: &'a [u8],
+}
+
+// A row whose fields have these names.
+#[derive(Drop)]
+pub struct NamedRow<'a> {
+    pub row: Row<'a>,
+    pub fields: Fields,
     ghost few: { fields.len ≤ max_fields },
 }
 
@@ -96,14 +102,16 @@ impl Row<'_> {
         }
         true
     }
+}
 
+impl NamedRow<'_> {
     // The value of a column.
     pub fn column(&self, q: usize, n: usize) -> Value
         ensures right { Right result }
-        ensures is { (ns : List Name) → Names self.now.fields ns → length self.now.types.now ≤ length ns
-            → Valued result (look_d no_type ns self.now.types.now (nm q n))
-            (M.look ns (lent self.now.types.now self.now.values.now self.now.marks.now) (nm q n)) }
+        ensures is { (ns : List Name) → Names self.now.fields ns → length self.now.row.types.now ≤ length ns
+            → Valued result (look_d no_type ns self.now.row.types.now (nm q n))
+            (M.look ns (lent self.now.row.types.now self.now.row.values.now self.now.row.marks.now) (nm q n)) }
     {
-        self.cell(place_in(self.fields, q, n))
+        self.row.cell(place_in(self.fields, q, n))
     }
 }

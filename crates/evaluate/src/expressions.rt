@@ -10,7 +10,7 @@ ghost use Rattle.rewrite.specs.RowTest.{lent, no_functions};
 ghost use Rattle.utils.specs.Fields.{Names};
 ghost use Rattle.evaluate.specs.Operators.{expr_in};
 
-use crate::cells::Row;
+use crate::cells::NamedRow;
 use crate::operands::{Seen, operate};
 use image::records::{FIRST_LINK, NEXT_LINK, from_record, label_at};
 use image::words::word_at;
@@ -18,12 +18,12 @@ use plan::kinds::COLUMN;
 use plan::values::{Value, literal_of};
 
 // The value of the expression at the start of `part`, on a row.
-pub fn evaluate(part: &[u8], base: usize, depth: usize, row: &Row) -> Value
+pub fn evaluate(part: &[u8], base: usize, depth: usize, row: &NamedRow) -> Value
     requires { Readable depth part.now base }
     ensures right { Right result }
-    ensures is { (t : Tree) (ns : List Name) → At t part.now base → Names row.now.fields ns → length row.now.types.now ≤ length ns
-        → Valued result (type_of_expr (look_d no_type ns row.now.types.now) (expr_in t))
-        (eval no_functions (look ns (lent row.now.types.now row.now.values.now row.now.marks.now)) (expr_in t)) }
+    ensures is { (t : Tree) (ns : List Name) → At t part.now base → Names row.now.fields ns → length row.now.row.types.now ≤ length ns
+        → Valued result (type_of_expr (look_d no_type ns row.now.row.types.now) (expr_in t))
+        (eval no_functions (look ns (lent row.now.row.types.now row.now.row.values.now row.now.row.marks.now)) (expr_in t)) }
 {
     let l = label_at(part);
     if l.kind == COLUMN {
