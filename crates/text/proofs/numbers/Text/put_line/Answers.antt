@@ -21,8 +21,16 @@ pub put-requires : goal.put-requires
 put-requires c =
     let e = c.put_words.ensures in
     let f = c.put_words-2.ensures in
-    omega (arith, word_digits c.requires.1, c.put_decimal.ensures.written.end, c.put_decimal.ensures.same_length,
-    e.short, e.text.same_length, f.short, f.text.same_length)
+    omega (
+      arith,
+      word_digits c.requires.1,
+      c.put_decimal.ensures.written.end,
+      c.put_decimal.ensures.same_length,
+      e.short,
+      e.text.same_length,
+      f.short,
+      f.text.same_length,
+    )
 
 pub returns : goal.returns
 returns c =
