@@ -1,4 +1,6 @@
 // A line of the list, run: an image is kept for the calls below it, a call is made and compared.
+ghost use Rattle.std.specs.Prelude.{◌≤◌, IfSome};
+
 use crate::calls::{Call, length_of};
 use std::fmt;
 use stored::numbers::Line;
@@ -34,7 +36,9 @@ impl Sort {
     ];
 
     // How many numbers of a line stand before an answer that it spells, if it can spell one.
-    fn head(self) -> Option<usize> {
+    fn head(self) -> Option<usize>
+        ensures { IfSome result (λ n. (2 ≤ n) × (n ≤ 8)) }
+    {
         match self {
             Sort::Rewrite => Some(6),
             Sort::Pass => Some(8),

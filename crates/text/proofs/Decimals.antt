@@ -5,7 +5,7 @@ use mathlib.Core.Path.{◌≡◌, refl, ap, ◌∙◌}
 use mathlib.Core.Bool.{Bool, true, false}
 use mathlib.Core.List.{List, [], ◌∷◌, ◌++◌}
 use lib.Dec.{ltb}
-use lib.ListN.{length}
+use lib.ListN.{length, length-append}
 use borrow.Author.Tests.{lt-ltb, le-ltb, ltb-false}
 use Rattle.std.proofs.lemmas.Fmt.{decimal_by_steps, length-decimal-le}
 use Rattle.std.specs.Fmt as fmt
@@ -28,17 +28,23 @@ digits_enough (suc j) (suc k) n h g = go (ltb n 10) refl (λ l m. digits_enough 
         ap (λ (l : List ℕ). l ++ ((48 + n % 10) ∷ [])) (ih (omega arith) (omega arith))
 
 module _ (n : ℕ) where
-  decimal_one : n < 10 → decimal n ≡ (48 + n) ∷ []
+  pub decimal_one : n < 10 → decimal n ≡ (48 + n) ∷ []
   unfolding decimal digits choose
   decimal_one h = rw (lt-ltb n 10 h)
 
-  decimal_more : 10 ≤ n → decimal n ≡ decimal (n / 10) ++ ((48 + n % 10) ∷ [])
+  pub decimal_more : 10 ≤ n → decimal n ≡ decimal (n / 10) ++ ((48 + n % 10) ∷ [])
   unfolding decimal digits choose
   decimal_more h =
       rw (le-ltb n 10 h) (ap (λ (l : List ℕ). l ++ ((48 + n % 10) ∷ [])) (digits_enough n (suc (n / 10)) (n / 10) (omega arith) (omega arith)))
 
--- the library prints a number so
-pub decimal_printed : (n : ℕ) → n < 2 ^ 64 → decimal n ≡ fmt.decimal n
+  pub length_one : n < 10 → length (decimal n) ≡ 1
+  length_one h = ap length (decimal_one h)
+
+  pub length_more : 10 ≤ n → length (decimal n) ≡ length (decimal (n / 10)) + 1
+  length_more h = ap length (decimal_more h) ∙ length-append (decimal (n / 10)) ((48 + n % 10) ∷ [])
+
+-- the library's digits of a number are these
+decimal_printed : (n : ℕ) → n < 2 ^ 64 → decimal n ≡ fmt.decimal n
 decimal_printed =
     decimal_by_steps (λ n ds. decimal n ≡ ds) decimal_one
     (λ n ds more e. decimal_more n more ∙ ap (λ (l : List ℕ). l ++ ((48 + n % 10) ∷ [])) e)

@@ -1,7 +1,5 @@
 // A text and the numbers in it, each written behind what stands already.
-ghost use Rattle.std.specs.Prelude.{◌≡◌, ◌+◌, ◌≤◌, length};
-
-use itoa::Buffer;
+ghost use Rattle.std.specs.Prelude.{◌≡◌, ◌+◌, ◌<◌, ◌≤◌, length};
 
 // A text in space that is lent: what stands before `at`.
 #[derive(Drop)]
@@ -11,8 +9,16 @@ pub struct Text<'a> {
     ghost within: { at ≤ length space.now },
 }
 
+// The digit of a number below 10.
+fn digit(n: u64) -> u8
+    requires { n < 10 }
+    ensures { result ≡ 48 + n }
+{
+    b'0' + n as u8
+}
+
 impl<'a> Text<'a> {
-    ghost use Rattle.std.specs.Prelude.{◌++◌, ◌<◌};
+    ghost use Rattle.std.specs.Prelude.{◌++◌};
     ghost use Rattle.text.specs.Lines.{decimal, named, spaced};
     ghost use Rattle.text.specs.Written.{Puts};
 
@@ -47,7 +53,12 @@ impl<'a> Text<'a> {
         requires { self.old.at + length (decimal n) ≤ length self.old.space.now }
         ensures { Puts self.old self.new (decimal n) }
     {
-        self.put(Buffer::new().format(n).as_bytes());
+        if n < 10 {
+            self.put(&[digit(n)]);
+        } else {
+            self.put_decimal(n / 10);
+            self.put(&[digit(n % 10)]);
+        }
     }
 
     // Writes a space and a number.
