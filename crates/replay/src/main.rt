@@ -8,6 +8,12 @@ use std::io;
 use std::io::Read;
 use stored::numbers::Lines;
 
+// So many bytes of the input are read at a time.
+const CHUNK: usize = 65600;
+
+// A line has room for so many numbers.
+const NUMBERS: usize = 16500;
+
 // How many lines are read at most.
 const MAX_LINES: usize = 1000000;
 
@@ -55,7 +61,7 @@ impl Tally {
 
 // Runs the lines from the first on, and names those that differ if not many did before.
 fn replay<R: Read + Drop>(rt: &impl Print, input: R) -> io::Result<Tally> {
-    let mut lines = Lines::new(input);
+    let mut lines: Lines<R, CHUNK, NUMBERS> = Lines::new(input);
     let mut replayer = Replayer::new();
     let mut tally = Tally::default();
     for number in 1..=MAX_LINES {

@@ -1,5 +1,6 @@
 // A line of the list, run: an image is kept for the calls below it, a call is made and compared.
-ghost use Rattle.std.specs.Prelude.{◌≤◌, IfSome};
+ghost use Rattle.std.specs.Prelude.{◌≡◌, ◌≢◌, ◌≤◌, IfSome};
+ghost use Rattle.replaying.specs.declared.lines.Sort.TheVariants.{Image};
 
 use crate::calls::{Call, length_of};
 use std::fmt;
@@ -84,7 +85,9 @@ struct Written {
 }
 
 impl Written {
-    fn new() -> Self {
+    fn new() -> Self
+        ensures { result.len ≡ 0 }
+    {
         Written {
             bytes: [0; SPACE],
             len: 0,
@@ -126,7 +129,11 @@ pub struct Replayer {
 }
 
 impl Replayer {
-    pub fn new() -> Self {
+    // Nothing is kept yet.
+    pub fn new() -> Self
+        ensures image { result.image.len ≡ 0 }
+        ensures spelt { result.spelt.len ≡ 0 }
+    {
         Replayer {
             image: Written::new(),
             spelt: Written::new(),
@@ -134,8 +141,12 @@ impl Replayer {
         }
     }
 
-    // Runs a line of that sort, and says whether it agrees.
-    pub fn run(&mut self, sort: Sort, line: &Line<'_>) -> bool {
+    // Runs a line of that sort, and says whether it agrees. An image drops the answer that was spelt; a comma stands last where one is.
+    pub fn run(&mut self, sort: Sort, line: &Line<'_>) -> bool
+        ensures image { sort ≢ Image → self.new.image ≡ self.old.image }
+        ensures no_answer { sort ≡ Image → self.new.spelt.len ≡ 0 }
+        ensures answer { sort ≢ Image → line.now.mark ≢ 44 → self.new.spelt ≡ self.old.spelt }
+    {
         if sort == Sort::Image {
             self.spelt.len = 0;
             return self.image.write_image(line.numbers);
@@ -149,7 +160,10 @@ impl Replayer {
     }
 
     // Makes a call on the image that is kept; none where something has no room.
-    fn call(&mut self, sort: Sort, line: &Line<'_>) -> Option<bool> {
+    fn call(&mut self, sort: Sort, line: &Line<'_>) -> Option<bool>
+        ensures image { self.new.image ≡ self.old.image }
+        ensures spelt { self.new.spelt ≡ self.old.spelt }
+    {
         let image = self.image.get()?;
         let spelt = self.spelt.get()?;
         let call = Call::new(line, image, spelt);

@@ -1,18 +1,11 @@
 // The numbers of a line of text: runs of digits, some with a minus before them. What else stands in a line only parts them.
 ghost use Rattle.std.specs.Prelude.{◌≡◌, ◌+◌, ◌-◌, ◌*◌, ◌^◌, ◌<◌, ◌≤◌, IfOk, IfSome, IsFalse, IsNone, IsSome, IsTrue, length};
 ghost use Rattle.std.specs.Io.KnownBytes.{IsAtEnd};
-ghost use Rattle.stored.specs.declared.numbers.TheConstants.{CHUNK, MAX_NUMBERS};
 
 use arrayvec::ArrayVec;
 use reading::read_full;
 use std::io;
 use std::io::Read;
-
-// So many bytes of the input are read at a time.
-const CHUNK: usize = 65600;
-
-// A line has room for so many numbers; what stands behind them is left out.
-const MAX_NUMBERS: usize = 16500;
 
 // A line of so many bytes is cut.
 const MAX_LINE: usize = 1000000;
@@ -50,14 +43,14 @@ fn with_sign(value: u64, is_negative: bool) -> u64
 
 // A line that is being read: the digits in hand, if there are any, whether a minus stands before them, the last mark, and the numbers.
 #[derive(Drop)]
-struct Scan {
+struct Scan<const NUMBERS: usize> {
     digits: Option<u64>,
     is_negative: bool,
     mark: u8,
-    numbers: ArrayVec<u64, MAX_NUMBERS>,
+    numbers: ArrayVec<u64, NUMBERS>,
 }
 
-impl Scan {
+impl<const NUMBERS: usize> Scan<NUMBERS> {
     fn new() -> Self {
         Scan {
             digits: None,
@@ -99,7 +92,7 @@ impl Scan {
 
 // An input and what was read of it and is not used yet: the bytes of the chunk from `at` to `end`.
 #[derive(Drop)]
-struct Bytes<R: Read + Drop> {
+struct Bytes<R: Read + Drop, const CHUNK: usize> {
     input: R,
     chunk: [u8; CHUNK],
     at: usize,
@@ -108,8 +101,11 @@ struct Bytes<R: Read + Drop> {
     ghost within: { end ≤ CHUNK },
 }
 
-impl<R: Read + Drop> Bytes<R> {
-    fn new(input: R) -> Self {
+impl<R: Read + Drop, const CHUNK: usize> Bytes<R, CHUNK> {
+    fn new(input: R) -> Self
+        ensures input { result.input ≡ input }
+        ensures unread { result.at ≡ result.end }
+    {
         Bytes {
             input,
             chunk: [0; CHUNK],
@@ -120,7 +116,7 @@ impl<R: Read + Drop> Bytes<R> {
 
     // The first unread byte, or none at the end of the input.
     fn peek(&mut self) -> io::Result<Option<u8>>
-        ensures end { IfOk result (λ byte. IsNone byte → IsAtEnd (R.remaining self.new.input)) }
+        ensures end { 0 < CHUNK → IfOk result (λ byte. IsNone byte → IsAtEnd (R.remaining self.new.input)) }
         ensures unread { IfOk result (λ byte. IsSome byte → self.new.at < self.new.end) }
     {
         if self.at == self.end {
@@ -144,15 +140,19 @@ impl<R: Read + Drop> Bytes<R> {
     }
 }
 
-// The lines of an input.
+// The lines of an input, of which CHUNK bytes are read at a time. A line has room for so many NUMBERS; what stands behind them is left out.
 #[derive(Drop)]
-pub struct Lines<R: Read + Drop> {
-    bytes: Bytes<R>,
-    scan: Scan,
+pub struct Lines<R: Read + Drop, const CHUNK: usize, const NUMBERS: usize> {
+    bytes: Bytes<R, CHUNK>,
+    scan: Scan<NUMBERS>,
 }
 
-impl<R: Read + Drop> Lines<R> {
-    pub fn new(input: R) -> Self {
+impl<R: Read + Drop, const CHUNK: usize, const NUMBERS: usize> Lines<R, CHUNK, NUMBERS> {
+    // Nothing is read yet.
+    pub fn new(input: R) -> Self
+        ensures input { result.bytes.input ≡ input }
+        ensures unread { result.bytes.at ≡ result.bytes.end }
+    {
         Lines {
             bytes: Bytes::new(input),
             scan: Scan::new(),
@@ -161,7 +161,7 @@ impl<R: Read + Drop> Lines<R> {
 
     // The next line, or none where the input has ended.
     pub fn next_line(&mut self) -> io::Result<Option<Line<'_>>>
-        ensures { IfOk result (λ next. IfSome next (λ line. length line.numbers.now ≤ MAX_NUMBERS)) }
+        ensures { IfOk result (λ next. IfSome next (λ line. length line.numbers.now ≤ NUMBERS)) }
     {
         let Some(first) = self.bytes.peek()? else {
             return Ok(None);
