@@ -60,8 +60,8 @@ impl Tally {
 }
 
 // Runs the lines from the first on, and names those that differ if not many did before.
-fn replay<R: Read + Drop>(rt: &impl Print, input: R) -> io::Result<Tally> {
-    let mut lines: Lines<R, CHUNK, NUMBERS> = Lines::new(input);
+fn replay<R: Read>(rt: &impl Print, input: &mut R) -> io::Result<Tally> {
+    let mut lines: Lines<&mut R, CHUNK, NUMBERS> = Lines::new(input);
     let mut replayer = Replayer::new();
     let mut tally = Tally::default();
     for number in 1..=MAX_LINES {
@@ -79,5 +79,5 @@ fn replay<R: Read + Drop>(rt: &impl Print, input: R) -> io::Result<Tally> {
 }
 
 fn main(rt: HostRuntime) -> io::Result<()> {
-    replay(&rt, rt.stdin())?.print(&rt)
+    replay(&rt, &mut rt.stdin())?.print(&rt)
 }
