@@ -174,19 +174,10 @@ module _ {f : Forest} {v : Node} (w : Front f v) where
 
   module _ (n : ℕ) (known : (i : ℕ) → i < n → sound (names_in (input i (inputs f))) ≡ true) where
     -- those of the plans which come next: where it is none
-    sound_rest : plan_w (what_of v.kind) ≡ false → (i : ℕ) → i < n → sound (names_in (input i (inputs w.after))) ≡ true
+    pub sound_rest : plan_w (what_of v.kind) ≡ false → (i : ℕ) → i < n → sound (names_in (input i (inputs w.after))) ≡ true
     sound_rest z i l = subst (λ (t : Schema). sound (names_in t) ≡ true) (ap (input i) (skip_part w z)) (known i l)
 
     -- where it is one
-    sound_next : plan_w (what_of v.kind) ≡ true → (i : ℕ) → i < n - 1 → sound (names_in (input i (inputs w.after))) ≡ true
+    pub sound_next : plan_w (what_of v.kind) ≡ true → (i : ℕ) → i < n - 1 → sound (names_in (input i (inputs w.after))) ≡ true
     unfolding input
     sound_next z i l = subst (λ (t : Schema). sound (names_in t) ≡ true) (ap (input (suc i)) (plan_first w z)) (known (suc i) (omega arith))
-
-    -- so of both
-    pub sound_after : {x : Bool} → x ≡ plan_w (what_of v.kind) → {j m : ℕ} → j ≡ cond x 1 0 → m ≡ n - j
-        → (i : ℕ) → i < m → sound (names_in (input i (inputs w.after))) ≡ true
-    sound_after {x} e {j} {m} g h i l = go x (sym e) g
-      where
-        go : (b : Bool) → plan_w (what_of v.kind) ≡ b → j ≡ cond b 1 0 → sound (names_in (input i (inputs w.after))) ≡ true
-        go true z q = sound_next z i (omega arith)
-        go false z q = sound_rest z i (omega arith)

@@ -58,23 +58,31 @@ pub fn bad_name(trees: Siblings, here: Scope, after: Scope, known: usize) -> Opt
     ensures { ((i : ℕ) → i < known → sound (names_in (input i (inputs (forest trees.entry)))) ≡ true)
         → result ≡ (lowest name_ok hand (scope_at here.entry) (scope_at after.entry) trees.entry.at (forest trees.entry)) }
 {
-    let tree = trees.first()?;
-    if !name_ok(tree, here, 0 < known) {
-        return Some(tree.number);
+    let mut left = trees;
+    let mut over = here;
+    let mut sound = known;
+    while let Some(tree) = left.first() {
+        if !name_ok(tree, over, 0 < sound) {
+            return Some(tree.number);
+        }
+        let kind = tree.node.kind;
+        let handed = hand(over, tree);
+        let below = bad_name(
+            tree.below,
+            handed.first,
+            handed.rest,
+            known_inputs(role_of(kind)),
+        );
+        if below.is_some() {
+            return below;
+        }
+        if is_plan(kind) {
+            sound = sound.saturating_sub(1);
+        }
+        left = tree.after;
+        over = after;
     }
-    let kind = tree.node.kind;
-    let handed = hand(here, tree);
-    let below = bad_name(
-        tree.below,
-        handed.first,
-        handed.rest,
-        known_inputs(role_of(kind)),
-    );
-    if below.is_some() {
-        return below;
-    }
-    let passed = if is_plan(kind) { 1 } else { 0 };
-    bad_name(tree.after, after, after, known.saturating_sub(passed))
+    None
 }
 
 // The lowest record of the image that breaks the rule.

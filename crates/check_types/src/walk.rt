@@ -43,16 +43,21 @@ pub fn bad_type(trees: Siblings, here: Scope, after: Scope, root: &[u8]) -> Opti
     ensures { (u : Tree) → At u root.now 0
         → result ≡ (lowest (type_ok (alone u)) hand (scope_at here.entry) (scope_at after.entry) trees.entry.at (forest trees.entry)) }
 {
-    let tree = trees.first()?;
-    let handed = hand(here, tree);
-    if !type_ok(tree, handed, root) {
-        return Some(tree.number);
+    let mut left = trees;
+    let mut over = here;
+    while let Some(tree) = left.first() {
+        let handed = hand(over, tree);
+        if !type_ok(tree, handed, root) {
+            return Some(tree.number);
+        }
+        let below = bad_type(tree.below, handed.first, handed.rest, root);
+        if below.is_some() {
+            return below;
+        }
+        left = tree.after;
+        over = after;
     }
-    let below = bad_type(tree.below, handed.first, handed.rest, root);
-    if below.is_some() {
-        return below;
-    }
-    bad_type(tree.after, after, after, root)
+    None
 }
 
 // Test 7: the lowest record of the image whose types are wrong.
