@@ -41,22 +41,22 @@ loop-tree-preserved t c =
     let w = c.in-Some.ensures in (
       omega (arith, w.fewer, c.loop-tree.invariant.0),
       λ k. let v = c.loop-tree.invariant.1 k in
-      let here = scope_at c.loop-tree.over in
-      let ok : name_ok here w.label (forest c.in-Some.tree.below) ≡ true =
-      sym (c.name_ok.ensures w.label w.says (sound_first (front w) _ v.0)) ∙ c.if-not-name_ok.false in (
-        elim c.if-is_plan.branch [
-          | then-is_plan b ↦
-              λ i l. sound_next (front w) _ v.0 (sym c.is_plan.ensures ∙ b.if-is_plan.true) i
-              (omega (arith, l, b.sound-is, b.saturating_sub-sound.ensures))
-          | else-is_plan b ↦
-              λ i l. sound_rest (front w) _ v.0 (sym c.is_plan.ensures ∙ b.if-is_plan.false) i (omega (arith, l, b.sound-is))
-        ],
-        place_after name_ok hand c.loop-tree.left.at w.is w.below w.after here (scope_at c.args.after) _ _ (c.hand-handed.ensures w.label w.says) refl ok _
-        (sym c.is_some.ensures ∙ c.if-is_some.false)
-        (c.bad_name-below.ensures
-        (sound_below here w.label _ (c.role_of.ensures ∙ ap (λ (n : ℕ). role (what_of n)) w.says.kind) c.known_inputs.ensures ok))
-        ∙ v.1,
-      ),
+          let here = scope_at c.loop-tree.over in
+          let ok : name_ok here w.label (forest c.in-Some.tree.below) ≡ true =
+          sym (c.name_ok.ensures w.label w.says (sound_first (front w) _ v.0)) ∙ c.if-not-name_ok.false in (
+            elim c.if-is_plan.branch [
+              | then-is_plan b ↦
+                  λ i l. sound_next (front w) _ v.0 (sym c.is_plan.ensures ∙ b.if-is_plan.true) i
+                  (omega (arith, l, b.sound-is, b.saturating_sub-sound.ensures))
+              | else-is_plan b ↦
+                  λ i l. sound_rest (front w) _ v.0 (sym c.is_plan.ensures ∙ b.if-is_plan.false) i (omega (arith, l, b.sound-is))
+            ],
+            place_after name_ok hand c.loop-tree.left.at w.is w.below w.after here (scope_at c.args.after) _ _ (c.hand-handed.ensures w.label w.says) refl ok _
+                (sym c.is_some.ensures ∙ c.if-is_some.false)
+                (c.bad_name-below.ensures
+                (sound_below here w.label _ (c.role_of.ensures ∙ ap (λ (n : ℕ). role (what_of n)) w.says.kind) c.known_inputs.ensures ok))
+                ∙ v.1,
+          ),
     )
 
 pub returns : goal.returns

@@ -19,9 +19,9 @@ abbrev pub invariant-loop-tree : goal.invariant-loop-tree
 invariant-loop-tree l =
     (size (forest l.left) ≤ size (forest l.trees))
     × (((i : ℕ) → i < l.known → sound (names_in (input i (inputs (forest l.trees)))) ≡ true)
-        → ((i : ℕ) → i < l.sound → sound (names_in (input i (inputs (forest l.left)))) ≡ true)
-        × (lowest name_ok hand (scope_at l.over) (scope_at l.after) l.left.at (forest l.left)
-        ≡ lowest name_ok hand (scope_at l.here) (scope_at l.after) l.trees.at (forest l.trees)))
+    → ((i : ℕ) → i < l.sound → sound (names_in (input i (inputs (forest l.left)))) ≡ true)
+    × (lowest name_ok hand (scope_at l.over) (scope_at l.after) l.left.at (forest l.left)
+    ≡ lowest name_ok hand (scope_at l.here) (scope_at l.after) l.trees.at (forest l.trees)))
 
 abbrev pub decreases-loop-tree : goal.decreases-loop-tree
 decreases-loop-tree l = size (forest l.left)

@@ -32,10 +32,10 @@ loop-tree-preserved t c =
     let w = c.in-Some.ensures in (
       omega (arith, w.fewer, c.loop-tree.invariant.0),
       λ u h. let s = c.hand-handed.ensures w.label w.says in
-      place_after (type_ok (alone u)) hand c.loop-tree.left.at w.is w.below w.after (scope_at c.loop-tree.over) (scope_at c.args.after) _ _ s
-      (rule_of (alone u) _ w.label _ _ _ s (c.type_ok.ensures w.label u w.says h)) c.if-not-type_ok.false _
-      (sym c.is_some.ensures ∙ c.if-is_some.false) (c.bad_type-below.ensures u h)
-      ∙ c.loop-tree.invariant.1 u h,
+          place_after (type_ok (alone u)) hand c.loop-tree.left.at w.is w.below w.after (scope_at c.loop-tree.over) (scope_at c.args.after) _ _ s
+          (rule_of (alone u) _ w.label _ _ _ s (c.type_ok.ensures w.label u w.says h)) c.if-not-type_ok.false _
+          (sym c.is_some.ensures ∙ c.if-is_some.false) (c.bad_type-below.ensures u h)
+          ∙ c.loop-tree.invariant.1 u h,
     )
 
 pub returns : goal.returns

@@ -16,8 +16,8 @@ abbrev pub invariant-loop-tree : goal.invariant-loop-tree
 invariant-loop-tree l =
     (size (forest l.left) ≤ size (forest l.trees))
     × ((u : Tree) → At u l.root 0
-        → lowest (type_ok (alone u)) hand (scope_at l.over) (scope_at l.after) l.left.at (forest l.left)
-        ≡ lowest (type_ok (alone u)) hand (scope_at l.here) (scope_at l.after) l.trees.at (forest l.trees))
+    → lowest (type_ok (alone u)) hand (scope_at l.over) (scope_at l.after) l.left.at (forest l.left)
+    ≡ lowest (type_ok (alone u)) hand (scope_at l.here) (scope_at l.after) l.trees.at (forest l.trees))
 
 abbrev pub decreases-loop-tree : goal.decreases-loop-tree
 decreases-loop-tree l = size (forest l.left)
