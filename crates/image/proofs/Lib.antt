@@ -11,3 +11,4 @@ pub mod Standing
 pub mod Relinking
 pub mod RoundTrip
 pub mod Bytes
+pub mod Subtrees

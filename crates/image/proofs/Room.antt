@@ -3,11 +3,12 @@
 --     sets_next       two runs, one after the other, are one run, also past the end
 --     Left            the invariant of a loop that writes trees: what is left of them completes the output
 --     wrote_past      past the end a tree is written by doing nothing
+--     low_below, ..   the levels at which trees are written
 --     wrote_leaf, ..  a record over no, one or two trees
 -- Assumes nothing.
-use mathlib.Core.Path.{◌≡◌, refl, sym, ap, ◌∙◌}
+use mathlib.Core.Path.{◌≡◌, refl, sym, ap, subst, ◌∙◌}
 use mathlib.Core.List.{List, [], ◌∷◌, ◌++◌, append_assoc}
-use Prim.Native.Nat.{ℕ, suc, ◌+◌, ◌*◌, ◌≤◌, ◌<◌}
+use Prim.Native.Nat.{ℕ, suc, ◌+◌, ◌-◌, ◌*◌, ◌≤◌, ◌<◌}
 use native.Mathlib.Nat.{add-zero}
 use native.Mathlib.Omega.{arith}
 use lib.Dec.{leb}
@@ -19,7 +20,7 @@ use Rattle.image.specs.Limits.{max_records, work_bytes, no_room}
 use Rattle.image.specs.Tree.{Label, Forest, none, node, Tree, size}
 use Rattle.image.specs.Flat.{size_t, bytes_of, flat_any, flat}
 use Rattle.image.proofs.Writing.{sets_append, sets_after, bytes_of_length, flat_length}
-use Rattle.image.specs.Room.{cap, Put, Wrote}
+use Rattle.image.specs.Room.{cap, Put, Wrote, Low}
 
 -- no count is more than `no_room`
 pub cap_le : (n : ℕ) → cap n ≤ no_room
@@ -129,3 +130,16 @@ module _ {out₀ out₁ : List ℕ} {at at₁ level : ℕ} {l : Label} (long : l
       → Wrote out₁ out₂ at₁ (level + 1) n₂ t → Wrote out₂ out₃ n₂ (level + 1) n₃ u
       → Wrote out₀ out₃ at level n₃ (record { label = l; below = node t.label t.below (node u.label u.below none) })
   wrote_two {t = t} {u = u} w v = left_end long p (left_next u (left_next t (put_start long p _) w) v)
+
+-- ---- levels
+
+-- the first of some trees, what is below it, and the others
+module _ {level : ℕ} {f : Forest} {l : Label} {cs ns : Forest} (e : f ≡ node l cs ns) (h : Low level f) where
+  low : Low level (node l cs ns)
+  low = subst (Low level) e h
+
+  pub low_below : Low (level + 1) cs
+  low_below = record { depth = low.depth - 1; deep = low.deep.1; low = omega (arith, low.low, low.deep.0) }
+
+  pub low_after : Low level ns
+  low_after = record { depth = low.depth; deep = low.deep.2; low = low.low }

@@ -15,33 +15,11 @@ use lib.Seq.{take_all, drop-drop}
 use Rattle.image.specs.Word.{word}
 use Rattle.image.specs.Tree.{Label, Forest, none, node, Tree, size, link, Stands, At, Deep, Readable, Linked}
 use Rattle.image.specs.Places.{left}
+pub use Rattle.image.specs.Chains.{only}
 
 -- a part to the end is what is dropped to
 pub part : (s : List ℕ) (a : ℕ) → take (length s - a) (drop a s) ≡ drop a s
 part s a = take_all (length s - a) (drop a s) (omega (arith, length-drop a s))
-
--- ---- one tree only stands somewhere
-
--- one forest only stands somewhere, where the links to it are the same
-pub same : (f g : Forest) (s : List ℕ) (b : ℕ) → 0 < b → link b f ≡ link b g → Stands f s b → Stands g s b → f ≡ g
-same none none s b pos e h k = refl
-same none (node l cs ns) s b pos e h k = absurd (omega arith)
-same (node l cs ns) none s b pos e h k = absurd (omega arith)
-same (node l cs ns) (node l' cs' ns') s b pos e h k =
-    let first : link (b + 1) cs ≡ link (b + 1) cs' = sym h.head.first ∙ k.head.first in
-    let pc : cs ≡ cs' = same cs cs' (drop 32 s) (b + 1) (omega arith) first h.below k.below in
-    let k' : Stands (node l' cs ns') s b = subst (λ (f : Forest). Stands (node l' f ns') s b) (sym pc) k in
-    let m = b + 1 + size cs in
-    let pn : ns ≡ ns' = same ns ns' (drop (32 * suc (size cs)) s) m (omega arith) (sym h.next ∙ k'.next) h.after k'.after in
-    cc (h.head.label, k.head.label)
-
--- one tree only stands somewhere
-pub only : {t u : Tree} {s : List ℕ} {b : ℕ} → At u s b → At t s b → u ≡ t
-only {t} {u} {s} {b} h k =
-    let links : link (b + 1) u.below ≡ link (b + 1) t.below = sym h.head.first ∙ k.head.first in
-    let pc : u.below ≡ t.below = same u.below t.below (drop 32 s) (b + 1) (omega arith) links h.below k.below in
-    let pl : u.label ≡ t.label = sym h.head.label ∙ k.head.label in
-    ap (λ (x : Label × Forest). record { label = x.0; below = x.1 }) (cc)
 
 -- what holds of one tree that stands somewhere holds of each that does
 pub for_all : (P : Tree → Type 0) {t : Tree} {s : List ℕ} {b : ℕ} → At t s b → P t → (u : Tree) → At u s b → P u
@@ -50,7 +28,7 @@ for_all P h p u k = subst P (only h k) p
 -- ---- a chain of siblings, by the link to its first record, in bytes that begin at record b
 
 -- a forest that stands at record m is linked by the link to it
-linked : (f : Forest) (s : List ℕ) (b m : ℕ) → b < m → Stands f (drop (32 * (m - b)) s) m → Linked f s b (link m f)
+pub linked : (f : Forest) (s : List ℕ) (b m : ℕ) → b < m → Stands f (drop (32 * (m - b)) s) m → Linked f s b (link m f)
 linked none s b m h k = refl
 linked (node l cs ns) s b m h k = (h, k)
 

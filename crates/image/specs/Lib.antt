@@ -10,3 +10,5 @@ pub mod Room
 pub mod Lowest
 pub mod Places
 pub mod Refusals
+pub mod Chains
+pub mod Subtrees

@@ -2,11 +2,13 @@
 // `Writer` has the buffer and the record that is written next; the functions below it take both, and hand that record back.
 ghost use Rattle.std.specs.Prelude.{◌≡◌, ◌+◌, ◌<◌, ◌≤◌, length};
 ghost use Rattle.image.specs.Limits.{max_level, no_room, work_bytes};
-ghost use Rattle.image.specs.Room.{Put, Wrote};
+ghost use Rattle.image.specs.Room.{Low, Put, Wrote};
+ghost use Rattle.image.specs.Subtrees.{tree_of};
 ghost use Rattle.image.specs.Tree.{At, Readable, Tree, label_at};
 
 use crate::limits::{MAX_RECORDS, NO_ROOM};
 use crate::records::{FIRST_LINK, Label, NEXT_LINK, from_record, label_at, put_record};
+use crate::trees::Subtree;
 use crate::words::word_at;
 
 // A work buffer, and the record that is written next. Records past the buffer's end are counted, up to NO_ROOM, and not written.
@@ -31,24 +33,20 @@ impl<'a> Writer<'a> {
         }
     }
 
-    // Writes the tree that stands at the start of s.
-    pub fn copy_tree(&mut self, s: &[u8], base: usize, depth: usize, level: usize)
-        requires readable { Readable depth s.now base }
-        requires depth_bound { level + depth < max_level }
+    // Writes a tree.
+    pub fn copy_tree(&mut self, tree: Subtree, level: usize)
+        requires { Low (level + 1) (tree_of tree).below }
         ensures same { self.new.bytes.ghost_name ≡ self.old.bytes.ghost_name }
-        ensures wrote { (t : Tree) → At t s.now base → Wrote self.old.bytes.now self.new.bytes.now self.old.next level self.new.next t }
+        ensures wrote { Wrote self.old.bytes.now self.new.bytes.now self.old.next level self.new.next (tree_of tree.entry) }
     {
         // Past the buffer's end nothing is written, and no record need be looked at.
         if MAX_RECORDS <= self.next {
             self.next = NO_ROOM;
             return;
         }
-        self.put(label_at(s), level);
-        let mut from = word_at(s, FIRST_LINK);
-        while from != 0 {
-            let part = from_record(s, base, from);
-            self.copy_tree(part, from, depth - 1, level + 1);
-            from = word_at(part, NEXT_LINK);
+        self.put(tree.label(), level);
+        for child in tree.children() {
+            self.copy_tree(child, level + 1);
         }
     }
 

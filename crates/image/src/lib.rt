@@ -10,5 +10,6 @@ pub mod ranges;
 pub mod records;
 pub mod refusals;
 pub mod relink;
+pub mod trees;
 pub mod values;
 pub mod words;

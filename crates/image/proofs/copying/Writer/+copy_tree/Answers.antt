@@ -1,50 +1,38 @@
-use mathlib.Core.Path.{◌∙◌}
+use mathlib.Core.Path.{sym, ap, ◌∙◌}
 use native.Mathlib.Omega.{arith}
-use lib.ListN.{length-drop}
-use Rattle.image.proofs.Walking.{chain, round, again, done, for_all}
-use Rattle.image.proofs.Room.{put_start, left_next, left_end, wrote_past}
+use Rattle.image.specs.Tree.{size}
+use Rattle.image.specs.Subtrees.{forest}
+use Rattle.image.proofs.Room.{put_start, left_next, left_end, wrote_past, low_below, low_after}
+use Rattle.image.proofs.Subtrees.{goes, gone}
 use Rattle.image.proofs.copying.Writer.+copy_tree.Goals as goal
 
 pub returns-then-self-ge-MAX_RECORDS-clause-wrote : goal.returns-then-self-ge-MAX_RECORDS-clause-wrote
-returns-then-self-ge-MAX_RECORDS-clause-wrote t c =
-    λ t h. wrote_past _ _ _ t c.args.self.now.long c.if-self-ge-MAX_RECORDS.true
+returns-then-self-ge-MAX_RECORDS-clause-wrote t c = wrote_past _ _ _ _ c.args.self.now.long c.if-self-ge-MAX_RECORDS.true
 
-pub loop-from-init : goal.loop-from-init
-loop-from-init t c = (
-  c.put.ensures.same,
-  rw c.word_at-from.ensures.0
-      (chain _ c.requires.readable (put_start c.args.self.now.long c.put.ensures.put _)),
-)
+pub loop-child-init : goal.loop-child-init
+loop-child-init t c =
+    let e = ap forest c.into_iter-child-iterator.ensures.into_iter_gives ∙ c.children-child-items.ensures.is in
+    let start = put_start c.args.self.now.long c.put.ensures.put c.args.tree.stood.tree.below in
+    (c.put.ensures.same, rw e start, rw e c.requires, omega (arith, ap size e))
 
 pub copy_tree-requires : goal.copy_tree-requires
 copy_tree-requires t c =
-    let u = round _ c.loop-from.invariant.1 c.loop-from-test.true in (
-      omega (arith, c.loop-from.invariant.1.some, c.decreases),
-      (rw c.from_record-part.ensures u.readable, omega (arith, c.requires.depth_bound, c.loop-from.invariant.1.some)),
-    )
+    let g = goes c.loop-child.child-iterator c.next.new.self c.in-Some.child c.in-Some.ensures.steps in
+    let k = c.loop-child.invariant in
+    (omega (arith, ap size g.is, k.3, c.decreases), low_below g.is k.2)
 
-pub word_at-from-requires-in-loop-from : goal.word_at-from-requires-in-loop-from
-word_at-from-requires-in-loop-from t c =
-    let u = round _ c.loop-from.invariant.1 c.loop-from-test.true in
-    rw (c.from_record-part.ensures, length-drop) (omega (arith, u.turn.fits))
-
-pub loop-from-smaller : goal.loop-from-smaller
-loop-from-smaller t c =
-    let u = round _ c.loop-from.invariant.1 c.loop-from-test.true in
-    rw (c.word_at-from-in-loop-from.ensures.0, c.from_record-part.ensures) u.turn.less
-
-pub loop-from-preserved : goal.loop-from-preserved
-loop-from-preserved t c =
-    let k = c.loop-from.invariant.1 in
-    let u = round _ k c.loop-from-test.true in
-    let part = c.from_record-part.ensures in
-    let e = c.copy_tree.ensures.wrote u.turn.child (rw part u.turn.here) in (
-      c.copy_tree.ensures.same ∙ c.loop-from.invariant.0,
-      rw (c.word_at-from-in-loop-from.ensures.0, part) (again _ k u (left_next u.turn.child u.so_far e)),
+pub loop-child-preserved : goal.loop-child-preserved
+loop-child-preserved t c =
+    let g = goes c.loop-child.child-iterator c.next.new.self c.in-Some.child c.in-Some.ensures.steps in
+    let k = c.loop-child.invariant in (
+      c.copy_tree.ensures.same ∙ k.0,
+      left_next _ (rw g.is at k.1) c.copy_tree.ensures.wrote,
+      low_after g.is k.2,
+      omega (arith, ap size g.is, k.3),
     )
 
 pub returns-clause-wrote : goal.returns-clause-wrote
 returns-clause-wrote t c =
-    let k = c.loop-from.invariant.1 in
-    let long = c.args.self.now.long in
-    for_all _ k.stands (rw (← k.stands.head.label, ← c.label_at.ensures.0) (left_end long c.put.ensures.put (done _ k c.loop-from-test.false)))
+    let k = c.loop-child.invariant in
+    let all = rw (gone c.loop-child.child-iterator c.in-None.ensures.steps.0) at k.1 in
+    rw (← c.label.ensures.label) (left_end c.args.self.now.long c.put.ensures.put all)
