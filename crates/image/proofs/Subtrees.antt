@@ -17,7 +17,7 @@ use Rattle.image.specs.Chains.{only, one_chain}
 use Rattle.image.specs.Subtrees.{Place, Below, Split, forest, tree_of, place, places, places_from}
 use Rattle.image.specs.declared.trees.Siblings.{Siblings}
 use Rattle.image.specs.declared.trees.Subtree.{Subtree}
-use Rattle.image.proofs.Walking.{linked, turn, ended}
+use Rattle.image.proofs.Walking.{linked, turn}
 
 -- the trees below record n are linked in the image by its first link
 pub below_linked : (t : Tree) (s : List ℕ) (n : ℕ) → At t (drop (32 * n) s) n → Linked t.below s 0 (word (drop (32 * n) s) 24)
@@ -46,7 +46,7 @@ pub tree_is : (x : Subtree) (t : Tree) {s : List ℕ} {n : ℕ} → x.image.now 
 tree_is x t {s} {n} es en h =
     only
     (subst (λ (z : List ℕ). At (tree_of x) (drop (32 * n) z) n) es
-        (subst (λ (k : ℕ). At (tree_of x) (drop (32 * k) x.image.now) k) en x.stood.at))
+    (subst (λ (k : ℕ). At (tree_of x) (drop (32 * k) x.image.now) k) en x.stood.at))
     h
 
 -- the forest that is linked there is the siblings'

@@ -6,14 +6,14 @@
 --     left            the measure of a walk along a chain
 --     Chain           the invariant of a loop over the children of a record: `chain` before it, `round` and `again` in it, `done` after it
 -- Assumes nothing.
-use mathlib.Core.Path.{◌≡◌, refl, sym, ap, subst, ◌∙◌}
+use mathlib.Core.Path.{◌≡◌, refl, subst}
 use mathlib.Core.List.{List}
 use Prim.Native.Nat.{ℕ, zero, suc, ◌+◌, ◌-◌, ◌*◌, ◌≤◌, ◌<◌}
 use native.Mathlib.Omega.{arith}
 use lib.ListN.{length, take, drop, length-drop}
 use lib.Seq.{take_all, drop-drop}
 use Rattle.image.specs.Word.{word}
-use Rattle.image.specs.Tree.{Label, Forest, none, node, Tree, size, link, Stands, At, Deep, Readable, Linked}
+use Rattle.image.specs.Tree.{Forest, none, node, Tree, size, link, Stands, At, Deep, Readable, Linked}
 use Rattle.image.specs.Places.{left}
 pub use Rattle.image.specs.Chains.{only}
 

@@ -1,4 +1,4 @@
-use mathlib.Core.Path.{sym, ap, ◌∙◌}
+use mathlib.Core.Path.{ap, ◌∙◌}
 use native.Mathlib.Omega.{arith}
 use Rattle.image.specs.Tree.{size}
 use Rattle.image.specs.Subtrees.{forest}
