@@ -12,6 +12,7 @@ use crate::trees::Subtree;
 use crate::words::word_at;
 
 // A work buffer, and the record that is written next. Records past the buffer's end are counted, up to NO_ROOM, and not written.
+#[derive(Drop)]
 pub struct Writer<'a> {
     pub bytes: &'a mut [u8],
     pub next: usize,
