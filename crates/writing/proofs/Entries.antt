@@ -1,19 +1,28 @@
 -- Laws of looking an entry up.
 --     below_child     what stands below a child is linked in the whole
 --     value           what is found for a column
+--     Inside, ..      trees side by side stand in one image
+--     begins, ..      what is found in a map as a value, and how deep it may be written
 -- Assumes nothing.
-use mathlib.Core.Path.{◌≡◌, subst}
+use mathlib.Core.Path.{◌≡◌, refl, sym, ap, subst, ◌∙◌}
 use mathlib.Core.Bool.{Bool, true, false}
-use mathlib.Core.List.{List}
+use mathlib.Core.List.{List, [], ◌∷◌}
 use Prim.Native.Nat.{ℕ, ◌+◌, ◌-◌, ◌*◌, ◌≤◌, ◌<◌}
 use native.Mathlib.Omega.{arith}
 use lib.Dec.{eqb}
 use lib.ListN.{length, drop}
 use lib.Seq.{drop-drop}
 use Rattle.image.specs.Word.{word}
-use Rattle.image.specs.Tree.{Label, Forest, none, node, Tree, At, Deep, Readable, Linked}
+use Rattle.image.specs.Tree.{Label, Forest, none, node, Tree, At, Deep, Readable, Linked, size}
+use Rattle.std.specs.Iterator.{YieldsFirstBy}
+use Rattle.std.specs.Prelude.{Option, Some, None}
+use Rattle.image.specs.Room.{Low}
+use Rattle.image.specs.Subtrees.{Below, Place, forest, place, places, places_from, tree_of}
+use Rattle.image.specs.declared.trees.Siblings.{Siblings}
+use Rattle.image.specs.declared.trees.Subtree.{Subtree}
 use Rattle.image.proofs.Walking.{Turn, turn, ended, readable, linked_first, only}
-use Rattle.writing.specs.Replaced.{Leads, is_entry, either, lookup, value_for, first_or}
+use Rattle.image.proofs.Subtrees.{goes, gone}
+use Rattle.writing.specs.Replaced.{Begins, Finds, Leads, LowOver, is_entry, either, lookup, value_for, first_or, replaced, replaced_any}
 
 inner : (f : Forest) (s : List ℕ) (b a x : ℕ) → b ≤ a → Linked f (drop (32 * (a - b)) s) a x → Linked f s b x
 inner none s b a x h k = k
@@ -67,3 +76,78 @@ value e l {d} {m} {of} {x} k he h nz =
 
 pub no_value : (e : Tree) (l : Label) {m : List ℕ} {of x : ℕ} → Leads (value_for e l) m of x → x ≡ 0 → (t : Tree) → first_or (value_for e l) t ≡ t
 no_value e l {m} {of} {x} h z t = rw (ended (value_for e l) m of x h.linked z)
+
+-- ---- of trees as values
+
+-- the trees of these places stand in the image s
+abbrev pub Inside : List ℕ → List Place → Type 0
+Inside s [] = Unit {0}
+Inside s (p ∷ ps) = (p.image ≡ s) × Inside s ps
+
+inside_from : (s : List ℕ) (n : ℕ) (f : Forest) → Inside s (places_from s n f)
+unfolding places_from
+inside_from s n none = tt
+inside_from s n (node l cs ns) = (refl, inside_from s (n + 1 + size cs) ns)
+
+-- those of siblings do
+pub inside : (x : Siblings) {s : List ℕ} → x.image.now ≡ s → Inside s (places x)
+inside x e = subst (λ (z : List ℕ). Inside z (places x)) e (inside_from x.image.now x.first (forest x))
+
+-- the first does, and so do the others
+pub inside_step : (x y : Siblings) (t : Subtree) {s : List ℕ} → places x ≡ place t ∷ places y → Inside s (places x)
+    → (t.image.now ≡ s) × Inside s (places y)
+inside_step x y t {s} e h = subst (Inside s) e h
+
+-- the first of the trees below an entry is its expression
+pub begins : (map t x : Subtree) (cs y : Siblings) → Below t cs → t.image.now ≡ map.image.now → places cs ≡ place x ∷ places y
+    → Begins (tree_of t).below map x
+begins map t x cs y b i e =
+    let g = goes cs y x e in
+    record { image = g.image ∙ b.image ∙ i; others = forest y; is = sym b.is ∙ g.is }
+
+-- .. or there is none
+pub begins_of : (map t : Subtree) (cs y : Siblings) (o : Option Subtree) → Below t cs → t.image.now ≡ map.image.now
+    → YieldsFirstBy place places cs o y → Finds (tree_of t).below map o
+begins_of map t cs y (Some x) b i e = begins map t x cs y b i e
+begins_of map t cs y None b i e = sym b.is ∙ gone cs e.0
+
+-- the first entry has the name
+pub lookup_first : (l : Label) (cs ns : Forest) (p q : ℕ) {b : Bool} → b ≡ is_entry l p q → b ≡ true → lookup (node l cs ns) p q ≡ cs
+lookup_first l cs ns p q e h = let t = sym e ∙ h in rw t
+
+-- .. or it has not
+pub lookup_next : (l : Label) (cs ns : Forest) (p q : ℕ) {b : Bool} → b ≡ is_entry l p q → b ≡ false → lookup (node l cs ns) p q ≡ lookup ns p q
+lookup_next l cs ns p q e h = let t = sym e ∙ h in rw t
+
+-- what is found stands for the tree that columns give way to
+pub first_found : {f : Forest} {map x : Subtree} → Begins f map x → (t : Tree) → first_or f t ≡ tree_of x
+first_found h t = rw h.is
+
+pub replaced_found : (e t : Tree) {map x : Subtree} → Begins (value_for e t.label) map x → tree_of x ≡ replaced e t
+replaced_found e t h = sym (first_found h (record { label = t.label; below = replaced_any e t.below }))
+
+-- where nothing is found, the trees below are replaced
+pub replaced_below : (e t : Tree) → value_for e t.label ≡ none → replaced e t ≡ record { label = t.label; below = replaced_any e t.below }
+replaced_below e t h = ap (λ (f : Forest). first_or f (record { label = t.label; below = replaced_any e t.below })) h
+
+-- ---- levels
+
+-- what is found may be written in a column's place
+pub low_found : (e : Tree) (l : Label) (level : ℕ) {f : Forest} {map x : Subtree}
+    → LowOver (level + 1) e.below f → Begins (value_for e l) map x → Low (level + 1) (tree_of x).below
+low_found e l level {x = x} h b =
+    let d : Deep (value_for e l) (h.room - 1) = deep_or (eqb l.kind 1) (lookup e.below l.p l.q) none (h.room - 1) (deep_lookup e.below l.p l.q h.room h.entries_deep) tt in
+    let k : Deep (node (tree_of x).label (tree_of x).below b.others) (h.room - 1) = subst (λ (g : Forest). Deep g (h.room - 1)) b.is d in
+    record { depth = h.room - 1 - 1; deep = k.1; low = omega (arith, h.low, k.0) }
+
+-- the first of some trees, what is below it, and the others
+module _ {level : ℕ} {es f : Forest} {l : Label} {cs ns : Forest} (e : f ≡ node l cs ns) (h : LowOver level es f) where
+  low : LowOver level es (node l cs ns)
+  low = subst (LowOver level es) e h
+
+  pub over_below : LowOver (level + 1) es cs
+  over_below =
+      record { depth = low.depth - 1; deep = low.deep.1; room = low.room; entries_deep = low.entries_deep; low = omega (arith, low.low, low.deep.0) }
+
+  pub over_after : LowOver level es ns
+  over_after = record { depth = low.depth; deep = low.deep.2; room = low.room; entries_deep = low.entries_deep; low = low.low }

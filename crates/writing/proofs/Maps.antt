@@ -3,18 +3,24 @@
 --     entries_map         entries in front of trees that are none
 --     plan_map            those of a plan: of a Projection, and the group entries of an Aggregate
 --     maps, plan_maps     the same of bytes
+--     maps_to, ..         the same of a tree as a value, and how deep it is
 -- Assumes nothing.
-use mathlib.Core.Path.{◌≡◌, refl, ap, ◌∙◌}
+use mathlib.Core.Path.{◌≡◌, refl, sym, ap, subst, ◌∙◌}
 use mathlib.Core.Bool.{Bool, true, false, ◌&&◌, cond}
 use mathlib.Core.List.{List, [], ◌∷◌}
 use mathlib.Core.Option as O
 use mathlib.Core.Option.{Option, some}
-use Prim.Native.Nat.{ℕ, ◌-◌, ◌*◌, ◌<◌}
+use Prim.Native.Nat.{ℕ, suc, ◌+◌, ◌-◌, ◌*◌, ◌≤◌, ◌<◌}
 use native.Mathlib.Omega.{arith}
 use lib.ListN.{drop}
 use lib.Dec.{eqb}
-use Rattle.image.specs.Limits.{max_depth}
-use Rattle.image.specs.Tree.{Label, Forest, none, node, Tree, At, Deep}
+use Rattle.image.specs.Limits.{max_below, max_depth, Shallow}
+use Rattle.image.specs.Places.{Stood}
+use Rattle.image.specs.Room.{Low}
+use Rattle.image.specs.Subtrees.{tree_of}
+use Rattle.image.specs.Tree.{Label, Forest, none, node, Tree, At, Deep, Readable}
+use Rattle.image.specs.declared.trees.Subtree.{Subtree}
+use Rattle.image.proofs.Subtrees.{tree_is}
 use Rattle.plan.specs.Lists.{◌&◌}
 use Rattle.plan.specs.Schema.{same}
 use Rattle.plan.specs.Syntax.{Name, nm, Expr, col, num, bool, nul, bin, neg, test, between, inlist, fn, Exprs, enil, econs, Entry}
@@ -25,9 +31,9 @@ use Rattle.plan.specs.Trees.{nothing_below, field_label, pair_label, pair_kids, 
 use Rattle.plan.specs.Trees.{forest_p, plan_tree}
 use Rattle.rewrite.specs.Utils.{replace_cols, replace_cols_all}
 use Rattle.rewrite.specs.PushDownFilter.{pick}
-use Rattle.conjuncts.specs.Standing.{StandingP}
-use Rattle.writing.specs.Replaced.{is_entry, either, lookup, first_or, plant, replaced_any, replaced}
-use Rattle.writing.specs.Maps.{Maps, map_of}
+use Rattle.conjuncts.specs.Standing.{Standing, StandingP}
+use Rattle.writing.specs.Replaced.{LowOver, is_entry, either, lookup, first_or, plant, replaced_any, replaced}
+use Rattle.writing.specs.Maps.{Maps, MapsTo, Over, map_of}
 
 -- the entries of m give each column what σ does
 abbrev pub Gives : Tree → (Name → Expr) → Type 0
@@ -195,3 +201,70 @@ maps {t} {σ = σ} g h pos deep = record { tree = t; at = h; some = pos; deep = 
 -- a plan that stands in an image is a map
 pub plan_maps : {s : List ℕ} {n : ℕ} {p : Plan} → StandingP s n p → Maps (drop (32 * n) s) n max_depth (map_of p)
 plan_maps {p = p} h = maps (plan_map p) h.here (omega arith) h.deep
+
+-- ---- trees as values
+
+-- an expression and a plan that stand at a record, as the tree there
+pub stood_expr : {s : List ℕ} {n : ℕ} {e : Expr} → Standing s n e → Stood s n
+stood_expr {e = e} h = record { tree = expr_tree e; at = h.here }
+
+pub stood_plan : {s : List ℕ} {n : ℕ} {p : Plan} → StandingP s n p → Stood s n
+stood_plan {p = p} h = record { tree = plan_tree p; at = h.here }
+
+pub expr_is : (x : Subtree) {e : Expr} → Standing x.image.now x.number e → tree_of x ≡ expr_tree e
+expr_is x {e} h = tree_is x (expr_tree e) refl refl h.here
+
+pub plan_is : (x : Subtree) {p : Plan} → StandingP x.image.now x.number p → tree_of x ≡ plan_tree p
+plan_is x {p} h = tree_is x (plan_tree p) refl refl h.here
+
+-- they are no deeper than an image may be
+pub expr_deep : (x : Subtree) {e : Expr} → Standing x.image.now x.number e → Deep (tree_of x).below max_below
+expr_deep x h = rw (expr_is x h) h.deep
+
+pub plan_deep : (x : Subtree) {p : Plan} → StandingP x.image.now x.number p → Deep (tree_of x).below max_below
+plan_deep x h = rw (plan_is x h) h.deep
+
+-- such trees may be written
+pub deep_low : (level : ℕ) {f : Forest} → Shallow 1 level → Deep f max_below → Low (level + 1) f
+deep_low level h d = record { depth = max_below; deep = d; low = omega (arith, h) }
+
+-- a tree over entries is a map
+pub maps_to : (map : Subtree) {t : Tree} {σ : Name → Expr} → tree_of map ≡ t → Gives t σ → MapsTo map σ
+maps_to map {t} {σ} e g = record { is = subst (λ (u : Tree). (x : Expr) → replaced u (expr_tree x) ≡ expr_tree (replace_cols σ x)) (sym e) (replaced_expr t σ g) }
+
+-- a plan is
+pub plan_maps_to : {map : Subtree} {p : Plan} → StandingP map.image.now map.number p → MapsTo map (map_of p)
+plan_maps_to {map} {p} h = maps_to map (plan_is map h) (plan_map p)
+
+-- bytes that are a map, as a tree, and back
+pub bytes_map_to : (map : Subtree) {s : List ℕ} {of room : ℕ} {σ : Name → Expr} → map.image.now ≡ s → map.number ≡ of
+    → Maps (drop (32 * of) s) of room σ → MapsTo map σ
+bytes_map_to map {σ = σ} e n h = record {
+  is = subst (λ (u : Tree). (x : Expr) → replaced u (expr_tree x) ≡ expr_tree (replace_cols σ x)) (sym (tree_is map h.tree e n h.at)) h.is;
+}
+
+pub map_bytes_of : {map : Subtree} {σ : Name → Expr} {k level : ℕ} → MapsTo map σ → (o : Over k level map)
+    → Maps (drop (32 * map.number) map.image.now) map.number o.room σ
+map_bytes_of {map} h o = record { tree = tree_of map; at = map.stood.at; some = o.some; deep = o.deep; is = h.is }
+
+-- ---- how deep a writer may begin over a map
+
+-- it is no deeper than a plan
+pub plan_over : {k level : ℕ} {map : Subtree} {p : Plan} → StandingP map.image.now map.number p → Shallow (suc k) level → Over k level map
+plan_over {map = map} h l = record { room = max_depth; some = omega arith; deep = plan_deep map h; shallow = omega (arith, l) }
+
+-- it is no deeper than bytes can be read
+pub read_over : {k level room : ℕ} (map : Subtree) {m : List ℕ} → map.image.now ≡ m → map.number ≡ 0 → Readable room m 0 → Shallow k (level + room)
+    → Over k level map
+read_over {room = room} map {m} e n h l =
+    let t : tree_of map ≡ h.tree = tree_is map h.tree e n h.at in
+    record { room = room; some = h.some; deep = rw t h.deep; shallow = l }
+
+-- a lower writer may begin further down
+pub over_at : {k level : ℕ} {map : Subtree} {j n : ℕ} → Over k level map → n + j * max_depth ≤ level + k * max_depth → Over j n map
+over_at h le = record { room = h.room; some = h.some; deep = h.deep; shallow = omega (arith, h.shallow, le) }
+
+-- an expression may be written over a map
+pub over_low : {level : ℕ} {map : Subtree} {f : Forest} → Over 1 level map → Deep f max_below → LowOver (level + 1) (tree_of map).below f
+over_low h d =
+    record { depth = max_below; deep = d; room = h.room - 1; entries_deep = h.deep; low = omega (arith, h.shallow, h.some) }

@@ -66,7 +66,7 @@ renames_small f g i (suc k) h =
       renames_small f g (i + 1) k (λ j lt. h j (omega arith)),
     )
 
-renames_deep : (f g : Fields) (i k : ℕ) → Deep (renames f g i k) 2
+pub renames_deep : (f g : Fields) (i k : ℕ) → Deep (renames f g i k) 2
 unfolding each kids_e
 renames_deep f g i zero = tt
 renames_deep f g i (suc k) = (omega arith, (omega arith, tt, tt), renames_deep f g (i + 1) k)

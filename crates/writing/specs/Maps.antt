@@ -1,6 +1,9 @@
 -- A tree of entries as a map from names to expressions.
-use Rattle.std.specs.Prelude.{◌≡◌, List, ℕ, ◌-◌, ◌<◌}
+use Rattle.std.specs.Prelude.{◌≡◌, List, ℕ, ◌+◌, ◌-◌, ◌<◌}
+use Rattle.image.specs.Limits.{Shallow}
+use Rattle.image.specs.Subtrees.{tree_of}
 use Rattle.image.specs.Tree.{Tree, At, Deep}
+use Rattle.image.specs.declared.trees.Subtree.{Subtree}
 use Rattle.plan.specs.Syntax.{Name, Expr, col}
 use Rattle.plan.specs.Syntax.{Plan, scan, filter, project, join, alias, union, distinct, sort, repartition, limit, aggregate, window}
 use Rattle.plan.specs.Trees.{expr_tree}
@@ -15,6 +18,17 @@ pub record Maps (m : List ℕ) (of room : ℕ) (σ : Name → Expr) : Type 0 whe
   pub some : 0 < room
   pub deep : Deep tree.below (room - 1)
   pub is : (e : Expr) → replaced tree (expr_tree e) ≡ expr_tree (replace_cols σ e)
+
+-- the map's entries replace columns as σ does
+pub record MapsTo (map : Subtree) (σ : Name → Expr) : Type 0 where
+  pub is : (e : Expr) → replaced (tree_of map) (expr_tree e) ≡ expr_tree (replace_cols σ e)
+
+-- a writer of height k may begin at depth `level` and go down further by the map, which is no deeper than `room`
+pub record Over (k level : ℕ) (map : Subtree) : Type 0 where
+  pub room : ℕ
+  pub some : 0 < room
+  pub deep : Deep (tree_of map).below (room - 1)
+  pub shallow : Shallow k (level + room)
 
 -- what the entries of a plan replace columns by: those of a Projection, the group entries of an Aggregate, and no others
 abbrev pub map_of : Plan → Name → Expr

@@ -1,7 +1,10 @@
 -- Columns of a tree replaced by the expressions that entries name. The entries are children of one tree: a Projection, an Aggregate, or
 -- renames.
-use Rattle.std.specs.Prelude.{Bool, true, false, ◌&&◌, ℕ, eqb, List}
-use Rattle.image.specs.Tree.{Label, Forest, none, node, Tree, Linked}
+use Rattle.std.specs.Prelude.{◌≡◌, Bool, true, false, ◌&&◌, ℕ, ◌+◌, ◌<◌, eqb, List, Option, None, Some}
+use Rattle.image.specs.Limits.{max_level}
+use Rattle.image.specs.Subtrees.{tree_of}
+use Rattle.image.specs.Tree.{Deep, Label, Forest, none, node, Tree, Linked}
+use Rattle.image.specs.declared.trees.Subtree.{Subtree}
 use Rattle.plan.specs.Kinds.{number_e, number_q, Column, EntryPart}
 
 -- f is linked at x: a record around `Linked`, by which f is found
@@ -43,3 +46,22 @@ replaced_any e (node l cs ns) = plant (first_or (value_for e l) (record { label 
 -- columns of a tree replaced
 abbrev pub replaced : Tree → Tree → Tree
 replaced e t = first_or (value_for e t.label) (record { label = t.label; below = replaced_any e t.below })
+
+-- x is what f begins with, and stands in the image of the map
+pub record Begins (f : Forest) (map x : Subtree) : Type 0 where
+  pub image : x.image.now ≡ map.image.now
+  pub others : Forest
+  pub is : f ≡ plant (tree_of x) others
+
+-- .. or there is none, and f is none
+abbrev pub Finds : Forest → Subtree → Option Subtree → Type 0
+Finds f map None = f ≡ none
+Finds f map (Some x) = Begins f map x
+
+-- the trees f may be written at depth `level`, their columns replaced by what the entries have: no level overflows
+pub record LowOver (level : ℕ) (entries f : Forest) : Type 0 where
+  pub depth : ℕ
+  pub deep : Deep f depth
+  pub room : ℕ
+  pub entries_deep : Deep entries room
+  pub low : level + depth + room < max_level

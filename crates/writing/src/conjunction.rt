@@ -1,22 +1,24 @@
 // conjunction (datafusion-expr utils): the items of a list written as one predicate, left-deep.
 // An item is 0 for FALSE, or the record of an expression; MAX_RECORDS more for the same with its columns replaced.
-ghost use Rattle.std.specs.Prelude.{◌∷◌, List, ◌+◌, ◌-◌, ◌<◌, ◌≤◌, take};
+ghost use Rattle.std.specs.Prelude.{◌≡◌, ◌∷◌, List, ◌+◌, ◌-◌, ◌<◌, ◌≤◌, take};
 ghost use Rattle.image.specs.Buffers.{Buffer};
+ghost use Rattle.image.specs.Limits.{Shallow};
 ghost use Rattle.image.specs.Room.{Wrote};
 ghost use Rattle.image.specs.Tree.{Readable};
 ghost use Rattle.plan.specs.Syntax.{Expr, Name};
 ghost use Rattle.plan.specs.Trees.{expr_tree};
 ghost use Rattle.rewrite.specs.Utils.{conjoin, replace_cols};
 ghost use Rattle.conjuncts.specs.Items.{Item, Present};
-ghost use Rattle.writing.specs.Maps.{Maps};
+ghost use Rattle.writing.specs.Maps.{Maps, MapsTo, Over};
 ghost use Rattle.writing.specs.Pushed.{One, Predicate, Predicated, Pushed, Pushes, Some};
 
-use crate::replace_cols_by_name::replace_cols_by_name;
+use crate::replace_cols_by_name::{replace_cols_by_name, replace_cols_by_name_xx};
 use conjuncts::items::REPLACED;
 use conjuncts::lists::{Conjuncts, item_at};
-use image::copying::{copy_tree, put_kind};
+use image::copying::{Writer, copy_tree, put_kind};
 use image::limits::MAX_DEPTH;
 use image::records::record_at;
+use image::trees::Subtree;
 use plan::kinds::{BINARY_EXPR, BOOLEAN_LITERAL};
 use plan::words::AND;
 
@@ -154,5 +156,114 @@ pub fn copy_predicate(
     match written {
         Some(n) => copy_item(s, m, of, room, n, out, at, level),
         None => copy_joined(s, m, of, room, c, out, at, level),
+    }
+}
+
+// Writes what the item n stands for, which is a record or FALSE.
+fn copy_plain_xx(s: &[u8], n: usize, out: &mut Writer, level: usize)
+    requires present { Present s.now n }
+    requires shallow { Shallow 1 level }
+    ensures same { out.new.bytes.ghost_name ≡ out.old.bytes.ghost_name }
+    ensures wrote { (e : Expr) → Item s.now n e →
+        Wrote out.old.bytes.now out.new.bytes.now out.old.next level out.new.next (expr_tree e) }
+{
+    if n == 0 {
+        out.put_kind(BOOLEAN_LITERAL, 0, level);
+        return;
+    }
+    let tree = Subtree {
+        image: s,
+        number: n,
+    };
+    out.copy_tree(tree, level);
+}
+
+// The same with the columns replaced.
+fn copy_changed_xx(s: &[u8], map: Subtree, n: usize, out: &mut Writer, level: usize)
+    requires present { Present s.now n }
+    requires over { Over 1 level map }
+    ensures same { out.new.bytes.ghost_name ≡ out.old.bytes.ghost_name }
+    ensures wrote { (σ : Name → Expr) → MapsTo map.entry σ → (e : Expr) → Item s.now n e →
+        Wrote out.old.bytes.now out.new.bytes.now out.old.next level out.new.next (expr_tree (replace_cols σ e)) }
+{
+    if n == 0 {
+        out.put_kind(BOOLEAN_LITERAL, 0, level);
+        return;
+    }
+    let tree = Subtree {
+        image: s,
+        number: n,
+    };
+    replace_cols_by_name_xx(tree, map, out, level);
+}
+
+// Writes what the item n stands for.
+pub fn copy_item_xx(s: &[u8], map: Subtree, n: usize, out: &mut Writer, level: usize)
+    requires one { One s.now n }
+    requires over { Over 1 level map }
+    ensures same { out.new.bytes.ghost_name ≡ out.old.bytes.ghost_name }
+    ensures wrote { (σ : Name → Expr) → MapsTo map.entry σ → (e : Expr) → Pushed s.now σ n e →
+        Wrote out.old.bytes.now out.new.bytes.now out.old.next level out.new.next (expr_tree e) }
+{
+    if n < REPLACED {
+        copy_plain_xx(s, n, out, level);
+    } else {
+        copy_changed_xx(s, map, n - REPLACED, out, level);
+    }
+}
+
+// Writes the first k items of a list, joined left-deep.
+fn copy_first_xx(s: &[u8], map: Subtree, c: Conjuncts, k: usize, out: &mut Writer, level: usize)
+    requires some { Some s.now c }
+    requires k_nonzero { (0 < k) × (k ≤ c.len) }
+    requires over { Over 1 (level + k) map }
+    ensures same { out.new.bytes.ghost_name ≡ out.old.bytes.ghost_name }
+    ensures wrote { (σ : Name → Expr) → MapsTo map.entry σ → (e : Expr) (es : List Expr) →
+        Pushes s.now σ c (e ∷ es) →
+        Wrote out.old.bytes.now out.new.bytes.now out.old.next level out.new.next (expr_tree (conjoin e (take (k - 1) es))) }
+{
+    let last = k - 1;
+    let item = item_at(c, last);
+    if last == 0 {
+        copy_item_xx(s, map, item, out, level);
+        return;
+    }
+    out.put_kind(BINARY_EXPR, AND, level);
+    copy_first_xx(s, map, c, last, out, level + 1);
+    copy_item_xx(s, map, item, out, level + 1);
+}
+
+// Writes the items of a list, joined left-deep.
+pub fn copy_joined_xx(s: &[u8], map: Subtree, c: Conjuncts, out: &mut Writer, level: usize)
+    requires some { Some s.now c }
+    requires len_nonzero { 0 < c.len }
+    requires over { Over 2 level map }
+    ensures same { out.new.bytes.ghost_name ≡ out.old.bytes.ghost_name }
+    ensures wrote { (σ : Name → Expr) → MapsTo map.entry σ → (e : Expr) (es : List Expr) →
+        Pushes s.now σ c (e ∷ es) →
+        Wrote out.old.bytes.now out.new.bytes.now out.old.next level out.new.next (expr_tree (conjoin e es)) }
+{
+    let n = c.len;
+    copy_first_xx(s, map, c, n, out, level);
+}
+
+// Writes a predicate: the item `written` as it is, or where there is none the items of a list, joined left-deep.
+pub fn copy_predicate_xx(
+    s: &[u8],
+    map: Subtree,
+    written: Option<usize>,
+    c: Conjuncts,
+    out: &mut Writer,
+    level: usize,
+)
+    requires predicated { Predicated s.now written c }
+    requires over { Over 2 level map }
+    ensures same { out.new.bytes.ghost_name ≡ out.old.bytes.ghost_name }
+    ensures wrote { (σ : Name → Expr) → MapsTo map.entry σ → (e : Expr) → Predicate s.now σ written c e →
+        Wrote out.old.bytes.now out.new.bytes.now out.old.next level out.new.next (expr_tree e) }
+{
+    match written {
+        Some(n) => copy_item_xx(s, map, n, out, level),
+        None => copy_joined_xx(s, map, c, out, level),
     }
 }

@@ -4,10 +4,12 @@ ghost use Rattle.std.specs.Prelude.{◌≡◌, List, ◌*◌, ◌+◌, ◌<◌, 
 ghost use Rattle.std.proofs.lemmas.List.Edits.{sets};
 ghost use Rattle.image.specs.Flat.{bytes_of};
 ghost use Rattle.image.specs.Limits.{max_fields};
+ghost use Rattle.image.specs.Tree.{Readable};
+ghost use Rattle.image.specs.declared.trees.Subtree.{Subtree};
 ghost use Rattle.plan.specs.Syntax.{Name, col};
 ghost use Rattle.rewrite.specs.PushDownFilter.{ren};
 ghost use Rattle.utils.specs.Fields.{Names, named};
-ghost use Rattle.writing.specs.Maps.{Maps};
+ghost use Rattle.writing.specs.Maps.{Maps, MapsTo};
 ghost use Rattle.writing.specs.Renames.{SmallName, link_to, named_label, rename_bytes};
 
 use image::records::{Label, put_record};
@@ -71,5 +73,28 @@ pub fn write_renames(from: Fields, to: Fields, m: &mut [u8])
     for i in 0..n {
         let next = link_to(2 * i + 3, n - i - 1);
         put_rename(from.at[i], to.at[i], m, 2 * i + 1, next);
+    }
+}
+
+// Writes the renames of the fields of `from` to those of `to`, by place.
+pub fn write_renames_xx(from: Fields, to: Fields, m: &mut [u8])
+    requires { (from.len ≤ max_fields) × (32 * (1 + 2 * from.len) ≤ length m.old) }
+    ensures stood { Readable 3 m.new 0 }
+    ensures maps { (s t : List Name) → Names from s → Names to t → length s ≡ length t →
+        (map : Subtree) → map.image.now ≡ m.new → map.number ≡ 0 → MapsTo map (λ x. col (ren s t x)) }
+{
+    let n = from.len;
+    let top = Label {
+        kind: PROJECTION,
+        p: 0,
+        q: 0,
+        r: 0,
+        lo: 0,
+        hi: 0,
+    };
+    put_record(m, 0, top, link_to(1, n), 0);
+    for i in 0..n {
+        let after = link_to(2 * i + 3, n - i - 1);
+        put_rename(from.at[i], to.at[i], m, 2 * i + 1, after);
     }
 }

@@ -3,12 +3,14 @@
 ghost use Rattle.std.specs.Prelude.{◌≡◌, ◌+◌, ◌<◌, ◌≤◌, ℕ, length};
 ghost use Rattle.image.specs.Limits.{max_level, work_bytes};
 ghost use Rattle.image.specs.Room.{Wrote};
+ghost use Rattle.image.specs.Subtrees.{tree_of};
 ghost use Rattle.image.specs.Tree.{At, Readable, Tree, label_at};
-ghost use Rattle.writing.specs.Replaced.{Leads, is_entry, lookup, replaced, value_for};
+ghost use Rattle.writing.specs.Replaced.{Finds, Leads, LowOver, is_entry, lookup, replaced, value_for};
 
-use image::copying::{copy_tree, put_label};
+use image::copying::{Writer, copy_tree, put_label};
 use image::limits::{MAX_RECORDS, NO_ROOM};
 use image::records::{FIRST_LINK, KIND, NEXT_LINK, P, Q, from_record};
+use image::trees::Subtree;
 use image::words::word_at;
 use plan::kinds::{COLUMN, ENTRY};
 
@@ -84,4 +86,57 @@ pub fn replace_cols_by_name(
         from = word_at(part, NEXT_LINK);
     }
     to
+}
+
+// Whether the tree is an entry of this name.
+pub fn is_entry_xx(tree: Subtree, p: usize, q: usize) -> bool
+    ensures { result ≡ is_entry (tree_of tree.entry).label p q }
+{
+    let l = tree.label();
+    (l.kind == ENTRY) & (l.p == p) & (l.q == q)
+}
+
+// The expression that an entry of the map gives this name.
+pub fn find_xx<'a>(map: Subtree<'a>, p: usize, q: usize) -> Option<Subtree<'a>>
+    ensures { Finds (lookup (tree_of map.entry).below p q) map.entry result }
+{
+    for entry in map.children() {
+        if is_entry_xx(entry, p, q) {
+            return entry.children().next();
+        }
+    }
+    None
+}
+
+// The same for the name of the tree, if it is a column.
+pub fn value_for_xx<'a>(tree: Subtree, map: Subtree<'a>) -> Option<Subtree<'a>>
+    ensures { Finds (value_for (tree_of map.entry) (tree_of tree.entry).label) map.entry result }
+{
+    let l = tree.label();
+    if l.kind != COLUMN {
+        return None;
+    }
+    find_xx(map, l.p, l.q)
+}
+
+// Writes the tree with each column that an entry of the map names replaced by its expression.
+pub fn replace_cols_by_name_xx(tree: Subtree, map: Subtree, out: &mut Writer, level: usize)
+    requires { LowOver (level + 1) (tree_of map).below (tree_of tree).below }
+    ensures same { out.new.bytes.ghost_name ≡ out.old.bytes.ghost_name }
+    ensures wrote { Wrote out.old.bytes.now out.new.bytes.now out.old.next level out.new.next
+        (replaced (tree_of map.entry) (tree_of tree.entry)) }
+{
+    // Past the buffer's end nothing is written, and no record need be looked at.
+    if MAX_RECORDS <= out.next {
+        out.next = NO_ROOM;
+        return;
+    }
+    if let Some(value) = value_for_xx(tree, map) {
+        out.copy_tree(value, level);
+        return;
+    }
+    out.put(tree.label(), level);
+    for child in tree.children() {
+        replace_cols_by_name_xx(child, map, out, level + 1);
+    }
 }
