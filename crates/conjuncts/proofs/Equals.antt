@@ -2,17 +2,25 @@
 --     same_is, is_same      `same` says that two trees are equal
 --     same_exprs            the trees of two expressions are the same if they are equal
 --     label_eq              `==` of labels is `same_label`
+--     none_left             no tree is left to compare
 --     false_label           an expression is FALSE if its record says so
 -- Assumes nothing.
 use mathlib.Core.Path.{◌≡◌, refl, sym, ap, subst, ◌∙◌}
-use mathlib.Core.Bool.{Bool, true, false, ◌&&◌, decide_iff}
+use mathlib.Core.Bool.{Bool, true, false, not, ◌&&◌, decide_iff}
 use mathlib.Core.List.{List}
 use lib.Dec.{eqb}
 use lib.ListN.{drop}
 use Prim.Native.Nat.{ℕ, ◌*◌}
 use native.Mathlib.Omega.{arith}
 use borrow.Author.Tests.{eqb-true, eq-eqb}
+use Rattle.std.specs.Iterator.{YieldsFirstBy}
+use Rattle.std.specs.Option.{is_some}
+use Rattle.std.specs.Prelude.{Option, Some, None}
 use Rattle.image.specs.Tree.{Label, Forest, none, node, Tree, At, label_at}
+use Rattle.image.specs.Subtrees.{forest, place, places}
+use Rattle.image.specs.declared.trees.Siblings.{Siblings}
+use Rattle.image.specs.declared.trees.Subtree.{Subtree}
+use Rattle.image.proofs.Subtrees.{goes, gone}
 use Rattle.image.proofs.Walking.{only}
 use Rattle.plan.specs.Kinds.{what}
 use Rattle.plan.specs.Syntax.{Expr, col, num, bool, nul, bin, neg, test, between, inlist, fn}
@@ -155,3 +163,11 @@ label_eq l k = six (eqb l.kind k.kind) (eqb l.p k.p) (eqb l.q k.q) (eqb l.r k.r)
     six true true false d e f = refl
     six true false c d e f = refl
     six false b c d e f = refl
+
+-- the first of some trees is asked for, to see whether there is none
+pub none_left : (x y : Siblings) (o : Option Subtree) {b : Bool} → YieldsFirstBy place places x o y → is_some o ≡ not b
+    → same_any none (forest x) ≡ b
+none_left x y None {b = true} s e = ap (same_any none) (gone x s.0)
+none_left x y None {b = false} s e = cc
+none_left x y (Some t) {b = true} s e = cc
+none_left x y (Some t) {b = false} s e = ap (same_any none) (goes x y t s).is

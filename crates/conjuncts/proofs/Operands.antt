@@ -2,8 +2,10 @@
 --     readable_of     an expression that stands can be read
 --     operands        where the operands of a binary expression stand, in bytes that begin at it
 --     standing_left, standing_right   the same, in the whole image
+--     tree_standing   the tree of an expression that stands
+--     and_below, and_of, and_there    the operands of an And, as the code has them
 -- Assumes nothing.
-use mathlib.Core.Path.{◌≡◌, refl, ap, subst, ◌∙◌}
+use mathlib.Core.Path.{◌≡◌, refl, sym, ap, subst, ◌∙◌}
 use mathlib.Core.Bool.{true, false}
 use mathlib.Core.List.{List, [], ◌∷◌, ◌++◌}
 use Prim.Native.Nat.{ℕ, ◌+◌, ◌-◌, ◌*◌, ◌≤◌, ◌<◌}
@@ -12,13 +14,18 @@ use lib.ListN.{length, drop, length-drop}
 use lib.Seq.{drop-drop}
 use Rattle.image.specs.Limits.{work_bytes, max_depth}
 use Rattle.image.specs.Word.{word}
+use Rattle.image.specs.Subtrees.{Below, Split, forest, tree_of}
+use Rattle.image.specs.declared.trees.Siblings.{Siblings}
+use Rattle.image.specs.declared.trees.Subtree.{Subtree}
+use Rattle.image.proofs.Subtrees.{tree_is}
 use Rattle.image.specs.Tree.{Label, Forest, none, node, Tree, At, Deep, Readable, size, link, label_at}
 use Rattle.image.proofs.Walking.{Turn, turn, linked_first}
 use Rattle.plan.specs.Syntax.{Op, and, or, cmp, eq, ne, lt, le, gt, ge, Expr, col, num, bool, nul, bin, neg, test, between, inlist, fn}
 use Rattle.plan.specs.Trees.{label_e, kids_e, expr_tree}
 use Rattle.plan.specs.Integers.{FitsE}
 use Rattle.rewrite.specs.Utils.{split_conjunction}
-use Rattle.conjuncts.specs.Standing.{Standing, ReadableE}
+use Rattle.conjuncts.specs.Operands.{Operands as Two}
+use Rattle.conjuncts.specs.Standing.{Standing, ReadableE, There}
 use Rattle.conjuncts.specs.Items.{Item}
 use Rattle.conjuncts.specs.Labels.{is_and}
 
@@ -234,3 +241,94 @@ not_and {e = e} q h t = single e (rw (← h.here.head.label, ← q) t)
 -- an expression that stands, but not at the root, is an item
 pub item_of : {s : List ℕ} {n : ℕ} {e : Expr} → Standing s n e → 0 < n → Item s n e
 item_of h pos = record { none = λ z. absurd (omega arith); some = λ f. h; small = h.small }
+
+-- ---- the operands of an And, as the code has them
+
+-- the tree that stands where an expression does is the expression's
+pub tree_standing : (x : Subtree) {s : List ℕ} {n : ℕ} {e : Expr} → x.image.now ≡ s → x.number ≡ n → Standing s n e → tree_of x ≡ expr_tree e
+tree_standing x {e = e} es en h = tree_is x (expr_tree e) es en h.here
+
+-- and the other way round
+pub standing_tree : (x : Subtree) (e : Expr) → tree_of x ≡ expr_tree e → length x.image.now ≤ work_bytes → Deep (kids_e e) (max_depth - 1) → FitsE e
+    → Standing x.image.now x.number e
+standing_tree x e is short deep fits =
+    record {
+      within = omega (arith, x.stood.at.head.room, length-drop (32 * x.number) x.image.now);
+      here = subst (λ (t : Tree). At t (drop (32 * x.number) x.image.now) x.number) is x.stood.at;
+      deep = deep;
+      fits = fits;
+      small = omega (arith, x.stood.at.head.room, length-drop (32 * x.number) x.image.now);
+    }
+
+-- the trees below an And
+pub record Pair (f : Forest) : Type 0 where
+  pub left : Tree
+  pub right : Tree
+  pub is : f ≡ node left.label left.below (node right.label right.below none)
+
+pub and_below : (t : Subtree) → There t.image.now t.number → is_and (tree_of t).label ≡ true → Pair (tree_of t).below
+unfolding kids_e
+and_below t h y =
+    let is = tree_standing t refl refl h.standing in
+    let b : Both h.expr = and_label h.expr (rw is at y) in
+    record { left = expr_tree b.lhs; right = expr_tree b.rhs; is = ap (λ (u : Tree). u.below) is ∙ ap kids_e b.is }
+
+-- the first two trees below it are its operands
+pub two_of : {t l r : Subtree} {x y z : Siblings} → Pair (tree_of t).below → Below t x → Split x l y → Split y r z → Two t l r
+two_of {t} {l} {r} {x} {y} {z} p b u w =
+    let below : (tree_of t).below ≡ node (tree_of l).label (tree_of l).below (forest y) = sym b.is ∙ u.is in
+    let rest : forest y ≡ node p.right.label p.right.below none = cc (p.is, below) in
+    let last : forest z ≡ none = cc (w.is, rest) in
+    let first : x.first ≡ t.number + 1 = b.first ∙ ap (link (t.number + 1)) below in
+    record {
+      below = below ∙ ap (node (tree_of l).label (tree_of l).below) (w.is ∙ ap (node (tree_of r).label (tree_of r).below) last);
+      left = u.number ∙ first;
+      right = w.number ∙ (u.next ∙ (ap (link (x.first + 1 + size (tree_of l).below)) w.is ∙ ap (λ (n : ℕ). n + 1 + size (tree_of l).below) first));
+      left_image = u.image ∙ b.image;
+      right_image = w.image ∙ (u.others ∙ b.image);
+    }
+
+-- where the operands of an And stand
+pub record AndOf (s : List ℕ) (l r : ℕ) (e : Expr) : Type 0 where
+  pub lhs : Expr
+  pub rhs : Expr
+  pub is : e ≡ bin and lhs rhs
+  pub left : Standing s l lhs
+  pub right : Standing s r rhs
+
+module _ {t l r : Subtree} (y : is_and (tree_of t).label ≡ true) (w : Two t l r) (short : length t.image.now ≤ work_bytes) where
+  pub and_of : {e : Expr} → Standing t.image.now t.number e → AndOf t.image.now l.number r.number e
+  unfolding kids_e
+  and_of {e} h =
+      let is = tree_standing t refl refl h in
+      let b : Both e = and_label e (rw is at y) in
+      let below : node (tree_of l).label (tree_of l).below (node (tree_of r).label (tree_of r).below none)
+      ≡ node (label_e b.lhs) (kids_e b.lhs) (node (label_e b.rhs) (kids_e b.rhs) none) =
+      sym w.below ∙ (ap (λ (u : Tree). u.below) is ∙ ap kids_e b.is) in
+      let tl : tree_of l ≡ expr_tree b.lhs = ap (λ (x : Label × Forest). record { label = x.0; below = x.1 }) (cc below) in
+      let tr : tree_of r ≡ expr_tree b.rhs = ap (λ (x : Label × Forest). record { label = x.0; below = x.1 }) (cc below) in
+      let k : Standing t.image.now t.number (bin and b.lhs b.rhs) = subst (λ (f : Expr). Standing t.image.now t.number f) b.is h in
+      let deep = deep_parts (max_depth - 1) and b.lhs b.rhs k.deep in
+      let sl : length l.image.now ≤ work_bytes = rw w.left_image short in
+      let sr : length r.image.now ≤ work_bytes = rw w.right_image short in
+      record {
+        lhs = b.lhs;
+        rhs = b.rhs;
+        is = b.is;
+        left = rw w.left_image at (standing_tree l b.lhs tl sl (deeper (kids_e b.lhs) (max_depth - 1) deep.1) k.fits.0);
+        right = rw w.right_image at (standing_tree r b.rhs tr sr (deeper (kids_e b.rhs) (max_depth - 1) deep.2.1) k.fits.1);
+      }
+
+  -- they have fewer records
+  pub fewer_left : size (tree_of l).below < size (tree_of t).below
+  fewer_left = omega (arith, ap size w.below)
+
+  pub fewer_right : size (tree_of r).below < size (tree_of t).below
+  fewer_right = omega (arith, ap size w.below)
+
+  -- some expressions stand there
+  pub there_left : There t.image.now t.number → There l.image.now l.number
+  there_left h = let u = and_of h.standing in rw w.left_image (record { expr = u.lhs; standing = u.left })
+
+  pub there_right : There t.image.now t.number → There r.image.now r.number
+  there_right h = let u = and_of h.standing in rw w.right_image (record { expr = u.rhs; standing = u.right })

@@ -1,5 +1,6 @@
 // Equal expressions: `==` of the source's Expr, record by record.
 ghost use Rattle.std.specs.Prelude.{◌≡◌, List, ◌≤◌, length};
+ghost use Rattle.image.specs.Subtrees.{tree_of};
 ghost use Rattle.image.specs.Tree.{At, Readable, Tree, label_at};
 ghost use Rattle.plan.specs.Syntax.{Expr};
 ghost use Rattle.rewrite.specs.Utils.{same_e};
@@ -11,6 +12,7 @@ use crate::items::FALSE_ITEM;
 use crate::lists::Conjuncts;
 use image::limits::MAX_DEPTH;
 use image::records::{FIRST_LINK, KIND, NEXT_LINK, P, from_record, label_at, record_at};
+use image::trees::Subtree;
 use image::words::word_at;
 use plan::kinds::BOOLEAN_LITERAL;
 use plan::words::TRUE;
@@ -42,6 +44,25 @@ pub fn same_tree(a: &[u8], base: usize, depth: usize, b: &[u8], of: usize, room:
         return true;
     }
     false
+}
+
+// Whether two trees are the same, wherever they stand.
+pub fn same_tree_xx(a: Subtree, b: Subtree) -> bool
+    ensures { result ≡ same (tree_of a.entry) (tree_of b.entry) }
+{
+    if a.label() != b.label() {
+        return false;
+    }
+    let mut others = b.children();
+    for left in a.children() {
+        let Some(right) = others.next() else {
+            return false;
+        };
+        if !same_tree_xx(left, right) {
+            return false;
+        }
+    }
+    others.next().is_none()
 }
 
 // Whether the item n is FALSE: its own number, or the record of that literal.

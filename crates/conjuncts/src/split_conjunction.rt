@@ -1,18 +1,21 @@
 // split_conjunction (datafusion-expr utils): the conjuncts of a predicate, left operand first; and whether joined again they are as it was.
 ghost use Rattle.std.specs.Prelude.{◌≡◌, ◌++◌, List, ◌*◌, ◌<◌, ◌≤◌, ℕ, drop, length};
 ghost use Rattle.image.specs.Limits.{work_bytes};
+ghost use Rattle.image.specs.Subtrees.{tree_of};
 ghost use Rattle.image.specs.Tree.{At, label_at};
 ghost use Rattle.plan.specs.Syntax.{Expr};
 ghost use Rattle.plan.specs.Trees.{expr_tree};
 ghost use Rattle.rewrite.specs.Utils.{split_conjunction};
 ghost use Rattle.conjuncts.specs.Items.{Lists};
 ghost use Rattle.conjuncts.specs.Labels.{is_and};
+ghost use Rattle.conjuncts.specs.Operands.{IsAnd};
 ghost use Rattle.conjuncts.specs.Says.{LeftDeep, Says};
 ghost use Rattle.conjuncts.specs.Standing.{ReadableE, Standing, There};
 
 use crate::lists::{Conjuncts, add};
 use image::limits::MAX_DEPTH;
 use image::records::{FIRST_LINK, KIND, NEXT_LINK, P, from_record, record_at};
+use image::trees::Subtree;
 use image::words::word_at;
 use plan::kinds::BINARY_EXPR;
 use plan::words::AND;
@@ -78,4 +81,44 @@ pub fn left_deep_at(s: &[u8], n: usize) -> bool
     ensures { (e : Expr) → Standing s.now n e → Says result (LeftDeep e) }
 {
     is_left_deep(record_at(s, n), n, MAX_DEPTH)
+}
+
+// The operands of an And, left and right; none of any other expression.
+fn and_operands(tree: Subtree) -> Option<(Subtree, Subtree)>
+    requires { There tree.image.now tree.number }
+    ensures { IsAnd tree.entry result }
+{
+    let label = tree.label();
+    if !((label.kind == BINARY_EXPR) & (label.p == AND)) {
+        return None;
+    }
+    let (left, others) = tree.children().split_first()?;
+    let (right, _) = others.split_first()?;
+    Some((left, right))
+}
+
+// Appends the conjuncts of an expression, which is not at the root.
+pub fn split_conjunction_xx(tree: Subtree, c: Conjuncts) -> Conjuncts
+    requires there { There tree.image.now tree.number }
+    requires number_nonzero { 0 < tree.number }
+    requires image_bound { length tree.image.now ≤ work_bytes }
+    ensures { (e : Expr) (es : List Expr) → Standing tree.entry.image.now tree.entry.number e → Lists tree.entry.image.now c es →
+        Lists tree.entry.image.now result (es ++ split_conjunction e) }
+{
+    match and_operands(tree) {
+        Some((left, right)) => split_conjunction_xx(right, split_conjunction_xx(left, c)),
+        None => add(c, tree.number),
+    }
+}
+
+// Whether an expression is joined left-deep: no right operand of an And is one.
+pub fn is_left_deep_xx(tree: Subtree) -> bool
+    requires there { There tree.image.now tree.number }
+    requires image_bound { length tree.image.now ≤ work_bytes }
+    ensures { (e : Expr) → Standing tree.entry.image.now tree.entry.number e → Says result (LeftDeep e) }
+{
+    match and_operands(tree) {
+        Some((left, right)) => and_operands(right).is_none() && is_left_deep_xx(left),
+        None => true,
+    }
 }

@@ -1,5 +1,6 @@
 // is_volatile (datafusion-expr Expr), and the functions that make a predicate expensive: those in an expression.
 ghost use Rattle.std.specs.Prelude.{◌≡◌, List, ◌<◌, ◌≤◌, get_or, length};
+ghost use Rattle.image.specs.Subtrees.{tree_of};
 ghost use Rattle.image.specs.Tree.{At, Readable, Tree, label_at};
 ghost use Rattle.plan.specs.Syntax.{Expr};
 ghost use Rattle.rewrite.specs.Utils.{any_fn, is_volatile_expr};
@@ -9,7 +10,8 @@ ghost use Rattle.conjuncts.specs.Items.{FALSE, Item, Known, Lists, Present};
 use crate::items::FALSE_ITEM;
 use crate::lists::{Conjuncts, item_at};
 use image::limits::MAX_DEPTH;
-use image::records::{FIRST_LINK, KIND, NEXT_LINK, Q, from_record, record_at};
+use image::records::{FIRST_LINK, KIND, Label, NEXT_LINK, Q, from_record, record_at};
+use image::trees::Subtree;
 use image::words::word_at;
 use plan::kinds::FUNCTION;
 use plan::words::{VOLATILE, VOLATILE_LEAFWARD};
@@ -56,6 +58,28 @@ pub fn has_function(part: &[u8], base: usize, depth: usize, asked: Functions) ->
             return true;
         }
         at = word_at(child, NEXT_LINK);
+    }
+    false
+}
+
+// Whether the record is a function that is asked for.
+fn is_function_xx(label: Label, asked: Functions) -> bool
+    ensures { result ≡ fn_here (marked asked) label }
+{
+    (label.kind == FUNCTION) & asked.include(label.q)
+}
+
+// Whether the tree holds such a function.
+pub fn has_function_xx(tree: Subtree, asked: Functions) -> bool
+    ensures { result ≡ fn_in (marked asked) (tree_of tree.entry) }
+{
+    if is_function_xx(tree.label(), asked) {
+        return true;
+    }
+    for child in tree.children() {
+        if has_function_xx(child, asked) {
+            return true;
+        }
     }
     false
 }
