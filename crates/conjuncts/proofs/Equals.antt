@@ -142,7 +142,7 @@ false_says : is_false (label_e FALSE) ≡ true
 unfolding label_e
 false_says = refl
 
-false_is : (e : Expr) → is_false (label_e e) ≡ same_e FALSE e
+pub false_is : (e : Expr) → is_false (label_e e) ≡ same_e FALSE e
 false_is e =
     both_ways (is_false (label_e e)) (same_e FALSE e)
     (λ h. eq_same (says_false e h))

@@ -1,3 +1,4 @@
+pub mod Standing
 pub mod Listed
 pub mod Kept
 pub mod Operands

@@ -2,7 +2,6 @@
 --     readable_of     an expression that stands can be read
 --     operands        where the operands of a binary expression stand, in bytes that begin at it
 --     standing_left, standing_right   the same, in the whole image
---     tree_standing   the tree of an expression that stands
 --     and_below, and_of, and_there    the operands of an And, as the code has them
 -- Assumes nothing.
 use mathlib.Core.Path.{◌≡◌, refl, sym, ap, subst, ◌∙◌}
@@ -17,7 +16,6 @@ use Rattle.image.specs.Word.{word}
 use Rattle.image.specs.Subtrees.{Below, Split, forest, tree_of}
 use Rattle.image.specs.declared.trees.Siblings.{Siblings}
 use Rattle.image.specs.declared.trees.Subtree.{Subtree}
-use Rattle.image.proofs.Subtrees.{tree_is}
 use Rattle.image.specs.Tree.{Label, Forest, none, node, Tree, At, Deep, Readable, size, link, label_at}
 use Rattle.image.proofs.Walking.{Turn, turn, linked_first}
 use Rattle.plan.specs.Syntax.{Op, and, or, cmp, eq, ne, lt, le, gt, ge, Expr, col, num, bool, nul, bin, neg, test, between, inlist, fn}
@@ -28,6 +26,7 @@ use Rattle.conjuncts.specs.Operands.{Operands as Two}
 use Rattle.conjuncts.specs.Standing.{Standing, ReadableE, There}
 use Rattle.conjuncts.specs.Items.{Item}
 use Rattle.conjuncts.specs.Labels.{is_and}
+use Rattle.conjuncts.proofs.Standing.{tree_standing, standing_tree}
 
 pub readable_of : {s : List ℕ} {n : ℕ} {e : Expr} → Standing s n e → Readable max_depth (drop (32 * n) s) n
 readable_of {e = e} h = record { tree = expr_tree e; at = h.here; some = omega arith; deep = h.deep }
@@ -243,22 +242,6 @@ pub item_of : {s : List ℕ} {n : ℕ} {e : Expr} → Standing s n e → 0 < n �
 item_of h pos = record { none = λ z. absurd (omega arith); some = λ f. h; small = h.small }
 
 -- ---- the operands of an And, as the code has them
-
--- the tree that stands where an expression does is the expression's
-pub tree_standing : (x : Subtree) {s : List ℕ} {n : ℕ} {e : Expr} → x.image.now ≡ s → x.number ≡ n → Standing s n e → tree_of x ≡ expr_tree e
-tree_standing x {e = e} es en h = tree_is x (expr_tree e) es en h.here
-
--- and the other way round
-pub standing_tree : (x : Subtree) (e : Expr) → tree_of x ≡ expr_tree e → length x.image.now ≤ work_bytes → Deep (kids_e e) (max_depth - 1) → FitsE e
-    → Standing x.image.now x.number e
-standing_tree x e is short deep fits =
-    record {
-      within = omega (arith, x.stood.at.head.room, length-drop (32 * x.number) x.image.now);
-      here = subst (λ (t : Tree). At t (drop (32 * x.number) x.image.now) x.number) is x.stood.at;
-      deep = deep;
-      fits = fits;
-      small = omega (arith, x.stood.at.head.room, length-drop (32 * x.number) x.image.now);
-    }
 
 -- the trees below an And
 pub record Pair (f : Forest) : Type 0 where

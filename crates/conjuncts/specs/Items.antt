@@ -1,6 +1,7 @@
 -- A list of conjuncts as a list of expressions: what each item stands for.
-use Rattle.std.specs.Prelude.{◌≡◌, false, List, [], ◌∷◌, ℕ, ◌*◌, ◌≤◌, ◌<◌}
+use Rattle.std.specs.Prelude.{◌≡◌, false, List, [], ◌∷◌, ℕ, ◌*◌, ◌≤◌, ◌<◌, Option, None, Some as there}
 use Rattle.image.specs.Limits.{max_list, max_records}
+use Rattle.image.specs.declared.trees.Subtree.{Subtree}
 use Rattle.plan.specs.Syntax.{Expr, bool}
 use Rattle.conjuncts.specs.Standing.{Standing}
 use Rattle.bounded.specs.declared.Bounded.{Bounded}
@@ -65,3 +66,16 @@ pub record Known (s : List ℕ) (c : Conjuncts) : Type 0 where
   pub exprs : List Expr
   pub lists : Lists s c exprs
   pub most : c.len ≤ max_list
+
+-- ---- the tree of an item
+
+-- t is the tree of e, whose record has the number n
+pub record Found (s : List ℕ) (n : ℕ) (t : Subtree) (e : Expr) : Type 0 where
+  pub image : t.image.now ≡ s
+  pub number : t.number ≡ n
+  pub standing : Standing s n e
+
+-- FALSE has none; any other item has one
+abbrev pub ItemTree : List ℕ → ℕ → Option Subtree → Expr → Type 0
+ItemTree s n None e = e ≡ FALSE
+ItemTree s n (there t) e = Found s n t e

@@ -8,10 +8,9 @@ ghost use Rattle.conjuncts.specs.Equality.{same, same_label};
 ghost use Rattle.conjuncts.specs.Items.{FALSE, Item, Known, Lists, Present};
 ghost use Rattle.conjuncts.specs.Says.{Says};
 
-use crate::items::FALSE_ITEM;
+use crate::items::item_tree;
 use crate::lists::Conjuncts;
-use image::limits::MAX_DEPTH;
-use image::records::{FIRST_LINK, KIND, NEXT_LINK, P, from_record, label_at, record_at};
+use image::records::{FIRST_LINK, NEXT_LINK, from_record, label_at};
 use image::trees::Subtree;
 use image::words::word_at;
 use plan::kinds::BOOLEAN_LITERAL;
@@ -70,11 +69,13 @@ fn is_false_item(s: &[u8], n: usize) -> bool
     requires { Present s.now n }
     ensures { (e : Expr) → Item s.now n e → result ≡ same_e FALSE e }
 {
-    if n == FALSE_ITEM {
-        return true;
+    match item_tree(s, n) {
+        Some(tree) => {
+            let label = tree.label();
+            (label.kind == BOOLEAN_LITERAL) & (label.p != TRUE)
+        }
+        None => true,
     }
-    let part = record_at(s, n);
-    (word_at(part, KIND) == BOOLEAN_LITERAL) & (word_at(part, P) != TRUE)
 }
 
 // Whether the items n and m are equal expressions.
@@ -83,13 +84,13 @@ pub fn same_item(s: &[u8], n: usize, m: usize) -> bool
     requires present_2 { Present s.now m }
     ensures { (a b : Expr) → Item s.now n a → Item s.now m b → result ≡ same_e a b }
 {
-    if n == FALSE_ITEM {
+    let Some(a) = item_tree(s, n) else {
         return is_false_item(s, m);
+    };
+    match item_tree(s, m) {
+        Some(b) => same_tree_xx(a, b),
+        None => is_false_item(s, n),
     }
-    if m == FALSE_ITEM {
-        return is_false_item(s, n);
-    }
-    same_tree(record_at(s, n), n, MAX_DEPTH, record_at(s, m), m, MAX_DEPTH)
 }
 
 // Whether the lists a and b have equal items, in the same order.

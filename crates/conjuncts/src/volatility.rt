@@ -7,10 +7,9 @@ ghost use Rattle.rewrite.specs.Utils.{any_fn, is_volatile_expr};
 ghost use Rattle.conjuncts.specs.Functions.{fn_here, fn_in, marked};
 ghost use Rattle.conjuncts.specs.Items.{FALSE, Item, Known, Lists, Present};
 
-use crate::items::FALSE_ITEM;
+use crate::items::item_tree;
 use crate::lists::{Conjuncts, item_at};
-use image::limits::MAX_DEPTH;
-use image::records::{FIRST_LINK, KIND, Label, NEXT_LINK, Q, from_record, record_at};
+use image::records::{FIRST_LINK, KIND, Label, NEXT_LINK, Q, from_record};
 use image::trees::Subtree;
 use image::words::word_at;
 use plan::kinds::FUNCTION;
@@ -90,11 +89,10 @@ pub fn function_at(s: &[u8], c: Conjuncts, i: usize, asked: Functions) -> bool
     requires i_lt_len { i < c.len }
     ensures { (es : List Expr) → Lists s.now c es → result ≡ any_fn (marked asked) (get_or es i FALSE) }
 {
-    let n = item_at(c, i);
-    if n == FALSE_ITEM {
-        return false;
+    match item_tree(s, item_at(c, i)) {
+        Some(tree) => has_function_xx(tree, asked),
+        None => false,
     }
-    has_function(record_at(s, n), n, MAX_DEPTH, asked)
 }
 
 // Whether the item n holds a volatile function.
@@ -102,8 +100,8 @@ pub fn is_volatile(s: &[u8], n: usize) -> bool
     requires { Present s.now n }
     ensures { (e : Expr) → Item s.now n e → result ≡ is_volatile_expr e }
 {
-    if n == FALSE_ITEM {
-        return false;
+    match item_tree(s, n) {
+        Some(tree) => has_function_xx(tree, Functions::Volatile),
+        None => false,
     }
-    has_function(record_at(s, n), n, MAX_DEPTH, Functions::Volatile)
 }

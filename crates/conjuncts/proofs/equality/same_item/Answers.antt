@@ -1,16 +1,14 @@
 -- `equality::same_item` meets its contract.
 use mathlib.Core.Path.{◌∙◌}
-use Rattle.plan.specs.Trees.{expr_tree}
 use Rattle.conjuncts.proofs.Equals.{same_turned, same_exprs}
+use Rattle.conjuncts.proofs.Standing.{tree_found}
 use Rattle.conjuncts.proofs.equality.same_item.Goals as goal
 
-pub returns-then-m-eq-FALSE_ITEM : goal.returns-then-m-eq-FALSE_ITEM
-returns-then-m-eq-FALSE_ITEM c =
-    λ a b h k. rw (k.none c.if-m-eq-FALSE_ITEM.true) (c.is_false_item-then-m-eq-FALSE_ITEM.ensures a h ∙ same_turned _ a)
+pub returns-in-Some-item_tree : goal.returns-in-Some-item_tree
+returns-in-Some-item_tree c =
+    λ a b h k. let x = c.in-Some.ensures a h in
+    let y = c.in-Some-item_tree.ensures b k in
+    c.same_tree_xx.ensures ∙ rw (tree_found x, tree_found y) (same_exprs a b x.standing.fits y.standing.fits)
 
-pub returns : goal.returns
-returns c =
-    λ a b h k. let x = h.some c.if-n-eq-FALSE_ITEM.false in
-    let y = k.some c.if-m-eq-FALSE_ITEM.false in
-    c.same_tree.ensures (expr_tree a) (expr_tree b) (rw c.record_at.ensures x.here)
-    (rw c.record_at-2.ensures y.here) ∙ same_exprs a b x.fits y.fits
+pub returns-in-None : goal.returns-in-None
+returns-in-None c = λ a b h k. rw (c.in-None.ensures b k) (c.is_false_item-in-None.ensures a h ∙ same_turned _ a)

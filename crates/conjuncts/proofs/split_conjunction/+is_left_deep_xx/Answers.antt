@@ -4,7 +4,8 @@ use mathlib.Core.Bool.{true, false, not}
 use Rattle.image.specs.Tree.{Tree}
 use Rattle.conjuncts.specs.Labels.{is_and}
 use Rattle.conjuncts.proofs.LeftDeeps.{alone_e, and_deep, and_right, asked}
-use Rattle.conjuncts.proofs.Operands.{and_of, fewer_left, there_left, there_right, tree_standing}
+use Rattle.conjuncts.proofs.Operands.{and_of, fewer_left, there_left, there_right}
+use Rattle.conjuncts.proofs.Standing.{tree_standing}
 use Rattle.conjuncts.proofs.split_conjunction.+is_left_deep_xx.Goals as goal
 
 pub and_operands-requires-in-Some : goal.and_operands-requires-in-Some

@@ -4,7 +4,8 @@ use native.Mathlib.Omega.{arith}
 use Rattle.rewrite.specs.Utils.{split_conjunction}
 use Rattle.image.specs.Tree.{Tree}
 use Rattle.conjuncts.specs.Labels.{is_and}
-use Rattle.conjuncts.proofs.Operands.{and_of, fewer_left, fewer_right, there_left, there_right, tree_standing, item_of, single}
+use Rattle.conjuncts.proofs.Operands.{and_of, fewer_left, fewer_right, there_left, there_right, item_of, single}
+use Rattle.conjuncts.proofs.Standing.{tree_standing}
 use Rattle.conjuncts.proofs.Listed.{lists_add}
 use Rattle.conjuncts.proofs.split_conjunction.+split_conjunction_xx.Goals as goal
 

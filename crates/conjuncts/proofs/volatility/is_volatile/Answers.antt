@@ -1,17 +1,14 @@
 -- `volatility::is_volatile` meets its contract.
 use mathlib.Core.Path.{◌∙◌}
-use Rattle.plan.specs.Trees.{expr_tree}
 use Rattle.rewrite.specs.Utils.{any_fn}
 use Rattle.conjuncts.proofs.FunctionsIn.{fn_tree}
+use Rattle.conjuncts.proofs.Standing.{tree_found}
 use Rattle.conjuncts.proofs.volatility.is_volatile.Goals as goal
 
-pub returns-then-n-eq-FALSE_ITEM : goal.returns-then-n-eq-FALSE_ITEM
-unfolding any_fn
-returns-then-n-eq-FALSE_ITEM c =
-    λ e h. rw (h.none c.if-n-eq-FALSE_ITEM.true)
+pub returns-in-Some : goal.returns-in-Some
+returns-in-Some c =
+    λ e h. c.has_function_xx.ensures ∙ rw (tree_found (c.in-Some.ensures e h)) (fn_tree _ _)
 
-pub returns : goal.returns
+pub returns-in-None : goal.returns-in-None
 unfolding any_fn
-returns c =
-    λ e h. let w = h.some c.if-n-eq-FALSE_ITEM.false in
-    c.has_function.ensures (expr_tree e) (rw c.record_at.ensures w.here) ∙ fn_tree _ _
+returns-in-None c = λ e h. rw (c.in-None.ensures e h)
