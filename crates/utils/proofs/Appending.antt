@@ -2,16 +2,20 @@
 --     input_of        the input whose fields come first, where it stands
 --     called_again    an alias below an alias, or below none
 --     ends-…          what a call has appended as it returns
+--     first_input, second_input, ..   the inputs, as the code has them
 -- Assumes nothing.
 use mathlib.Core.Path.{◌≡◌, refl, sym, ap, ◌∙◌}
 use mathlib.Core.Bool.{Bool, true, false}
 use Rattle.std.specs.Prelude.{Option, Some, None}
 use mathlib.Core.List.{List, [], ◌∷◌, ◌++◌, map, append_assoc, map-map}
-use Prim.Native.Nat.{ℕ, ◌-◌, ◌*◌, ◌<◌}
+use Prim.Native.Nat.{ℕ, ◌+◌, ◌-◌, ◌*◌, ◌≤◌, ◌<◌}
 use native.Mathlib.Omega.{arith}
-use lib.ListN.{length, get_or, drop}
+use lib.ListN.{length, get_or, drop, length-drop}
+use lib.Seq.{get_or-drop}
 use Rattle.image.specs.Tree.{Label, Tree, Linked, At, Deep, Readable}
 use Rattle.image.specs.Word.{word}
+use Rattle.image.specs.Subtrees.{tree_of}
+use Rattle.image.specs.declared.trees.Subtree.{Subtree}
 use Rattle.image.proofs.Walking.{linked_first}
 use Rattle.image.specs.Limits.{max_depth}
 use Rattle.plan.specs.Schema.{schema, requalify}
@@ -23,7 +27,7 @@ use Rattle.plan.specs.declared.field_sources.Role.{Role}
 use Rattle.plan.specs.Inputs.{plans_in}
 use Rattle.conjuncts.specs.Standing.{StandingP}
 use Rattle.utils.specs.Fields.{Fields, Names}
-use Rattle.utils.specs.Inputs.{below, called, made, PlanHere}
+use Rattle.utils.specs.Inputs.{below, called, made, PlanHere, PlanOf}
 use Rattle.utils.proofs.Inputting.{Below, no_tree, Input}
 use Rattle.utils.proofs.Making.{called_append}
 use Rattle.utils.proofs.Shapes.{role_of, Rest, nothing_more, parts, second, Shape, own_parts, no_input, over, shape, deep_plan}
@@ -156,3 +160,81 @@ module _ (p : Plan) (l : Label) (e : l ≡ label_p p) {r : Role} (R : r ≡ role
         go k both (nothing_more x y is) = rw is again
         go k both (parts x y z is) = never x k
         go k both (second x y z j le at is) = never y both
+
+-- ---- the inputs, as the code has them
+
+-- the plan with a place among some trees, by its number
+plan_at : (xs others : List Tree) (place : ℕ) {t : Tree} → drop place xs ≡ t ∷ others → (place < length xs) × (get_or xs place no_tree ≡ t)
+plan_at xs others place {t} e =
+    let k : place + 0 ≡ place = omega arith in
+    let n : length xs - place ≡ length (t ∷ others) = rw (← length-drop place xs, e) in
+    (omega (arith, n), rw k at (sym (get_or-drop place xs 0 no_tree) ∙ ap (λ (ys : List Tree). get_or ys 0 no_tree) e))
+
+none_at : (xs : List Tree) (place : ℕ) → drop place xs ≡ [] → length xs ≤ place
+none_at xs place e = omega (arith, length-drop place xs, ap length e)
+
+-- an input, and what comes behind its fields
+pub record Of (u : Subtree) (Q : Plan → Type 0) : Type 0 where
+  pub input : Plan
+  pub is : tree_of u ≡ plan_tree input
+  pub rest : Q input
+
+module _ (p : Plan) {t : Tree} (is : t ≡ plan_tree p) (l : Label) (e : l ≡ t.label) {r : Role} (R : r ≡ role (what l)) where
+  pub label_is : l ≡ label_p p
+  label_is = e ∙ ap (λ (u : Tree). u.label) is
+
+  below_is : t.below ≡ kids_p p
+  below_is = ap (λ (u : Tree). u.below) is
+
+  pub all_made : creates r ≡ true → schema p ≡ made t.below
+  all_made m = schema_made p l label_is R m ∙ ap made (sym below_is)
+
+  -- the input whose fields come first
+  pub first_input : creates r ≡ false → {place : ℕ} → place ≡ own r l.p → {u : Subtree} → PlanOf t.below place u → Of u (Rest p)
+  first_input m at {u} w = go (rw (R, label_is) at m) (shape p)
+    where
+      here : (own (role_of p) (label_p p).p < length (plans_in (kids_p p)))
+          × (get_or (plans_in (kids_p p)) (own (role_of p) (label_p p).p) no_tree ≡ tree_of u)
+      here = rw (at, R, label_is, below_is) at (plan_at (plans_in t.below) w.others _ w.plans)
+
+      go : creates (role_of p) ≡ false → Shape p → Of u (Rest p)
+      go m (own_parts k is) = never k m
+      go m (no_input k le is) = absurd (omega (arith, here.0))
+      go m (over k i le is r) = record { input = i; is = sym here.1 ∙ is; rest = r }
+
+  -- there is none
+  pub no_first : creates r ≡ false → {place : ℕ} → place ≡ own r l.p → drop place (plans_in t.below) ≡ [] → schema p ≡ []
+  no_first m at w = go (rw (R, label_is) at m) (shape p)
+    where
+      here : length (plans_in (kids_p p)) ≤ own (role_of p) (label_p p).p
+      here = rw (at, R, label_is, below_is) at (none_at (plans_in t.below) _ w)
+
+      go : creates (role_of p) ≡ false → Shape p → schema p ≡ []
+      go m (own_parts k is) = never k m
+      go m (no_input k le is) = is
+      go m (over k i le is r) = absurd (omega (arith, here))
+
+  module _ (i : Plan) (rest : Rest p i) (both : gives_both r l.p ≡ true) where
+    -- the second input of a join that gives the fields of both
+    pub second_input : {u : Subtree} → PlanOf t.below 1 u → Of u (λ j. (renames (role_of p) ≡ false) × (schema p ≡ schema i ++ schema j))
+    second_input {u} w = go (rw (R, label_is) at both) rest
+      where
+        here : get_or (plans_in (kids_p p)) 1 no_tree ≡ tree_of u
+        here = rw below_is at (plan_at (plans_in t.below) w.others 1 w.plans).1
+
+        go : gives_both (role_of p) (label_p p).p ≡ true → Rest p i → Of u (λ j. (renames (role_of p) ≡ false) × (schema p ≡ schema i ++ schema j))
+        go both (nothing_more x y is) = never both y
+        go both (parts x y z is) = never both y
+        go both (second x y z j le at is) = record { input = j; is = sym here ∙ at; rest = (z, is) }
+
+    -- there is one
+    pub some_second : {A : Type 0} → drop 1 (plans_in t.below) ≡ [] → A
+    some_second {A} w = go (rw (R, label_is) at both) rest
+      where
+        here : length (plans_in (kids_p p)) ≤ 1
+        here = rw below_is at (none_at (plans_in t.below) 1 w)
+
+        go : gives_both (role_of p) (label_p p).p ≡ true → Rest p i → A
+        go both (nothing_more x y is) = never both y
+        go both (parts x y z is) = never both y
+        go both (second x y z j le at is) = absurd (omega (arith, here))

@@ -1,6 +1,7 @@
 // has_all_column_refs (utils.rs 93 to 106): the columns that an expression refers to, as a set of the fields of a schema, counted.
 ghost use Rattle.std.specs.Prelude.{◌≡◌, ◌||◌, Bool, true, List, ◌≤◌, ℕ, eqb};
 ghost use Rattle.image.specs.Limits.{max_fields};
+ghost use Rattle.image.specs.Subtrees.{tree_of};
 ghost use Rattle.image.specs.Tree.{At, Readable, Tree};
 ghost use Rattle.plan.specs.Columns.{on_cols};
 ghost use Rattle.plan.specs.Schema.{has};
@@ -14,9 +15,10 @@ ghost use Rattle.utils.specs.Sets.{member};
 
 use crate::schema_columns::{Fields, place_in};
 use crate::sets::FieldSet;
-use conjuncts::items::FALSE_ITEM;
-use image::limits::{MAX_DEPTH, MAX_FIELDS};
-use image::records::{FIRST_LINK, KIND, NEXT_LINK, P, Q, from_record, record_at};
+use conjuncts::items::item_tree;
+use image::limits::MAX_FIELDS;
+use image::records::{FIRST_LINK, KIND, NEXT_LINK, P, Q, from_record};
+use image::trees::Subtree;
 use image::words::word_at;
 use plan::kinds::COLUMN;
 
@@ -69,14 +71,40 @@ pub fn has_all_column_refs(
     columns(part, base, depth, f).is_within(side)
 }
 
+// The set of the fields that a tree refers to.
+pub fn columns_xx(tree: Subtree, f: Fields) -> FieldSet
+    requires { f.len ≤ max_fields }
+    ensures { (ns : List Name) → Names f ns → on_tree (has ns) (tree_of tree.entry) ≡ true
+        → Answers result ns (λ c. on_tree c (tree_of tree.entry)) }
+{
+    let label = tree.label();
+    if label.kind == COLUMN {
+        return add_column(FieldSet::empty(), f, label.p, label.q);
+    }
+    let mut set = FieldSet::empty();
+    for child in tree.children() {
+        set = set.union(columns_xx(child, f));
+    }
+    set
+}
+
+// Whether all columns of an expression are fields of the side: those that are, counted, are all of them.
+pub fn has_all_column_refs_xx(tree: Subtree, f: Fields, side: FieldSet) -> bool
+    requires { f.len ≤ max_fields }
+    ensures { (e : Expr) (ns : List Name) (c : Name → Bool) → tree_of tree.entry ≡ expr_tree e → Names f ns
+        → on_cols (has ns) e ≡ true → Masks side ns c → result ≡ on_cols c e }
+{
+    columns_xx(tree, f).is_within(side)
+}
+
 // The set of the fields that the item n refers to.
 pub fn columns_at(s: &[u8], n: usize, f: Fields) -> FieldSet
     requires present { Present s.now n }
     requires len_le_max_fields { f.len ≤ max_fields }
     ensures { (e : Expr) (ns : List Name) → Item s.now n e → Names f ns → on_cols (has ns) e ≡ true → Refers result ns e }
 {
-    if n == FALSE_ITEM {
-        return FieldSet::empty();
+    match item_tree(s, n) {
+        Some(tree) => columns_xx(tree, f),
+        None => FieldSet::empty(),
     }
-    columns(record_at(s, n), n, MAX_DEPTH, f)
 }

@@ -1,19 +1,22 @@
 // schema_columns (utils.rs 144 to 155): the fields of a plan's schema, by their names, in order.
 ghost use Rattle.std.specs.Prelude.{◌≡◌, ◌==◌, ◌&&◌, ◌++◌, ◌∷◌, List, [], ◌<◌, ◌≤◌, ℕ, length, position};
 ghost use Rattle.image.specs.Limits.{max_fields};
+ghost use Rattle.image.specs.Subtrees.{tree_of};
 ghost use Rattle.image.specs.Tree.{At, Readable, Tree, label_at};
 ghost use Rattle.plan.specs.Schema.{schema};
 ghost use Rattle.plan.specs.Syntax.{Name, Plan, nm};
-ghost use Rattle.plan.specs.Trees.{ident, plan_tree, qualifier};
-ghost use Rattle.utils.specs.Fields.{Names, field_at, place_in};
-ghost use Rattle.utils.specs.Inputs.{PlanHere, below, called, called_label, made};
+ghost use Rattle.plan.specs.Trees.{plan_tree};
+ghost use Rattle.utils.specs.Fields.{Names, place_in};
+ghost use Rattle.utils.specs.Inputs.{Input, IsPlan, PlanHere, below, called, called_label, made};
 
 use bounded::Bounded;
 use image::limits::MAX_FIELDS;
 use image::records::{FIRST_LINK, NEXT_LINK, from_record, label_at};
+use image::trees::Subtree;
 use image::words::{wide, word_at};
 use plan::field_sources::{creates, extends, gives_both, makes_field, own_input, renames, role_of};
 use plan::inputs::plan_at;
+use plan::kinds::is_plan;
 
 // ColumnReference (utils.rs 125): the qualifier and the name of a field.
 #[derive(Clone, Copy, Debug, Default, PartialEq, Eq, PartialOrd, Ord, Hash)]
@@ -42,24 +45,6 @@ pub fn add_field(f: Fields, q: usize, n: usize) -> Fields
         n: n as u32,
     });
     r
-}
-
-// The qualifier of the field i.
-pub fn q_at(f: Fields, i: usize) -> usize
-    requires { i < max_fields }
-    ensures { (result ≡ qualifier (field_at f i)) × (result < 4294967296) }
-{
-    let fields = f.at;
-    wide(fields[i].q)
-}
-
-// Its name.
-pub fn n_at(f: Fields, i: usize) -> usize
-    requires { i < max_fields }
-    ensures { (result ≡ ident (field_at f i)) × (result < 4294967296) }
-{
-    let fields = f.at;
-    wide(fields[i].n)
 }
 
 // The first of some fields with this name.
@@ -162,4 +147,80 @@ pub fn schema_columns(part: &[u8], base: usize, depth: usize, into: Fields) -> F
     ensures { (p : Plan) (ns : List Name) → At (plan_tree p) part.now base → Names into ns → Names result (ns ++ schema p) }
 {
     add_schema(part, base, depth, into, None)
+}
+
+// Appends the field that a part makes, with the alias for its qualifier if there is one.
+fn add_part_xx(part: Subtree, into: Fields, alias: Option<u32>) -> Fields
+    ensures { (ns : List Name) → Names into ns → Names result (ns ++ called alias (called_label (tree_of part.entry).label)) }
+{
+    let l = part.label();
+    if !makes_field(l.kind) {
+        return into;
+    }
+    match alias {
+        Some(q) => add_field(into, wide(q), l.q),
+        None => add_field(into, l.p, l.q),
+    }
+}
+
+// Appends the fields that the parts of a plan make.
+fn add_parts_xx(plan: Subtree, into: Fields, alias: Option<u32>) -> Fields
+    ensures { (ns : List Name) → Names into ns → Names result (ns ++ called alias (made (tree_of plan.entry).below)) }
+{
+    let mut r = into;
+    for part in plan.children() {
+        r = add_part_xx(part, r, alias);
+    }
+    r
+}
+
+// The input of a plan with this place: of the trees below it, the plan with it.
+fn input(plan: Subtree, place: usize) -> Option<Subtree>
+    ensures { Input (tree_of plan.entry).below place result }
+{
+    let mut left = place;
+    for tree in plan.children() {
+        if is_plan(tree.kind()) {
+            if left == 0 {
+                return Some(tree);
+            }
+            left -= 1;
+        }
+    }
+    None
+}
+
+// Appends the fields of a plan, all with the alias for their qualifier if there is one.
+pub fn add_schema_xx(plan: Subtree, into: Fields, alias: Option<u32>) -> Fields
+    requires { IsPlan (tree_of plan) }
+    ensures { (p : Plan) (ns : List Name) → tree_of plan.entry ≡ plan_tree p → Names into ns → Names result (ns ++ called alias (schema p)) }
+{
+    let l = plan.label();
+    let role = role_of(l.kind);
+    if creates(role) {
+        return add_parts_xx(plan, into, alias);
+    }
+    let Some(first) = input(plan, own_input(role, l.p)) else {
+        return into;
+    };
+    let lower = below_alias(renames(role), l.p as u32, alias);
+    let r = add_schema_xx(first, into, lower);
+    if extends(role) {
+        return add_parts_xx(plan, r, alias);
+    }
+    if !gives_both(role, l.p) {
+        return r;
+    }
+    match input(plan, 1) {
+        Some(second) => add_schema_xx(second, r, alias),
+        None => r,
+    }
+}
+
+// Appends the fields of a plan.
+pub fn schema_columns_xx(plan: Subtree, into: Fields) -> Fields
+    requires { IsPlan (tree_of plan) }
+    ensures { (p : Plan) (ns : List Name) → tree_of plan.entry ≡ plan_tree p → Names into ns → Names result (ns ++ schema p) }
+{
+    add_schema_xx(plan, into, None)
 }
