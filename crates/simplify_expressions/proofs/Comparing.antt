@@ -1,26 +1,23 @@
 -- Laws of comparisons as they are read.
---     not_compared, operands      which expressions are comparisons, and where their operands stand
+--     not_compared, operands      which expressions are comparisons, and of what
 --     make_none, make_none₂       what is made where there is no literal or no column
 --     first_seen, unwrapped, after_by, precedes_by    what the methods of Option come to
 -- Assumes nothing.
-use mathlib.Core.Path.{◌≡◌, refl, sym, ap, ap₂, subst, ◌∙◌}
-use mathlib.Core.List.{List}
+use mathlib.Core.Path.{◌≡◌, refl, sym, ap, subst, ◌∙◌}
 use mathlib.Core.Option.{Option, none, some}
-use Prim.Native.Nat.{ℕ, ◌+◌, ◌-◌, ◌*◌, ◌≤◌}
-use native.Mathlib.Omega.{arith}
-use lib.ListN.{length, drop}
-use Rattle.image.specs.Word.{word}
-use Rattle.image.specs.Tree.{Label, At, label_at}
+use Rattle.image.specs.Subtrees.{Split, forest, tree_of}
+use Rattle.image.specs.Tree.{Forest, none, node, Tree}
+use Rattle.image.specs.declared.trees.Siblings.{Siblings}
+use Rattle.image.specs.declared.trees.Subtree.{Subtree}
 use Rattle.plan.specs.Kinds as Kinds
 use Rattle.plan.specs.Kinds.{What, expr, plan, part, unknown, what, what_of, among}
 use Rattle.plan.specs.Syntax.{Cmp, Op, and, or, cmp, Expr, col, num, bool, nul, bin, neg, test, between, inlist, fn, nm, Name}
-use Rattle.plan.specs.Trees.{label_e, expr_tree}
+use Rattle.plan.specs.Trees.{label_e, kids_e, expr_tree}
 use Rattle.plan.specs.Integers.{FitsE}
 use Rattle.plan.specs.Values.{ValueRecord, literal?}
 use Rattle.plan.proofs.Literals.{literal_read}
 use Rattle.plan.proofs.Written.{op_back}
 use Rattle.rewrite.specs.SimplifyPredicates.{Rel, Item, as_column, as_literal, make, or_item, view}
-use Rattle.conjuncts.proofs.Operands as K
 use Rattle.std.specs.Prelude as P
 use Rattle.std.specs.Prelude.{MatchOption, IsTrue, Bool, true, false}
 use Rattle.std.specs.Option.{unwrap_or}
@@ -89,35 +86,45 @@ binary (between n a l u) c h = cc
 binary (inlist n a xs) c h = cc
 binary (fn p q r xs) c h = cc
 
--- where the operands stand, and what they come to
-pub record Operands (s : List ℕ) (base : ℕ) (c : Cmp) (e : Expr) : Type 0 where
-  pub past : base ≤ word s 24
-  pub fits : 32 * (word s 24 - base) + 32 ≤ length s
-  pub past₂ : base ≤ word (drop (32 * (word s 24 - base)) s) 28
-  pub fits₂ : 32 * (word (drop (32 * (word s 24 - base)) s) 28 - base) + 32 ≤ length s
-  pub come : FitsE e → matched_in c (label_at (drop (32 * (word s 24 - base)) s))
-      (label_at (drop (32 * (word (drop (32 * (word s 24 - base)) s) 28 - base)) s)) ≡ view e
-
 come_to : (c : Cmp) (a b : Expr) → FitsE (bin (cmp c) a b) → matched_in c (label_e a) (label_e b) ≡ view (bin (cmp c) a b)
 unfolding view matched_in
 come_to c a b h = rw (column_is a, column_is b, value_is a h.0, value_is b h.1)
 
-operands_of : (s : List ℕ) (base : ℕ) (c : Cmp) (x y : Expr) → At (expr_tree (bin (cmp c) x y)) s base → Operands s base c (bin (cmp c) x y)
-operands_of s base c x y h =
-    let u = K.operands (cmp c) h in
-    record {
-      past = omega (arith, u.past);
-      fits = u.fits;
-      past₂ = omega (arith, u.past₂);
-      fits₂ = u.fits₂;
-      come = λ f. ap₂ (λ (p q : Label). matched_in c p q) u.left.head.label u.right.head.label ∙ come_to c x y f;
-    }
+-- the trees of the operands, and what they come to
+pub record Operands (f : Forest) (c : Cmp) (e : Expr) : Type 0 where
+  pub left : Tree
+  pub right : Tree
+  pub is : f ≡ node left.label left.below (node right.label right.below none)
+  pub come : FitsE e → matched_in c left.label right.label ≡ view e
 
-pub operands : {s : List ℕ} {base : ℕ} (e : Expr) (c : Cmp) → At (expr_tree e) s base → some c ≡ comparison_of (label_e e) → Operands s base c e
-operands {s} {base} e c h k =
-    let u = binary e c k in
-    subst (λ (f : Expr). Operands s base c f) (sym u.is)
-    (operands_of s base c u.lhs u.rhs (subst (λ (f : Expr). At (expr_tree f) s base) u.is h))
+operands_of : (c : Cmp) (x y : Expr) → Operands (kids_e (bin (cmp c) x y)) c (bin (cmp c) x y)
+unfolding kids_e
+operands_of c x y = record { left = expr_tree x; right = expr_tree y; is = refl; come = come_to c x y }
+
+pub operands : {t : Tree} (e : Expr) (c : Cmp) → t ≡ expr_tree e → some c ≡ comparison_of t.label → Operands t.below c e
+operands {t} e c h k =
+    let u = binary e c (rw h at k) in
+    rw h (subst (λ (x : Expr). Operands (kids_e x) c x) (sym u.is) (operands_of c u.lhs u.rhs))
+
+-- .. as the code has them
+module _ {f : Forest} {c : Cmp} {e : Expr} (h : Operands f c e) where
+  pub some_left : f ≡ none → ⊥
+  some_left z = let k = sym z ∙ h.is in cc
+
+  module _ (x y : Siblings) (l : Subtree) (is : forest x ≡ f) (a : Split x l y) where
+    left : node (tree_of l).label (tree_of l).below (forest y) ≡ node h.left.label h.left.below (node h.right.label h.right.below none)
+    left = sym a.is ∙ is ∙ h.is
+
+    pub some_right : forest y ≡ none → ⊥
+    some_right z = let k = left in cc
+
+    pub come_at : (r : Subtree) (z : Siblings) → Split y r z → FitsE e → matched_in c (tree_of l).label (tree_of r).label ≡ view e
+    come_at r z b fits =
+        let k = left in
+        let m = b.is in
+        let p : (tree_of l).label ≡ h.left.label = cc in
+        let q : (tree_of r).label ≡ h.right.label = cc in
+        rw (p, q) (h.come fits)
 
 -- ---- what is made of a column and a literal
 

@@ -3,14 +3,12 @@ use Rattle.std.specs.Prelude.{Bool, true, false, List, ℕ, ◌<◌, ◌≡◌, 
 use Rattle.std.proofs.Math.Option as O
 use Rattle.std.proofs.Math.Option.{none, some}
 use Rattle.std.specs.Int.Signed.{lt_z}
-use Rattle.image.specs.Tree.{Label, At}
+use Rattle.image.specs.Tree.{Label}
 use Rattle.plan.specs.Kinds as K
 use Rattle.plan.specs.Kinds.{What, expr, what}
 use Rattle.plan.specs.Syntax as S
 use Rattle.plan.specs.Syntax.{Expr, nm, Cmp, Op, and, cmp}
 use Rattle.plan.specs.Read.{nth, ops}
-use Rattle.plan.specs.Trees.{expr_tree}
-use Rattle.plan.specs.Integers.{FitsE}
 use Rattle.plan.specs.Values.{ValueRecord, null_of, literal_of, literal?}
 use Rattle.plan.specs.WordValues.{cmp_of}
 use Rattle.plan.specs.declared.words.Comparison.{Comparison}
@@ -99,12 +97,6 @@ side_in e = side_of? (view e)
 abbrev pub past_of : End → ℤ → ℤ → Bool
 past_of Lower = lt_z
 past_of Upper = gt_z
-
--- some expression stands here
-pub record Reading (s : List ℕ) (base : ℕ) : Type 0 where
-  pub expr : Expr
-  pub at : At (expr_tree expr) s base
-  pub fits : FitsE expr
 
 -- each expression of a list is what its side is written as
 abbrev pub Spelled : (Side → Expr) → List Expr → Type 0

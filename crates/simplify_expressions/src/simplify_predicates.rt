@@ -2,7 +2,8 @@
 // find_most_restrictive_predicate (187 to 233), extract_column_from_expr (245 to 250); with the differences D1, D2 and D3.
 // The source's map from columns to predicates is a search for the next column.
 ghost use Rattle.std.specs.Prelude.{◌≡◌, ◌++◌, List, map, ◌<◌, ℕ, drop, get_or};
-ghost use Rattle.image.specs.Tree.{At, Fits32};
+ghost use Rattle.image.specs.Subtrees.{tree_of};
+ghost use Rattle.image.specs.Tree.{Fits32};
 ghost use Rattle.plan.specs.Integers.{FitsE};
 ghost use Rattle.plan.specs.Lists.{all, keep};
 ghost use Rattle.plan.specs.Syntax.{Expr};
@@ -15,16 +16,16 @@ ghost use Rattle.rewrite.specs.SimplifyPredicates.{lit_val, make, most_restricti
 ghost use Rattle.rewrite.specs.SimplifyPredicates.{simplify_predicates, sort_out, val, view};
 ghost use Rattle.conjuncts.specs.Items.{FALSE, Known, Lists};
 ghost use Rattle.simplify_expressions.specs.Classes.{after, group_of, in_class, is_of, key_of, least, lesser, of_class, precedes};
-ghost use Rattle.simplify_expressions.specs.Seen.{Reading, Spelled, column_of, comparison_of, compares, matched_in};
+ghost use Rattle.simplify_expressions.specs.Seen.{Spelled, column_of, comparison_of, compares, matched_in};
 ghost use Rattle.simplify_expressions.specs.Seen.{named, past_of, relation_in, relation_of, seen};
 ghost use Rattle.simplify_expressions.specs.Seen.{side_in, side_of, strict_r, value_in};
 ghost use Rattle.plan.specs.Syntax as S;
 
 use crate::reorder_predicates::pick;
-use conjuncts::items::FALSE_ITEM;
+use conjuncts::items::{FALSE_ITEM, item_tree};
 use conjuncts::lists::{Conjuncts, add_if, empty, item_at};
-use image::records::{FIRST_LINK, Label, NEXT_LINK, from_record, label_at, record_at};
-use image::words::word_at;
+use image::records::Label;
+use image::trees::Subtree;
 use plan::kinds::{ExprKind, What, what_of};
 use plan::values::{Value, literal_of};
 use plan::words::{Comparison, NO_TYPE, Operator};
@@ -384,17 +385,14 @@ fn comparison_in(l: Label) -> Option<Comparison>
     }
 }
 
-// The expression at the start of `part` as a comparison of a column with a literal.
-fn compared_in(part: &[u8], base: usize) -> Option<Bound>
-    requires { Reading part.now base }
-    ensures { (e : Expr) → At (expr_tree e) part.now base → FitsE e → seen result ≡ view e }
+// The expression as a comparison of a column with a literal.
+fn compared_in(tree: Subtree) -> Option<Bound>
+    ensures { (e : Expr) → tree_of tree.entry ≡ expr_tree e → FitsE e → seen result ≡ view e }
 {
-    let op = comparison_in(label_at(part))?;
-    let x = word_at(part, FIRST_LINK);
-    let left = from_record(part, base, x);
-    let y = word_at(left, NEXT_LINK);
-    let right = from_record(part, base, y);
-    matched(op, label_at(left), label_at(right))
+    let op = comparison_in(tree.label())?;
+    let (left, others) = tree.children().split_first()?;
+    let (right, _) = others.split_first()?;
+    matched(op, left.label(), right.label())
 }
 
 // The predicate i of c as a comparison.
@@ -403,11 +401,7 @@ pub fn compared_at(s: &[u8], c: Conjuncts, i: usize) -> Option<Bound>
     requires i_lt_len { i < c.len }
     ensures { (es : List Expr) → Lists s.now c es → seen result ≡ view (get_or es i FALSE) }
 {
-    let n = item_at(c, i);
-    if n == FALSE_ITEM {
-        return None;
-    }
-    compared_in(record_at(s, n), n)
+    compared_in(item_tree(s, item_at(c, i))?)
 }
 
 // The same; a bound by NULL where it is none.

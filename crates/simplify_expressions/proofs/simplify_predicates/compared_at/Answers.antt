@@ -2,33 +2,22 @@
 use lib.ListN.{get_or}
 use Rattle.conjuncts.specs.Items.{FALSE}
 use Rattle.conjuncts.proofs.Listed.{lists_at}
+use Rattle.conjuncts.proofs.Standing.{tree_found}
 use Rattle.rewrite.specs.SimplifyPredicates.{view}
 use Rattle.simplify_expressions.proofs.simplify_predicates.compared_at.Goals as goal
 
-pub returns-then-n-eq-FALSE_ITEM : goal.returns-then-n-eq-FALSE_ITEM
-unfolding view
-returns-then-n-eq-FALSE_ITEM c =
-    λ es h. rw ((lists_at h c.requires.known.most _ _ c.requires.i_lt_len c.item_at-n.ensures).none c.if-n-eq-FALSE_ITEM.true)
+pub item_tree-requires : goal.item_tree-requires
+item_tree-requires c =
+    let p = c.requires.known in record { expr = _; item = lists_at p.lists p.most c.args.i _ c.requires.i_lt_len c.item_at.ensures }
 
-pub record_at-requires : goal.record_at-requires
+pub returns-in_err-item_tree : goal.returns-in_err-item_tree
 unfolding view
-record_at-requires c =
-    ((lists_at c.requires.known.lists c.requires.known.most _ _ c.requires.i_lt_len c.item_at-n.ensures).some c.if-n-eq-FALSE_ITEM.false).within
-
-pub compared_in-requires : goal.compared_in-requires
-unfolding view
-compared_in-requires c =
-    let w = (lists_at c.requires.known.lists c.requires.known.most _ _ c.requires.i_lt_len c.item_at-n.ensures).some c.if-n-eq-FALSE_ITEM.false in
-    record {
-      expr = get_or c.requires.known.exprs c.args.i FALSE;
-      at = rw c.record_at.ensures w.here;
-      fits =
-          w.fits;
-    }
+returns-in_err-item_tree c =
+    λ es h. let w = lists_at h c.requires.known.most c.args.i _ c.requires.i_lt_len c.item_at.ensures in
+    rw (c.from_residual.ensures, c.in_err-item_tree.ensures (get_or es c.args.i FALSE) w)
 
 pub returns : goal.returns
-unfolding view
 returns c =
-    λ es h. let w = (lists_at h c.requires.known.most _ _ c.requires.i_lt_len c.item_at-n.ensures).some c.if-n-eq-FALSE_ITEM.false in
-    c.compared_in.ensures (get_or es c.args.i FALSE)
-    (rw c.record_at.ensures w.here) w.fits
+    λ es h. let w = lists_at h c.requires.known.most c.args.i _ c.requires.i_lt_len c.item_at.ensures in
+    let f = c.in_ok-item_tree.ensures (get_or es c.args.i FALSE) w in
+    c.compared_in.ensures (get_or es c.args.i FALSE) (tree_found f) f.standing.fits
