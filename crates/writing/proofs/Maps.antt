@@ -31,7 +31,9 @@ use Rattle.plan.specs.Trees.{nothing_below, field_label, pair_label, pair_kids, 
 use Rattle.plan.specs.Trees.{forest_p, plan_tree}
 use Rattle.rewrite.specs.Utils.{replace_cols, replace_cols_all}
 use Rattle.rewrite.specs.PushDownFilter.{pick}
+use Rattle.conjuncts.specs.Items.{Found}
 use Rattle.conjuncts.specs.Standing.{Standing, StandingP}
+use Rattle.conjuncts.proofs.Standing.{tree_found}
 use Rattle.writing.specs.Replaced.{LowOver, is_entry, either, lookup, first_or, plant, replaced_any, replaced}
 use Rattle.writing.specs.Maps.{Maps, MapsTo, Over, map_of}
 
@@ -223,6 +225,9 @@ expr_deep x h = rw (expr_is x h) h.deep
 
 pub plan_deep : (x : Subtree) {p : Plan} → StandingP x.image.now x.number p → Deep (tree_of x).below max_below
 plan_deep x h = rw (plan_is x h) h.deep
+
+pub found_deep : {s : List ℕ} {n : ℕ} {x : Subtree} {e : Expr} → Found s n x e → Deep (tree_of x).below max_below
+found_deep f = rw (tree_found f) f.standing.deep
 
 -- such trees may be written
 pub deep_low : (level : ℕ) {f : Forest} → Shallow 1 level → Deep f max_below → Low (level + 1) f

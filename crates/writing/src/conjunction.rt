@@ -13,7 +13,7 @@ ghost use Rattle.writing.specs.Maps.{Maps, MapsTo, Over};
 ghost use Rattle.writing.specs.Pushed.{One, Predicate, Predicated, Pushed, Pushes, Some};
 
 use crate::replace_cols_by_name::{replace_cols_by_name, replace_cols_by_name_xx};
-use conjuncts::items::REPLACED;
+use conjuncts::items::{REPLACED, item_tree};
 use conjuncts::lists::{Conjuncts, item_at};
 use image::copying::{Writer, copy_tree, put_kind};
 use image::limits::MAX_DEPTH;
@@ -159,7 +159,7 @@ pub fn copy_predicate(
     }
 }
 
-// Writes what the item n stands for, which is a record or FALSE.
+// Writes what the item n stands for, which is an expression or FALSE.
 fn copy_plain_xx(s: &[u8], n: usize, out: &mut Writer, level: usize)
     requires present { Present s.now n }
     requires shallow { Shallow 1 level }
@@ -167,15 +167,10 @@ fn copy_plain_xx(s: &[u8], n: usize, out: &mut Writer, level: usize)
     ensures wrote { (e : Expr) → Item s.now n e →
         Wrote out.old.bytes.now out.new.bytes.now out.old.next level out.new.next (expr_tree e) }
 {
-    if n == 0 {
-        out.put_kind(BOOLEAN_LITERAL, 0, level);
-        return;
+    match item_tree(s, n) {
+        Some(tree) => out.copy_tree(tree, level),
+        None => out.put_kind(BOOLEAN_LITERAL, 0, level),
     }
-    let tree = Subtree {
-        image: s,
-        number: n,
-    };
-    out.copy_tree(tree, level);
 }
 
 // The same with the columns replaced.
@@ -186,15 +181,10 @@ fn copy_changed_xx(s: &[u8], map: Subtree, n: usize, out: &mut Writer, level: us
     ensures wrote { (σ : Name → Expr) → MapsTo map.entry σ → (e : Expr) → Item s.now n e →
         Wrote out.old.bytes.now out.new.bytes.now out.old.next level out.new.next (expr_tree (replace_cols σ e)) }
 {
-    if n == 0 {
-        out.put_kind(BOOLEAN_LITERAL, 0, level);
-        return;
+    match item_tree(s, n) {
+        Some(tree) => replace_cols_by_name_xx(tree, map, out, level),
+        None => out.put_kind(BOOLEAN_LITERAL, 0, level),
     }
-    let tree = Subtree {
-        image: s,
-        number: n,
-    };
-    replace_cols_by_name_xx(tree, map, out, level);
 }
 
 // Writes what the item n stands for.
