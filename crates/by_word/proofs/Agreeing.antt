@@ -1,7 +1,7 @@
 -- Two predicates that stand in an image agree exactly if they are the same tree.
 --     counted_is             a link counted from a top is the link less the top
 --     agree_same, agree_only the same tree agrees wherever it stands, and trees that agree are the same
---     agree_exprs            two expressions that stand in an image agree exactly if they are equal
+--     same_many, same_tops   two trees are the same if they have as many records, and these agree
 -- Assumes nothing.
 use mathlib.Core.Path.{◌≡◌, refl, sym, ap, subst, ◌∙◌}
 use mathlib.Core.Bool.{Bool, true, false, ◌&&◌, cond}
@@ -16,15 +16,22 @@ use borrow.Author.Tests.{eqb-true, eq-eqb, ne_eqb}
 use Rattle.image.specs.Word.{word}
 use Rattle.image.specs.Tree.{Label, Forest, none, node, Tree, size, link, Stands, At}
 use Rattle.image.specs.Flat.{size_t}
-use Rattle.plan.specs.Syntax.{Expr}
-use Rattle.plan.specs.Trees.{expr_tree}
-use Rattle.plan.specs.Integers.{FitsE}
-use Rattle.rewrite.specs.Utils.{same_e}
-use Rattle.rewrite.proofs.Exprs.{same_e_eq}
-use Rattle.conjuncts.specs.Equality.{same_label}
-use Rattle.by_word.specs.Equality.{counted, same_link, alike, agreeing, agree}
-use Rattle.conjuncts.proofs.Equals.{and_both, eq_same}
-use Rattle.by_word.proofs.Equals.{both_ways, label_is, label_same, tree_expr}
+use Rattle.image.specs.Subtrees.{tree_of}
+use Rattle.image.specs.declared.trees.Subtree.{Subtree}
+use Rattle.conjuncts.specs.Equality.{same, same_label}
+use Rattle.by_word.specs.Equality.{counted, same_link, alike}
+use Rattle.conjuncts.proofs.Equals.{and_both, is_same, same_is}
+use Rattle.by_word.proofs.Equals.{both_ways, label_is, label_same}
+
+-- k records from the start of s and of v on agree in all words
+unfoldable pub agreeing : ℕ → ℕ → List ℕ → ℕ → List ℕ → Bool
+agreeing zero n s m v = true
+agreeing (suc k) n s m v = (alike n s m v && same_link 28 n s m v) && agreeing k n (drop 32 s) m (drop 32 v)
+
+-- two predicates agree: that of k records from the start of s on, whose top is record n, and that of j records from the start of v on, whose
+-- top is record m; the next of a top, which leads out of its predicate, is not compared
+unfoldable pub agree : ℕ → ℕ → List ℕ → ℕ → ℕ → List ℕ → Bool
+agree k n s j m v = eqb k j && (alike n s m v && agreeing (k - 1) n (drop 32 s) m (drop 32 v))
 
 pub counted_is : (top link : ℕ) → counted top link ≡ link - top
 counted_is top link = go (eqb link 0) refl
@@ -46,14 +53,15 @@ module _ (n m : ℕ) where
   -- ---- a walk along the records
 
   pub agreeing_next : (k i : ℕ) (s v : List ℕ) → i < k
-      → agreeing (k - i) n (drop (32 * i) s) m (drop (32 * i) v)
-      ≡ ((alike n (drop (32 * i) s) m (drop (32 * i) v) && same_link 28 n (drop (32 * i) s) m (drop (32 * i) v))
-      && agreeing (k - (i + 1)) n (drop (32 * (i + 1)) s) m (drop (32 * (i + 1)) v))
+      → agreeing (k - i) n (drop (32 * (n + i)) s) m (drop (32 * (m + i)) v)
+      ≡ ((alike n (drop (32 * (n + i)) s) m (drop (32 * (m + i)) v) && same_link 28 n (drop (32 * (n + i)) s) m (drop (32 * (m + i)) v))
+      && agreeing (k - (i + 1)) n (drop (32 * (n + (i + 1))) s) m (drop (32 * (m + (i + 1))) v))
   unfolding agreeing
   agreeing_next k i s v lt =
       let z : k - i ≡ suc (k - (i + 1)) = omega arith in
-      let y : 32 * i + 32 ≡ 32 * (i + 1) = omega arith in
-      rw z (rw (drop-drop, drop-drop, y))
+      let x : 32 * (n + i) + 32 ≡ 32 * (n + (i + 1)) = omega arith in
+      let y : 32 * (m + i) + 32 ≡ 32 * (m + (i + 1)) = omega arith in
+      rw z (rw (drop-drop, x, drop-drop, y))
 
   pub agreeing_end : (k i : ℕ) (s v : List ℕ) → k ≤ i → agreeing (k - i) n s m v ≡ true
   unfolding agreeing
@@ -165,9 +173,28 @@ agree_only {t} {u} {s} {v} {n} {m} h k a =
     (omega arith) (omega arith) (rw p at y.1) in
     ap (λ (x : Label × Forest). record { label = x.0; below = x.1 }) (cc)
 
--- two expressions
-pub agree_exprs : (a b : Expr) {s v : List ℕ} {n m : ℕ} → FitsE a → FitsE b → At (expr_tree a) s n → At (expr_tree b) v m
-    → agree (size_t (expr_tree a)) n s (size_t (expr_tree b)) m v ≡ same_e a b
-agree_exprs a b {s} {v} {n} {m} f g h k =
-    both_ways _ (same_e a b) (λ y. eq_same (tree_expr f g (agree_only h k y)))
-    (λ y. let e = same_e_eq a b y in rw (← e) (agree_same h (rw e k)))
+-- ---- two trees of an image
+
+module _ (a b : Subtree) where
+  same_agree : same (tree_of a) (tree_of b)
+      ≡ agree (size_t (tree_of a)) a.number (drop (32 * a.number) a.image.now) (size_t (tree_of b)) b.number (drop (32 * b.number) b.image.now)
+  same_agree =
+      both_ways (same (tree_of a) (tree_of b)) _
+      (λ h. let e = same_is (tree_of a) (tree_of b) h in rw e (agree_same (rw e at a.stood.at) b.stood.at))
+      (λ h. is_same (tree_of a) (tree_of b) (agree_only a.stood.at b.stood.at h))
+
+  -- of other sizes
+  pub same_many : (size_t (tree_of a) ≡ size_t (tree_of b) → ⊥) → same (tree_of a) (tree_of b) ≡ false
+  same_many h = same_agree ∙ agree_many a.number b.number (size_t (tree_of a)) (size_t (tree_of b)) _ _ h
+
+  -- of one size: the tops, and then what is behind them
+  pub same_tops : size_t (tree_of b) ≡ size_t (tree_of a)
+      → same (tree_of a) (tree_of b)
+      ≡ (alike a.number (drop (32 * (a.number + 0)) a.image.now) b.number (drop (32 * (b.number + 0)) b.image.now)
+      && agreeing (size_t (tree_of a) - 1) a.number (drop (32 * (a.number + 1)) a.image.now) b.number (drop (32 * (b.number + 1)) b.image.now))
+  same_tops n =
+      let x : a.number + 0 ≡ a.number = omega arith in
+      let y : b.number + 0 ≡ b.number = omega arith in
+      let v : 32 * a.number + 32 * 1 ≡ 32 * (a.number + 1) = omega arith in
+      let w : 32 * b.number + 32 * 1 ≡ 32 * (b.number + 1) = omega arith in
+      rw (x, y) (same_agree ∙ rw n (rw (drop-drop, v, drop-drop, w) at (agree_tops a.number b.number (size_t (tree_of a)) (drop (32 * a.number) a.image.now) (drop (32 * b.number) b.image.now))))

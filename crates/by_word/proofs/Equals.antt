@@ -1,18 +1,11 @@
--- Equal labels, and equal expressions.
+-- Equal labels.
 --     label_is, label_same  `same_label` says that two labels are equal
---     tree_expr             expressions of one tree are equal
 -- Assumes nothing.
-use mathlib.Core.Path.{◌≡◌, refl, sym, ap, ◌∙◌}
+use mathlib.Core.Path.{◌≡◌, refl, sym, ap}
 use mathlib.Core.Bool.{Bool, true, false}
 use Prim.Native.Nat.{ℕ}
 use borrow.Author.Tests.{eqb-true, eq-eqb}
-use Rattle.image.specs.Tree.{Label, Tree}
-use Rattle.plan.specs.Kinds.{what}
-use Rattle.plan.specs.Syntax.{Expr}
-use Rattle.plan.specs.Read.{expr_by, exprs_of}
-use Rattle.plan.specs.Trees.{expr_tree}
-use Rattle.plan.specs.Integers.{FitsE}
-use Rattle.plan.proofs.Written.{expr_back}
+use Rattle.image.specs.Tree.{Label}
 use Rattle.conjuncts.specs.Equality.{same_label}
 use Rattle.conjuncts.proofs.Equals.{and_both}
 
@@ -47,10 +40,3 @@ pub both_ways : (a b : Bool) → (a ≡ true → b ≡ true) → (b ≡ true →
 both_ways true b f g = sym (f refl)
 both_ways false true f g = g refl
 both_ways false false f g = refl
-
--- an expression can be read back from its tree
-abbrev tree_back : (t : Tree) → Expr
-tree_back t = expr_by (what t.label) t.label (exprs_of t.below)
-
-pub tree_expr : {a b : Expr} → FitsE a → FitsE b → expr_tree a ≡ expr_tree b → a ≡ b
-tree_expr {a} {b} f g e = sym (expr_back a f) ∙ (ap tree_back e ∙ expr_back b g)

@@ -1,4 +1,4 @@
-pub mod Starting
+pub mod Records
 pub mod Equals
 pub mod Lists
 pub mod Agreeing

@@ -1,5 +1,5 @@
 -- The fingerprint of an expression is read off its records, one after another; and equal expressions have the same.
---     mixed_step, mixed_expr      a walk along the records of an expression
+--     mixed_step, mixed_tree      a walk along the records of an expression
 --     prints_add                  the fingerprints of a list, as it grows
 --     unlike                      other fingerprints, other expressions
 --     printed_full, -there, -new  a list and its fingerprints, with an item that is appended unless an equal one is there
@@ -17,6 +17,8 @@ use borrow.Author.Tests.{eqb-true, eqb-false, ne_eqb}
 use Rattle.image.specs.Limits.{max_list, too_many}
 use Rattle.image.specs.Tree.{Forest, none, node, size, link, label_at, Stands, At}
 use Rattle.image.specs.Word.{word}
+use Rattle.image.specs.Subtrees.{tree_of}
+use Rattle.image.specs.declared.trees.Subtree.{Subtree}
 use Rattle.image.specs.Flat.{size_t}
 use Rattle.plan.specs.Lists.{put}
 use Rattle.plan.specs.Syntax.{Expr}
@@ -45,12 +47,12 @@ mixed_suc : (h k : ℕ) (s : List ℕ) → mixed_for h (suc k) s ≡ mixed_for (
 unfolding mixed_for
 mixed_suc h k s = refl
 
-pub mixed_step : (h k i : ℕ) (s : List ℕ) → i < k
-    → mixed_for h (k - i) (drop (32 * i) s) ≡ mixed_for (mixed_at h (drop (32 * i) s)) (k - (i + 1)) (drop (32 * (i + 1)) s)
-mixed_step h k i s lt =
+pub mixed_step : (h n k i : ℕ) (s : List ℕ) → i < k
+    → mixed_for h (k - i) (drop (32 * (n + i)) s) ≡ mixed_for (mixed_at h (drop (32 * (n + i)) s)) (k - (i + 1)) (drop (32 * (n + (i + 1))) s)
+mixed_step h n k i s lt =
     let z : k - i ≡ suc (k - (i + 1)) = omega arith in
-    let y : 32 * i + 32 ≡ 32 * (i + 1) = omega arith in
-    rw (z, mixed_suc h (k - (i + 1)) (drop (32 * i) s), drop-drop, y)
+    let y : 32 * (n + i) + 32 ≡ 32 * (n + (i + 1)) = omega arith in
+    rw (z, mixed_suc h (k - (i + 1)) (drop (32 * (n + i)) s), drop-drop, y)
 
 pub mixed_end : (h k i : ℕ) (s : List ℕ) → k ≤ i → mixed_for h (k - i) s ≡ h
 unfolding mixed_for
@@ -83,7 +85,7 @@ mixed_forest (node l cs ns) s b h k x =
     (mixed_forest ns (drop (32 * suc (size cs)) s) (b + 1 + size cs) (mixed_any m cs) k x.after ∙ rw (drop-drop, w)))
 
 -- an expression: its top, whose next is apart, and then what is below it
-pub mixed_expr : (e : Expr) (s : List ℕ) (b : ℕ) → At (expr_tree e) s b
+mixed_expr : (e : Expr) (s : List ℕ) (b : ℕ) → At (expr_tree e) s b
     → mixed_for (mixed 0 (label_at s) (shape (word s 24) 0)) (size_t (expr_tree e) - 1) (drop (32 * 1) s) ≡ fingerprint e
 unfolding mixed_for fingerprint shape
 mixed_expr e s b x =
@@ -92,6 +94,16 @@ mixed_expr e s b x =
     let y : suc (size below) - 1 ≡ size below = omega arith in
     rw (y, x.head.label, x.head.first, leads_link below b)
     (rw z at (mixed_forest below (drop 32 s) (b + 1) (mixed 0 (expr_tree e).label (shape (link 1 below) 0)) 0 x.below))
+
+-- .. whose tree the code has
+pub mixed_tree : (x : Subtree) (e : Expr) → tree_of x ≡ expr_tree e
+    → mixed_for (mixed 0 (tree_of x).label (shape (link (x.number + 1) (tree_of x).below) 0)) (size_t (tree_of x) - 1)
+    (drop (32 * (x.number + 1)) x.image.now)
+    ≡ fingerprint e
+mixed_tree x e is =
+    let h : At (expr_tree e) (drop (32 * x.number) x.image.now) x.number = rw is at x.stood.at in
+    let z : 32 * x.number + 32 * 1 ≡ 32 * (x.number + 1) = omega arith in
+    rw (is, ← h.head.label, ← h.head.first) (rw (drop-drop, z) at (mixed_expr e (drop (32 * x.number) x.image.now) x.number h))
 
 -- of FALSE, which may have no record
 pub print_false : mixed 0 (record { kind = number_e Boolean; p = 0; q = 0; r = 0; lo = 0; hi = 0 }) 0 ≡ fingerprint FALSE

@@ -1,13 +1,23 @@
 // Predicates that agree, found by comparing 32-bit words.
-ghost use Rattle.std.specs.Prelude.{◌≡◌, ◌+◌, ◌≤◌, length};
+ghost use Rattle.std.specs.Prelude.{◌≡◌, ◌+◌, ◌*◌, ◌≤◌, drop, length};
 ghost use Rattle.image.specs.Flat.{size_t};
-ghost use Rattle.image.specs.Tree.{At, Tree};
-ghost use Rattle.by_word.specs.Equality.{agree, alike, counted, same_link};
-ghost use Rattle.by_word.specs.Standing.{Starts};
+ghost use Rattle.image.specs.Limits.{work_bytes};
+ghost use Rattle.image.specs.Subtrees.{tree_of};
+ghost use Rattle.conjuncts.specs.Equality.{same};
+ghost use Rattle.by_word.specs.Equality.{alike, counted, same_link};
 
 use image::ends::tree_end;
 use image::records::{FIRST_LINK, NEXT_LINK, label_at, record_at};
+use image::trees::Subtree;
 use image::words::word_at;
+
+// How many records a tree has.
+pub fn record_count(tree: Subtree) -> usize
+    requires { length tree.image.now ≤ work_bytes }
+    ensures { result ≡ size_t (tree_of tree.entry) }
+{
+    tree_end(record_at(tree.image, tree.number), tree.number) - tree.number
+}
 
 // A link counted from the top of its predicate: 0 if it is 0, since every other leads behind the top.
 fn counted(top: usize, link: usize) -> usize
@@ -19,40 +29,46 @@ fn counted(top: usize, link: usize) -> usize
     link - top
 }
 
-// Whether the links at byte `at` of a and of b, each counted from its own top, are the same.
-fn same_link(a: &[u8], top: usize, b: &[u8], of: usize, at: usize) -> bool
-    requires { (at + 4 ≤ length a.now) × (at + 4 ≤ length b.now) }
-    ensures { result ≡ same_link at top a.now of b.now }
+// Whether the links at byte `at` of the records i behind the tops of a and of b, each counted from its own top, are the same.
+fn same_link(a: Subtree, b: Subtree, i: usize, at: usize) -> bool
+    requires first { 32 * (a.number + i) + at + 4 ≤ length a.image.now }
+    requires second { 32 * (b.number + i) + at + 4 ≤ length b.image.now }
+    ensures { result ≡ same_link at a.entry.number (drop (32 * (a.entry.number + i)) a.entry.image.now)
+        b.entry.number (drop (32 * (b.entry.number + i)) b.entry.image.now) }
 {
-    counted(top, word_at(a, at)) == counted(of, word_at(b, at))
+    let link = word_at(record_at(a.image, a.number + i), at);
+    let other = word_at(record_at(b.image, b.number + i), at);
+    counted(a.number, link) == counted(b.number, other)
 }
 
-// Whether the records at the start of a and of b agree in all words but next.
-fn alike(a: &[u8], top: usize, b: &[u8], of: usize) -> bool
-    requires { (32 ≤ length a.now) × (32 ≤ length b.now) }
-    ensures { result ≡ alike top a.now of b.now }
+// Whether these records agree in all words but next.
+fn alike(a: Subtree, b: Subtree, i: usize) -> bool
+    requires first { 32 * (a.number + i) + 32 ≤ length a.image.now }
+    requires second { 32 * (b.number + i) + 32 ≤ length b.image.now }
+    ensures { result ≡ alike a.entry.number (drop (32 * (a.entry.number + i)) a.entry.image.now)
+        b.entry.number (drop (32 * (b.entry.number + i)) b.entry.image.now) }
 {
-    (label_at(a) == label_at(b)) & same_link(a, top, b, of, FIRST_LINK)
+    let label = label_at(record_at(a.image, a.number + i));
+    let other = label_at(record_at(b.image, b.number + i));
+    (label == other) & same_link(a, b, i, FIRST_LINK)
 }
 
-// Whether the predicates at the start of a and of b, whose tops are the records `top` and `of`, agree: one word after another.
-pub fn agree(a: &[u8], top: usize, b: &[u8], of: usize) -> bool
-    requires { Starts a.now top × Starts b.now of }
-    ensures { (t u : Tree) → At t a.now top → At u b.now of →
-        result ≡ agree (size_t t) top a.now (size_t u) of b.now }
+// Whether two predicates are the same, wherever they stand: one word after another.
+pub fn agree(a: Subtree, b: Subtree) -> bool
+    requires image_bound { length a.image.now ≤ work_bytes }
+    requires image_bound_2 { length b.image.now ≤ work_bytes }
+    ensures { result ≡ same (tree_of a.entry) (tree_of b.entry) }
 {
-    let size = tree_end(a, top) - top;
-    if tree_end(b, of) - of != size {
+    let size = record_count(a);
+    if record_count(b) != size {
         return false;
     }
     // The next of a top leads out of its predicate.
-    if !alike(a, top, b, of) {
+    if !alike(a, b, 0) {
         return false;
     }
     for i in 1..size {
-        let x = record_at(a, i);
-        let y = record_at(b, i);
-        if !(alike(x, top, y, of) & same_link(x, top, y, of, NEXT_LINK)) {
+        if !(alike(a, b, i) & same_link(a, b, i, NEXT_LINK)) {
             return false;
         }
     }

@@ -1,17 +1,18 @@
 // Fingerprints: a number for each expression, the same for equal ones, so that most that differ are told apart by one comparison.
 ghost use Rattle.std.specs.Prelude.{◌≡◌, ◌<◌, ◌≤◌, length};
 ghost use Rattle.image.specs.Limits.{work_bytes};
-ghost use Rattle.image.specs.Tree.{At, Fits32, label_at};
+ghost use Rattle.image.specs.Subtrees.{tree_of};
+ghost use Rattle.image.specs.Tree.{Fits32, label_at};
 ghost use Rattle.image.specs.Word.{word};
 ghost use Rattle.plan.specs.Syntax.{Expr};
 ghost use Rattle.plan.specs.Trees.{expr_tree};
 ghost use Rattle.by_word.specs.Fingerprints.{fingerprint, leads, mixed, shape};
 ghost use Rattle.conjuncts.specs.Items.{Item, Present};
-ghost use Rattle.by_word.specs.Standing.{Starts};
 
-use conjuncts::items::FALSE_ITEM;
-use image::ends::tree_end;
+use crate::equality::record_count;
+use conjuncts::items::item_tree;
 use image::records::{FIRST_LINK, Label, NEXT_LINK, label_at, record_at};
+use image::trees::Subtree;
 use image::words::word_at;
 use plan::kinds::BOOLEAN_LITERAL;
 
@@ -59,16 +60,15 @@ fn mixed_at(h: usize, part: &[u8]) -> usize
     )
 }
 
-// The fingerprint of the expression at the start of `part`, which begins at record `base`.
-fn fingerprint_of(part: &[u8], base: usize) -> usize
-    requires { Starts part.now base }
-    ensures { (e : Expr) → At (expr_tree e) part.now base → result ≡ fingerprint e }
+// The fingerprint of an expression.
+fn fingerprint_of(tree: Subtree) -> usize
+    requires { length tree.image.now ≤ work_bytes }
+    ensures { (e : Expr) → tree_of tree.entry ≡ expr_tree e → result ≡ fingerprint e }
 {
-    let size = tree_end(part, base) - base;
     // The next of the top leads out of the expression.
-    let mut h = mixed(0, label_at(part), shape(word_at(part, FIRST_LINK), 0));
-    for i in 1..size {
-        h = mixed_at(h, record_at(part, i));
+    let mut h = mixed(0, tree.label(), shape(tree.children().first, 0));
+    for i in 1..record_count(tree) {
+        h = mixed_at(h, record_at(tree.image, tree.number + i));
     }
     h
 }
@@ -79,7 +79,7 @@ pub fn fingerprint(s: &[u8], n: usize) -> usize
     requires s_len_bound { length s.now ≤ work_bytes }
     ensures { (e : Expr) → Item s.now n e → result ≡ fingerprint e }
 {
-    if n == FALSE_ITEM {
+    let Some(tree) = item_tree(s, n) else {
         let label = Label {
             kind: BOOLEAN_LITERAL,
             p: 0,
@@ -89,6 +89,6 @@ pub fn fingerprint(s: &[u8], n: usize) -> usize
             hi: 0,
         };
         return mixed(0, label, 0);
-    }
-    fingerprint_of(record_at(s, n), n)
+    };
+    fingerprint_of(tree)
 }

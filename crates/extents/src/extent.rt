@@ -1,18 +1,16 @@
 // How large a merged predicate is: its records and its levels, read off its conjuncts. Nothing is written for it.
 ghost use Rattle.std.specs.Prelude.{◌≡◌, ◌∷◌, List, ◌<◌, ◌≤◌, max, length};
 ghost use Rattle.image.specs.Limits.{work_bytes};
-ghost use Rattle.image.specs.Tree.{At, Readable, Tree};
+ghost use Rattle.image.specs.Subtrees.{tree_of};
 ghost use Rattle.plan.specs.Syntax.{Expr};
 ghost use Rattle.plan.specs.Trees.{expr_tree};
 ghost use Rattle.rewrite.specs.Utils.{conjoin};
 ghost use Rattle.conjuncts.specs.Items.{Item, Known, Lists, Present};
 ghost use Rattle.extents.specs.Extents.{Bounded, Measures};
 
-use conjuncts::items::FALSE_ITEM;
+use conjuncts::items::item_tree;
 use conjuncts::lists::Conjuncts;
-use image::limits::MAX_DEPTH;
-use image::records::{FIRST_LINK, NEXT_LINK, from_record, record_at};
-use image::words::word_at;
+use image::trees::Subtree;
 
 // How many records a tree has, and how many levels.
 #[derive(Clone, Copy, Debug, PartialEq, Eq)]
@@ -21,20 +19,16 @@ pub struct Extent {
     pub depth: usize,
 }
 
-// The extent of the tree at the start of `part`, which begins at record `base`: a tree no deeper than `depth`.
-pub fn tree_extent(part: &[u8], base: usize, depth: usize) -> Extent
-    requires { Readable depth part.now base }
-    ensures { (t : Tree) → At t part.now base → Measures result t }
+// The extent of a tree.
+pub fn tree_extent(tree: Subtree) -> Extent
+    ensures { Measures result (tree_of tree.entry) }
 {
     let mut records = 1;
     let mut below = 0;
-    let mut at = word_at(part, FIRST_LINK);
-    while at != 0 {
-        let child = from_record(part, base, at);
-        let e = tree_extent(child, at, depth - 1);
+    for child in tree.children() {
+        let e = tree_extent(child);
         records += e.records;
         below = below.max(e.depth);
-        at = word_at(child, NEXT_LINK);
     }
     Extent {
         records,
@@ -47,13 +41,13 @@ fn item_extent(s: &[u8], n: usize) -> Extent
     requires { Present s.now n }
     ensures { (e : Expr) → Item s.now n e → Measures result (expr_tree e) }
 {
-    if n == FALSE_ITEM {
-        return Extent {
+    match item_tree(s, n) {
+        Some(tree) => tree_extent(tree),
+        None => Extent {
             records: 1,
             depth: 1,
-        };
+        },
     }
-    tree_extent(record_at(s, n), n, MAX_DEPTH)
 }
 
 // The extent of the items of a list, joined left-deep.

@@ -1,13 +1,12 @@
--- `equality::agree` meets its contract. The loop's invariant: the predicates agree if the records that are left do.
-use mathlib.Core.Path.{◌≡◌}
-use Prim.Native.Nat.{◌-◌, ◌*◌, ◌≤◌, ◌<◌}
-use lib.ListN.{drop}
-use Rattle.image.specs.Tree.{Tree, At}
-use Rattle.image.specs.Flat.{size_t}
-use Rattle.by_word.specs.Equality.{agree, agreeing}
+-- `equality::agree` meets its contract. The loop's invariant: the predicates are the same if the records that are left agree.
+use Rattle.std.proofs.Common.{◌≡◌, ◌+◌, ◌-◌, ◌*◌, ◌≤◌, ◌<◌, drop}
+use Rattle.image.specs.Subtrees.{tree_of}
+use Rattle.conjuncts.specs.Equality.{same}
+use Rattle.by_word.proofs.Agreeing.{agreeing}
 use Rattle.by_word.proofs.equality.agree.Given as goal
 
 abbrev pub invariant-loop-i : goal.invariant-loop-i
 invariant-loop-i l =
-    (0 < l.i) × (l.i ≤ l.size) × ((t u : Tree) → At t l.a l.top → At u l.b l.of →
-    agree (size_t t) l.top l.a (size_t u) l.of l.b ≡ agreeing (l.size - l.i) l.top (drop (32 * l.i) l.a) l.of (drop (32 * l.i) l.b))
+    (0 < l.i) × (l.i ≤ l.size)
+    × (same (tree_of l.a) (tree_of l.b) ≡ agreeing (l.size - l.i) l.a.number (drop (32 * (l.a.number + l.i)) l.a.image.now) l.b.number
+    (drop (32 * (l.b.number + l.i)) l.b.image.now))

@@ -1,17 +1,15 @@
--- `fingerprints::fingerprint_of` meets its contract. The loop's invariant: with the records that are left, it is that of all.
-use mathlib.Core.Path.{◌≡◌}
-use mathlib.Core.List.{List}
-use Prim.Native.Nat.{ℕ, ◌-◌, ◌*◌, ◌≤◌, ◌<◌}
-use lib.ListN.{drop}
-use Rattle.image.specs.Tree.{label_at}
-use Rattle.image.specs.Word.{word}
-use Rattle.by_word.specs.Fingerprints.{mixed, shape}
+-- `fingerprints::fingerprint_of` meets its contract. The loop's invariant: with the records that are left, it is that of the expression.
+use Rattle.std.proofs.Common.{◌≡◌, ◌+◌, ◌-◌, ◌*◌, ◌≤◌, ◌<◌, drop}
+use Rattle.image.specs.Flat.{size_t}
+use Rattle.image.specs.Subtrees.{tree_of}
+use Rattle.plan.specs.Syntax.{Expr}
+use Rattle.plan.specs.Trees.{expr_tree}
+use Rattle.by_word.specs.Fingerprints.{fingerprint}
 use Rattle.by_word.proofs.Printing.{mixed_for}
 use Rattle.by_word.proofs.fingerprints.fingerprint_of.Given as goal
 
--- what the top is to be mixed with: all records below it
-abbrev pub all : ℕ → List ℕ → ℕ
-all size part = mixed_for (mixed 0 (label_at part) (shape (word part 24) 0)) (size - 1) (drop (32 * 1) part)
-
 abbrev pub invariant-loop-i : goal.invariant-loop-i
-invariant-loop-i l = (0 < l.i) × (l.i ≤ l.size) × (l.h < 4294967296) × (mixed_for l.h (l.size - l.i) (drop (32 * l.i) l.part) ≡ all l.size l.part)
+invariant-loop-i l =
+    (0 < l.i) × (l.i ≤ size_t (tree_of l.tree)) × (l.h < 4294967296)
+    × ((e : Expr) → tree_of l.tree ≡ expr_tree e
+    → mixed_for l.h (size_t (tree_of l.tree) - l.i) (drop (32 * (l.tree.number + l.i)) l.tree.image.now) ≡ fingerprint e)

@@ -1,49 +1,36 @@
+use mathlib.Core.Path.{ap, ◌∙◌}
 use native.Mathlib.Omega.{arith}
-use lib.ListN.{length-drop}
-use Rattle.image.proofs.Walking.{chain, round, again, done, for_all}
+use Rattle.image.specs.Subtrees.{forest, tree_of}
+use Rattle.image.specs.Tree.{size}
+use Rattle.image.proofs.Subtrees.{goes, gone}
 use Rattle.extents.proofs.Extents.{left_start, left_next, left_end, left_small, max_is}
 use Rattle.extents.proofs.extent.+tree_extent.Goals as goal
 
-pub loop-at-init : goal.loop-at-init
-loop-at-init t c =
-    let p = c.requires in rw c.word_at-at.ensures.0 (chain _ p (left_start p.tree))
+pub loop-child-init : goal.loop-child-init
+loop-child-init t c =
+    let e = ap forest c.into_iter-child-iterator.ensures.into_iter_gives ∙ c.children-child-items.ensures.is in
+    (rw e (left_start (tree_of c.args.tree)), omega (arith, ap size e))
 
 pub tree_extent-e-requires : goal.tree_extent-e-requires
 tree_extent-e-requires t c =
-    let k = c.loop-at.invariant in
-    let u = round _ k c.loop-at-test.true in
-    (omega arith, rw c.from_record-child.ensures u.readable)
+    let g = goes c.loop-child.child-iterator c.next.new.self c.in-Some.child c.in-Some.ensures.steps in
+    let k = c.loop-child.invariant in
+    omega (arith, ap size g.is, k.1, c.decreases)
 
 pub overflow_add-records : goal.overflow_add-records
 overflow_add-records t c =
-    let k = c.loop-at.invariant in
-    let u = round _ k c.loop-at-test.true in
-    let e = c.tree_extent-e.ensures u.turn.child (rw c.from_record-child.ensures u.turn.here) in
-    omega (arith, left_small (left_next u.so_far e) k.stands)
+    let g = goes c.loop-child.child-iterator c.next.new.self c.in-Some.child c.in-Some.ensures.steps in
+    let h = left_next (rw g.is at c.loop-child.invariant.0) c.tree_extent-e.ensures in
+    omega (arith, left_small c.args.tree h, c.ranges.tree.0)
 
-pub word_at-at-requires-in-loop-at : goal.word_at-at-requires-in-loop-at
-word_at-at-requires-in-loop-at t c =
-    let u = round _ c.loop-at.invariant c.loop-at-test.true in
-    rw (c.from_record-child.ensures, length-drop) (omega arith)
-
-pub loop-at-smaller : goal.loop-at-smaller
-loop-at-smaller t c =
-    let u = round _ c.loop-at.invariant
-    c.loop-at-test.true in
-    rw (c.word_at-at-in-loop-at.ensures.0, c.from_record-child.ensures) u.turn.less
-
-pub loop-at-preserved : goal.loop-at-preserved
-loop-at-preserved t c =
-    let k = c.loop-at.invariant in
-    let u = round _ k c.loop-at-test.true in
-    let part = c.from_record-child.ensures in
-    let e = c.tree_extent-e.ensures u.turn.child (rw part u.turn.here) in
-    rw (c.word_at-at-in-loop-at.ensures.0, part, c.max-below.ensures, max_is) (again _ k u (left_next u.so_far e))
+pub loop-child-preserved : goal.loop-child-preserved
+loop-child-preserved t c =
+    let g = goes c.loop-child.child-iterator c.next.new.self c.in-Some.child c.in-Some.ensures.steps in
+    let k = c.loop-child.invariant in
+    (rw (c.max-below.ensures, max_is) (left_next (rw g.is at k.0) c.tree_extent-e.ensures), omega (arith, ap size g.is, k.1))
 
 pub overflow_add-result : goal.overflow_add-result
-overflow_add-result t c =
-    let k = c.loop-at.invariant in omega (arith, left_small k.so_far k.stands)
+overflow_add-result t c = omega (arith, left_small c.args.tree c.loop-child.invariant.0, c.ranges.tree.0)
 
 pub returns : goal.returns
-returns t c =
-    let k = c.loop-at.invariant in for_all _ k.stands (left_end (done _ k c.loop-at-test.false))
+returns t c = left_end (rw (gone c.loop-child.child-iterator c.in-None.ensures.steps.0) at c.loop-child.invariant.0)

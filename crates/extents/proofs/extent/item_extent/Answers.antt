@@ -1,13 +1,10 @@
 -- `extent::item_extent` meets its contract.
-use Rattle.plan.specs.Trees.{expr_tree}
+use Rattle.conjuncts.proofs.Standing.{tree_found}
 use Rattle.extents.proofs.Extents.{measures_false}
 use Rattle.extents.proofs.extent.item_extent.Goals as goal
 
-pub returns-then-n-eq-FALSE_ITEM : goal.returns-then-n-eq-FALSE_ITEM
-returns-then-n-eq-FALSE_ITEM c =
-    λ e h. rw (h.none c.if-n-eq-FALSE_ITEM.true) measures_false
+pub returns-in-Some : goal.returns-in-Some
+returns-in-Some c = λ e h. rw (tree_found (c.in-Some.ensures e h)) at c.tree_extent.ensures
 
-pub returns : goal.returns
-returns c =
-    λ e h. let w = h.some c.if-n-eq-FALSE_ITEM.false in
-    c.tree_extent.ensures (expr_tree e) (rw c.record_at.ensures w.here)
+pub returns-in-None : goal.returns-in-None
+returns-in-None c = λ e h. rw (c.in-None.ensures e h) measures_false

@@ -1,0 +1,11 @@
+-- The records of a tree stand in its image.
+-- Assumes nothing.
+use Prim.Native.Nat.{ℕ, ◌+◌, ◌*◌, ◌≤◌, ◌<◌}
+use native.Mathlib.Omega.{arith}
+use lib.ListN.{length, length-drop}
+use Rattle.image.specs.Flat.{size_t}
+use Rattle.image.specs.Subtrees.{tree_of}
+use Rattle.image.specs.declared.trees.Subtree.{Subtree}
+
+pub within : (x : Subtree) (i : ℕ) → i < size_t (tree_of x) → 32 * (x.number + i) + 32 ≤ length x.image.now
+within x i lt = omega (arith, x.stood.at.head.room, length-drop (32 * x.number) x.image.now)
