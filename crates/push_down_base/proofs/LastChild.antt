@@ -1,10 +1,13 @@
 -- The last child of a plan with one input is that input.
 use Prim.Native.Nat.{ℕ, suc, ◌+◌}
 use native.Mathlib.Omega.{arith}
-use mathlib.Core.Path.{◌≡◌, refl, ap, ◌∙◌}
+use mathlib.Core.Path.{◌≡◌, refl, sym, ap, ◌∙◌}
 use mathlib.Core.List.{List, [], ◌∷◌}
 use mathlib.Core.Option.{Option}
 use Rattle.image.specs.Tree.{Label, Forest, none, node, size, link}
+use Rattle.image.specs.Subtrees.{Below, Place, forest, place, places, places_from, tree_of}
+use Rattle.image.specs.declared.trees.Siblings.{Siblings}
+use Rattle.image.specs.declared.trees.Subtree.{Subtree}
 use Rattle.plan.specs.Syntax.{Entry, Key, AggEntry, WinEntry, Plan, project, distinct, sort, repartition, aggregate, window}
 use Rattle.plan.specs.Measure.{sizes}
 use Rattle.plan.specs.Trees.{label_p, kids_p, each, entry_label, entry_kids, key_label, key_kids, agg_label, agg_kids, win_label, win_kids}
@@ -64,3 +67,31 @@ aggregate_last gs [] q x = last_run entry_label entry_kids gs 0 (x + 1) (label_p
 aggregate_last gs (a ∷ ags) q x =
     last_past entry_label entry_kids gs 0 (x + 1) (agg_label a) (agg_kids a) (each agg_label agg_kids ags (node (label_p q) (kids_p q) none)) _
     (λ d. last_run agg_label agg_kids (a ∷ ags) d (x + 1 + sizes entry_kids gs) (label_p q) (kids_p q) ∙ omega arith)
+
+-- ---- the last tree of some siblings
+
+-- the last place of a list, or d where there is none
+abbrev pub last_place : Place → List Place → Place
+last_place d [] = d
+last_place d (p ∷ ps) = last_place p ps
+
+-- it is that of the last child of t, or t's own
+pub record LastPlace (t : Subtree) (p : Place) : Type 0 where
+  pub image : p.image ≡ t.image.now
+  pub number : p.number ≡ last_of t.number (t.number + 1) (tree_of t).below
+
+last_from : (s : List ℕ) (f : Forest) (d : Place) (b : ℕ) → d.image ≡ s
+    → ((last_place d (places_from s b f)).image ≡ s) × ((last_place d (places_from s b f)).number ≡ last_of d.number b f)
+unfolding places_from
+last_from s none d b e = (e, refl)
+last_from s (node l cs ns) d b e = last_from s ns (record { image = s; number = b; tree = record { label = l; below = cs } }) (b + 1 + size cs) refl
+
+pub children_last : {t : Subtree} {x : Siblings} → Below t x → LastPlace t (last_place (place t) (places x))
+children_last {t} {x} h =
+    let k = last_from x.image.now (forest x) (place t) x.first (sym h.image) in
+    record {
+      image = k.0 ∙ h.image;
+      number =
+          k.1 ∙ ap (λ f. last_of t.number x.first f) h.is ∙ ap (λ b. last_of t.number b (tree_of t).below) h.first
+          ∙ last_link t.number (t.number + 1) (tree_of t).below;
+    }

@@ -10,3 +10,5 @@ pub mod Answering
 pub mod LastChild
 pub mod FirstChild
 pub mod Scoping
+pub mod FirstTwo
+pub mod InputOf

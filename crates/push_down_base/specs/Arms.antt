@@ -84,6 +84,14 @@ Arm out at level = BufferAt 6 level out at
 abbrev pub ArmOver : List ℕ → List ℕ → ℕ → ℕ → Type 0
 ArmOver m out at level = (map_bytes ≤ length m) × Shallow 6 level × (length out ≡ work_bytes) × (at ≤ no_room)
 
+-- an arm writes with its top at depth `level`; no arm's writers are higher than 6
+abbrev pub Arm_xx : ℕ → Type 0
+Arm_xx level = Shallow 6 level
+
+-- the same, and m has room for a map of names
+abbrev pub ArmOver_xx : List ℕ → ℕ → Type 0
+ArmOver_xx m level = (map_bytes ≤ length m) × Shallow 6 level
+
 -- some predicate rests on a SubqueryAlias
 pub record OverAlias (s : List ℕ) (x : ℕ) (p : Predicate) : Type 0 where
   pub expr : Expr

@@ -4,7 +4,8 @@ use Rattle.std.proofs.Math.Option.{Option, none, some}
 use Rattle.image.specs.Limits.{max_list}
 use Rattle.plan.specs.Syntax.{Name, Expr}
 use Rattle.conjuncts.specs.Items.{Conjuncts, Known}
-use Rattle.writing.specs.Maps.{Maps}
+use Rattle.image.specs.declared.trees.Subtree.{Subtree}
+use Rattle.writing.specs.Maps.{Maps, MapsTo}
 use Rattle.writing.specs.Pushed as W
 use Rattle.push_down_base.specs.declared.predicates.Predicate as declared
 
@@ -21,6 +22,14 @@ pub data Perhaps (s : List ℕ) (σ : Name → Expr) (p : Predicate) : Option Ex
 pub record Writable (s m : List ℕ) (of room : ℕ) (p : Predicate) : Type 0 where
   pub mapping : Name → Expr
   pub maps : Maps m of room mapping
+  pub expr : Option Expr
+  pub perhaps : Perhaps s mapping p expr
+  pub most : p.list.len ≤ max_list
+
+-- the same by way of a map as a tree
+pub record Writable_xx (s : List ℕ) (map : Subtree) (p : Predicate) : Type 0 where
+  pub mapping : Name → Expr
+  pub maps : MapsTo map mapping
   pub expr : Option Expr
   pub perhaps : Perhaps s mapping p expr
   pub most : p.list.len ≤ max_list

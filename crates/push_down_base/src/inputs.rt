@@ -1,9 +1,10 @@
 // The input of a plan that has one: its last child.
 ghost use Rattle.std.specs.Prelude.{◌≡◌, ◌+◌, ℕ};
 ghost use Rattle.image.specs.Tree.{At, Readable, Tree};
-ghost use Rattle.push_down_base.specs.Inputs.{last_of};
+ghost use Rattle.push_down_base.specs.Inputs.{Firsts, Last, last_of};
 
 use image::records::{FIRST_LINK, NEXT_LINK, from_record};
+use image::trees::Subtree;
 use image::words::word_at;
 
 // The record of the last child of the record at the start of `part`, or 0 where it has none.
@@ -19,4 +20,24 @@ pub fn last_child(part: &[u8], base: usize) -> usize
         at = word_at(from_record(part, base, at), NEXT_LINK);
     }
     last
+}
+
+// The last child of a plan, or the plan itself: each caller's has a child, and would only unwrap an Option.
+pub fn last_child_xx(plan: Subtree) -> Subtree
+    ensures { Last plan.entry result }
+{
+    let mut last = plan;
+    for child in plan.children() {
+        last = child;
+    }
+    last
+}
+
+// The first two children of a tree, if it has as many.
+pub fn first_two(tree: Subtree) -> Option<(Subtree, Subtree)>
+    ensures { Firsts tree.entry result }
+{
+    let (first, others) = tree.children().split_first()?;
+    let (second, _) = others.split_first()?;
+    Some((first, second))
 }

@@ -1,0 +1,40 @@
+-- The first two children of a tree.
+--     two_are       which trees they are
+--     size_first, size_second   they are smaller
+--     low_first, low_second     where they may be written
+--     low_up        what may be written at a depth may be written above it
+-- Assumes nothing.
+use mathlib.Core.Path.{◌≡◌, sym, ap, ◌∙◌}
+use Prim.Native.Nat.{ℕ, ◌+◌, ◌-◌, ◌<◌}
+use native.Mathlib.Omega.{arith}
+use Rattle.image.specs.Tree.{Label, Forest, node, Tree, size}
+use Rattle.image.specs.Room.{Low}
+use Rattle.image.specs.Subtrees.{tree_of}
+use Rattle.image.specs.declared.trees.Subtree.{Subtree}
+use Rattle.image.proofs.Room.{low_below, low_after}
+use Rattle.push_down_base.specs.Inputs.{Two}
+
+pub low_up : {level : ℕ} {f : Forest} → Low (level + 1) f → Low level f
+low_up h = record { depth = h.depth; deep = h.deep; low = omega (arith, h.low) }
+
+module _ {t a b : Subtree} (w : Two t a b) where
+  pub two_are : {u v : Tree} {ns : Forest} → (tree_of t).below ≡ node u.label u.below (node v.label v.below ns)
+      → (tree_of a ≡ u) × (tree_of b ≡ v)
+  two_are e =
+      let both = sym w.is ∙ e in (
+        ap (λ (x : Label × Forest). record { label = x.0; below = x.1 }) (cc both),
+        ap (λ (x : Label × Forest). record { label = x.0; below = x.1 }) (cc both),
+      )
+
+  pub size_first : size (tree_of a).below < size (tree_of t).below
+  size_first = omega (arith, ap size w.is)
+
+  pub size_second : size (tree_of b).below < size (tree_of t).below
+  size_second = omega (arith, ap size w.is)
+
+  module _ {level : ℕ} (h : Low level (tree_of t).below) where
+    pub low_first : Low (level + 1) (tree_of a).below
+    low_first = low_below w.is h
+
+    pub low_second : Low (level + 1) (tree_of b).below
+    low_second = let rest = low_after w.is h in record { depth = rest.depth - 1; deep = rest.deep.1; low = omega (arith, rest.low, rest.deep.0) }
