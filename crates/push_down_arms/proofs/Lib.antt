@@ -11,3 +11,4 @@ pub mod Counting
 pub mod Divides
 pub mod Moves
 pub mod Divisions
+pub mod Lent

@@ -3,15 +3,20 @@
 --     named_stop, named_step, lets_stop, lets_step      along the records of a plan
 --     project_moves, group_moves, window_moves          the fields of each plan
 -- Assumes nothing.
-use mathlib.Core.Path.{◌≡◌, refl, ap, ap₂, ◌∙◌}
+use mathlib.Core.Path.{◌≡◌, refl, sym, ap, ap₂, ◌∙◌}
 use mathlib.Core.Bool.{Bool, true, false, not, ◌&&◌, ◌||◌, cond}
 use mathlib.Core.List.{List, [], ◌∷◌}
-use Prim.Native.Nat.{ℕ, ◌-◌, ◌*◌}
+use Prim.Native.Nat.{ℕ, ◌+◌, ◌-◌, ◌*◌}
 use native.Mathlib.Omega.{arith}
 use lib.Dec.{eqb}
 use lib.ListN.{drop}
 use borrow.Author.Tests.{eq-eqb, ne_eqb}
-use Rattle.image.specs.Tree.{Label, Forest, none, node, Tree, Readable}
+use Rattle.std.specs.List.{list_any, list_all}
+use Rattle.std.specs.Prelude.{Option, None, Some}
+use Rattle.std.specs.Option.{is_some as found}
+use Rattle.image.specs.declared.trees.Subtree.{Subtree}
+use Rattle.image.specs.Subtrees.{Place, places_from}
+use Rattle.image.specs.Tree.{Label, Forest, none, node, Tree, Readable, size}
 use Rattle.image.specs.Word.{word}
 use Rattle.image.proofs.Walking.{Chain, chain, round, again}
 use Rattle.plan.specs.Lists.{◌&◌, any, all}
@@ -23,7 +28,7 @@ use Rattle.plan.specs.Trees.{agg_label, agg_kids, win_label, win_kids}
 use Rattle.rewrite.specs.Utils.{is_volatile_expr, is_leafward_expr}
 use Rattle.rewrite.specs.PushDownFilter.{names, non_pushable}
 use Rattle.conjuncts.proofs.FunctionsIn.{or_nil, fn_tree}
-use Rattle.writing.specs.Replaced.{is_entry, either, lookup, Leads}
+use Rattle.writing.specs.Replaced.{is_entry, either, lookup, Leads, Finds}
 use Rattle.writing.proofs.Maps.{NoEntry, same_entry, lookup_none, and_is, plan_none, parts_none}
 use Rattle.push_down_arms.specs.Movable.{leaf_here, fixed, is_named, named_in, partition_in, lets, lets_all, is_some, may_move}
 
@@ -176,3 +181,29 @@ module _ (x : Name) where
   pub window_moves : (ws : List WinEntry) (p : Plan) → may_move (plan_tree (window ws p)) x ≡ all (λ (w : WinEntry). has w.parts x) ws
   unfolding label_p kids_p
   window_moves ws p = move_other x (plan_tree (window ws p)) (λ z. omega arith) ∙ lets_windows ws _ (lets_plan p)
+
+-- ---- over the trees below a plan
+
+-- a tree and its children, by the first of them
+pub partition_none : (x : Name) {f : Forest} → f ≡ none → false ≡ partition_in x f
+unfolding partition_in
+partition_none x e = rw e
+
+pub partition_rest : (x : Name) {l : Label} {f cs ns : Forest} → f ≡ node l cs ns → named_in x ns ≡ partition_in x f
+unfolding partition_in
+partition_rest x e = rw e
+
+pub any_named : (x : Name) (s : List ℕ) (n : ℕ) (f : Forest) → list_any (λ (p : Place). is_named x p.tree.label) (places_from s n f) ≡ named_in x f
+unfolding named_in places_from
+any_named x s n none = refl
+any_named x s n (node l cs ns) = ap (λ b. is_named x l || b) (any_named x s (n + 1 + size cs) ns)
+
+pub all_let : (x : Name) (s : List ℕ) (n : ℕ) (f : Forest) → list_all (λ (p : Place). lets x p.tree) (places_from s n f) ≡ lets_all x f
+unfolding lets_all places_from
+all_let x s n none = refl
+all_let x s n (node l cs ns) = ap (λ b. lets x (record { label = l; below = cs }) && b) (all_let x s (n + 1 + size cs) ns)
+
+-- what is found, is something
+pub some_found : (map : Subtree) (f : Forest) (o : Option Subtree) → Finds f map o → found o ≡ is_some f
+some_found map f None h = sym (ap is_some h)
+some_found map f (Some x) h = sym (ap is_some h.is)

@@ -2,20 +2,22 @@
 // leafward, an Aggregate's groups, and those by which every entry of a Window is partitioned (expr_columns, 1425).
 ghost use Rattle.std.specs.Prelude.{◌≡◌, List, ◌≤◌, ℕ, length};
 ghost use Rattle.image.specs.Limits.{max_fields};
+ghost use Rattle.image.specs.Subtrees.{tree_of};
 ghost use Rattle.image.specs.Tree.{At, Readable, Tree, label_at};
 ghost use Rattle.plan.specs.Syntax.{Name};
 ghost use Rattle.utils.specs.Fields.{Names, named};
 ghost use Rattle.utils.specs.Masks.{Masks};
 ghost use Rattle.push_down_arms.specs.Movable.{fixed, is_named, leaf_here, lets, lets_all, may_move, partition_in};
 
-use conjuncts::volatility::{Functions, has_function};
+use conjuncts::volatility::{Functions, has_function, has_function_xx};
 use image::records::{FIRST_LINK, KIND, NEXT_LINK, P, Q, from_record};
+use image::trees::Subtree;
 use image::words::{wide, word_at};
 use plan::kinds::{AGGREGATE, FUNCTION, WINDOW_ENTRY};
 use plan::words::{LEAFWARD, VOLATILE_LEAFWARD};
 use utils::schema_columns::{ColumnReference, Fields};
 use utils::sets::FieldSet;
-use writing::replace_cols_by_name::{find, is_entry};
+use writing::replace_cols_by_name::{find, find_xx, is_entry, is_entry_xx};
 
 // Whether the record at the start of `part` is a function that moves towards the leaves.
 fn is_leafward(part: &[u8]) -> bool
@@ -118,6 +120,87 @@ pub fn movable(part: &[u8], base: usize, depth: usize, fields: Fields) -> FieldS
     let mut set = FieldSet::empty();
     for (i, c) in fields.items().iter().enumerate() {
         set = set.mark(i, may_move(part, base, depth, *c));
+    }
+    set
+}
+
+// Whether this is a function that moves towards the leaves.
+fn is_leafward_xx(tree: Subtree) -> bool
+    ensures { result ≡ leaf_here (tree_of tree.entry).label }
+{
+    let label = tree.label();
+    (label.kind == FUNCTION) & matches!(label.q, LEAFWARD | VOLATILE_LEAFWARD)
+}
+
+// Whether the entry's expression is volatile or leafward.
+fn is_fixed_xx(tree: Subtree) -> bool
+    ensures { result ≡ fixed (tree_of tree.entry) }
+{
+    if has_function_xx(tree, Functions::Volatile) {
+        return true;
+    }
+    match tree.children().split_first() {
+        Some((expr, _)) => is_leafward_xx(expr),
+        None => false,
+    }
+}
+
+// Whether the column has this name.
+fn is_named_xx(tree: Subtree, c: ColumnReference) -> bool
+    ensures { result ≡ is_named (named c) (tree_of tree.entry).label }
+{
+    let label = tree.label();
+    (label.p == wide(c.q)) & (label.q == wide(c.n))
+}
+
+// Whether the entry of a Window is partitioned by the column: they stand behind its expression.
+fn has_partition_xx(tree: Subtree, c: ColumnReference) -> bool
+    ensures { result ≡ partition_in (named c) (tree_of tree.entry).below }
+{
+    match tree.children().split_first() {
+        Some((_, mut columns)) => columns.any(|x| is_named_xx(x, c)),
+        None => false,
+    }
+}
+
+// Whether the part of a plan lets a conjunct pass that reads the field.
+fn lets_pass_xx(tree: Subtree, c: ColumnReference) -> bool
+    ensures { result ≡ lets (named c) (tree_of tree.entry) }
+{
+    if tree.kind() == WINDOW_ENTRY {
+        return has_partition_xx(tree, c);
+    }
+    if is_entry_xx(tree, wide(c.q), wide(c.n)) {
+        return !is_fixed_xx(tree);
+    }
+    true
+}
+
+// Whether each part of the plan does.
+fn all_let_pass_xx(tree: Subtree, c: ColumnReference) -> bool
+    ensures { result ≡ lets_all (named c) (tree_of tree.entry).below }
+{
+    tree.children().all(|part| lets_pass_xx(part, c))
+}
+
+// Whether a conjunct that reads the field may move below the plan.
+fn may_move_xx(tree: Subtree, c: ColumnReference) -> bool
+    ensures { result ≡ may_move (tree_of tree.entry) (named c) }
+{
+    if tree.kind() == AGGREGATE {
+        return find_xx(tree, wide(c.q), wide(c.n)).is_some();
+    }
+    all_let_pass_xx(tree, c)
+}
+
+// The set of the fields with which a conjunct may move below the plan.
+pub fn movable_xx(plan: Subtree, fields: Fields) -> FieldSet
+    requires { fields.len ≤ max_fields }
+    ensures { (ns : List Name) → Names fields ns → Masks result ns (may_move (tree_of plan.entry)) }
+{
+    let mut set = FieldSet::empty();
+    for (i, c) in fields.items().iter().enumerate() {
+        set = set.mark(i, may_move_xx(plan, *c));
     }
     set
 }

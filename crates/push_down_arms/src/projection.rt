@@ -1,6 +1,7 @@
 // rewrite_projection (1295 to 1341), and the arm that calls it (894 to 906).
 // `part` is the Projection at record x, as its stretch of the image.
-ghost use Rattle.std.specs.Prelude.{List};
+ghost use Rattle.std.specs.Prelude.{◌≡◌, List};
+ghost use Rattle.image.specs.Limits.{Shallow};
 ghost use Rattle.plan.specs.Syntax.{Entry, Expr, Plan, project};
 ghost use Rattle.rewrite.specs.PushDownFilter.{rewrite_filter};
 ghost use Rattle.conjuncts.specs.Standing.{Stretch};
@@ -9,6 +10,9 @@ ghost use Rattle.push_down_arms.specs.Divided.{OverProjection};
 
 use crate::push_some::{divide, push_some};
 use crate::through::keep_filter;
+use image::copying::Writer;
+use image::records::record_at;
+use image::trees::Subtree;
 use push_down_base::predicates::{Predicate, Written};
 
 // Filter over Projection: what reads no volatile or leafward entry moves; if nothing does, the Filter stays as it is.
@@ -33,4 +37,26 @@ pub fn rewrite_projection(
         return keep_filter(s, part, x, p, out, at, level);
     }
     push_some(s, part, x, d, out, at, level)
+}
+
+// Filter over Projection: what reads no volatile or leafward entry moves; if nothing does, the Filter stays as it is.
+pub fn rewrite_projection_xx(plan: Subtree, p: Predicate, out: &mut Writer, level: usize) -> bool
+    requires over_projection { OverProjection plan.image.now plan.number p }
+    requires arm { Shallow 6 level }
+    ensures same { out.new.bytes.ghost_name ≡ out.old.bytes.ghost_name }
+    ensures answers { (e : Expr) (es : List Entry) (q : Plan) → Rests plan.entry.image.now plan.entry.number p e (project es q) →
+        Answers out.old.bytes.now out.new.bytes.now out.old.next level (record { next = out.new.next; flag = result })
+        (rewrite_filter e (project es q)) }
+{
+    let w = rewrite_projection(
+        plan.image,
+        record_at(plan.image, plan.number),
+        plan.number,
+        p,
+        out.bytes,
+        out.next,
+        level,
+    );
+    out.next = w.next;
+    w.flag
 }

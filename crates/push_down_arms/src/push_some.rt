@@ -22,6 +22,7 @@ use conjuncts::lists::{Conjuncts, add, empty};
 use conjuncts::split_conjunction::split_at;
 use image::limits::{MAX_DEPTH, NO_ROOM};
 use image::records::record_at;
+use image::trees::Subtree;
 use push_down_base::inputs::last_child;
 use push_down_base::parting::select_side;
 use push_down_base::predicates::{Predicate, Written};
@@ -115,4 +116,19 @@ pub fn push_some(
     let below = Predicate::joined(changed(moved));
     let next = write_over(s, part, x, above, below, y, out, at, level);
     Written { next, flag }
+}
+
+// Parts the conjuncts of the predicate over the plan by whether they may move below it.
+pub fn divide_xx(plan: Subtree, p: Predicate) -> Divided
+    requires { Resting plan.image.now plan.number p }
+    ensures { (e : Expr) (q : Plan) → Rests plan.entry.image.now plan.entry.number p e q →
+        Divides plan.entry.image.now result (stay (on_cols (may_move (plan_tree q))) e)
+        (move (on_cols (may_move (plan_tree q))) e) }
+{
+    divide(
+        plan.image,
+        record_at(plan.image, plan.number),
+        plan.number,
+        p,
+    )
 }

@@ -12,8 +12,10 @@ ghost use Rattle.push_down_arms.specs.Renaming.{Renamed, Renaming};
 
 use crate::replaced::changed_predicate;
 use crate::with_filters::copy_some;
+use image::copying::Writer;
 use image::limits::MAX_DEPTH;
-use image::records::from_record;
+use image::records::{from_record, record_at};
+use image::trees::Subtree;
 use push_down_base::predicates::{Predicate, Written};
 use utils::schema_columns::{Fields, no_fields, schema_columns};
 use writing::make_filter::make_filter;
@@ -68,4 +70,34 @@ pub fn rewrite_subquery_alias(
     let first = copy_some(part, x, MAX_DEPTH, y, out, at, level);
     let next = copy_renamed(s, from, below, input, y, m, out, first, level + 1);
     Written { next, flag: true }
+}
+
+// Filter over SubqueryAlias: the predicate goes below, with the names of the alias's input.
+pub fn rewrite_subquery_alias_xx(
+    plan: Subtree,
+    p: Predicate,
+    m: &mut [u8],
+    out: &mut Writer,
+    level: usize,
+) -> bool
+    requires over_alias { OverAlias plan.image.now plan.number p }
+    requires arm { Shallow 6 level }
+    requires map_room { map_bytes ≤ length m.old }
+    ensures same { out.new.bytes.ghost_name ≡ out.old.bytes.ghost_name }
+    ensures answers { (e : Expr) (i : ℕ) (q : Plan) → Rests plan.entry.image.now plan.entry.number p e (alias i q) →
+        Answers out.old.bytes.now out.new.bytes.now out.old.next level (record { next = out.new.next; flag = result })
+        (rewrite_filter e (alias i q)) }
+{
+    let w = rewrite_subquery_alias(
+        plan.image,
+        record_at(plan.image, plan.number),
+        plan.number,
+        p,
+        m,
+        out.bytes,
+        out.next,
+        level,
+    );
+    out.next = w.next;
+    w.flag
 }

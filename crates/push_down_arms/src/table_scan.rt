@@ -2,7 +2,7 @@
 // `part` is the scan at record x, as its stretch of the image.
 ghost use Rattle.std.specs.Prelude.{◌≡◌, Bool, true, not, ◌++◌, List, ◌<◌, ◌≤◌, ℕ, length};
 ghost use Rattle.image.specs.Buffers.{BufferAt};
-ghost use Rattle.image.specs.Limits.{max_fields, max_records};
+ghost use Rattle.image.specs.Limits.{Shallow, max_fields, max_records};
 ghost use Rattle.image.specs.Records.{recs_any};
 ghost use Rattle.image.specs.Room.{Wrote};
 ghost use Rattle.image.specs.Tree.{label_at, none};
@@ -28,9 +28,10 @@ use crate::with_filters::copy_some;
 use conjuncts::lists::{Conjuncts, add, empty};
 use conjuncts::unique::unique;
 use conjuncts::volatility::is_volatile;
-use image::copying::put_kind;
+use image::copying::{Writer, put_kind};
 use image::limits::{MAX_DEPTH, MAX_LIST, NO_ROOM};
-use image::records::{FIRST_LINK, KIND, LO, NEXT_LINK, from_record};
+use image::records::{FIRST_LINK, KIND, LO, NEXT_LINK, from_record, record_at};
+use image::trees::Subtree;
 use image::words::word_at;
 use plan::kinds::{FIELD, FILTER};
 use plan::words::MARKED;
@@ -273,4 +274,41 @@ pub fn rewrite_table_scan(
         level,
     );
     Written { next, flag: true }
+}
+
+// The share of the scan in the predicate p: of what is left the volatile conjuncts come last.
+pub fn share_of_xx(plan: Subtree, p: Predicate) -> Share
+    requires { OverScan plan.image.now plan.number p }
+    ensures { (e : Expr) (t : ℕ) (fs : List Field) (es : List Expr) →
+        Rests plan.entry.image.now plan.entry.number p e (scan t fs es) →
+        Shares plan.entry.image.now result.fields result.taken result.left fs e }
+{
+    share_of(
+        plan.image,
+        record_at(plan.image, plan.number),
+        plan.number,
+        p,
+    )
+}
+
+// Filter over TableScan.
+pub fn rewrite_table_scan_xx(plan: Subtree, p: Predicate, out: &mut Writer, level: usize) -> bool
+    requires over_scan { OverScan plan.image.now plan.number p }
+    requires arm { Shallow 6 level }
+    ensures same { out.new.bytes.ghost_name ≡ out.old.bytes.ghost_name }
+    ensures answers { (e : Expr) (t : ℕ) (fs : List Field) (es : List Expr) → Rests plan.entry.image.now plan.entry.number p e (scan t fs es) →
+        Answers out.old.bytes.now out.new.bytes.now out.old.next level (record { next = out.new.next; flag = result })
+        (rewrite_filter e (scan t fs es)) }
+{
+    let w = rewrite_table_scan(
+        plan.image,
+        record_at(plan.image, plan.number),
+        plan.number,
+        p,
+        out.bytes,
+        out.next,
+        level,
+    );
+    out.next = w.next;
+    w.flag
 }

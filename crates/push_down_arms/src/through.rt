@@ -2,6 +2,8 @@
 // leave it where it is, as the source's test of fetch and skip does (827 to 832).
 // `part` is the plan at record x, as its stretch of the image.
 ghost use Rattle.std.specs.Prelude.{◌≡◌, true, ◌≤◌, length};
+ghost use Rattle.image.specs.Limits.{Shallow};
+ghost use Rattle.image.specs.Subtrees.{tree_of};
 ghost use Rattle.image.specs.Tree.{label_at};
 ghost use Rattle.plan.specs.Syntax.{Expr, Plan, filter};
 ghost use Rattle.rewrite.specs.PushDownFilter.{transformed_no, transformed_yes, rewrite_filter};
@@ -11,8 +13,10 @@ ghost use Rattle.push_down_arms.specs.Through.{OverThrough, takes_none, through}
 
 use crate::with_filters::write_over;
 use conjuncts::lists::empty;
+use image::copying::Writer;
 use image::limits::MAX_DEPTH;
-use image::records::{KIND, P};
+use image::records::{KIND, P, record_at};
+use image::trees::Subtree;
 use image::words::word_at;
 use plan::kinds::{LIMIT, SORT};
 use plan::words::FETCHES;
@@ -94,4 +98,34 @@ pub fn rewrite_through(
         return keep_filter(s, part, x, p, out, at, level);
     }
     push_filter(s, part, x, p, out, at, level)
+}
+
+// Whether the plan, a Distinct, a Sort, a Repartition or a Limit, takes no Filter: it counts rows.
+pub fn takes_none_xx(plan: Subtree) -> bool
+    ensures { result ≡ takes_none (tree_of plan.entry).label }
+{
+    let label = plan.label();
+    (label.kind == LIMIT) | ((label.kind == SORT) & (label.p == FETCHES))
+}
+
+// Filter over Distinct, Sort, Repartition or Limit.
+pub fn rewrite_through_xx(plan: Subtree, p: Predicate, out: &mut Writer, level: usize) -> bool
+    requires over_through { OverThrough plan.image.now plan.number p }
+    requires arm { Shallow 6 level }
+    ensures same { out.new.bytes.ghost_name ≡ out.old.bytes.ghost_name }
+    ensures answers { (e : Expr) (q : Plan) → Rests plan.entry.image.now plan.entry.number p e q → through q ≡ true →
+        Answers out.old.bytes.now out.new.bytes.now out.old.next level (record { next = out.new.next; flag = result })
+        (rewrite_filter e q) }
+{
+    let w = rewrite_through(
+        plan.image,
+        record_at(plan.image, plan.number),
+        plan.number,
+        p,
+        out.bytes,
+        out.next,
+        level,
+    );
+    out.next = w.next;
+    w.flag
 }

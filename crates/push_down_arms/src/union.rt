@@ -1,4 +1,6 @@
 // The arm Union (974 to 997). `part` is the Union at record x, as its stretch of the image.
+ghost use Rattle.std.specs.Prelude.{◌≡◌, ◌≤◌, length};
+ghost use Rattle.image.specs.Limits.{Shallow, map_bytes};
 ghost use Rattle.plan.specs.Syntax.{Expr, Plans, union};
 ghost use Rattle.rewrite.specs.PushDownFilter.{rewrite_filter};
 ghost use Rattle.conjuncts.specs.Standing.{Stretch};
@@ -6,9 +8,10 @@ ghost use Rattle.push_down_base.specs.Arms.{Answers, ArmOver, OverUnion, Rests};
 
 use crate::replaced::changed_predicate;
 use crate::subquery_alias::copy_renamed;
-use image::copying::put_label;
+use image::copying::{Writer, put_label};
 use image::limits::MAX_DEPTH;
-use image::records::{FIRST_LINK, NEXT_LINK, from_record};
+use image::records::{FIRST_LINK, NEXT_LINK, from_record, record_at};
+use image::trees::Subtree;
 use image::words::word_at;
 use push_down_base::predicates::{Predicate, Written};
 use utils::schema_columns::{no_fields, schema_columns};
@@ -40,4 +43,34 @@ pub fn rewrite_union(
         y = word_at(input, NEXT_LINK);
     }
     Written { next, flag: true }
+}
+
+// Filter over Union: each input gets the predicate, with the names of its own fields.
+pub fn rewrite_union_xx(
+    plan: Subtree,
+    p: Predicate,
+    m: &mut [u8],
+    out: &mut Writer,
+    level: usize,
+) -> bool
+    requires over_union { OverUnion plan.image.now plan.number p }
+    requires arm { Shallow 6 level }
+    requires map_room { map_bytes ≤ length m.old }
+    ensures same { out.new.bytes.ghost_name ≡ out.old.bytes.ghost_name }
+    ensures answers { (e : Expr) (ps : Plans) → Rests plan.entry.image.now plan.entry.number p e (union ps) →
+        Answers out.old.bytes.now out.new.bytes.now out.old.next level (record { next = out.new.next; flag = result })
+        (rewrite_filter e (union ps)) }
+{
+    let w = rewrite_union(
+        plan.image,
+        record_at(plan.image, plan.number),
+        plan.number,
+        p,
+        m,
+        out.bytes,
+        out.next,
+        level,
+    );
+    out.next = w.next;
+    w.flag
 }

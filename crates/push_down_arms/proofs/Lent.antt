@@ -1,0 +1,28 @@
+-- What an arm is lent by a writer, and what it hands back.
+use Prim.Native.Nat.{ℕ, ◌*◌, ◌≤◌}
+use native.Mathlib.Omega.{arith}
+use native.Mathlib.Nat.{le_of_eq}
+use mathlib.Core.Path.{◌≡◌, refl}
+use mathlib.Core.Bool.{Bool, true, false}
+use mathlib.Core.List.{List}
+use lib.Dec.{leb}
+use lib.ListN.{length, length-drop}
+use borrow.Author.Tests.{leb-true, leb-false}
+use Rattle.image.specs.Limits.{max_list, no_room}
+use Rattle.image.specs.declared.trees.Subtree.{Subtree}
+use Rattle.image.proofs.Room.{cap_le}
+use Rattle.rewrite.specs.Limits.{list_p}
+use Rattle.rewrite.specs.PushDownFilter.{Transformed}
+use Rattle.push_down_base.specs.Arms.{Written, Answers}
+
+-- a tree's records are there
+pub part_there : (t : Subtree) → 32 * t.number ≤ length t.image.now
+part_there t = omega (arith, t.stood.at.head.room, length-drop (32 * t.number) t.image.now)
+
+-- no answer counts past `no_room`
+pub few_next : {before after : List ℕ} {at level : ℕ} {r : Written} {t : Transformed} → Answers before after at level r t → r.next ≤ no_room
+few_next {r = r} {t = t} h = go (leb (list_p t.plan) max_list) refl
+  where
+    go : (b : Bool) → leb (list_p t.plan) max_list ≡ b → r.next ≤ no_room
+    go true e = let w = h.fits (leb-true (list_p t.plan) max_list e) in rw w.next (cap_le _)
+    go false e = le_of_eq (h.over (leb-false (list_p t.plan) max_list e)).0
