@@ -25,9 +25,9 @@ use Rattle.push_down_merge.specs.Found.{Whole}
 use Rattle.push_down_rewrite.specs.Outcomes.{Image}
 use Rattle.push_down_rewrite.proofs.Images.{image_room, records_are, whole_image}
 use Rattle.push_down_rewrite.proofs.Fronts.{image_front}
-use Rattle.call_pass.specs.Answer.{refusal, passed_of, outcome_of}
+use Rattle.call_pass.specs.Answer.{Small, refusal, passed_of, outcome_of}
 use Rattle.call_pass.specs.declared.call_pass.Answer.{Answer}
-use Rattle.pass.specs.Walks.{Walk, Left}
+use Rattle.pass.specs.Walks.{Walk, Left, Refused}
 use Rattle.pass.proofs.Steps.{image_copied}
 
 -- ---- test 12
@@ -67,10 +67,11 @@ module _ {s : List ℕ} {w : Walk} {x : PassAnswer} (h : Left s w x) where
 
 -- ---- test 11
 
-pub refused_11 : (room : ℕ) {n : ℕ} {x : PassAnswer} → x ≡ pass_refused 11 n
-    → refusal (verdict 11 n) (zeros room) ≡ reported room (pass_with_room room x)
+-- the pass was refused
+pub walk_refused : (room : ℕ) {e : Refusal} {x : PassAnswer} → Refused e x
+    → Small (Err e) × (refusal (refused e) (zeros room) ≡ reported room (pass_with_room room x))
 unfolding reported no_pass pass_with_room
-refused_11 room e = rw e
+walk_refused room h = rw (h.is, h.refused) (omega (arith, h.near), refl)
 
 -- the call: the pass, then test 12
 pub called : (budget room : ℕ) (p : Plan) → reported room (pass_with_room room (pass budget p)) ≡ reported room (pass_call budget room p)

@@ -4,9 +4,10 @@ ghost use Rattle.image.specs.Buffers.{ScratchMap};
 ghost use Rattle.image.specs.Limits.{map_bytes, max_records, work_bytes};
 ghost use Rattle.plan.specs.Syntax.{Plan};
 ghost use Rattle.rewrite.specs.OnBytes.{plan_in, rewrite_bytes, rewritten};
-ghost use Rattle.rewrite.specs.RewriteAt.{granted, rewrite_call, with_room};
+ghost use Rattle.rewrite.specs.RewriteAt.{Focus, granted, rewrite_call, with_room};
 ghost use Rattle.push_down_merge.specs.Found.{Here, Whole};
-ghost use Rattle.push_down_rewrite.specs.Outcomes.{Image};
+ghost use Rattle.push_down_merge.specs.Merging.{Inside};
+ghost use Rattle.push_down_rewrite.specs.Outcomes.{Image, Outcomes};
 ghost use Rattle.call_rewrite.specs.Answer.{outcome_of, rewritten_of};
 
 use answers::handing_out::{clear, clear_from, hand_out};
@@ -14,10 +15,13 @@ use check_image::check;
 use image::limits::{MAP_BYTES, MAX_BYTES, MAX_RECORDS, RECORD_BYTES};
 use image::records::{KIND, record_at};
 use image::refusals::Refusal;
+use image::trees::Subtree;
 use image::words::word_at;
 use plan::kinds::is_plan;
-use push_down_rewrite::node::rewrite_anew;
-use push_down_stays::stays::stays;
+use push_down_merge::filter::TooLarge;
+use push_down_merge::scratch::Scratch;
+use push_down_rewrite::node::{Rewritten, rewrite_anew_xx};
+use push_down_stays::stays::stays_xx;
 
 // Whether the rewrite says that it changed the plan, and how many records the answer has.
 #[derive(Clone, Copy, Debug, PartialEq, Eq, Hash)]
@@ -51,80 +55,90 @@ fn hand_over(image: &[u8], records: usize, flag: bool, out: &mut [u8]) -> Result
     Ok(Answer { flag, records })
 }
 
-// The rewrite of the plan at record `node` of an accepted image, written anew into a buffer of its own.
-fn rewrite_apart(
-    image: &[u8],
-    node: usize,
-    m: &mut [u8],
-    work: &mut [u8],
-    levels: &mut [u32],
-    out: &mut [u8],
-) -> Result<Answer, Refusal>
-    requires here { Here image.now node }
-    requires scratch_map { ScratchMap m.old work.old levels.old }
+// The rewrite of `plan`, of an accepted image, written anew into a buffer of its own.
+fn rewrite_apart(plan: Subtree, scratch: &mut Scratch, out: &mut [u8]) -> Result<Answer, Refusal>
+    requires { Here plan.image.now plan.number }
     ensures { outcome_of (length out.old) result out.new
-        ≡ rewritten (length out.old) (rewrite_call node (length out.old) (plan_in image.now)) }
+        ≡ rewritten (length out.old) (rewrite_call plan.entry.number (length out.old) (plan_in plan.entry.image.now)) }
 {
-    match rewrite_anew(image, node, m, work, levels) {
-        Err(_) => Err(Refusal::TooLarge(node)),
+    match rewrite_anew_xx(plan, scratch) {
+        Err(_) => Err(Refusal::TooLarge(plan.number)),
         Ok(r) => match r.image {
-            Some(records) => hand_over(work, records, r.flag, out),
-            None => hand_over(image, image.len() / RECORD_BYTES, r.flag, out),
+            Some(records) => hand_over(scratch.work, records, r.flag, out),
+            None => hand_over(plan.image, plan.image.len() / RECORD_BYTES, r.flag, out),
         },
     }
 }
 
 // Lends that buffer.
 fn rewrite_short(
-    image: &[u8],
-    node: usize,
+    plan: Subtree,
     m: &mut [u8],
     levels: &mut [u32],
     out: &mut [u8],
 ) -> Result<Answer, Refusal>
-    requires here { Here image.now node }
+    requires here { Here plan.image.now plan.number }
     requires map_bytes_in_bounds { (map_bytes ≤ length m.old) × (length levels.old ≡ max_records) }
     ensures { outcome_of (length out.old) result out.new
-        ≡ rewritten (length out.old) (rewrite_call node (length out.old) (plan_in image.now)) }
+        ≡ rewritten (length out.old) (rewrite_call plan.entry.number (length out.old) (plan_in plan.entry.image.now)) }
 {
     let mut work = [0u8; MAX_BYTES];
-    rewrite_apart(image, node, m, &mut work, levels, out)
+    let mut scratch = Scratch {
+        m,
+        work: &mut work,
+        levels,
+    };
+    rewrite_apart(plan, &mut scratch, out)
+}
+
+// The rewrite of `plan`, written anew into `work`.
+fn rewrite_into(
+    plan: Subtree,
+    m: &mut [u8],
+    work: &mut [u8],
+    levels: &mut [u32],
+) -> Result<Rewritten, TooLarge>
+    requires here { Here plan.image.now plan.number }
+    requires scratch_map { ScratchMap m.old work.old levels.old }
+    ensures { (w : Plan) (c : Focus) → Inside plan.entry.image.now plan.entry.number w c → Outcomes work.new result w c }
+{
+    let mut scratch = Scratch { m, work, levels };
+    rewrite_anew_xx(plan, &mut scratch)
 }
 
 // The same rewrite, written anew into the output itself, which has room for any image.
 fn rewrite_in_output(
-    image: &[u8],
-    node: usize,
+    plan: Subtree,
     m: &mut [u8],
     levels: &mut [u32],
     out: &mut [u8],
 ) -> Result<Answer, Refusal>
-    requires here { Here image.now node }
+    requires here { Here plan.image.now plan.number }
     requires map_bytes_in_bounds { (map_bytes ≤ length m.old) × (length levels.old ≡ max_records) × (work_bytes ≤ length out.old) }
     ensures { outcome_of (length out.old) result out.new
-        ≡ rewritten (length out.old) (rewrite_call node (length out.old) (plan_in image.now)) }
+        ≡ rewritten (length out.old) (rewrite_call plan.entry.number (length out.old) (plan_in plan.entry.image.now)) }
 {
-    match rewrite_anew(image, node, m, &mut out[..MAX_BYTES], levels) {
-        Err(_) => Err(Refusal::TooLarge(node)),
+    match rewrite_into(plan, m, &mut out[..MAX_BYTES], levels) {
+        Err(_) => Err(Refusal::TooLarge(plan.number)),
         Ok(r) => match r.image {
             Some(records) => Ok(clear_behind(records, r.flag, out)),
-            None => hand_over(image, image.len() / RECORD_BYTES, r.flag, out),
+            None => hand_over(plan.image, plan.image.len() / RECORD_BYTES, r.flag, out),
         },
     }
 }
 
 // Lends the work space; the rewrite is written into the output if that has room for any image.
-fn rewrite_here(image: &[u8], node: usize, out: &mut [u8]) -> Result<Answer, Refusal>
-    requires { Here image.now node }
+fn rewrite_here(plan: Subtree, out: &mut [u8]) -> Result<Answer, Refusal>
+    requires { Here plan.image.now plan.number }
     ensures { outcome_of (length out.old) result out.new
-        ≡ rewritten (length out.old) (rewrite_call node (length out.old) (plan_in image.now)) }
+        ≡ rewritten (length out.old) (rewrite_call plan.entry.number (length out.old) (plan_in plan.entry.image.now)) }
 {
     let mut m = [0u8; MAP_BYTES];
     let mut levels = [0u32; MAX_RECORDS];
     if out.len() < MAX_BYTES {
-        return rewrite_short(image, node, &mut m, &mut levels, out);
+        return rewrite_short(plan, &mut m, &mut levels, out);
     }
-    rewrite_in_output(image, node, &mut m, &mut levels, out)
+    rewrite_in_output(plan, &mut m, &mut levels, out)
 }
 
 // The rewrite at record `node` of an accepted image.
@@ -139,11 +153,15 @@ fn rewrite_at(image: &[u8], node: usize, out: &mut [u8]) -> Result<Answer, Refus
     if !is_plan(word_at(record_at(image, node), KIND)) {
         return Err(Refusal::Absent(node));
     }
+    let plan = Subtree {
+        image,
+        number: node,
+    };
     // A plan that stays as it is needs no work space.
-    if stays(image, node) {
+    if stays_xx(plan) {
         return hand_over(image, image.len() / RECORD_BYTES, false, out);
     }
-    rewrite_here(image, node, out)
+    rewrite_here(plan, out)
 }
 
 // The rewrite at record `node` of any bytes; where it is refused, it leaves in the output what it likes.

@@ -31,10 +31,11 @@ use Rattle.push_down_merge.specs.Merging.{Inside}
 use Rattle.preservation.proofs.Granted.{granted_well}
 use Rattle.push_down_rewrite.proofs.Images.{image_room}
 use Rattle.push_down_merge.specs.Found.{Found}
+use Rattle.image.specs.declared.refusals.Refusal.TheVariants.{TooLarge as TooLargeAt}
 use Rattle.push_down_merge.specs.declared.filter.TooLarge.{TooLarge}
 use Rattle.push_down_rewrite.specs.declared.node.Rewritten.{Rewritten}
 use Rattle.push_down_rewrite.specs.Outcomes.{Image, Outcome, Outcomes, answer}
-use Rattle.pass.specs.Walks.{Walk, within, Next, Counted, rest, Stands, Standing, Continues, Came, Comes, Going, Refused, Planned, Lent}
+use Rattle.pass.specs.Walks.{Walk, within, Next, Counted, rest, Stands, Standing, Continues, Came, Comes, Going, Refused, Planned}
 
 -- ---- the next record
 
@@ -184,9 +185,11 @@ found_next h small = record { whole = h.plan; spot = _; inside = inside_next h.s
 
 -- the rewrite was refused
 pub visited_refused : {s work : List ℕ} {w : Walk} {e : TooLarge} {q : Plan} → Came s work w (Err e) q
-    → Refused (record { 0 = w.next }) (rest w q)
+    → Refused (TooLargeAt w.next) (rest w q)
 unfolding rest size_p rewrite_at rewrite_in choose
 visited_refused {w = w} {q = q} k = record {
+  record_of = w.next;
+  is = refl;
   near = omega (arith, k.small, k.stands.image.count, k.stands.well.records);
   refused =
       let at_11 : rewrite_at w.next q ≡ refused 11 w.next = rw (k.there, ← k.outcomes.fit) in
@@ -221,12 +224,6 @@ module _ {s work : List ℕ} {w : Walk} {r : Rewritten} {q : Plan} (k : Came s w
   }
 
 -- ---- in numbers
-
--- space of the same lengths
-pub lent_still : {a m work levels a' m' work' levels' : List ℕ} → Lent a m work levels → length a' ≡ length a → length m' ≡ length m
-    → length work' ≡ length work → length levels' ≡ length levels → Lent a' m' work' levels'
-lent_still l e f g h =
-    record { image_long = e ∙ l.image_long; m_long = omega (arith, l.m_long); work_long = g ∙ l.work_long; levels_long = h ∙ l.levels_long }
 
 pub room_there : {s : List ℕ} {w : Walk} → Standing s w → 32 * w.records ≤ length s
 room_there h = image_room h.stands.image

@@ -1,7 +1,9 @@
 -- Where a pass stands, in the code's numbers, and what it comes to from there.
 use Rattle.std.specs.Prelude.{◌≡◌, Bool, List, ℕ, suc, ◌+◌, ◌-◌, ◌≤◌, ◌<◌, leb, length, Result, Ok, MatchResult}
 use Rattle.std.proofs.Math.Option.{Option, none, some}
-use Rattle.image.specs.Limits.{work_bytes, max_records, map_bytes}
+use Rattle.image.specs.Limits.{max_records}
+use Rattle.image.specs.declared.refusals.Refusal.{Refusal}
+use Rattle.image.specs.declared.refusals.Refusal.TheVariants.{TooLarge}
 use Rattle.plan.specs.Lists.{choose}
 use Rattle.plan.specs.Syntax.{Plan}
 use Rattle.plan.specs.Measure.{size_p}
@@ -12,7 +14,6 @@ use Rattle.rewrite.specs.RewriteAt.{Focus, focus}
 use Rattle.rewrite.specs.PassByRecords.{plan_from, visits}
 use Rattle.push_down_rewrite.specs.declared.node.Rewritten.{Rewritten}
 use Rattle.push_down_rewrite.specs.Outcomes.{Image, Outcome, Outcomes}
-use Rattle.pass.specs.declared.visits.TooLargeAt.{TooLargeAt}
 use Rattle.pass.specs.declared.visits.Walk as declared
 
 -- the struct of the code
@@ -21,7 +22,7 @@ Walk = declared.Walk
 
 -- where a pass stands, or where it was refused
 abbrev pub Walked : Type 0
-Walked = Result Walk TooLargeAt
+Walked = Result Walk Refusal
 
 -- record n, where it is one of so many
 unfoldable pub within : ℕ → ℕ → Option ℕ
@@ -36,13 +37,6 @@ pub record Planned (q : Plan) (n : ℕ) : Type 0 where
 pub record Next (q : Plan) (from r : ℕ) : Type 0 where
   pub next : plan_from from q ≡ within r (size_p q)
   pub there : r < size_p q → Planned q r
-
--- the space that is lent: for the image as it stands, for a rewrite's scratch image, for what it writes, for the levels of its records
-pub record Lent (image m work levels : List ℕ) : Type 0 where
-  pub image_long : length image ≡ work_bytes
-  pub m_long : map_bytes ≤ length m
-  pub work_long : length work ≡ work_bytes
-  pub levels_long : length levels ≡ max_records
 
 -- one visit more can be counted
 pub record Counted (w : Walk) : Type 0 where
@@ -92,10 +86,12 @@ pub record Going (s : List ℕ) (w : Walk) (x : PassAnswer) : Type 0 where
   pub stands : Stands s w plan
   pub comes : x ≡ rest w plan
 
--- the pass comes to x: it was refused at this record
-pub record Refused (e : TooLargeAt) (x : PassAnswer) : Type 0 where
-  pub refused : x ≡ pass_refused 11 e.0
-  pub near : e.0 < max_records
+-- the pass comes to x: it was refused at a record, which e names
+pub record Refused (e : Refusal) (x : PassAnswer) : Type 0 where
+  pub record_of : ℕ
+  pub is : e ≡ TooLarge record_of
+  pub refused : x ≡ pass_refused 11 record_of
+  pub near : record_of < max_records
 
 -- a pass that comes to x goes on, or was refused
 abbrev pub Visited : List ℕ → Walked → PassAnswer → Type 0

@@ -8,17 +8,19 @@ ghost use Rattle.plan.specs.Syntax.{Plan};
 ghost use Rattle.acceptance.specs.Accepted.{Accepted, WellFormed};
 ghost use Rattle.rewrite.specs.Pass.{pass};
 ghost use Rattle.rewrite.specs.RewriteAt.{Focus, focus};
+ghost use Rattle.push_down_merge.specs.Lent.{SameSpace};
 ghost use Rattle.push_down_rewrite.specs.Outcomes.{Image, answer};
-ghost use Rattle.pass.specs.Walks.{Begins, Came, Comes, Continues, Counted, Ends, Going, Lent, Next, Standing, Stands, Visited, rest};
+ghost use Rattle.pass.specs.Walks.{Begins, Came, Comes, Continues, Counted, Ends, Going, Next, Standing, Stands, Visited, rest};
 
 use answers::handing_out::copy_bytes;
 use image::limits::RECORD_BYTES;
 use image::records::{KIND, record_at};
+use image::refusals::Refusal;
+use image::trees::Subtree;
 use image::words::word_at;
 use plan::kinds::is_plan;
-use push_down_rewrite::node::{Rewritten, rewrite};
-use std::error::Error;
-use std::fmt;
+use push_down_merge::scratch::Scratch;
+use push_down_rewrite::node::{Rewritten, rewrite_xx};
 
 // Where a pass stands: how many records the image has now, and the one to visit next, if it is one of them; what is left of the budget; the
 // visits and the flags raised so far.
@@ -30,22 +32,6 @@ pub struct Walk {
     pub visits: u64,
     pub changed: u64,
 }
-
-// The record, of the plan as it then stood, at which a rewrite was refused.
-#[derive(Clone, Copy, Debug, PartialEq, Eq, Hash)]
-pub struct TooLargeAt(pub usize);
-
-impl fmt::Display for TooLargeAt {
-    fn fmt<W: fmt::Write>(&self, f: &mut fmt::Formatter<W>) -> fmt::Result {
-        write!(
-            f,
-            "the answer at record {} is too large for an image",
-            self.0
-        )
-    }
-}
-
-impl Error for TooLargeAt {}
 
 // Whether record n holds a plan.
 fn is_plan_at(s: &[u8], n: usize) -> bool
@@ -101,25 +87,24 @@ fn take_over(w: Walk, r: Rewritten, work: &[u8], image: &mut [u8]) -> Walk
 }
 
 // Visits the next plan. A visit that changes nothing copies nothing.
-fn visit(
-    w: Walk,
-    image: &mut [u8],
-    m: &mut [u8],
-    work: &mut [u8],
-    levels: &mut [u32],
-) -> Result<Walk, TooLargeAt>
+fn visit(w: Walk, image: &mut [u8], scratch: &mut Scratch) -> Result<Walk, Refusal>
     requires standing { Standing image.old w }
     requires next_lt_records { (w.next < w.records) × (0 < w.left) }
-    requires lent { Lent image.old m.old work.old levels.old }
+    requires image_len { length image.old ≡ work_bytes }
+    ensures space { SameSpace scratch.old scratch.new }
     ensures less { IfOk result (λ r. r.left < w.left) }
     ensures visited { (q : Plan) → Stands image.old w q → Visited image.new result (rest w q) }
     ensures same { (q : Plan) (c : Focus) → Stands image.old w q → focus w.next q ≡ some c → answer c ≡ q →
         image.new ≡ image.old }
 {
     let end = RECORD_BYTES * w.records;
-    match rewrite(&image[..end], w.next, m, work, levels) {
-        Ok(r) => Ok(take_over(w, r, work, image)),
-        Err(_) => Err(TooLargeAt(w.next)),
+    let plan = Subtree {
+        image: &image[..end],
+        number: w.next,
+    };
+    match rewrite_xx(plan, scratch) {
+        Ok(r) => Ok(take_over(w, r, scratch.work, image)),
+        Err(_) => Err(Refusal::TooLarge(w.next)),
     }
 }
 
@@ -129,13 +114,12 @@ pub fn visit_all(
     records: usize,
     budget: u64,
     image: &mut [u8],
-    m: &mut [u8],
-    work: &mut [u8],
-    levels: &mut [u32],
-) -> Result<Walk, TooLargeAt>
+    scratch: &mut Scratch,
+) -> Result<Walk, Refusal>
     requires begins { Begins image.old records }
-    requires lent { Lent image.old m.old work.old levels.old }
-    ensures { (q : Plan) → WellFormed q → Image image.old records q → Ends image.new result (pass budget q) }
+    requires image_len { length image.old ≡ work_bytes }
+    ensures space { SameSpace scratch.old scratch.new }
+    ensures ends { (q : Plan) → WellFormed q → Image image.old records q → Ends image.new result (pass budget q) }
 {
     let mut w = Walk {
         records,
@@ -145,7 +129,7 @@ pub fn visit_all(
         changed: 0,
     };
     while w.next < w.records && w.left != 0 {
-        w = visit(w, image, m, work, levels)?;
+        w = visit(w, image, scratch)?;
     }
     Ok(w)
 }

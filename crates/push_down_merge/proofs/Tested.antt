@@ -10,6 +10,7 @@ use lib.Dec.{leb}
 use lib.ListN.{length}
 use borrow.Author.Tests.{leb-true, leb-false, le-leb, lt-leb}
 use Rattle.image.specs.Limits.{max_records, max_depth, max_list, no_room}
+use Rattle.image.specs.Places.{Stood}
 use Rattle.image.specs.Word.{word}
 use Rattle.image.specs.Flat.{flat}
 use Rattle.plan.specs.Syntax.{Name, Expr, Plan, filter}
@@ -65,6 +66,9 @@ module _ {s : List ℕ} {node : ℕ} {w : Plan} {c : Focus} (h : Inside s node w
   -- what stands at the record
   pub stands_inside : StandingP s node c.plan
   stands_inside = stands_there h.short node w c h.there h.root
+
+  pub stood_inside : Stood s node
+  stood_inside = record { tree = plan_tree c.plan; at = stands_inside.here }
 
   pub end_within : node + size_p c.plan ≤ size_p w
   unfolding size_p

@@ -12,7 +12,7 @@ ghost use Rattle.rewrite.specs.Utils.{conjunction, split_conjunction};
 ghost use Rattle.conjuncts.specs.Items.{Known, Lists};
 ghost use Rattle.conjuncts.specs.Standing.{Standing, StandingP, Stretch, There};
 ghost use Rattle.push_down_base.specs.Arms.{Shaped};
-ghost use Rattle.push_down_merge.specs.Merging.{FilterIn, FilterInput, Formed, Inside, Made, Mergeable, Remains};
+ghost use Rattle.push_down_merge.specs.Merging.{FilterAt, FilterIn, FilterInput, Formed, Inside, Made, Mergeable, Remains};
 
 use answers::handing_out::is_shallow;
 use answers::splicing::{write_before, write_records};
@@ -20,7 +20,8 @@ use conjuncts::lists::{Conjuncts, empty};
 use conjuncts::split_conjunction::split_at;
 use conjuncts::unique::unique;
 use image::limits::{MAX_DEPTH, MAX_LIST, MAX_RECORDS};
-use image::records::{NEXT_LINK, from_record};
+use image::records::{NEXT_LINK, from_record, record_at};
+use image::trees::Subtree;
 use image::words::word_at;
 use push_down_base::predicates::Predicate;
 use simplify_expressions::reorder_predicates::reorder_predicates;
@@ -52,6 +53,20 @@ pub fn predicate_at(s: &[u8], n: usize) -> Predicate
     Predicate {
         written: Some(n),
         list,
+    }
+}
+
+// The predicate of the Filter `plan` as it is written, with its conjuncts.
+pub fn predicate_at_xx(plan: Subtree) -> Predicate
+    requires here { FilterAt plan.image.now plan.number }
+    requires short { length plan.image.now ≤ work_bytes }
+    ensures { (e : Expr) (q : Plan) → StandingP plan.entry.image.now plan.entry.number (filter e q) →
+        length (split_conjunction e) ≤ max_list → Shaped plan.entry.image.now result e }
+{
+    let n = plan.number + 1;
+    Predicate {
+        written: Some(n),
+        list: split_at(plan.image, n, empty()),
     }
 }
 
@@ -90,6 +105,21 @@ pub fn filter_input(part: &[u8], x: usize) -> usize
         StandingP s x (filter e q) → FilterInput s x result q }
 {
     word_at(from_record(part, x, x + 1), NEXT_LINK)
+}
+
+// The input of the Filter `plan`: what follows its predicate, which is right behind it.
+pub fn filter_input_xx(plan: Subtree) -> Subtree
+    requires here { FilterAt plan.image.now plan.number }
+    requires short { length plan.image.now ≤ work_bytes }
+    ensures same { result.image.now ≡ plan.entry.image.now }
+    ensures input { (e : Expr) (q : Plan) → StandingP plan.entry.image.now plan.entry.number (filter e q) →
+        FilterInput plan.entry.image.now plan.entry.number result.number q }
+{
+    let predicate = record_at(plan.image, plan.number + 1);
+    Subtree {
+        image: plan.image,
+        number: word_at(predicate, NEXT_LINK),
+    }
 }
 
 // Test 11 on the plan after a merge: the whole, with the Filter p over `input`, the plan at record x, in the place of record `node`.

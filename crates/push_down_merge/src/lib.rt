@@ -2,3 +2,4 @@
 #![tactic(auto)]
 
 pub mod filter;
+pub mod scratch;

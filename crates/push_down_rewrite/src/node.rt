@@ -1,11 +1,12 @@
 // PushDownFilter::rewrite (785 to 798) of the plan at one record: a Filter by its input, a Join by its own filter, no other.
 ghost use Rattle.std.specs.Prelude.{◌≡◌, [], ℕ, IfOk, IfSome};
-ghost use Rattle.image.specs.Buffers.{Scratch, ScratchMap};
+ghost use Rattle.image.specs.Buffers.{Scratch as Space, ScratchMap};
 ghost use Rattle.plan.specs.Syntax.{Plan};
 ghost use Rattle.rewrite.specs.PushDownFilter.{Transformed};
 ghost use Rattle.rewrite.specs.RewriteAt.{Focus};
 ghost use Rattle.conjuncts.specs.Standing.{Stretch};
 ghost use Rattle.push_down_merge.specs.Found.{Found, JoinInside};
+ghost use Rattle.push_down_merge.specs.Lent.{SameSpace};
 ghost use Rattle.push_down_merge.specs.Merging.{Inside};
 ghost use Rattle.push_down_rewrite.specs.Outcomes.{Finishes, Outcomes, Replaced, Replaces, answer};
 
@@ -16,12 +17,14 @@ use conjuncts::lists::empty;
 use image::limits::MAX_RECORDS;
 use image::records::{KIND, from_record, record_at};
 use image::relink::relink;
+use image::trees::Subtree;
 use image::words::word_at;
 use plan::kinds::{FILTER, JOIN};
 use push_down_base::predicates::Written;
 use push_down_join::push_down_all_join::push_down_join;
 use push_down_merge::filter::{TooLarge, filter_input, predicate_at};
-use push_down_stays::stays::stays;
+use push_down_merge::scratch::Scratch;
+use push_down_stays::stays::{stays, stays_xx};
 
 // A rewrite that is within the limits: its flag, and how many records the new image has that was written; None: the one that was read is the
 // answer.
@@ -46,7 +49,7 @@ pub fn finish(
     work: &mut [u8],
 ) -> Result<Rewritten, TooLarge>
     requires replaced { Replaced s.now levels.now work.old spot new }
-    requires scratch { Scratch work.old levels.now }
+    requires scratch { Space work.old levels.now }
     ensures { (node : ℕ) (w : Plan) (c : Focus) (t : Transformed) →
         Replaces s.now levels.now work.old spot new node w c t →
         Finishes work.new result c [] t }
@@ -128,4 +131,35 @@ pub fn rewrite(
         return Ok(UNCHANGED);
     }
     rewrite_anew(s, node, m, work, levels)
+}
+
+// The plan, written anew if it is a Filter or a Join.
+pub fn rewrite_anew_xx(plan: Subtree, scratch: &mut Scratch) -> Result<Rewritten, TooLarge>
+    requires { Found plan.image.now plan.number }
+    ensures same { SameSpace scratch.old scratch.new }
+    ensures outcomes { (w : Plan) (c : Focus) → Inside plan.entry.image.now plan.entry.number w c →
+        Outcomes scratch.new.work.now result w c }
+{
+    rewrite_anew(
+        plan.image,
+        plan.number,
+        scratch.m,
+        scratch.work,
+        scratch.levels,
+    )
+}
+
+// The plan. Nothing is written for one that stays as it is: what is written is another plan.
+pub fn rewrite_xx(plan: Subtree, scratch: &mut Scratch) -> Result<Rewritten, TooLarge>
+    requires { Found plan.image.now plan.number }
+    ensures same { SameSpace scratch.old scratch.new }
+    ensures outcomes { (w : Plan) (c : Focus) → Inside plan.entry.image.now plan.entry.number w c →
+        Outcomes scratch.new.work.now result w c }
+    ensures changes { (w : Plan) (c : Focus) → Inside plan.entry.image.now plan.entry.number w c →
+        IfOk result (λ o. IfSome o.image (λ _. answer c ≡ w → ⊥)) }
+{
+    if stays_xx(plan) {
+        return Ok(UNCHANGED);
+    }
+    rewrite_anew_xx(plan, scratch)
 }

@@ -25,6 +25,7 @@ use conjuncts::equality::same_items;
 use conjuncts::lists::{Conjuncts, empty};
 use conjuncts::split_conjunction::{left_deep_at, split_at};
 use image::records::{KIND, P, from_record, record_at};
+use image::trees::Subtree;
 use image::words::word_at;
 use plan::kinds::{
     AGGREGATE, FILTER, JOIN, PROJECTION, PlanKind, TABLE_SCAN, WINDOW, What, what_of,
@@ -268,4 +269,12 @@ pub fn stays(s: &[u8], node: usize) -> bool
         return join_stays(s, part, node);
     }
     true
+}
+
+// The plan.
+pub fn stays_xx(plan: Subtree) -> bool
+    requires { Found plan.image.now plan.number }
+    ensures { (w : Plan) (c : Focus) → Inside plan.entry.image.now plan.entry.number w c → Stays result c.plan }
+{
+    stays(plan.image, plan.number)
 }

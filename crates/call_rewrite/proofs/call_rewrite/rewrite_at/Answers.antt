@@ -1,6 +1,7 @@
 -- `call_rewrite::rewrite_at` meets its contract.
 use mathlib.Core.Path.{refl, ◌∙◌}
 use Rattle.push_down_rewrite.proofs.Images.{whole_image}
+use Rattle.push_down_merge.proofs.Tested.{stood_inside}
 use Rattle.call_rewrite.proofs.Calls.{refused_8, absent, no_plan, a_plan, stayed}
 use Rattle.call_rewrite.proofs.call_rewrite.rewrite_at.Goals as goal
 
@@ -14,22 +15,29 @@ returns-then-not-is_plan c =
     (no_plan c.requires c.if-image-node.false c.record_at.ensures c.word_at.ensures.0 c.is_plan.ensures
     (c.if-not-is_plan.true))
 
-pub stays-requires : goal.stays-requires
-stays-requires c =
+pub invariant_of-plan : goal.invariant_of-plan
+invariant_of-plan c =
+    let h = a_plan c.requires c.if-image-node.false
+    c.record_at.ensures
+    c.word_at.ensures.0 c.is_plan.ensures (c.if-not-is_plan.false) in
+    record { stood = stood_inside h.inside }
+
+pub stays_xx-requires : goal.stays_xx-requires
+stays_xx-requires c =
     let h = a_plan c.requires c.if-image-node.false
     c.record_at.ensures
     c.word_at.ensures.0 c.is_plan.ensures (c.if-not-is_plan.false) in
     record { whole = _; spot = h.spot; inside = h.inside }
 
-pub returns-then-stays : goal.returns-then-stays
-returns-then-stays c =
+pub returns-then-stays_xx : goal.returns-then-stays_xx
+returns-then-stays_xx c =
     let h = a_plan c.requires
     c.if-image-node.false
     c.record_at.ensures
     c.word_at.ensures.0
     c.is_plan.ensures (c.if-not-is_plan.false) in
     c.hand_over.ensures _ (whole_image h.whole refl)
-    ∙ stayed _ h (c.stays.ensures _ h.spot h.inside) c.if-stays.true
+    ∙ stayed _ h (c.stays_xx.ensures _ h.spot h.inside) c.if-stays_xx.true
 
 pub rewrite_here-requires : goal.rewrite_here-requires
 rewrite_here-requires c =

@@ -8,8 +8,8 @@ use Rattle.call_rewrite.proofs.Calls.{refused_11, granted_call}
 use Rattle.push_down_rewrite.proofs.Fronts.{image_front}
 use Rattle.call_rewrite.proofs.call_rewrite.rewrite_in_output.Goals as goal
 
-pub rewrite_anew-requires-clause-scratch_map : goal.rewrite_anew-requires-clause-scratch_map
-rewrite_anew-requires-clause-scratch_map c = (
+pub rewrite_into-requires-clause-scratch_map : goal.rewrite_into-requires-clause-scratch_map
+rewrite_into-requires-clause-scratch_map c = (
   c.requires.map_bytes_in_bounds.0,
   length-take-le work_bytes c.args.out.now c.requires.map_bytes_in_bounds.2,
   c.requires.map_bytes_in_bounds.1,
@@ -32,13 +32,13 @@ returns-in-Some c =
     let h = c.requires.here in
     let o = c.in-Ok.ensures _ h.spot h.inside in
     let i = image_front (drop work_bytes c.args.out.now) (rw c.in-Some.is at o.image) in
-    rw (length_front c.args.out.now c.rewrite_anew.new.work work_bytes c.rewrite_anew.auto.work) at (c.clear_behind.ensures _ i)
+    rw (length_front c.args.out.now c.rewrite_into.new.work work_bytes c.rewrite_into.auto.work) at (c.clear_behind.ensures _ i)
     ∙ granted_call _ _ _ h.inside.there (sym o.fit) o.flag refl
 
 pub returns-in-None : goal.returns-in-None
 returns-in-None c =
     let h = c.requires.here in
     let o = c.in-Ok.ensures _ h.spot h.inside in
-    rw (length_front c.args.out.now c.rewrite_anew.new.work work_bytes
-    c.rewrite_anew.auto.work) at (c.hand_over.ensures _ (whole_image h.whole refl))
+    rw (length_front c.args.out.now c.rewrite_into.new.work work_bytes
+    c.rewrite_into.auto.work) at (c.hand_over.ensures _ (whole_image h.whole refl))
     ∙ granted_call _ _ _ h.inside.there (sym o.fit) o.flag (sym (rw c.in-None.is at o.image))

@@ -1,23 +1,28 @@
 -- `visits::visit` meets its contract.
 use native.Mathlib.Omega.{arith}
 use lib.ListN.{length-take}
+use Rattle.push_down_merge.proofs.Tested.{stood_inside}
 use Rattle.pass.proofs.Steps.{came_to, found_next, room_there, unwritten, visited_refused}
 use Rattle.pass.proofs.visits.visit.Goals as goal
 
 pub overflow_mul-end : goal.overflow_mul-end
 overflow_mul-end c =
-    omega (arith, room_there c.requires.standing, c.requires.lent)
+    omega (arith, room_there c.requires.standing, c.requires.image_len)
 
-pub slice_bounds-rewrite-end : goal.slice_bounds-rewrite-end
-slice_bounds-rewrite-end c =
+pub slice_bounds-plan-end : goal.slice_bounds-plan-end
+slice_bounds-plan-end c =
     room_there c.requires.standing
 
-pub slice_bounds-rewrite-end-2 : goal.slice_bounds-rewrite-end-2
-slice_bounds-rewrite-end-2 c =
+pub slice_bounds-plan-end-2 : goal.slice_bounds-plan-end-2
+slice_bounds-plan-end-2 c =
     rw length-take (omega (arith, room_there c.requires.standing))
 
-pub rewrite-requires-clause-found : goal.rewrite-requires-clause-found
-rewrite-requires-clause-found c =
+pub invariant_of-plan : goal.invariant_of-plan
+invariant_of-plan c =
+    record { stood = stood_inside (found_next c.requires.standing c.requires.next_lt_records.0).inside }
+
+pub rewrite_xx-requires : goal.rewrite_xx-requires
+rewrite_xx-requires c =
     found_next c.requires.standing c.requires.next_lt_records.0
 
 pub take_over-requires-clause-comes : goal.take_over-requires-clause-comes

@@ -4,4 +4,4 @@ use Rattle.pass.proofs.visits.visit_all.Goals as goal
 
 pub loop-w-init : goal.loop-w-init
 loop-w-init c =
-    (refl, refl, refl, refl, λ q w i. begun _ w i (omega arith))
+    (refl, record { m = refl; work = refl; levels = refl }, λ q w i. begun _ w i (omega arith))

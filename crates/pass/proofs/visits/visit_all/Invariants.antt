@@ -4,14 +4,14 @@ use lib.ListN.{length}
 use Rattle.plan.specs.Syntax.{Plan}
 use Rattle.acceptance.specs.Accepted.{WellFormed}
 use Rattle.rewrite.specs.Pass.{pass}
+use Rattle.push_down_merge.specs.Lent.{SameSpace}
 use Rattle.push_down_rewrite.specs.Outcomes.{Image}
 use Rattle.pass.specs.Walks.{Going}
 use Rattle.pass.proofs.visits.visit_all.Given as goal
 
 abbrev pub invariant-loop-w : goal.invariant-loop-w
 invariant-loop-w l =
-    (length l.image ≡ length l.initial.image) × (length l.m ≡ length l.initial.m) × (length l.work ≡ length l.initial.work) ×
-    (length l.levels ≡ length l.initial.levels)
+    (length l.image ≡ length l.initial.image) × SameSpace l.initial.scratch l.scratch
     × ((q : Plan) → WellFormed q → Image l.initial.image l.records q → Going l.image l.w (pass l.budget q))
 
 abbrev pub decreases-loop-w : goal.decreases-loop-w
