@@ -20,8 +20,8 @@ use Rattle.image.specs.Subtrees.{tree_of}
 use Rattle.image.specs.declared.trees.Subtree.{Subtree}
 use Rattle.conjuncts.specs.Equality.{same, same_label}
 use Rattle.by_word.specs.Equality.{counted, same_link, alike}
-use Rattle.conjuncts.proofs.Equals.{and_both, is_same, same_is}
-use Rattle.by_word.proofs.Equals.{both_ways, label_is, label_same}
+use Rattle.conjuncts.proofs.Equals.{and_both, is_same, label_is, label_same, same_is}
+use Rattle.plan.proofs.Bools.{same_truth}
 
 -- k records from the start of s and of v on agree in all words
 unfoldable pub agreeing : ℕ → ℕ → List ℕ → ℕ → List ℕ → Bool
@@ -179,7 +179,7 @@ module _ (a b : Subtree) where
   same_agree : same (tree_of a) (tree_of b)
       ≡ agree (size_t (tree_of a)) a.number (drop (32 * a.number) a.image.now) (size_t (tree_of b)) b.number (drop (32 * b.number) b.image.now)
   same_agree =
-      both_ways (same (tree_of a) (tree_of b)) _
+      same_truth (same (tree_of a) (tree_of b)) _
       (λ h. let e = same_is (tree_of a) (tree_of b) h in rw e (agree_same (rw e at a.stood.at) b.stood.at))
       (λ h. is_same (tree_of a) (tree_of b) (agree_only a.stood.at b.stood.at h))
 

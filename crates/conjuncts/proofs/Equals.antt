@@ -3,25 +3,24 @@
 --     same_exprs            the trees of two expressions are the same if they are equal
 --     label_eq              `==` of labels is `same_label`
 --     none_left             no tree is left to compare
---     false_label           an expression is FALSE if its record says so
+--     label_is, label_same  `same_label` says that two labels are equal
+--     false_is              an expression is FALSE if its record says so
 -- Assumes nothing.
 use mathlib.Core.Path.{◌≡◌, refl, sym, ap, subst, ◌∙◌}
 use mathlib.Core.Bool.{Bool, true, false, not, ◌&&◌, decide_iff}
-use mathlib.Core.List.{List}
 use lib.Dec.{eqb}
-use lib.ListN.{drop}
-use Prim.Native.Nat.{ℕ, ◌*◌}
+use Prim.Native.Nat.{ℕ}
 use native.Mathlib.Omega.{arith}
 use borrow.Author.Tests.{eqb-true, eq-eqb}
 use Rattle.std.specs.Iterator.{YieldsFirstBy}
 use Rattle.std.specs.Option.{is_some}
 use Rattle.std.specs.Prelude.{Option, Some, None}
-use Rattle.image.specs.Tree.{Label, Forest, none, node, Tree, At, label_at}
+use Rattle.image.specs.Tree.{Label, Forest, none, node, Tree}
 use Rattle.image.specs.Subtrees.{forest, place, places}
 use Rattle.image.specs.declared.trees.Siblings.{Siblings}
 use Rattle.image.specs.declared.trees.Subtree.{Subtree}
 use Rattle.image.proofs.Subtrees.{goes, gone}
-use Rattle.image.proofs.Walking.{only}
+use Rattle.plan.proofs.Bools.{same_truth}
 use Rattle.plan.specs.Kinds.{what}
 use Rattle.plan.specs.Syntax.{Expr, col, num, bool, nul, bin, neg, test, between, inlist, fn}
 use Rattle.plan.specs.Read.{expr_by, exprs_of}
@@ -30,20 +29,15 @@ use Rattle.plan.specs.Integers.{FitsE}
 use Rattle.plan.proofs.Written.{expr_back}
 use Rattle.rewrite.specs.Utils.{Expr-eq, same_e}
 use Rattle.rewrite.proofs.Exprs.{same_e_eq}
-use Rattle.conjuncts.specs.Standing.{Standing}
 use Rattle.conjuncts.specs.Items.{FALSE}
 use Rattle.conjuncts.specs.Equality.{same_label, same_any, same}
 use Rattle.conjuncts.specs.Labels.{is_false}
-
-pub for_both : (P : Tree → Tree → Type 0) {t u : Tree} {s v : List ℕ} {b d : ℕ} → At t s b → At u v d → P t u → (t' u' : Tree) → At t' s b
-    → At u' v d → P t' u'
-for_both P h k p t' u' h' k' = rw (only h' h, only k' k) p
 
 pub and_both : (a b : Bool) → (a && b) ≡ true → (a ≡ true) × (b ≡ true)
 and_both true b e = (refl, e)
 and_both false b e = let z : ◌≡◌ {A = ℕ} 0 1 = cc in absurd (omega arith)
 
-label_is : (l k : Label) → same_label l k ≡ true → l ≡ k
+pub label_is : (l k : Label) → same_label l k ≡ true → l ≡ k
 label_is l k e =
     let a = and_both _ _ e in
     let b = and_both _ _ a.0 in
@@ -74,7 +68,7 @@ same_is t u e =
     let b = any_is t.below u.below a.1 in
     ap (λ (x : Label × Forest). record { label = x.0; below = x.1 }) (cc)
 
-label_same : (l : Label) → same_label l l ≡ true
+pub label_same : (l : Label) → same_label l l ≡ true
 label_same l = rw (
   eq-eqb l.kind _ refl,
   eq-eqb l.p _ refl,
@@ -94,12 +88,6 @@ is_same t u e = rw (e, label_same u.label, any_same u.below)
 
 -- ---- expressions
 
--- two tests that hold together are one
-both_ways : (a b : Bool) → (a ≡ true → b ≡ true) → (b ≡ true → a ≡ true) → a ≡ b
-both_ways true b f g = sym (f refl)
-both_ways false true f g = g refl
-both_ways false false f g = refl
-
 pub same_self : (e : Expr) → same_e e e ≡ true
 unfolding same_e
 same_self e = (decide_iff (Expr-eq e e)).1 refl
@@ -108,7 +96,7 @@ pub eq_same : {a b : Expr} → a ≡ b → same_e a b ≡ true
 eq_same {a} {b} e = rw e (same_self b)
 
 pub same_turned : (a b : Expr) → same_e a b ≡ same_e b a
-same_turned a b = both_ways (same_e a b) (same_e b a) (λ h. eq_same (sym (same_e_eq a b h))) (λ h. eq_same (sym (same_e_eq b a h)))
+same_turned a b = same_truth (same_e a b) (same_e b a) (λ h. eq_same (sym (same_e_eq a b h))) (λ h. eq_same (sym (same_e_eq b a h)))
 
 -- an expression can be read back from its tree
 abbrev tree_back : (t : Tree) → Expr
@@ -119,7 +107,7 @@ back {a} {b} f g e = sym (expr_back a f) ∙ (ap tree_back e ∙ expr_back b g)
 
 pub same_exprs : (a b : Expr) → FitsE a → FitsE b → same (expr_tree a) (expr_tree b) ≡ same_e a b
 same_exprs a b f g =
-    both_ways (same (expr_tree a) (expr_tree b)) (same_e a b)
+    same_truth (same (expr_tree a) (expr_tree b)) (same_e a b)
     (λ h. eq_same (back f g (same_is _ _ h)))
     (λ h. is_same _ _ (ap expr_tree (same_e_eq a b h)))
 
@@ -144,13 +132,9 @@ false_says = refl
 
 pub false_is : (e : Expr) → is_false (label_e e) ≡ same_e FALSE e
 false_is e =
-    both_ways (is_false (label_e e)) (same_e FALSE e)
+    same_truth (is_false (label_e e)) (same_e FALSE e)
     (λ h. eq_same (says_false e h))
     (λ h. subst (λ (f : Expr). is_false (label_e f) ≡ true) (same_e_eq FALSE e h) false_says)
-
-pub false_label : {s : List ℕ} {n : ℕ} {e : Expr} → Standing s n e
-    → is_false (label_at (drop (32 * n) s)) ≡ same_e FALSE e
-false_label {e = e} h = ap is_false h.here.head.label ∙ false_is e
 
 -- `==` of labels, field by field
 pub label_eq : (l k : Label)

@@ -1,12 +1,10 @@
 -- Expressions that stand in an image, and where the operands of a binary one stand.
---     readable_of     an expression that stands can be read
 --     operands        where the operands of a binary expression stand, in bytes that begin at it
---     standing_left, standing_right   the same, in the whole image
 --     and_below, and_of, and_there    the operands of an And, as the code has them
 -- Assumes nothing.
 use mathlib.Core.Path.{◌≡◌, refl, sym, ap, subst, ◌∙◌}
 use mathlib.Core.Bool.{true, false}
-use mathlib.Core.List.{List, [], ◌∷◌, ◌++◌}
+use mathlib.Core.List.{List, [], ◌∷◌}
 use Prim.Native.Nat.{ℕ, ◌+◌, ◌-◌, ◌*◌, ◌≤◌, ◌<◌}
 use native.Mathlib.Omega.{arith}
 use lib.ListN.{length, drop, length-drop}
@@ -16,20 +14,16 @@ use Rattle.image.specs.Word.{word}
 use Rattle.image.specs.Subtrees.{Below, Split, forest, tree_of}
 use Rattle.image.specs.declared.trees.Siblings.{Siblings}
 use Rattle.image.specs.declared.trees.Subtree.{Subtree}
-use Rattle.image.specs.Tree.{Label, Forest, none, node, Tree, At, Deep, Readable, size, link, label_at}
+use Rattle.image.specs.Tree.{Label, Forest, none, node, Tree, At, Deep, size, link}
 use Rattle.image.proofs.Walking.{Turn, turn, linked_first}
 use Rattle.plan.specs.Syntax.{Op, and, or, cmp, eq, ne, lt, le, gt, ge, Expr, col, num, bool, nul, bin, neg, test, between, inlist, fn}
 use Rattle.plan.specs.Trees.{label_e, kids_e, expr_tree}
-use Rattle.plan.specs.Integers.{FitsE}
 use Rattle.rewrite.specs.Utils.{split_conjunction}
 use Rattle.conjuncts.specs.Operands.{Operands as Two}
 use Rattle.conjuncts.specs.Standing.{Standing, ReadableE, There}
 use Rattle.conjuncts.specs.Items.{Item}
 use Rattle.conjuncts.specs.Labels.{is_and}
 use Rattle.conjuncts.proofs.Standing.{tree_standing, standing_tree}
-
-pub readable_of : {s : List ℕ} {n : ℕ} {e : Expr} → Standing s n e → Readable max_depth (drop (32 * n) s) n
-readable_of {e = e} h = record { tree = expr_tree e; at = h.here; some = omega arith; deep = h.deep }
 
 -- a forest is no deeper than one more
 deeper : (f : Forest) (d : ℕ) → Deep f (d - 1) → Deep f d
@@ -74,39 +68,10 @@ part_of s part base x e h =
     let n : 32 * base + 32 * (x - base) ≡ 32 * x = omega arith in
     rw (e, drop-drop, n)
 
--- an expression inside one that stands, at a later record of its part
-inside : {s part : List ℕ} {base x : ℕ} (a : Expr) → part ≡ drop (32 * base) s → 32 * base ≤ length s → 32 * base + length part ≤ work_bytes
-    → base ≤ x → 32 * (x - base) + 32 ≤ length part → At (expr_tree a) (drop (32 * (x - base)) part) x → Deep (kids_e a) (max_depth - 1) → FitsE a
-    → Standing s x a
-inside {s} {part} {base} {x} a e w room past fit h deep f =
-    let n : length part ≡ length s - 32 * base = ap length e ∙ length-drop (32 * base) s in
-    record {
-      within = omega arith;
-      here = rw (← part_of s part base x e past) h;
-      deep = deep;
-      fits = f;
-      small = omega arith;
-    }
-
 -- the operands of a binary expression, and no deeper than what is below it
 deep_parts : (d : ℕ) (o : Op) (a b : Expr) → Deep (kids_e (bin o a b)) d → Deep (node (label_e a) (kids_e a) (node (label_e b) (kids_e b) none)) d
 unfolding kids_e
 deep_parts d o a b deep = deep
-
-module _ {s part : List ℕ} {base : ℕ} (o : Op) (a b : Expr) (e : part ≡ drop (32 * base) s) (h : Standing s base (bin o a b))
-    (room : 32 * base + length part ≤ work_bytes) where
-  here : At (expr_tree (bin o a b)) part base
-  here = rw e h.here
-
-  pub standing_left : Standing s (word part 24) a
-  standing_left = let u = operands o here in
-      inside a e h.within room (omega (arith, u.past)) u.fits u.left
-      (deeper (kids_e a) (max_depth - 1) (deep_parts (max_depth - 1) o a b h.deep).1) h.fits.0
-
-  pub standing_right : Standing s (word (drop (32 * (word part 24 - base)) part) 28) b
-  standing_right = let u = operands o here in
-      inside b e h.within room (omega (arith, u.past₂)) u.fits₂ u.right
-      (deeper (kids_e b) (max_depth - 1) (deep_parts (max_depth - 1) o a b h.deep).2.1) h.fits.1
 
 -- the operands of a binary expression that can be read can be
 module _ {part : List ℕ} {base : ℕ} (d : ℕ) (o : Op) (a b : Expr) (h : At (expr_tree (bin o a b)) part base)
@@ -188,54 +153,6 @@ pub record AndParts (d : ℕ) (part : List ℕ) (base : ℕ) : Type 0 where
   pub fits₂ : 32 * (word (drop (32 * (word part 24 - base)) part) 28 - base) + 32 ≤ length part
   pub right : ReadableE (d - 1) (drop (32 * (word (drop (32 * (word part 24 - base)) part) 28 - base)) part)
       (word (drop (32 * (word part 24 - base)) part) 28)
-
-pub and_parts : {d : ℕ} {part : List ℕ} {base : ℕ} → ReadableE d part base → is_and (label_at part) ≡ true → AndParts d part base
-and_parts {d} {part} {base} h t =
-    let b : Both h.expr = and_label h.expr (rw (← h.at.head.label) t) in
-    let at : At (expr_tree (bin and b.lhs b.rhs)) part base = subst (λ (e : Expr). At (expr_tree e) part base) b.is h.at in
-    let deep : Deep (kids_e (bin and b.lhs b.rhs)) (d - 1) = subst (λ (e : Expr). Deep (kids_e e) (d - 1)) b.is h.deep in
-    let u = operands and at in
-    record {
-      past = u.past;
-      fits = u.fits;
-      left = readable_left d and b.lhs b.rhs at deep h.room;
-      past₂ = u.past₂;
-      fits₂ = u.fits₂;
-      right = readable_right d and b.lhs b.rhs at deep h.room;
-    }
-
--- the operands of an And that stands, and the conjuncts
-pub record AndStanding (s part : List ℕ) (base : ℕ) (e : Expr) : Type 0 where
-  pub lhs : Expr
-  pub rhs : Expr
-  pub is : split_conjunction e ≡ split_conjunction lhs ++ split_conjunction rhs
-  pub left : Standing s (word part 24) lhs
-  pub left_part : drop (32 * (word part 24 - base)) part ≡ drop (32 * word part 24) s
-  pub right : Standing s (word (drop (32 * (word part 24 - base)) part) 28) rhs
-  pub right_part : drop (32 * (word (drop (32 * (word part 24 - base)) part) 28 - base)) part ≡ drop
-      (32 * word (drop (32 * (word part 24 - base)) part) 28) s
-
-pub and_standing : {s part : List ℕ} {base : ℕ} {e : Expr} → part ≡ drop (32 * base) s → Standing s base e → 32 * base + length part ≤ work_bytes
-    → is_and (label_at part) ≡ true → AndStanding s part base e
-unfolding split_conjunction
-and_standing {s} {part} {base} {e} q h room t =
-    let b : Both e = and_label e (rw (← h.here.head.label, ← q) t) in
-    let k : Standing s base (bin and b.lhs b.rhs) = subst (λ (f : Expr). Standing s base f) b.is h in
-    let at : At (expr_tree (bin and b.lhs b.rhs)) part base = rw q k.here in
-    let u = operands and at in
-    record {
-      lhs = b.lhs;
-      rhs = b.rhs;
-      is = ap split_conjunction b.is;
-      left = standing_left and b.lhs b.rhs q k room;
-      left_part = part_of s part base (word part 24) q (omega (arith, u.past));
-      right = standing_right and b.lhs b.rhs q k room;
-      right_part = part_of s part base (word (drop (32 * (word part 24 - base)) part) 28) q (omega (arith, u.past₂));
-    }
-
-pub not_and : {s part : List ℕ} {base : ℕ} {e : Expr} → part ≡ drop (32 * base) s → Standing s base e → is_and (label_at part) ≡ false
-    → split_conjunction e ≡ e ∷ []
-not_and {e = e} q h t = single e (rw (← h.here.head.label, ← q) t)
 
 -- an expression that stands, but not at the root, is an item
 pub item_of : {s : List ℕ} {n : ℕ} {e : Expr} → Standing s n e → 0 < n → Item s n e

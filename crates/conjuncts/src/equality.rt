@@ -1,49 +1,17 @@
 // Equal expressions: `==` of the source's Expr, record by record.
 ghost use Rattle.std.specs.Prelude.{◌≡◌, List, ◌≤◌, length};
 ghost use Rattle.image.specs.Subtrees.{tree_of};
-ghost use Rattle.image.specs.Tree.{At, Readable, Tree, label_at};
 ghost use Rattle.plan.specs.Syntax.{Expr};
 ghost use Rattle.rewrite.specs.Utils.{same_e};
-ghost use Rattle.conjuncts.specs.Equality.{same, same_label};
+ghost use Rattle.conjuncts.specs.Equality.{same};
 ghost use Rattle.conjuncts.specs.Items.{FALSE, Item, Known, Lists, Present};
 ghost use Rattle.conjuncts.specs.Says.{Says};
 
 use crate::items::item_tree;
 use crate::lists::Conjuncts;
-use image::records::{FIRST_LINK, NEXT_LINK, from_record, label_at};
 use image::trees::Subtree;
-use image::words::word_at;
 use plan::kinds::BOOLEAN_LITERAL;
 use plan::words::TRUE;
-
-// Whether the trees at the start of a and of b are the same, wherever they stand.
-pub fn same_tree(a: &[u8], base: usize, depth: usize, b: &[u8], of: usize, room: usize) -> bool
-    requires readable { Readable depth a.now base }
-    requires readable_2 { Readable room b.now of }
-    ensures { (t u : Tree) → At t a.now base → At u b.now of → result ≡ same t u }
-{
-    if label_at(a) != label_at(b) {
-        return false;
-    }
-    let mut i = word_at(a, FIRST_LINK);
-    let mut j = word_at(b, FIRST_LINK);
-    while i != 0 {
-        if j == 0 {
-            return false;
-        }
-        let left = from_record(a, base, i);
-        let right = from_record(b, of, j);
-        if !same_tree(left, i, depth - 1, right, j, room - 1) {
-            return false;
-        }
-        i = word_at(left, NEXT_LINK);
-        j = word_at(right, NEXT_LINK);
-    }
-    if j == 0 {
-        return true;
-    }
-    false
-}
 
 // Whether two trees are the same, wherever they stand.
 pub fn same_tree_xx(a: Subtree, b: Subtree) -> bool

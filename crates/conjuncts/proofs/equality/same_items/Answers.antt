@@ -6,14 +6,14 @@ use Rattle.std.proofs.lemmas.Slice.Zip.{zip_end, zip_turn}
 use Rattle.rewrite.proofs.Exprs.{same_e_eq}
 use Rattle.conjuncts.specs.Items.{FALSE, listed}
 use Rattle.conjuncts.proofs.Equals.{eq_same}
-use Rattle.conjuncts.proofs.LeftDeeps.{no_yes}
+use Rattle.plan.proofs.Bools.{no_yes}
 use Rattle.conjuncts.proofs.Listed.{lists_at, lists_length, lists_room, same_next, at_end}
 use Rattle.conjuncts.proofs.equality.same_items.Goals as goal
 
 pub returns-then-a-b : goal.returns-then-a-b
 returns-then-a-b c =
     λ xs ys h k. record {
-      yes = λ y. no_yes (sym y);
+      yes = λ y. no_yes y;
       no = λ n e. c.if-a-b.true (sym (lists_length h c.requires.known.most) ∙ ap length e ∙ lists_length k c.requires.known_2.most);
     }
 
@@ -45,7 +45,7 @@ returns-then-not-same_item c =
     (c.in-Some.x, c.in-Some.y) c.in-Some.is c.next.ensures.steps in
     let s = c.same_item.ensures _ _ (lists_at h p i _ (omega (arith, t.0, lists_room h p)) (c.from.ensures ∙ t.2 0))
     (lists_at k q i _ (omega (arith, t.1, lists_room k q)) (c.from-in-loop-x.ensures ∙ t.3 0)) in
-    record { yes = λ y. no_yes (sym y); no = λ n e. no_yes (sym (s ∙ eq_same (ap (λ l. get_or l i FALSE) e)) ∙ c.if-not-same_item.true) }
+    record { yes = λ y. no_yes y; no = λ n e. no_yes (sym c.if-not-same_item.true ∙ (s ∙ eq_same (ap (λ l. get_or l i FALSE) e))) }
 
 pub loop-x-preserved : goal.loop-x-preserved
 loop-x-preserved c =
@@ -73,5 +73,5 @@ returns c =
       yes = λ y. c.loop-x.invariant xs ys h k
           (at_end xs i (omega (arith, e, lists_room h p, lists_room k q, lists_length h p, c.if-a-b.false))
           ∙ sym (at_end ys i (omega (arith, e, lists_room h p, lists_room k q, lists_length k q, c.if-a-b.false))));
-      no = λ n. no_yes n;
+      no = λ n. no_yes (sym n);
     }

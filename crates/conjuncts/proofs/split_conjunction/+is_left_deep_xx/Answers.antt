@@ -3,7 +3,7 @@ use native.Mathlib.Omega.{arith}
 use mathlib.Core.Bool.{true, false, not}
 use Rattle.image.specs.Tree.{Tree}
 use Rattle.conjuncts.specs.Labels.{is_and}
-use Rattle.conjuncts.proofs.LeftDeeps.{alone_e, and_deep, and_right, asked}
+use Rattle.conjuncts.proofs.LeftDeeps.{alone, and_deep, and_right, asked}
 use Rattle.conjuncts.proofs.Operands.{and_of, fewer_left, there_left, there_right}
 use Rattle.conjuncts.proofs.Standing.{tree_standing}
 use Rattle.conjuncts.proofs.split_conjunction.+is_left_deep_xx.Goals as goal
@@ -37,4 +37,4 @@ returns-else-is_none t c =
 pub returns-in-None : goal.returns-in-None
 returns-in-None t c =
     λ e h. let is = ap (λ (u : Tree). is_and u.label) (tree_standing c.args.tree refl refl h) in
-    alone_e (sym is ∙ c.in-None.ensures)
+    alone (sym is ∙ c.in-None.ensures)
