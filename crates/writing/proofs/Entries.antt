@@ -103,7 +103,8 @@ pub begins : (map t x : Subtree) (cs y : Siblings) → Below t cs → t.image.no
     → Begins (tree_of t).below map x
 begins map t x cs y b i e =
     let g = goes cs y x e in
-    record { image = g.image ∙ b.image ∙ i; others = forest y; is = sym b.is ∙ g.is }
+    let here = subst (λ (f : Forest). Linked f cs.image.now 0 cs.first) g.is cs.chained.linked in
+    record { image = g.image ∙ b.image ∙ i; past = omega (arith, here.0, g.number); others = forest y; is = sym b.is ∙ g.is }
 
 -- .. or there is none
 pub begins_of : (map t : Subtree) (cs y : Siblings) (o : Option Subtree) → Below t cs → t.image.now ≡ map.image.now
@@ -132,13 +133,19 @@ replaced_below e t h = ap (λ (f : Forest). first_or f (record { label = t.label
 
 -- ---- levels
 
--- what is found may be written in a column's place
+-- what is found is less deep than the entries
+pub deep_found : (e : Tree) (l : Label) {d : ℕ} {map x : Subtree} → Deep e.below d → Begins (value_for e l) map x
+    → (1 < d) × Deep (tree_of x).below (d - 1 - 1)
+deep_found e l {d} {x = x} h b =
+    let v : Deep (value_for e l) (d - 1) = deep_or (eqb l.kind 1) (lookup e.below l.p l.q) none (d - 1) (deep_lookup e.below l.p l.q d h) tt in
+    let k : Deep (node (tree_of x).label (tree_of x).below b.others) (d - 1) = subst (λ (g : Forest). Deep g (d - 1)) b.is v in
+    (omega (arith, k.0), k.1)
+
+-- it may be written in a column's place
 pub low_found : (e : Tree) (l : Label) (level : ℕ) {f : Forest} {map x : Subtree}
     → LowOver (level + 1) e.below f → Begins (value_for e l) map x → Low (level + 1) (tree_of x).below
-low_found e l level {x = x} h b =
-    let d : Deep (value_for e l) (h.room - 1) = deep_or (eqb l.kind 1) (lookup e.below l.p l.q) none (h.room - 1) (deep_lookup e.below l.p l.q h.room h.entries_deep) tt in
-    let k : Deep (node (tree_of x).label (tree_of x).below b.others) (h.room - 1) = subst (λ (g : Forest). Deep g (h.room - 1)) b.is d in
-    record { depth = h.room - 1 - 1; deep = k.1; low = omega (arith, h.low, k.0) }
+low_found e l level h b =
+    let k = deep_found e l h.entries_deep b in record { depth = h.room - 1 - 1; deep = k.1; low = omega (arith, h.low, k.0) }
 
 -- the first of some trees, what is below it, and the others
 module _ {level : ℕ} {es f : Forest} {l : Label} {cs ns : Forest} (e : f ≡ node l cs ns) (h : LowOver level es f) where

@@ -47,9 +47,10 @@ replaced_any e (node l cs ns) = plant (first_or (value_for e l) (record { label 
 abbrev pub replaced : Tree → Tree → Tree
 replaced e t = first_or (value_for e t.label) (record { label = t.label; below = replaced_any e t.below })
 
--- x is what f begins with, and stands in the image of the map
+-- x is what f begins with, and stands in the image of the map, where it is not the first record
 pub record Begins (f : Forest) (map x : Subtree) : Type 0 where
   pub image : x.image.now ≡ map.image.now
+  pub past : 0 < x.number
   pub others : Forest
   pub is : f ≡ plant (tree_of x) others
 
