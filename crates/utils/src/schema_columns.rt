@@ -193,7 +193,8 @@ fn input(plan: Subtree, place: usize) -> Option<Subtree>
 // Appends the fields of a plan, all with the alias for their qualifier if there is one.
 pub fn add_schema_xx(plan: Subtree, into: Fields, alias: Option<u32>) -> Fields
     requires { IsPlan (tree_of plan) }
-    ensures { (p : Plan) (ns : List Name) → tree_of plan.entry ≡ plan_tree p → Names into ns → Names result (ns ++ called alias (schema p)) }
+    ensures { (p : Plan) (ns : List Name) → tree_of plan.entry ≡ plan_tree p → Names into ns
+        → Names result (ns ++ called alias (schema p)) }
 {
     let l = plan.label();
     let role = role_of(l.kind);
