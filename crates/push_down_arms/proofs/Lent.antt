@@ -1,5 +1,5 @@
 -- What an arm is lent by a writer, and what it hands back.
-use Prim.Native.Nat.{ℕ, ◌*◌, ◌≤◌}
+use Prim.Native.Nat.{ℕ, ◌+◌, ◌-◌, ◌*◌, ◌≤◌}
 use native.Mathlib.Omega.{arith}
 use native.Mathlib.Nat.{le_of_eq}
 use mathlib.Core.Path.{◌≡◌, refl}
@@ -9,10 +9,13 @@ use lib.Dec.{leb}
 use lib.ListN.{length, length-drop}
 use borrow.Author.Tests.{leb-true, leb-false}
 use Rattle.image.specs.Limits.{max_list, no_room}
+use Rattle.image.specs.Room.{Low}
+use Rattle.image.specs.Subtrees.{tree_of}
 use Rattle.image.specs.declared.trees.Subtree.{Subtree}
 use Rattle.image.proofs.Room.{cap_le}
 use Rattle.rewrite.specs.Limits.{list_p}
 use Rattle.rewrite.specs.PushDownFilter.{Transformed}
+use Rattle.writing.specs.Maps.{Over}
 use Rattle.push_down_base.specs.Arms.{Written, Answers}
 
 -- a tree's records are there
@@ -26,3 +29,7 @@ few_next {r = r} {t = t} h = go (leb (list_p t.plan) max_list) refl
     go : (b : Bool) → leb (list_p t.plan) max_list ≡ b → r.next ≤ no_room
     go true e = let w = h.fits (leb-true (list_p t.plan) max_list e) in rw w.next (cap_le _)
     go false e = le_of_eq (h.over (leb-false (list_p t.plan) max_list e)).0
+
+-- a plan may be written where there is a map of it
+pub map_low : {level : ℕ} {map : Subtree} → Over 1 level map → Low (level + 1) (tree_of map).below
+map_low h = record { depth = h.room - 1; deep = h.deep; low = omega (arith, h.shallow, h.some) }

@@ -12,3 +12,4 @@ pub mod Divides
 pub mod Moves
 pub mod Divisions
 pub mod Lent
+pub mod Behind

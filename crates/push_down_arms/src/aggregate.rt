@@ -10,10 +10,10 @@ ghost use Rattle.push_down_base.specs.Arms.{Answers, Arm, Rests};
 ghost use Rattle.push_down_arms.specs.Divided.{Divides, OverAggregate};
 ghost use Rattle.push_down_arms.specs.Movable.{entry_first};
 
-use crate::push_some::{Divided, divide, divide_xx, push_some};
+use crate::push_some::{Divided, divide, divide_xx, push_some, push_some_xx};
 use conjuncts::lists::empty;
 use image::copying::Writer;
-use image::records::{FIRST_LINK, KIND, from_record, record_at};
+use image::records::{FIRST_LINK, KIND, from_record};
 use image::trees::Subtree;
 use image::words::word_at;
 use plan::kinds::ENTRY;
@@ -103,15 +103,5 @@ pub fn rewrite_aggregate_xx(plan: Subtree, p: Predicate, out: &mut Writer, level
         Answers out.old.bytes.now out.new.bytes.now out.old.next level (record { next = out.new.next; flag = result })
         (rewrite_filter e (aggregate gs ags q)) }
 {
-    let w = rewrite_aggregate(
-        plan.image,
-        record_at(plan.image, plan.number),
-        plan.number,
-        p,
-        out.bytes,
-        out.next,
-        level,
-    );
-    out.next = w.next;
-    w.flag
+    push_some_xx(plan, divide_groups_xx(plan, p), out, level)
 }

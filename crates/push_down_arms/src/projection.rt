@@ -8,10 +8,9 @@ ghost use Rattle.conjuncts.specs.Standing.{Stretch};
 ghost use Rattle.push_down_base.specs.Arms.{Answers, Arm, Rests};
 ghost use Rattle.push_down_arms.specs.Divided.{OverProjection};
 
-use crate::push_some::{divide, push_some};
-use crate::through::keep_filter;
+use crate::push_some::{divide, divide_xx, push_some, push_some_xx};
+use crate::through::{keep_filter, keep_filter_xx};
 use image::copying::Writer;
-use image::records::record_at;
 use image::trees::Subtree;
 use push_down_base::predicates::{Predicate, Written};
 
@@ -48,15 +47,10 @@ pub fn rewrite_projection_xx(plan: Subtree, p: Predicate, out: &mut Writer, leve
         Answers out.old.bytes.now out.new.bytes.now out.old.next level (record { next = out.new.next; flag = result })
         (rewrite_filter e (project es q)) }
 {
-    let w = rewrite_projection(
-        plan.image,
-        record_at(plan.image, plan.number),
-        plan.number,
-        p,
-        out.bytes,
-        out.next,
-        level,
-    );
-    out.next = w.next;
-    w.flag
+    let d = divide_xx(plan, p);
+    let moved = d.moved;
+    if moved.len == 0 {
+        return keep_filter_xx(plan, p, out, level);
+    }
+    push_some_xx(plan, d, out, level)
 }

@@ -11,7 +11,7 @@ ghost use Rattle.conjuncts.specs.Standing.{Stretch};
 ghost use Rattle.push_down_base.specs.Arms.{Answers, Arm, Resting, Rests, Taken, Takes};
 ghost use Rattle.push_down_arms.specs.Through.{OverThrough, takes_none, through};
 
-use crate::with_filters::write_over;
+use crate::with_filters::{write_over, write_over_xx};
 use conjuncts::lists::empty;
 use image::copying::Writer;
 use image::limits::MAX_DEPTH;
@@ -20,9 +20,9 @@ use image::trees::Subtree;
 use image::words::word_at;
 use plan::kinds::{LIMIT, SORT};
 use plan::words::FETCHES;
-use push_down_base::inputs::last_child;
+use push_down_base::inputs::{last_child, last_child_xx};
 use push_down_base::predicates::{Predicate, Written};
-use writing::make_filter::make_filter;
+use writing::make_filter::{make_filter, make_filter_xx};
 
 // Filter over a plan that takes nothing: both stay as they are.
 pub fn keep_filter(
@@ -100,6 +100,35 @@ pub fn rewrite_through(
     push_filter(s, part, x, p, out, at, level)
 }
 
+// Filter over a plan that takes nothing: both stay as they are.
+pub fn keep_filter_xx(plan: Subtree, p: Predicate, out: &mut Writer, level: usize) -> bool
+    requires resting { Resting plan.image.now plan.number p }
+    requires arm { Shallow 6 level }
+    ensures same { out.new.bytes.ghost_name ≡ out.old.bytes.ghost_name }
+    ensures answers { (e : Expr) (q : Plan) → Rests plan.entry.image.now plan.entry.number p e q →
+        Answers out.old.bytes.now out.new.bytes.now out.old.next level (record { next = out.new.next; flag = result })
+        (transformed_no (filter e q)) }
+{
+    let list = p.list;
+    make_filter_xx(plan.image, plan, p.written, list, plan, out, level);
+    false
+}
+
+// Filter over a plan that takes it whole: the predicate goes below, in its shape, over the plan's input.
+pub fn push_filter_xx(plan: Subtree, p: Predicate, out: &mut Writer, level: usize) -> bool
+    requires taken { Taken plan.image.now plan.number p }
+    requires arm { Shallow 6 level }
+    ensures same { out.new.bytes.ghost_name ≡ out.old.bytes.ghost_name }
+    ensures answers { (e : Expr) (q : Plan) (f : Plan → Plan) → Rests plan.entry.image.now plan.entry.number p e (f q) →
+        Takes plan.entry.image.now plan.entry.number f q →
+        Answers out.old.bytes.now out.new.bytes.now out.old.next level (record { next = out.new.next; flag = result })
+        (transformed_yes (f (filter e q))) }
+{
+    let nothing = Predicate::joined(empty());
+    write_over_xx(plan, nothing, p, last_child_xx(plan), out, level);
+    true
+}
+
 // Whether the plan, a Distinct, a Sort, a Repartition or a Limit, takes no Filter: it counts rows.
 pub fn takes_none_xx(plan: Subtree) -> bool
     ensures { result ≡ takes_none (tree_of plan.entry).label }
@@ -117,15 +146,8 @@ pub fn rewrite_through_xx(plan: Subtree, p: Predicate, out: &mut Writer, level: 
         Answers out.old.bytes.now out.new.bytes.now out.old.next level (record { next = out.new.next; flag = result })
         (rewrite_filter e q) }
 {
-    let w = rewrite_through(
-        plan.image,
-        record_at(plan.image, plan.number),
-        plan.number,
-        p,
-        out.bytes,
-        out.next,
-        level,
-    );
-    out.next = w.next;
-    w.flag
+    if takes_none_xx(plan) {
+        return keep_filter_xx(plan, p, out, level);
+    }
+    push_filter_xx(plan, p, out, level)
 }

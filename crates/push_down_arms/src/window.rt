@@ -7,9 +7,8 @@ ghost use Rattle.conjuncts.specs.Standing.{Stretch};
 ghost use Rattle.push_down_base.specs.Arms.{Answers, Arm, Rests};
 ghost use Rattle.push_down_arms.specs.Divided.{OverWindow};
 
-use crate::push_some::{divide, push_some};
+use crate::push_some::{divide, divide_xx, push_some, push_some_xx};
 use image::copying::Writer;
-use image::records::record_at;
 use image::trees::Subtree;
 use push_down_base::predicates::{Predicate, Written};
 
@@ -42,15 +41,5 @@ pub fn rewrite_window_xx(plan: Subtree, p: Predicate, out: &mut Writer, level: u
         Answers out.old.bytes.now out.new.bytes.now out.old.next level (record { next = out.new.next; flag = result })
         (rewrite_filter e (window ws q)) }
 {
-    let w = rewrite_window(
-        plan.image,
-        record_at(plan.image, plan.number),
-        plan.number,
-        p,
-        out.bytes,
-        out.next,
-        level,
-    );
-    out.next = w.next;
-    w.flag
+    push_some_xx(plan, divide_xx(plan, p), out, level)
 }

@@ -1,5 +1,22 @@
-use Rattle.push_down_arms.proofs.Lent.{few_next}
+use Rattle.plan.specs.Syntax.{window}
+use Rattle.push_down_arms.proofs.Divisions.{window_takes, window_pushed}
 use Rattle.push_down_arms.proofs.window.rewrite_window_xx.Goals as goal
 
-pub invariant_of-out-clause-counted : goal.invariant_of-out-clause-counted
-invariant_of-out-clause-counted c = let o = c.requires.over_window in few_next (c.rewrite_window-w.ensures o.expr o.entries o.plan o.rests)
+pub push_some_xx-requires-clause-dividing : goal.push_some_xx-requires-clause-dividing
+push_some_xx-requires-clause-dividing c =
+    let o = c.requires.over_window in
+    let h = o.rests.placed in record {
+      above = window o.entries;
+      plan = o.plan;
+      stay = _;
+      move = _;
+      placed = h;
+      takes = window_takes h.short o.entries h.standing;
+      divides = c.divide_xx.ensures o.expr (window o.entries o.plan) o.rests;
+    }
+
+pub returns-clause-answers : goal.returns-clause-answers
+returns-clause-answers c =
+    λ e ws q h. rw (window_pushed e ws q)
+    (c.push_some_xx.ensures.answers (window ws) q _ _ h.placed (window_takes h.placed.short ws h.placed.standing)
+    (c.divide_xx.ensures e (window ws q) h))

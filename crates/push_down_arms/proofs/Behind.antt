@@ -1,0 +1,33 @@
+-- A loop over siblings: where those behind the first are.
+-- Assumes nothing.
+use mathlib.Core.Path.{◌≡◌, sym, ap, ◌∙◌}
+use mathlib.Core.List.{List, [], ◌∷◌}
+use Prim.Native.Nat.{ℕ, ◌+◌}
+use Rattle.image.specs.Tree.{Forest, none, node, Linked, size, link}
+use Rattle.image.specs.Subtrees.{Place, forest, place, places, places_from, tree_of}
+use Rattle.image.specs.declared.trees.Siblings.{Siblings}
+use Rattle.image.specs.declared.trees.Subtree.{Subtree}
+use Rattle.image.proofs.Subtrees.{goes}
+
+behind : List Place → List Place
+behind [] = []
+behind (p ∷ ps) = ps
+
+number_or : ℕ → List Place → ℕ
+number_or n [] = n
+number_or n (p ∷ ps) = p.number
+
+-- the same trees at two places are at one
+one_place : (s s' : List ℕ) (m n : ℕ) (f : Forest) → places_from s m f ≡ places_from s' n f → Linked f s' 0 n → n ≡ link m f
+unfolding places_from number_or
+one_place s s' m n none e h = h
+one_place s s' m n (node l cs ns) e h = sym (ap (number_or 0) e)
+
+-- they begin behind the records of the first
+pub goes_next : (x y : Siblings) (t : Subtree) → places x ≡ place t ∷ places y → y.first ≡ link (x.first + 1 + size (tree_of t).below) (forest y)
+unfolding places_from behind
+goes_next x y t e =
+    let g = goes x y t e in
+    let all : places x ≡ places_from x.image.now x.first (node (tree_of t).label (tree_of t).below (forest y)) =
+    ap (places_from x.image.now x.first) g.is in
+    one_place x.image.now y.image.now (x.first + 1 + size (tree_of t).below) y.first (forest y) (ap behind (sym all ∙ e)) y.chained.linked
