@@ -210,14 +210,14 @@ module _ (c : Name → Bool) {e : Expr} {x y : ℕ} {left right : List ℕ} wher
 pub kept_or : {op : Connective} (x : Option Expr) → op ≡ Or → true ≡ kept op x
 kept_or x e = rw e refl
 
-kept_some : (op : Connective) (a : Expr) → kept op (some a) ≡ true
+pub kept_some : (op : Connective) (a : Expr) → kept op (some a) ≡ true
 kept_some And a = refl
 kept_some Or a = refl
 
-differ : {A : Type 0} {b : Bool} → true ≡ b → false ≡ b → A
+pub differ : {A : Type 0} {b : Bool} → true ≡ b → false ≡ b → A
 differ h k = let z : ◌≡◌ {A = ℕ} 0 1 = cc in absurd (omega arith)
 
-never : {A : Type 0} {a : Expr} → none ≡ some a → A
+pub never : {A : Type 0} {a : Expr} → none ≡ some a → A
 never h = let z : ◌≡◌ {A = ℕ} 0 1 = cc in absurd (omega arith)
 
 -- an operand that stands at `part`, with its clause

@@ -21,6 +21,8 @@ use Rattle.std.specs.Bool.{then_some}
 use Rattle.image.specs.Limits.{work_bytes, no_room, max_below}
 use Rattle.image.specs.Room.{Wrote}
 use Rattle.image.specs.Tree.{Label, Forest, none, node, Tree, At, size}
+use Rattle.image.specs.Subtrees.{tree_of}
+use Rattle.image.specs.declared.trees.Subtree.{Subtree}
 use Rattle.image.specs.Word.{word}
 use Rattle.image.specs.Records.{Rec, recs, recs_any}
 use Rattle.image.proofs.Room.{cap_le}
@@ -40,10 +42,12 @@ use Rattle.rewrite.proofs.Project.{split_cols}
 use Rattle.conjuncts.specs.Items.{Conjuncts, Lists}
 use Rattle.conjuncts.specs.Standing.{Standing, StandingP, Stretch, There}
 use Rattle.conjuncts.proofs.Listed.{known_of}
+use Rattle.conjuncts.proofs.Standing.{plan_standing}
 use Rattle.push_down_base.specs.Around.{WroteAll}
 use Rattle.push_down_base.specs.Arms.{Placed}
+use Rattle.push_down_base.specs.Inputs as L
 use Rattle.push_down_base.specs.Inputs.{last_of}
-use Rattle.push_down_join.specs.JoinPlans.{pair_recs, FilterOf, has_none, has_one}
+use Rattle.push_down_join.specs.JoinPlans.{pair_recs, FilterOf, has_none, has_one, FilterOf_xx, has_none_xx, has_one_xx}
 use Rattle.push_down_base.specs.Parting.{Reads}
 use Rattle.push_down_base.proofs.Steps.{On, rest_trees, children, expr_first, right_input}
 use Rattle.push_down_base.proofs.WrittenRuns.{wrote_none, wrote_then, wrote_tree}
@@ -162,6 +166,43 @@ own_reads {l = l} {r} p (has_one {e = e} h pos) g = record {
   over = split_cols (has (schema l ++ schema r)) e (and_l _ _ (and_r _ _ (and_r _ _ p.rules)));
   most = (known_of (g e h) (le_trans (le-max_left (length (split_conjunction e)) _) p.lists)).most;
 }
+
+-- the same of trees
+module _ {t u : Subtree} {k : Kind} {l r : Plan} {on : List Pair} {f : Option Expr} (w : L.Last t u)
+    (h : Placed t.image.now t.number (join k l r on f)) where
+  pub last_filter_xx : {n : ℕ} → n ≡ (tree_of u).label.kind → FilterOf_xx t.image.now (then_some (ltb n 32) u) f
+  unfolding kids_p
+  last_filter_xx {n} e = go f (subst (λ i. Last t.image.now i f) (sym number) (last_is h.short k l r on f h.standing))
+    where
+      number : u.number ≡ last_of 0 (t.number + 1) (kids_p (join k l r on f))
+      number = w.number ∙ ap (λ (v : Tree). last_of t.number (t.number + 1) v.below) (plan_standing t refl refl h.standing)
+
+      kind : n ≡ word (drop (32 * u.number) t.image.now) 0
+      kind =
+          e ∙ sym (ap (λ z. word (drop (32 * u.number) z) 0) (sym w.image) ∙ ap (λ (a : Label). a.kind) u.stood.at.head.label)
+
+      go : (f : Option Expr) → Last t.image.now u.number f → FilterOf_xx t.image.now (then_some (ltb n 32) u) f
+      go O.none (no_filter room k) = rw (kind, le-ltb (word (drop (32 * u.number) t.image.now) 0) 32 k) has_none_xx
+      go (some e) (a_filter s pos k) = rw (kind, lt-ltb (word (drop (32 * u.number) t.image.now) 0) 32 k) (has_one_xx w.image s pos)
+
+pub own_there_xx : {s : List ℕ} {u : Subtree} {f : Option Expr} → FilterOf_xx s (P.Some u) f → length s ≤ work_bytes
+    → There u.image.now u.number × (0 < u.number) × (length u.image.now ≤ work_bytes)
+own_there_xx {u = u} (has_one_xx {e = e} here h pos) short =
+    (record { expr = e; standing = subst (λ z. Standing z u.number e) (sym here) h }, pos, rw here short)
+
+pub own_reads_xx : {s : List ℕ} {x : ℕ} {u : Subtree} {k : Kind} {l r : Plan} {on : List Pair} {f : Option Expr} {z : Conjuncts}
+    → Placed s x (join k l r on f)
+    → FilterOf_xx s (P.Some u) f → ((e : Expr) → Standing u.image.now u.number e → Lists u.image.now z (split_conjunction e))
+    → Reads s (schema l ++ schema r) z (split_conjunction? f)
+unfolding split_conjunction? rule list_p
+own_reads_xx {s} {x} {u} {k} {l} {r} {on} {z = z} p (has_one_xx {e = e} here h pos) g =
+    own_reads p (has_one h pos) (λ e' h'. subst (λ b. Lists b z (split_conjunction e')) here
+    (g e' (subst (λ b. Standing b u.number e') (sym here) h')))
+
+pub own_none_xx : {s : List ℕ} {f : Option Expr} {ns : List Name} {z : Conjuncts} → FilterOf_xx s P.None f → Reads s ns z []
+    → Reads s ns z (split_conjunction? f)
+unfolding split_conjunction?
+own_none_xx has_none_xx h = h
 
 -- where there is none
 pub own_none : {s : List ℕ} {f : Option Expr} {ns : List Name} {z : Conjuncts} → FilterOf s P.None f → Reads s ns z []

@@ -1,6 +1,6 @@
 -- What the name rules say of a join's fields: they are few, and no two are one; and a key's partner is one of them.
 -- Assumes nothing.
-use mathlib.Core.Path.{◌≡◌, refl}
+use mathlib.Core.Path.{◌≡◌, refl, ap, subst}
 use mathlib.Core.Bool.{Bool, true, false, ◌||◌, cond}
 use mathlib.Core.List.{List, [], ◌∷◌, ◌++◌}
 use mathlib.Core.Option as O
@@ -9,16 +9,22 @@ use Prim.Native.Nat.{◌≤◌}
 use lib.ListN.{length}
 use borrow.Author.Tests.{leb-true}
 use Rattle.image.specs.Limits.{max_fields}
+use Rattle.image.specs.Subtrees.{tree_of}
+use Rattle.image.specs.Tree.{Tree}
+use Rattle.image.specs.declared.trees.Subtree.{Subtree}
 use Rattle.plan.specs.Columns.{on_cols}
 use Rattle.plan.specs.Lists.{◌&◌, all, any}
 use Rattle.plan.specs.Schema.{has, same, schema, nodup}
 use Rattle.plan.specs.Syntax.{Name, Expr, col, num, bool, nul, bin, neg, test, between, inlist, fn, Pair, Kind, Plan, join}
+use Rattle.plan.specs.Trees.{label_p, kids_p, plan_tree}
 use Rattle.plan.proofs.Lists.{and_l, and_r}
 use Rattle.acceptance.specs.Names.{sound}
 use Rattle.acceptance.proofs.NamesRule.{names_nodup}
 use Rattle.acceptance.specs.NamesRule.{rule, ok}
 use Rattle.rewrite.specs.SimplifyPredicates.{as_column}
 use Rattle.rewrite.specs.PushDownFilter.{pair_of, partner}
+use Rattle.push_down_base.specs.Inputs.{Few, Two}
+use Rattle.push_down_base.proofs.FirstTwo.{two_are}
 use Rattle.push_down_join.specs.Partners.{or_self}
 use Rattle.push_down_join.specs.Scopes.{swap}
 
@@ -87,3 +93,15 @@ module _ (s t : List Name) (x : Name) (held : has (s ++ t) x ≡ true) where
           at true v = back s t z (column_read (has t) k.rhs z eb (and_r _ _ (and_l _ _ h)))
           at false true = front s t y (column_read (has s) k.lhs y ea (and_l _ _ (and_l _ _ h)))
           at false false = rest
+
+-- a join has two inputs
+pub join_two : (t : Subtree) (k : Kind) (l r : Plan) (on : List Pair) (f : Option Expr) → tree_of t ≡ plan_tree (join k l r on f)
+    → Few (tree_of t).below → ⊥
+unfolding kids_p
+join_two t k l r on f h few = subst Few (ap (λ (u : Tree). u.below) h) few
+
+module _ {t a b : Subtree} (w : Two t a b) (k : Kind) (l r : Plan) (on : List Pair) (f : Option Expr) (h : tree_of t ≡ plan_tree (join k l r on f)) where
+  -- they are its first two children
+  pub inputs_are : (tree_of a ≡ plan_tree l) × (tree_of b ≡ plan_tree r)
+  unfolding label_p kids_p
+  inputs_are = two_are w (ap (λ (u : Tree). u.below) h)

@@ -5,11 +5,13 @@
 use mathlib.Core.Path.{◌≡◌, refl, sym, ap, subst, ◌∙◌}
 use mathlib.Core.List.{List, [], ◌∷◌, ◌++◌, append_assoc}
 use mathlib.Core.Option.{Option}
-use Prim.Native.Nat.{ℕ, ◌+◌, ◌-◌, ◌*◌, ◌≤◌}
+use Prim.Native.Nat.{ℕ, ◌+◌, ◌-◌, ◌*◌, ◌≤◌, ◌<◌}
 use lib.ListN.{length, drop}
-use Rattle.image.specs.Limits.{work_bytes, max_list}
-use Rattle.image.specs.Room.{Put, Wrote}
-use Rattle.image.specs.Tree.{Label, none}
+use Rattle.image.specs.Limits.{work_bytes, max_list, max_below, max_level}
+use Rattle.image.specs.Room.{Low, Put, Wrote}
+use Rattle.image.specs.Subtrees.{tree_of}
+use Rattle.image.specs.Tree.{Label, Tree, none}
+use Rattle.image.specs.declared.trees.Subtree.{Subtree}
 use Rattle.image.specs.Word.{word}
 use Rattle.image.specs.Records.{Rec, recs, recs_any}
 use Rattle.plan.specs.Schema.{has, schema}
@@ -18,15 +20,17 @@ use Rattle.plan.specs.Syntax.{Name, Expr, Pair, Kind, inner, left, right, full, 
 use Rattle.plan.specs.Trees.{join_number, label_p, kids_p, plan_tree, each, pair_label, pair_kids, filter_kids}
 use Rattle.conjuncts.specs.Items.{Conjuncts, Known}
 use Rattle.conjuncts.specs.Standing.{StandingP, Stretch}
-use Rattle.writing.specs.Maps.{Maps}
+use Rattle.conjuncts.proofs.Standing.{plan_standing}
+use Rattle.writing.specs.Maps.{Maps, MapsTo}
 use Rattle.writing.specs.Pushed.{Some}
+use Rattle.writing.proofs.Maps.{plan_deep}
 use Rattle.writing.proofs.Pushing.{pushes_of}
 use Rattle.push_down_base.specs.Around.{WroteAll}
 use Rattle.push_down_base.specs.Arms.{Placed}
-use Rattle.push_down_join.specs.JoinPlans.{Moves, Moved, pair_recs, Carries, JoinHere, JoinPart}
+use Rattle.push_down_join.specs.JoinPlans.{Moves, Moved, pair_recs, Carries, Carries_xx, JoinHere, JoinPart}
 use Rattle.push_down_join.specs.Scopes.{Scope, Scopes, Asked, JoinAt}
 use Rattle.push_down_base.specs.Parting.{Reads}
-use Rattle.push_down_join.specs.Sides.{SomeSided, Side}
+use Rattle.push_down_join.specs.Sides.{SomeSided, Side, Side_xx}
 use Rattle.push_down_join.proofs.JoinParts.{pairs_join}
 use Rattle.push_down_base.proofs.Runs.{run_recs}
 use Rattle.push_down_base.proofs.Steps.{left_input}
@@ -51,6 +55,35 @@ module _ {s m : List ℕ} {x z : ℕ} {sc : Scope} {v : Moves} {k : Kind} {l r :
 
   pub kept_some : Some s v.kept
   kept_some = record { mapping = σ; exprs = _; pushes = pushes_of h.moved.kept.lists; most = h.moved.kept.most }
+
+module _ {plan map : Subtree} {sc : Scope} {v : Moves} {k : Kind} {l r : Plan} {on : List Pair} {f : Option Expr} {P G : List Expr}
+    {σ : Name → Expr} (h : Carries_xx plan map sc v k l r on f P G σ) where
+  pub left_side_xx : Side_xx map sc.fields sc.left σ (schema l ++ schema r) (has (schema l))
+  left_side_xx = record { maps = h.maps; names = h.scopes.names; masks = h.scopes.left }
+
+  pub right_side_xx : Side_xx map sc.fields sc.right σ (schema l ++ schema r) (has (schema r))
+  right_side_xx = record { maps = h.maps; names = h.scopes.names; masks = h.scopes.right }
+
+  pub left_some_xx : SomeSided plan.image.now v.left
+  left_some_xx = record { mapping = σ; names = schema l ++ schema r; test = has (schema l); exprs = _; sides = h.moved.left; most = h.left_most }
+
+  pub right_some_xx : SomeSided plan.image.now v.right
+  right_some_xx = record { mapping = σ; names = schema l ++ schema r; test = has (schema r); exprs = _; sides = h.moved.right; most = h.right_most }
+
+  pub conditions_known_xx : Known plan.image.now v.conditions
+  conditions_known_xx = record { exprs = _; lists = h.moved.conditions; most = h.conditions_most }
+
+  pub kept_some_xx : Some plan.image.now v.kept
+  kept_some_xx = record { mapping = σ; exprs = _; pushes = pushes_of h.moved.kept.lists; most = h.moved.kept.most }
+
+  -- its parts may be written where there is room below
+  pub carried_low : (level : ℕ) → level + max_below < max_level → Low level (tree_of plan).below
+  carried_low level lt = record { depth = max_below; deep = plan_deep plan h.standing; low = lt }
+
+-- the pairs that are written are the join's
+pub pairs_are : {t : Tree} {out out₁ : List ℕ} {at n : ℕ} (level : ℕ) (p : Plan) → t ≡ plan_tree p
+    → WroteAll out out₁ at n (pair_recs level t.below) → WroteAll out out₁ at n (pair_recs level (kids_p p))
+pairs_are {out = out} {out₁} {at} {n} level p e w = subst (λ (u : Tree). WroteAll out out₁ at n (pair_recs level u.below)) e w
 
 -- one after the other
 regroup : (x : Rec) (a b y c d : List Rec) → y ≡ c ++ d → x ∷ (a ++ (b ++ y)) ≡ ((((x ∷ []) ++ a) ++ b) ++ c) ++ d
@@ -111,6 +144,11 @@ pub kind_is : {s part : List ℕ} {x n : ℕ} {k : Kind} {l r : Plan} {on : List
 unfolding label_p
 kind_is h e i = i ∙ ap (λ b. word b 4) e ∙ ap (λ (t : Label). t.p) h.here.head.label
 
+pub kind_of : (t : Subtree) {k : Kind} {l r : Plan} {on : List Pair} {f : Option Expr} → StandingP t.image.now t.number (join k l r on f)
+    → (tree_of t).label.p ≡ join_number k
+unfolding label_p
+kind_of t h = ap (λ (u : Tree). u.label.p) (plan_standing t refl refl h)
+
 pub carries : {s m : List ℕ} {x z : ℕ} {sc : Scope} {v : Moves} {k : Kind} {l r : Plan} {on : List Pair} {f : Option Expr} {P G : List Expr}
     {σ : Name → Expr} → Placed s x (join k l r on f) → StandingP s z r × (x ≤ z) → Maps m 0 3 σ → Scopes sc (schema l) (schema r) on
     → Moved s σ v k (schema l) (schema r) on P G → (v.left.len ≤ max_list) × (v.right.len ≤ max_list) × (v.conditions.len ≤ max_list)
@@ -121,6 +159,22 @@ carries h z m sc v few = record {
   first = left_input h.short h.standing;
   second = z.0;
   after = z.1;
+  maps = m;
+  scopes = sc;
+  moved = v;
+  left_most = few.0;
+  right_most = few.1;
+  conditions_most = few.2;
+}
+
+pub carries_xx : {plan map : Subtree} {sc : Scope} {v : Moves} {k : Kind} {l r : Plan} {on : List Pair} {f : Option Expr} {P G : List Expr}
+    {σ : Name → Expr} → Placed plan.image.now plan.number (join k l r on f) → MapsTo map σ → Scopes sc (schema l) (schema r) on
+    → Moved plan.image.now σ v k (schema l) (schema r) on P G
+    → (v.left.len ≤ max_list) × (v.right.len ≤ max_list) × (v.conditions.len ≤ max_list)
+    → Carries_xx plan map sc v k l r on f P G σ
+carries_xx h m sc v few = record {
+  short = h.short;
+  standing = h.standing;
   maps = m;
   scopes = sc;
   moved = v;

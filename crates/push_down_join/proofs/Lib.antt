@@ -11,3 +11,4 @@ pub mod JoinsUnder
 pub mod ScopeSets
 pub mod JoinScope
 pub mod Extracting
+mod Apart

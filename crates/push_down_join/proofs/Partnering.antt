@@ -16,13 +16,16 @@ use borrow.Author.Tests.{eq-eqb, eqb-false, eqb-true, ne_eqb}
 use Rattle.std.specs.Prelude as P
 use Rattle.std.specs.Option.{is_some}
 use Rattle.std.specs.Bool.{then_some}
+use Rattle.image.specs.Subtrees.{tree_of}
 use Rattle.image.specs.Tree.{Label, Forest, none, node}
+use Rattle.image.specs.declared.trees.Subtree.{Subtree}
 use Rattle.image.proofs.Walking.{Turn}
 use Rattle.plan.specs.Lists.{◌&◌}
 use Rattle.plan.specs.Syntax.{Name}
 use Rattle.rewrite.specs.PushDownFilter.{pair_of}
 use Rattle.utils.specs.Fields.{named}
 use Rattle.utils.specs.declared.schema_columns.ColumnReference.{ColumnReference}
+use Rattle.push_down_base.specs.Inputs.{Few, Two}
 use Rattle.push_down_join.specs.Partners.{name_of, column_of, or_else, pair_in, key_in, partner_in}
 
 -- ---- a pair of columns
@@ -97,3 +100,16 @@ module _ (c : P.Option ColumnReference) (x : Name) (l : Label) (cs ns : Forest) 
       rest : (c : P.Option ColumnReference) (o : Option Name) → name_of c ≡ o → is_some c ≡ false → or_else o (partner_in x ns) ≡ partner_in x ns
       rest P.None o e k = rw (← e)
       rest (P.Some y) o e k = cc
+
+-- ---- the first two children of a record
+
+pub few_pair : (z : Name) (f : Forest) → Few f → pair_in z f ≡ O.none
+unfolding pair_in
+few_pair z none h = refl
+few_pair z (node l cs none) h = refl
+few_pair z (node l cs (node m ds ns)) h = absurd h
+
+pub two_pair : {t a b : Subtree} (z : Name) → Two t a b
+    → pair_in z (tree_of t).below ≡ pair_of z (column_of (tree_of a).label) (column_of (tree_of b).label) O.none
+unfolding pair_in
+two_pair z w = rw w.is

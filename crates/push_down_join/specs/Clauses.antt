@@ -1,12 +1,15 @@
 -- What the code says of a clause: that there is one, or that there is none.
 use Rattle.std.specs.Prelude as P
-use Rattle.std.specs.Prelude.{Bool, true, false, cond, ℕ, eqb}
+use Rattle.std.specs.Prelude.{◌≡◌, Bool, true, false, cond, ℕ, eqb}
 use Rattle.std.proofs.Math.Option.{Option, none, some}
+use Rattle.image.specs.Subtrees.{tree_of}
 use Rattle.image.specs.Tree.{Label}
+use Rattle.image.specs.declared.trees.Subtree.{Subtree}
 use Rattle.plan.specs.Kinds.{number_e, Binary}
 use Rattle.plan.specs.Syntax.{Name, Expr, and, or}
-use Rattle.plan.specs.Trees.{op_number}
+use Rattle.plan.specs.Trees.{op_number, label_e, expr_tree}
 use Rattle.rewrite.specs.PushDownFilter.{extract_or_clause, is_or}
+use Rattle.push_down_base.specs.Inputs.{Two}
 use Rattle.push_down_join.specs.declared.extract_or_clause.Connective.{Connective}
 use Rattle.push_down_join.specs.declared.extract_or_clause.Connective.TheVariants.{And, Or}
 
@@ -31,3 +34,15 @@ kept Or x = true
 -- the clause of a conjunct that is an OR at its top
 abbrev pub or_clause : (Name → Bool) → Expr → Option Expr
 or_clause c e = cond (is_or e) (extract_or_clause c e) none
+
+-- ---- taken apart
+
+-- a and b are the operands of t, an And or an Or
+pub record Apart (t : Subtree) (op : Connective) (a b : Subtree) : Type 0 where
+  pub is : P.Some op ≡ operator_of (tree_of t).label
+  pub two : Two t a b
+
+-- the operator of t and its operands, or an expression t is neither an And nor an Or
+abbrev pub Operands : Subtree → P.Option (Connective × Subtree × Subtree) → Type 0
+Operands t P.None = (e : Expr) → tree_of t ≡ expr_tree e → operator_of (label_e e) ≡ P.None
+Operands t (P.Some p) = Apart t p.0 p.1 p.2

@@ -5,6 +5,7 @@ use Rattle.std.proofs.Math.Option as O
 use Rattle.std.proofs.Math.Option.{Option, some}
 use Rattle.image.specs.Limits.{work_bytes, max_list}
 use Rattle.image.specs.Tree.{Forest, none, node}
+use Rattle.image.specs.declared.trees.Subtree.{Subtree}
 use Rattle.image.specs.Records.{Rec, recs}
 use Rattle.plan.specs.Kinds.{number_q, PairPart}
 use Rattle.plan.specs.Schema.{has, schema}
@@ -14,7 +15,7 @@ use Rattle.rewrite.specs.Utils.{with_filters, conjunction}
 use Rattle.rewrite.specs.PushDownFilter.{left_push, right_push, keep_predicates, join_conditions, on_filter_join_conditions, nothing_moves}
 use Rattle.conjuncts.specs.Items.{Conjuncts, Lists}
 use Rattle.conjuncts.specs.Standing.{Standing, StandingP, Stretch}
-use Rattle.writing.specs.Maps.{Maps}
+use Rattle.writing.specs.Maps.{Maps, MapsTo}
 use Rattle.push_down_base.specs.Arms.{Placed, Rests}
 use Rattle.push_down_base.specs.Predicates.{Predicate}
 use Rattle.push_down_base.specs.Plain.{Plain}
@@ -137,3 +138,32 @@ pub record Carried (s m : List ℕ) (x z : ℕ) (sc : Scope) (v : Moves) : Type 
   pub own : List Expr
   pub mapping : Name → Expr
   pub carries : Carries s m x z sc v kind lhs rhs keys condition above own mapping
+
+-- the filter of a join is this tree of the image, or it has none
+pub data FilterOf_xx (s : List ℕ) : P.Option Subtree → Option Expr → Type 0 where
+  has_none_xx : FilterOf_xx s P.None O.none
+  has_one_xx : {t : Subtree} {e : Expr} → t.image.now ≡ s → Standing s t.number e → 0 < t.number → FilterOf_xx s (P.Some t) (some e)
+
+-- plan is the join; sc is its scope, the map swaps its keys, and v are its lists, all whole
+pub record Carries_xx (plan map : Subtree) (sc : Scope) (v : Moves) (k : Kind)
+    (l r : Plan) (on : List Pair) (f : Option Expr) (P G : List Expr) (σ : Name → Expr) : Type 0 where
+  pub short : length plan.image.now ≤ work_bytes
+  pub standing : StandingP plan.image.now plan.number (join k l r on f)
+  pub maps : MapsTo map σ
+  pub scopes : Scopes sc (schema l) (schema r) on
+  pub moved : Moved plan.image.now σ v k (schema l) (schema r) on P G
+  pub left_most : v.left.len ≤ max_list
+  pub right_most : v.right.len ≤ max_list
+  pub conditions_most : v.conditions.len ≤ max_list
+
+-- some join does
+pub record Carried_xx (plan map : Subtree) (sc : Scope) (v : Moves) : Type 0 where
+  pub kind : Kind
+  pub lhs : Plan
+  pub rhs : Plan
+  pub keys : List Pair
+  pub condition : Option Expr
+  pub above : List Expr
+  pub own : List Expr
+  pub mapping : Name → Expr
+  pub carries : Carries_xx plan map sc v kind lhs rhs keys condition above own mapping

@@ -2,18 +2,25 @@
 ghost use Rattle.std.specs.Prelude.{◌≡◌, true, ◌++◌, List, ◌≤◌, length};
 ghost use Rattle.std.proofs.Math.Option.{Option};
 ghost use Rattle.image.specs.Limits.{max_fields};
+ghost use Rattle.image.specs.Subtrees.{tree_of};
 ghost use Rattle.image.specs.Tree.{Forest};
 ghost use Rattle.plan.specs.Schema.{has, nodup, schema};
-ghost use Rattle.plan.specs.Syntax.{Expr, Kind, Name, Pair, Plan};
+ghost use Rattle.plan.specs.Syntax.{Expr, Kind, Name, Pair, Plan, join};
+ghost use Rattle.plan.specs.Trees.{plan_tree};
 ghost use Rattle.rewrite.specs.PushDownFilter.{partner};
 ghost use Rattle.utils.specs.Fields.{Names};
+ghost use Rattle.push_down_base.specs.Arms.{Placed};
+ghost use Rattle.push_down_base.specs.Inputs.{Two};
+ghost use Rattle.push_down_join.specs.JoinPlans.{JoinHere};
 ghost use Rattle.push_down_join.specs.Partners.{Swaps, partner_in};
 ghost use Rattle.push_down_join.specs.Scopes.{JoinAt, Scopes, SomeJoin, swap};
 
-use crate::infer_join_predicates::{Swapped, places_among, swap_keys};
+use crate::infer_join_predicates::{Swapped, places_among, swap_keys, swap_keys_xx};
 use image::limits::MAX_DEPTH;
 use image::records::from_record;
-use utils::schema_columns::{Fields, no_fields, schema_columns};
+use image::trees::Subtree;
+use push_down_base::inputs::first_two;
+use utils::schema_columns::{Fields, no_fields, schema_columns, schema_columns_xx};
 use utils::sets::FieldSet;
 
 // The fields of both inputs of a join, the left one's first; the same with each key's partner in its place; and sets of them: those of each
@@ -61,5 +68,30 @@ pub fn join_scope(part: &[u8], x: usize, z: usize) -> Scope
     let left = schema_columns(from_record(part, x, y), y, MAX_DEPTH, no_fields());
     let fields = schema_columns(from_record(part, x, z), z, MAX_DEPTH, left);
     let swapped = swap_keys(part, x, fields);
+    scope_of(fields, left.len, swapped)
+}
+
+// The inputs of a join.
+pub fn inputs(plan: Subtree) -> (Subtree, Subtree)
+    ensures { (k : Kind) (l r : Plan) (on : List Pair) (f : Option Expr) → tree_of plan.entry ≡ plan_tree (join k l r on f) →
+        Two plan.entry result.0 result.1 }
+{
+    match first_two(plan) {
+        Some(two) => two,
+        // Each join has two.
+        None => (plan, plan),
+    }
+}
+
+// The fields of a join.
+pub fn join_scope_xx(plan: Subtree) -> Scope
+    requires { JoinHere plan.image.now plan.number }
+    ensures { (k : Kind) (l r : Plan) (on : List Pair) (f : Option Expr) →
+        Placed plan.entry.image.now plan.entry.number (join k l r on f) → Scopes result (schema l) (schema r) on }
+{
+    let (lhs, rhs) = inputs(plan);
+    let left = schema_columns_xx(lhs, no_fields());
+    let fields = schema_columns_xx(rhs, left);
+    let swapped = swap_keys_xx(plan, fields);
     scope_of(fields, left.len, swapped)
 }

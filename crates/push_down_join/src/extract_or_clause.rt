@@ -2,7 +2,8 @@
 ghost use Rattle.std.specs.Prelude.{◌≡◌, Bool, true, ◌++◌, List, ◌+◌, ◌<◌, ◌≤◌, length};
 ghost use Rattle.std.proofs.Math.Option.{some};
 ghost use Rattle.image.specs.Limits.{Shallow, max_fields, max_level, work_bytes};
-ghost use Rattle.image.specs.Room.{Wrote};
+ghost use Rattle.image.specs.Room.{Low, Wrote};
+ghost use Rattle.image.specs.Subtrees.{tree_of};
 ghost use Rattle.image.specs.Tree.{At, label_at};
 ghost use Rattle.plan.specs.Columns.{on_cols};
 ghost use Rattle.plan.specs.Lists.{All};
@@ -14,18 +15,20 @@ ghost use Rattle.conjuncts.specs.Items.{Item, Known, Lists, Present};
 ghost use Rattle.conjuncts.specs.Standing.{ReadableE, Standing, There};
 ghost use Rattle.utils.specs.Fields.{Names};
 ghost use Rattle.utils.specs.Masks.{Masks};
-ghost use Rattle.push_down_join.specs.Clauses.{kept, operator_of, or_clause, yields};
+ghost use Rattle.push_down_join.specs.Clauses.{Operands, kept, operator_of, or_clause, yields};
 ghost use Rattle.push_down_join.specs.Sides.{Sides};
 
 use conjuncts::items::CLAUSE;
 use conjuncts::lists::{Conjuncts, add};
-use image::copying::{copy_tree, put_label};
+use image::copying::{Writer, copy_tree, put_label};
 use image::limits::{MAX_DEPTH, MAX_RECORDS, NO_ROOM};
 use image::records::{FIRST_LINK, KIND, NEXT_LINK, P, from_record, record_at};
+use image::trees::Subtree;
 use image::words::word_at;
 use plan::kinds::BINARY_EXPR;
 use plan::words::{AND, OR};
-use utils::has_all_column_refs::has_all_column_refs;
+use push_down_base::inputs::first_two;
+use utils::has_all_column_refs::{has_all_column_refs, has_all_column_refs_xx};
 use utils::schema_columns::Fields;
 use utils::sets::FieldSet;
 
@@ -214,4 +217,116 @@ pub fn copy_or_clause(
         → Wrote out.old out.new at level result (expr_tree clause) }
 {
     copy_clause(record_at(s, n), n, MAX_DEPTH, f, side, out, at, level)
+}
+
+// The operator of an expression, if it is And or Or.
+#[tactic(auto, unfolding(crate::specs::Clauses::operator_of))]
+pub fn operator_xx(tree: Subtree) -> Option<Connective>
+    ensures { result ≡ operator_of (tree_of tree.entry).label }
+{
+    let l = tree.label();
+    if l.kind != BINARY_EXPR {
+        return None;
+    }
+    match l.p {
+        AND => Some(Connective::And),
+        OR => Some(Connective::Or),
+        _ => None,
+    }
+}
+
+// An And or an Or, taken apart.
+fn operands(tree: Subtree) -> Option<(Connective, Subtree, Subtree)>
+    ensures { Operands tree.entry result }
+{
+    let op = operator_xx(tree)?;
+    let (left, right) = first_two(tree)?;
+    Some((op, left, right))
+}
+
+// Whether an expression yields a clause that reads fields of the side only; `copy_clause` writes it.
+// An AND keeps each operand that yields, an OR yields only if both its operands do.
+pub fn extract_or_clause_xx(tree: Subtree, f: Fields, side: FieldSet) -> bool
+    requires { f.len ≤ max_fields }
+    ensures { (e : Expr) (ns : List Name) (c : Name → Bool) → tree_of tree.entry ≡ expr_tree e → Names f ns
+        → on_cols (has ns) e ≡ true → Masks side ns c → result ≡ yields (extract_or_clause c e) }
+{
+    let Some((op, left, right)) = operands(tree) else {
+        return has_all_column_refs_xx(tree, f, side);
+    };
+    match op {
+        Connective::And => {
+            extract_or_clause_xx(left, f, side) || extract_or_clause_xx(right, f, side)
+        }
+        Connective::Or => {
+            extract_or_clause_xx(left, f, side) && extract_or_clause_xx(right, f, side)
+        }
+    }
+}
+
+// Whether an operand is part of the clause of an AND or OR that yields one: of an OR each is, of an AND each that yields.
+fn is_kept_xx(op: Connective, tree: Subtree, f: Fields, side: FieldSet) -> bool
+    requires { f.len ≤ max_fields }
+    ensures { (e : Expr) (ns : List Name) (c : Name → Bool) → tree_of tree.entry ≡ expr_tree e → Names f ns
+        → on_cols (has ns) e ≡ true → Masks side ns c → result ≡ kept op (extract_or_clause c e) }
+{
+    match op {
+        Connective::And => extract_or_clause_xx(tree, f, side),
+        Connective::Or => true,
+    }
+}
+
+// Writes that clause. There must be one.
+pub fn copy_clause_xx(tree: Subtree, f: Fields, side: FieldSet, out: &mut Writer, level: usize)
+    requires len_le_max_fields { f.len ≤ max_fields }
+    requires low { Low (level + 1) (tree_of tree).below }
+    ensures same { out.new.bytes.ghost_name ≡ out.old.bytes.ghost_name }
+    ensures wrote { (e clause : Expr) (ns : List Name) (c : Name → Bool) → tree_of tree.entry ≡ expr_tree e → Names f ns
+        → on_cols (has ns) e ≡ true → Masks side ns c → extract_or_clause c e ≡ some clause
+        → Wrote out.old.bytes.now out.new.bytes.now out.old.next level out.new.next (expr_tree clause) }
+{
+    // Past the buffer's end nothing is written, and no record need be looked at.
+    if MAX_RECORDS <= out.next {
+        out.next = NO_ROOM;
+        return;
+    }
+    let Some((op, left, right)) = operands(tree) else {
+        out.copy_tree(tree, level);
+        return;
+    };
+    if !is_kept_xx(op, left, f, side) {
+        copy_clause_xx(right, f, side, out, level);
+        return;
+    }
+    if !is_kept_xx(op, right, f, side) {
+        copy_clause_xx(left, f, side, out, level);
+        return;
+    }
+    out.put(tree.label(), level);
+    copy_clause_xx(left, f, side, out, level + 1);
+    copy_clause_xx(right, f, side, out, level + 1);
+}
+
+// Writes the clause of the conjunct at record n. There must be one.
+pub fn copy_or_clause_xx(
+    s: &[u8],
+    n: usize,
+    f: Fields,
+    side: FieldSet,
+    out: &mut Writer,
+    level: usize,
+)
+    requires there { There s.now n }
+    requires len_le_max_fields { f.len ≤ max_fields }
+    requires shallow { Shallow 1 level }
+    ensures same { out.new.bytes.ghost_name ≡ out.old.bytes.ghost_name }
+    ensures wrote { (e clause : Expr) (ns : List Name) (c : Name → Bool) → Standing s.now n e → Names f ns
+        → on_cols (has ns) e ≡ true → Masks side ns c → or_clause c e ≡ some clause
+        → Wrote out.old.bytes.now out.new.bytes.now out.old.next level out.new.next (expr_tree clause) }
+{
+    let tree = Subtree {
+        image: s,
+        number: n,
+    };
+    copy_clause_xx(tree, f, side, out, level);
 }

@@ -3,6 +3,7 @@ ghost use Rattle.std.specs.Prelude.{◌≡◌, not, ◌++◌, List, ◌+◌, ◌
 ghost use Rattle.std.proofs.Math.Option.{none};
 ghost use Rattle.std.specs.Bool.{then_some};
 ghost use Rattle.image.specs.Limits.{max_fields};
+ghost use Rattle.image.specs.Subtrees.{tree_of};
 ghost use Rattle.image.specs.Tree.{At, Readable, Tree, label_at};
 ghost use Rattle.image.specs.Word.{word};
 ghost use Rattle.plan.specs.Syntax.{Expr, Name, Pair};
@@ -18,9 +19,11 @@ use crate::column_checker::Scope;
 use crate::lr_is_preserved::is_inner;
 use conjuncts::lists::{Conjuncts, empty};
 use image::records::{FIRST_LINK, KIND, NEXT_LINK, from_record, label_at};
+use image::trees::Subtree;
 use image::words::{wide, word_at};
 use plan::kinds::{COLUMN, PAIR};
 use plan::words::JoinKind;
+use push_down_base::inputs::first_two;
 use push_down_base::parting::select_side;
 use utils::schema_columns::{ColumnReference, Fields, no_fields, place_in};
 use utils::sets::FieldSet;
@@ -143,4 +146,54 @@ pub fn places_among(fields: Fields, to: Fields, k: usize) -> FieldSet
         set = set.mark(i, place < k);
     }
     set
+}
+
+// The name of an expression, if it is a column.
+fn as_column_xx(tree: Subtree) -> Option<ColumnReference>
+    ensures { name_of result ≡ column_of (tree_of tree.entry).label }
+{
+    let l = tree.label();
+    (l.kind == COLUMN).then(|| ColumnReference {
+        q: l.p as u32,
+        n: l.q as u32,
+    })
+}
+
+// The partner of the column x in a part of a join, if that is a pair of keys.
+fn partner_in_xx(part: Subtree, x: ColumnReference) -> Option<ColumnReference>
+    ensures { name_of result ≡ key_in (named x) (tree_of part.entry).label (tree_of part.entry).below }
+{
+    if part.kind() != PAIR {
+        return None;
+    }
+    let (left, right) = first_two(part)?;
+    pair_of(as_column_xx(left), as_column_xx(right), x)
+}
+
+// The partner of the column x in the first pair of keys of a join that holds it.
+fn partner_xx(plan: Subtree, x: ColumnReference) -> Option<ColumnReference>
+    ensures { name_of result ≡ partner_in (named x) (tree_of plan.entry).below }
+{
+    for child in plan.children() {
+        let found = partner_in_xx(child, x);
+        if found.is_some() {
+            return found;
+        }
+    }
+    None
+}
+
+// The partners of the fields by the keys of a join.
+pub fn swap_keys_xx(plan: Subtree, fields: Fields) -> Swapped
+    requires { fields.len ≤ max_fields }
+    ensures { (ns : List Name) → Names fields ns → Swaps result (tree_of plan.entry).below ns }
+{
+    let mut to = no_fields();
+    let mut alone = FieldSet::empty();
+    for (i, x) in fields.items().iter().enumerate() {
+        let found = partner_xx(plan, *x);
+        to.push(found.unwrap_or(*x));
+        alone = alone.mark(i, found.is_none());
+    }
+    Swapped { to, alone }
 }

@@ -12,33 +12,35 @@ ghost use Rattle.conjuncts.specs.Items.{Holds, clause_by};
 ghost use Rattle.conjuncts.specs.Standing.{StandingP, Stretch};
 ghost use Rattle.utils.specs.Fields.{Names};
 ghost use Rattle.utils.specs.Masks.{Masks};
-ghost use Rattle.push_down_base.specs.Arms.{Answers, ArmOver, Placed, Rests};
+ghost use Rattle.push_down_base.specs.Arms.{Answers, ArmOver, ArmOver_xx, Placed, Rests};
 ghost use Rattle.push_down_base.specs.Parting.{Reads};
 ghost use Rattle.push_down_base.specs.Plain.{Plain};
-ghost use Rattle.push_down_join.specs.JoinPlans.{FilterOf, JoinBetween, JoinHere, JoinPart, JoinUnder, Moved, OverJoin};
+ghost use Rattle.push_down_join.specs.JoinPlans.{FilterOf, FilterOf_xx, JoinBetween, JoinHere, JoinPart, JoinUnder, Moved, OverJoin};
 ghost use Rattle.push_down_join.specs.Parts.{Parted, PartsOf, Wholes};
 ghost use Rattle.push_down_join.specs.Scopes.{Asked, Scopes, Swapper};
 ghost use Rattle.push_down_join.specs.Sides.{Sides, Smalls};
 
-use crate::column_checker::{Scope, join_scope};
+use crate::column_checker::{Scope, join_scope, join_scope_xx};
 use crate::extract_or_clause::extract_or_clauses_for_join;
 use crate::infer_join_predicates::infer_join_predicates;
 use crate::lr_is_preserved::{Preserved, is_inner, lr_is_preserved, on_lr_is_preserved};
-use crate::write_sides::{Moves, write_kept};
+use crate::write_sides::{Moves, write_kept, write_kept_xx};
 use conjuncts::items::REPLACED;
 use conjuncts::lists::{Conjuncts, add, empty};
-use conjuncts::split_conjunction::split_at;
+use conjuncts::split_conjunction::{split_at, split_conjunction_xx};
+use image::copying::Writer;
 use image::limits::{MAX_LIST, NO_ROOM};
 use image::records::{KIND, NEXT_LINK, P, from_record};
+use image::trees::Subtree;
 use image::words::word_at;
 use plan::kinds::FIRST_PLAN;
 use plan::words::JoinKind;
-use push_down_base::inputs::last_child;
+use push_down_base::inputs::{last_child, last_child_xx};
 use push_down_base::parting::{push_to, select_side};
 use push_down_base::predicates::{Predicate, Written};
 use utils::schema_columns::Fields;
 use utils::sets::FieldSet;
-use writing::renames::write_renames;
+use writing::renames::{write_renames, write_renames_xx};
 
 // Appends the items of c, each with so much more.
 pub fn append(to: Conjuncts, c: Conjuncts, more: usize) -> Conjuncts
@@ -277,4 +279,110 @@ pub fn rewrite_join(
 {
     let list = p.list;
     push_down_join(s, part, x, list, m, out, at, level)
+}
+
+// The kind of a join.
+pub fn join_kind_xx(plan: Subtree) -> JoinKind
+    ensures { (k : Kind) (l r : Plan) (on : List Pair) (f : Option Expr) →
+        Placed plan.entry.image.now plan.entry.number (join k l r on f) → join_of result ≡ k }
+{
+    JoinKind::of(plan.label().p)
+}
+
+// Its filter, if it has one: it is the last child, and the only one that is an expression.
+pub fn filter_of_xx(plan: Subtree) -> Option<Subtree>
+    requires { JoinHere plan.image.now plan.number }
+    ensures { (k : Kind) (l r : Plan) (on : List Pair) (f : Option Expr) →
+        Placed plan.entry.image.now plan.entry.number (join k l r on f) → FilterOf_xx plan.entry.image.now result f }
+{
+    let last = last_child_xx(plan);
+    (last.kind() < FIRST_PLAN).then_some(last)
+}
+
+// The conjuncts of that filter.
+pub fn own_filter_xx(plan: Subtree) -> Conjuncts
+    requires { JoinHere plan.image.now plan.number }
+    ensures { (k : Kind) (l r : Plan) (on : List Pair) (f : Option Expr) →
+        Placed plan.entry.image.now plan.entry.number (join k l r on f) →
+        Reads plan.entry.image.now (schema l ++ schema r) result (split_conjunction? f) }
+{
+    match filter_of_xx(plan) {
+        Some(filter) => split_conjunction_xx(filter, empty()),
+        None => empty(),
+    }
+}
+
+// push_down_all_join: c is the predicates above a join, g those of its own filter.
+fn push_down_all_join_xx(
+    plan: Subtree,
+    c: Conjuncts,
+    g: Conjuncts,
+    m: &mut [u8],
+    out: &mut Writer,
+    level: usize,
+) -> bool
+    requires join_between { JoinBetween plan.image.now plan.number c g }
+    requires arm_over { ArmOver_xx m.old level }
+    ensures same { out.new.bytes.ghost_name ≡ out.old.bytes.ghost_name }
+    ensures answers { (k : Kind) (l r : Plan) (on : List Pair) (f : Option Expr) (P G : List Expr) →
+        Placed plan.entry.image.now plan.entry.number (join k l r on f) →
+        Reads plan.entry.image.now (schema l ++ schema r) c P →
+        Reads plan.entry.image.now (schema l ++ schema r) g G → Plain P → Plain G →
+        Answers out.old.bytes.now out.new.bytes.now out.old.next level (record { next = out.new.next; flag = result })
+        (push_down_all_join k l r on P G) }
+{
+    let sc = join_scope_xx(plan);
+    let kind = join_kind_xx(plan);
+    let v = moves_of(plan.image, c, g, &sc, kind);
+    // A list that is too long is written nowhere.
+    if !fits(v) {
+        out.next = NO_ROOM;
+        return v.flag;
+    }
+    write_renames_xx(sc.fields, sc.to, m);
+    let map = Subtree {
+        image: m,
+        number: 0,
+    };
+    write_kept_xx(plan, map, v, &sc, out, level);
+    v.flag
+}
+
+// push_down_join: c is the predicates above a join, none for the Join node itself.
+pub fn push_down_join_xx(
+    plan: Subtree,
+    c: Conjuncts,
+    m: &mut [u8],
+    out: &mut Writer,
+    level: usize,
+) -> bool
+    requires join_under { JoinUnder plan.image.now plan.number c }
+    requires arm_over { ArmOver_xx m.old level }
+    ensures same { out.new.bytes.ghost_name ≡ out.old.bytes.ghost_name }
+    ensures answers { (k : Kind) (l q : Plan) (on : List Pair) (f : Option Expr) (P : List Expr) →
+        Placed plan.entry.image.now plan.entry.number (join k l q on f) →
+        Reads plan.entry.image.now (schema l ++ schema q) c P → Plain P →
+        Answers out.old.bytes.now out.new.bytes.now out.old.next level (record { next = out.new.next; flag = result })
+        (push_down_join k l q on f P) }
+{
+    push_down_all_join_xx(plan, c, own_filter_xx(plan), m, out, level)
+}
+
+// Filter over Join: the predicate's conjuncts are the predicates above it.
+pub fn rewrite_join_xx(
+    plan: Subtree,
+    p: Predicate,
+    m: &mut [u8],
+    out: &mut Writer,
+    level: usize,
+) -> bool
+    requires over_join { OverJoin plan.image.now plan.number p }
+    requires arm_over { ArmOver_xx m.old level }
+    ensures same { out.new.bytes.ghost_name ≡ out.old.bytes.ghost_name }
+    ensures answers { (e : Expr) (k : Kind) (l q : Plan) (on : List Pair) (f : Option Expr) →
+        Rests plan.entry.image.now plan.entry.number p e (join k l q on f) →
+        Answers out.old.bytes.now out.new.bytes.now out.old.next level (record { next = out.new.next; flag = result })
+        (rewrite_filter e (join k l q on f)) }
+{
+    push_down_join_xx(plan, p.list, m, out, level)
 }

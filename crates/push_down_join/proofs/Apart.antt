@@ -1,0 +1,207 @@
+-- Expressions that stand in an image, taken apart, and what the clauses of their operands make.
+--     sides_and, ..   the operands of an AND or an OR
+--     other_yields, and_yields, ..    whether they yield
+--     only_last, ..   which operands are part of the clause
+--     or_top, ..      the conjuncts that are an OR at their top
+-- Assumes nothing.
+use mathlib.Core.Path.{◌≡◌, refl, sym, ap, subst, ◌∙◌}
+use mathlib.Core.Bool.{Bool, true, false, ◌||◌, ◌&&◌}
+use mathlib.Core.List.{List}
+use mathlib.Core.Option.{Option, none, some}
+use Rattle.std.specs.Prelude as P
+use Rattle.image.specs.Subtrees.{tree_of}
+use Rattle.image.specs.Tree.{Tree}
+use Rattle.image.specs.declared.trees.Subtree.{Subtree}
+use Rattle.plan.specs.Columns.{on_cols}
+use Rattle.plan.specs.Schema.{has}
+use Rattle.plan.specs.Syntax.{Name, Op, and, or, Expr, bin}
+use Rattle.plan.specs.Trees.{label_e, kids_e, expr_tree}
+use Rattle.plan.proofs.Lists.{and_l, and_r}
+use Rattle.rewrite.specs.PushDownFilter.{both_or, either_and_option, extract_or_clause}
+use Rattle.push_down_base.specs.Inputs.{Few, Two}
+use Rattle.push_down_base.proofs.FirstTwo.{two_are}
+use Rattle.push_down_join.specs.Clauses.{operator_of, yields, kept, Apart}
+use Rattle.push_down_join.specs.declared.extract_or_clause.Connective.{Connective}
+use Rattle.push_down_join.specs.declared.extract_or_clause.Connective.TheVariants.{And, Or}
+use Rattle.push_down_join.proofs.Extracting.{Operated, conj, disj, other, operated, differ, never, kept_or, kept_some}
+
+-- ---- the operands
+
+-- the expression is o of two others, which stand there
+pub record Sides (o : Op) (e : Expr) (a b : Subtree) : Type 0 where
+  pub lhs : Expr
+  pub rhs : Expr
+  pub is : e ≡ bin o lhs rhs
+  pub left : tree_of a ≡ expr_tree lhs
+  pub right : tree_of b ≡ expr_tree rhs
+
+sides : {t a b : Subtree} (o : Op) (e x y : Expr) → Two t a b → e ≡ bin o x y → tree_of t ≡ expr_tree e → Sides o e a b
+unfolding label_e kids_e
+sides {t} {a} {b} o e x y w is h =
+    let below : (tree_of t).below ≡ kids_e (bin o x y) = ap (λ (u : Tree). u.below) h ∙ ap kids_e is in
+    let k : (tree_of a ≡ expr_tree x) × (tree_of b ≡ expr_tree y) = two_are w below in
+    record { lhs = x; rhs = y; is = is; left = k.0; right = k.1 }
+
+module _ {t a b : Subtree} {op : Connective} (w : Apart t op a b) (e : Expr) (h : tree_of t ≡ expr_tree e) where
+  top : P.Some op ≡ operator_of (label_e e)
+  top = w.is ∙ ap (λ (u : Tree). operator_of u.label) h
+
+  pub sides_and : op ≡ And → Sides and e a b
+  sides_and one = go top (operated e)
+    where
+      go : P.Some op ≡ operator_of (label_e e) → Operated e (operator_of (label_e e)) → Sides and e a b
+      go q (conj x y k is) = sides and e x y w.two is h
+      go q (disj x y k is) = absurd (cc)
+      go q (other k is) = absurd (cc)
+
+  pub sides_or : op ≡ Or → Sides or e a b
+  sides_or two = go top (operated e)
+    where
+      go : P.Some op ≡ operator_of (label_e e) → Operated e (operator_of (label_e e)) → Sides or e a b
+      go q (conj x y k is) = absurd (cc)
+      go q (disj x y k is) = sides or e x y w.two is h
+      go q (other k is) = absurd (cc)
+
+module _ {o : Op} {e : Expr} {a b : Subtree} (u : Sides o e a b) where
+  -- the columns of the operands
+  pub held_left : (c : Name → Bool) → on_cols c e ≡ true → on_cols c u.lhs ≡ true
+  unfolding on_cols
+  held_left c h = and_l (on_cols c u.lhs) (on_cols c u.rhs) (rw u.is at h)
+
+  pub held_right : (c : Name → Bool) → on_cols c e ≡ true → on_cols c u.rhs ≡ true
+  unfolding on_cols
+  held_right c h = and_r (on_cols c u.lhs) (on_cols c u.rhs) (rw u.is at h)
+
+-- an expression over fewer trees has no operator
+pub few_whole : (t : Subtree) → Few (tree_of t).below → (e : Expr) → tree_of t ≡ expr_tree e → operator_of (label_e e) ≡ P.None
+unfolding kids_e
+few_whole t few e h = go (operated e)
+  where
+    over : (x y : Expr) (o : Op) → e ≡ bin o x y → ⊥
+    over x y o is =
+        let below : (tree_of t).below ≡ kids_e (bin o x y) = ap (λ (u : Tree). u.below) h ∙ ap kids_e is in
+        subst Few below few
+
+    go : Operated e (operator_of (label_e e)) → operator_of (label_e e) ≡ P.None
+    go (conj x y k is) = absurd (over x y and is)
+    go (disj x y k is) = absurd (over x y or is)
+    go (other k is) = k
+
+-- ---- what the operands' clauses make
+
+module _ (c : Name → Bool) {e : Expr} {a b : Subtree} where
+  of_or : (u : Sides or e a b) → extract_or_clause c e ≡ both_or (extract_or_clause c u.lhs) (extract_or_clause c u.rhs)
+  unfolding extract_or_clause
+  of_or u = ap (extract_or_clause c) u.is
+
+  of_and : (u : Sides and e a b) → extract_or_clause c e ≡ either_and_option (extract_or_clause c u.lhs) (extract_or_clause c u.rhs)
+  unfolding extract_or_clause
+  of_and u = ap (extract_or_clause c) u.is
+
+  -- an OR yields if both its operands do
+  pub or_yields : (u : Sides or e a b) → (yields (extract_or_clause c u.lhs) && yields (extract_or_clause c u.rhs)) ≡ yields (extract_or_clause c e)
+  unfolding both_or
+  or_yields u = sym (ap yields (of_or u) ∙ go (extract_or_clause c u.lhs) (extract_or_clause c u.rhs))
+    where
+      go : (a b : Option Expr) → yields (both_or a b) ≡ (yields a && yields b)
+      go none b = refl
+      go (some a) none = refl
+      go (some a) (some b) = refl
+
+  -- an AND keeps each operand that yields
+  pub and_yields : (u : Sides and e a b) → (yields (extract_or_clause c u.lhs) || yields (extract_or_clause c u.rhs)) ≡ yields (extract_or_clause c e)
+  unfolding either_and_option
+  and_yields u = sym (ap yields (of_and u) ∙ go (extract_or_clause c u.lhs) (extract_or_clause c u.rhs))
+    where
+      go : (a b : Option Expr) → yields (either_and_option a b) ≡ (yields a || yields b)
+      go none b = refl
+      go (some a) none = refl
+      go (some a) (some b) = refl
+
+-- ---- which operands are part of the clause
+
+-- an operand with its clause
+pub record Half (a : Subtree) (ns : List Name) (c : Name → Bool) (clause : Expr) : Type 0 where
+  pub expr : Expr
+  pub is : tree_of a ≡ expr_tree expr
+  pub held : on_cols (has ns) expr ≡ true
+  pub yields : extract_or_clause c expr ≡ some clause
+
+-- both operands, of which a clause is made
+pub record Both (a b : Subtree) (ns : List Name) (c : Name → Bool) (e clause : Expr) : Type 0 where
+  pub op : Op
+  pub lhs : Expr
+  pub rhs : Expr
+  pub first : Half a ns c lhs
+  pub last : Half b ns c rhs
+  pub is : clause ≡ bin op lhs rhs
+  pub label : label_e e ≡ label_e (bin op lhs rhs)
+
+module _ {t a b : Subtree} {op : Connective} (w : Apart t op a b) (ns : List Name) (c : Name → Bool) (e d : Expr)
+    (h : tree_of t ≡ expr_tree e) (held : on_cols (has ns) e ≡ true) (gives : extract_or_clause c e ≡ some d) where
+  first_of : {o : Op} {x : Expr} (u : Sides o e a b) → extract_or_clause c u.lhs ≡ some x → Half a ns c x
+  first_of u k = record { expr = u.lhs; is = u.left; held = held_left u (has ns) held; yields = k }
+
+  last_of : {o : Op} {x : Expr} (u : Sides o e a b) → extract_or_clause c u.rhs ≡ some x → Half b ns c x
+  last_of u k = record { expr = u.rhs; is = u.right; held = held_right u (has ns) held; yields = k }
+
+  -- by the operator
+  by_op : {A : Type 0} → (op ≡ And → Sides and e a b → A) → (op ≡ Or → Sides or e a b → A) → A
+  by_op {A} f g = go (w.is ∙ ap (λ (u : Tree). operator_of u.label) h) (operated e)
+    where
+      go : P.Some op ≡ operator_of (label_e e) → Operated e (operator_of (label_e e)) → A
+      go n (conj x y k z) = f (cc) (sides and e x y w.two z h)
+      go n (disj x y k z) = g (cc) (sides or e x y w.two z h)
+      go n (other k z) = absurd (cc)
+
+  -- the first is not: it is an AND, and the clause is that of the second
+  pub only_last : ((x : Expr) → tree_of a ≡ expr_tree x → on_cols (has ns) x ≡ true → false ≡ kept op (extract_or_clause c x)) → Half b ns c d
+  unfolding either_and_option
+  only_last f =
+      by_op (λ one u. last_of u (go (extract_or_clause c u.lhs) (extract_or_clause c u.rhs)
+      (f u.lhs u.left (held_left u (has ns) held)) (sym (of_and c u) ∙ gives)))
+      (λ two u. differ (kept_or (extract_or_clause c u.lhs) two) (f u.lhs u.left (held_left u (has ns) held)))
+    where
+      go : (x y : Option Expr) → false ≡ kept op x → either_and_option x y ≡ some d → y ≡ some d
+      go none y k m = m
+      go (some x) y k m = differ (sym (kept_some op x)) k
+
+  -- the second is not: it is an AND, and the clause is that of the first
+  pub only_first : ((x : Expr) → tree_of b ≡ expr_tree x → on_cols (has ns) x ≡ true → false ≡ kept op (extract_or_clause c x)) → Half a ns c d
+  unfolding either_and_option
+  only_first f =
+      by_op (λ one u. first_of u (go (extract_or_clause c u.lhs) (extract_or_clause c u.rhs)
+      (f u.rhs u.right (held_right u (has ns) held)) (sym (of_and c u) ∙ gives)))
+      (λ two u. differ (kept_or (extract_or_clause c u.rhs) two) (f u.rhs u.right (held_right u (has ns) held)))
+    where
+      go : (x y : Option Expr) → false ≡ kept op y → either_and_option x y ≡ some d → x ≡ some d
+      go x (some y) k m = differ (sym (kept_some op y)) k
+      go none none k m = m
+      go (some x) none k m = m
+
+  -- both are
+  pub both_of : ((x : Expr) → tree_of a ≡ expr_tree x → on_cols (has ns) x ≡ true → true ≡ kept op (extract_or_clause c x))
+      → ((x : Expr) → tree_of b ≡ expr_tree x → on_cols (has ns) x ≡ true → true ≡ kept op (extract_or_clause c x)) → Both a b ns c e d
+  unfolding either_and_option both_or label_e
+  both_of f g =
+      by_op (λ one u. anded one u (extract_or_clause c u.lhs) (extract_or_clause c u.rhs) refl refl
+      (f u.lhs u.left (held_left u (has ns) held)) (g u.rhs u.right (held_right u (has ns) held))
+      (sym (of_and c u) ∙ gives))
+      (λ two u. ored u (extract_or_clause c u.lhs) (extract_or_clause c u.rhs) refl refl (sym (of_or c u) ∙ gives))
+    where
+      none_kept : op ≡ And → kept op none ≡ false
+      none_kept one = rw one refl
+
+      anded : op ≡ And → (u : Sides and e a b) (x y : Option Expr) → extract_or_clause c u.lhs ≡ x → extract_or_clause c u.rhs ≡ y
+          → true ≡ kept op x → true ≡ kept op y → either_and_option x y ≡ some d → Both a b ns c e d
+      anded one u none y i j k l m = differ k (sym (none_kept one))
+      anded one u (some x) none i j k l m = differ l (sym (none_kept one))
+      anded one u (some x) (some y) i j k l m =
+          record { op = and; lhs = x; rhs = y; first = first_of u i; last = last_of u j; is = cc; label = rw u.is }
+
+      ored : (u : Sides or e a b) (x y : Option Expr) → extract_or_clause c u.lhs ≡ x → extract_or_clause c u.rhs ≡ y
+          → both_or x y ≡ some d → Both a b ns c e d
+      ored u none y i j m = never m
+      ored u (some x) none i j m = never m
+      ored u (some x) (some y) i j m =
+          record { op = or; lhs = x; rhs = y; first = first_of u i; last = last_of u j; is = cc; label = rw u.is }
