@@ -11,7 +11,7 @@ pub mod Literals
 pub mod Rights
 pub mod PlanOf
 pub mod FieldSources
-pub mod Fronts
 pub mod Planning
+pub mod Turns
 pub mod Inputting
 pub mod Nth

@@ -1,7 +1,9 @@
 -- The plans among the children of a record: its inputs.
-use Rattle.std.specs.Prelude.{◌≡◌, true, List, [], ℕ, ◌≤◌, drop}
-use Rattle.image.specs.Tree.{Forest, none, node, Tree, Linked}
+use Rattle.std.specs.Prelude.{◌≡◌, true, List, [], ℕ, ◌≤◌, drop, Option, None, Some}
+use Rattle.image.specs.Tree.{Forest, none, node, Tree, Linked, size}
 use Rattle.image.specs.Places.{left}
+use Rattle.image.specs.Subtrees.{tree_of}
+use Rattle.image.specs.declared.trees.Subtree.{Subtree}
 use Rattle.plan.specs.Lists.{put}
 use Rattle.plan.specs.Kinds.{is_plan}
 
@@ -9,6 +11,20 @@ use Rattle.plan.specs.Kinds.{is_plan}
 unfoldable pub plans_in : Forest → List Tree
 plans_in none = []
 plans_in (node l cs ns) = put (is_plan l) (record { label = l; below = cs }) (plans_in ns)
+
+-- t is the plan with the place `skip` of the forest f: the first of the trees from it on
+pub record PlanAt (f : Forest) (skip : ℕ) (t : Tree) : Type 0 where
+  pub trees : Forest
+  pub after : Forest
+  pub first : trees ≡ node t.label t.below after
+  pub is : is_plan t.label ≡ true
+  pub plans : drop skip (plans_in f) ≡ plans_in trees
+  pub fewer : size trees ≤ size f
+
+-- there is none, or it is t
+abbrev pub PlansAt : Forest → ℕ → Option Subtree → Type 0
+PlansAt f skip None = drop skip (plans_in f) ≡ []
+PlansAt f skip (Some t) = PlanAt f skip (tree_of t)
 
 -- the forest begins with a plan, or is none
 abbrev pub Begins : Forest → Type 0

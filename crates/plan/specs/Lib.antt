@@ -14,6 +14,4 @@ pub mod Integers
 pub mod Values
 pub mod WordValues
 pub mod FieldSources
-pub mod Chains
 pub mod Inputs
-pub mod Siblings

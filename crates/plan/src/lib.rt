@@ -5,7 +5,6 @@
 pub mod field_sources;
 pub mod inputs;
 pub mod kinds;
-pub mod siblings;
 pub mod values;
 pub mod word_ranges;
 pub mod words;
