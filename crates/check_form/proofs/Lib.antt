@@ -3,6 +3,5 @@ pub mod Patterned
 pub mod Rooting
 pub mod Roots
 pub mod Rows
-pub mod Search
 pub mod Sound
 pub mod Stages

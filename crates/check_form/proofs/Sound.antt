@@ -2,14 +2,16 @@
 --     check_is      the check is theirs, and where none is met that of names and types
 --     sound         where none is met, the image is a tree's, and what holds of it
 -- Assumes nothing.
-use mathlib.Core.Path.{◌≡◌, refl}
+use mathlib.Core.Path.{◌≡◌, refl, sym, subst}
 use mathlib.Core.Bool.{Bool, true, false, cond}
 use mathlib.Core.List.{List}
-use Prim.Native.Nat.{ℕ, ◌/◌}
+use Prim.Native.Nat.{ℕ, ◌*◌, ◌/◌}
 use native.Mathlib.Omega.{arith}
 use lib.ListN.{length}
 use Rattle.image.specs.Tree.{Tree}
 use Rattle.image.specs.Flat.{size_t}
+use Rattle.image.specs.Subtrees.{tree_of}
+use Rattle.image.specs.declared.trees.Subtree.{Subtree}
 use Rattle.std.specs.Prelude.{None, Some, Ok, Err}
 use Rattle.image.specs.Lowest.{Found, unless, alone}
 use Rattle.plan.specs.Form.{bad_form}
@@ -20,7 +22,7 @@ use Rattle.acceptance.proofs.Accept.{words_of, worded, links_count, links_stand,
 use Rattle.image.specs.declared.refusals.Refusal.{Refusal}
 use Rattle.image.specs.declared.refusals.Refusal.TheVariants.{Buffer, Record, Depth, Form}
 use Rattle.check_form.specs.Sound.{Sound}
-use Rattle.check_form.specs.Formed.{Formed, stop, formed_tree, formed_links, formed, numbered, later}
+use Rattle.check_form.specs.Formed.{Formed, Passed, stop, formed_tree, formed_links, formed, numbered, later}
 
 -- ---- the check
 
@@ -58,29 +60,26 @@ no_buffer : (b : Bool) (rest : Formed) → cond b rest (Err Buffer) ≡ Ok tt �
 no_buffer true rest h = (refl, h)
 no_buffer false rest h = let z : ◌≡◌ {A = ℕ} 0 1 = cc in absurd (omega arith)
 
-no_link : (k : Links) → formed_links k ≡ Ok tt → (t : Tree) × (k ≡ tree t) × (formed_tree t ≡ Ok tt)
-no_link (tree t) h = (t, refl, h)
-no_link (broken r) h = let z : ◌≡◌ {A = ℕ} 0 1 = cc in absurd (omega arith)
+-- the tests of the tree
+no_tree : (t : Tree) → formed_tree t ≡ Ok tt → bad_form t ≡ None
+unfolding formed_tree
+no_tree t h = (stopped (bad_form t) Form _ (stopped (too_deep t) Depth _ h).1).0
 
-pub sound : (s : List ℕ) → formed s ≡ Ok tt → Sound s
-unfolding formed formed_tree
-sound s h =
+pub sound : {s : List ℕ} {x : Subtree} → Passed s x → Sound x
+unfolding formed
+sound {s} {x} p =
     let n = length s / 32 in
-    let b = no_buffer (buffer_ok s) _ h in
+    let b = no_buffer (buffer_ok s) _ p.is in
     let w = stopped (bad_words n s 0) Record _ b.1 in
-    let k = no_link (linked s n) w.1 in
-    let d = stopped (too_deep k.0) Depth _ k.2 in
-    let f = stopped (bad_form k.0) Form _ d.1 in
+    let t = tree_of x in
+    let f : formed_tree t ≡ Ok tt = rw p.links at w.1 in
     let size = sized s b.0 in
-    let count : n ≡ size_t k.0 = links_count s n k.0 size.len size.one k.1 in
-    let there = links_stand s n k.0 size.len size.one k.1 in
+    let count : n ≡ size_t t = links_count s n t size.len size.one p.links in
+    let there = links_stand s n t size.len size.one p.links in
     record {
-      tree = k.0;
-      links = k.1;
-      stands = record { head = there.head; below = there.below };
-      bytes = omega (arith, size.len);
-      records = omega (arith, size.most);
-      words = worded (alone k.0) s 0 (λ i j. words_of n s 0 w.0 i (omega arith)) there;
-      depth = d.0;
-      form = f.0;
+      number = p.number;
+      links = subst (λ (z : List ℕ). linked z (length z / 32) ≡ tree t) (sym p.image) p.links;
+      bytes = subst (λ (z : List ℕ). length z ≡ 32 * size_t t) (sym p.image) (omega (arith, size.len));
+      words = worded (alone t) s 0 (λ i j. words_of n s 0 w.0 i (omega arith)) there;
+      form = no_tree t f;
     }

@@ -1,81 +1,72 @@
 -- The tests 1 to 5 in their order: what each says of `formed`, where those before it are not met.
 --     stage_buffer, .., stage_whole     the answers
---     stage_tree                        links that are whole lead to a tree
+--     root_at, root_of                  links that are whole lead to a tree
 -- Assumes nothing.
-use mathlib.Core.Path.{◌≡◌, refl, sym, ap, ◌∙◌}
+use mathlib.Core.Path.{◌≡◌, sym, ap, ◌∙◌}
 use mathlib.Core.Bool.{Bool, true, false}
 use mathlib.Core.List.{List}
-use Prim.Native.Nat.{ℕ, ◌/◌}
-use native.Mathlib.Omega.{arith}
+use Prim.Native.Nat.{ℕ, ◌*◌, ◌/◌, ◌≤◌}
 use lib.ListN.{length}
 use Rattle.image.specs.Lowest.{Found}
+use Rattle.image.specs.Places.{Stood}
 use Rattle.image.specs.Tree as Trees
 use Rattle.image.specs.Tree.{Tree}
-use Rattle.std.specs.Prelude.{None, Some, Result, Ok, Err}
+use Rattle.image.specs.declared.trees.Subtree.{Subtree}
+use Rattle.image.proofs.Subtrees.{tree_is}
+use Rattle.std.specs.Prelude.{None, Some, Ok, Err}
 use Rattle.plan.specs.Form.{bad_form}
-use Rattle.acceptance.specs.Check.{buffer_ok, bad_words, Links, tree, broken, linked, too_deep}
-use Rattle.acceptance.proofs.Accept.{links_stand, buffer_of as sized}
-use Rattle.check_form.specs.Linking.{linking_of}
+use Rattle.acceptance.specs.Check.{buffer_ok, bad_words, tree, broken, linked, too_deep}
+use Rattle.acceptance.proofs.Accept.{links_stand}
+use Rattle.check_form.specs.Linking.{Root}
 use Rattle.check_form.specs.Formed.{stop, formed_tree, formed_links, formed}
-use Rattle.image.specs.declared.links.BadLink.{BadLink}
 use Rattle.image.specs.declared.refusals.Refusal.TheVariants.{Buffer, Record, Link, Depth, Form}
 
--- ---- links, back to what was read
+-- ---- the tree that the links come to
 
-was_broken : (k : Links) (r : BadLink) → linking_of k ≡ Err r → k ≡ broken r.0
-was_broken (tree t) r e = let z : ◌≡◌ {A = ℕ} 0 1 = cc in absurd (omega arith)
-was_broken (broken x) r e = cc
+module _ {s : List ℕ} {n : ℕ} {t : Tree} (k : linked s n ≡ tree t) (len : length s ≡ 32 * n) (one : 1 ≤ n) where
+  -- it stands at record 0
+  stands : Trees.At t s 0
+  stands = let h = links_stand s n t len one k in record { head = h.head; below = h.below }
 
-was_whole : (k : Links) → linking_of k ≡ Ok tt → (t : Tree) × (k ≡ tree t)
-was_whole (tree t) e = (t, refl)
-was_whole (broken r) e = let z : ◌≡◌ {A = ℕ} 0 1 = cc in absurd (omega arith)
+  pub root_at : Stood s 0
+  root_at = record { tree = t; at = stands }
+
+  pub root_of : {x : Subtree} → x.image.now ≡ s → x.number ≡ 0 → Root s n x
+  root_of {x} i z = record { image = i; number = z; is = k ∙ ap tree (sym (tree_is x t i z stands)) }
 
 -- ---- the tests
 
--- a tree stands there, and the tests of trees are left
-pub record Planted (s : List ℕ) : Type 0 where
-  pub tree : Tree
-  pub at : Trees.At tree s 0
-  pub is : formed s ≡ formed_tree tree
-
 module _ (s : List ℕ) {x : Bool} (b : x ≡ buffer_ok s) where
-  pub stage_buffer : x ≡ false → Err Buffer ≡ formed s
+  pub stage_buffer : x ≡ false → formed s ≡ Err Buffer
   unfolding formed
   stage_buffer e = rw (sym b ∙ e)
 
   module _ (t : x ≡ true) {w : Found} (e : w ≡ bad_words (length s / 32) s 0) where
-    pub stage_words : {r : ℕ} → w ≡ Some r → Err (Record r) ≡ formed s
+    pub stage_words : {r : ℕ} → w ≡ Some r → formed s ≡ Err (Record r)
     unfolding formed stop
     stage_words {r} i = rw (sym b ∙ t, sym e ∙ i)
 
-    module _ (z : w ≡ None) {l : Result (Unit {0}) BadLink} (g : l ≡ linking_of (linked s (length s / 32))) where
+    module _ (z : w ≡ None) where
       worded : formed s ≡ formed_links (linked s (length s / 32))
       unfolding formed stop
       worded = rw (sym b ∙ t, sym e ∙ z)
 
-      pub stage_links : {bad : BadLink} → l ≡ Err bad → Err (Link bad.0) ≡ formed s
-      stage_links {bad} i = rw (worded, was_broken (linked s (length s / 32)) bad (sym g ∙ i))
+      pub stage_links : {r : ℕ} → linked s (length s / 32) ≡ broken r → formed s ≡ Err (Link r)
+      stage_links k = rw (worded, k)
 
-      pub stage_tree : l ≡ Ok tt → Planted s
-      stage_tree i =
-          let k = was_whole (linked s (length s / 32)) (sym g ∙ i) in
-          let n = sized s (sym b ∙ t) in
-          let h = links_stand s (length s / 32) k.0 n.len n.one k.1 in
-          record { tree = k.0; at = record { head = h.head; below = h.below }; is = worded ∙ ap formed_links k.1 }
+      pub stage_tree : {t : Tree} → linked s (length s / 32) ≡ tree t → formed s ≡ formed_tree t
+      stage_tree k = worded ∙ ap formed_links k
 
-module _ {s : List ℕ} (p : Planted s) {d : Found} (e : (t : Tree) → Trees.At t s 0 → d ≡ too_deep t) where
-  pub stage_depth : {r : ℕ} → d ≡ Some r → Err (Depth r) ≡ formed s
+module _ (s : List ℕ) (t : Tree) (k : formed s ≡ formed_tree t) {d : Found} (e : d ≡ too_deep t) where
+  pub stage_depth : {r : ℕ} → d ≡ Some r → formed s ≡ Err (Depth r)
   unfolding formed_tree stop
-  stage_depth {r} i = rw (p.is, sym (e p.tree p.at) ∙ i)
+  stage_depth {r} i = rw (k, sym e ∙ i)
 
-  module _ (z : d ≡ None) {f : Found} (g : (t : Tree) → Trees.At t s 0 → f ≡ bad_form t) where
-    deep : too_deep p.tree ≡ None
-    deep = sym (e p.tree p.at) ∙ z
-
-    pub stage_form : {r : ℕ} → f ≡ Some r → Err (Form r) ≡ formed s
+  module _ (z : d ≡ None) {f : Found} (g : f ≡ bad_form t) where
+    pub stage_form : {r : ℕ} → f ≡ Some r → formed s ≡ Err (Form r)
     unfolding formed_tree stop
-    stage_form {r} i = rw (p.is, deep, sym (g p.tree p.at) ∙ i)
+    stage_form {r} i = rw (k, sym e ∙ z, sym g ∙ i)
 
-    pub stage_whole : f ≡ None → Ok tt ≡ formed s
+    pub stage_whole : f ≡ None → formed s ≡ Ok tt
     unfolding formed_tree stop
-    stage_whole i = rw (p.is, deep, sym (g p.tree p.at) ∙ i)
+    stage_whole i = rw (k, sym e ∙ z, sym g ∙ i)

@@ -1,8 +1,10 @@
 -- The check of an image up to its form, as the code hands it back; and its verdict.
-use Rattle.std.specs.Prelude.{cond, List, ℕ, ◌/◌, length, None, Some, Result, Ok, Err}
+use Rattle.std.specs.Prelude.{◌≡◌, cond, List, ℕ, ◌/◌, length, None, Some, Result, Ok, Err}
 use Rattle.image.specs.Tree.{Tree}
 use Rattle.image.specs.Lowest.{Found}
+use Rattle.image.specs.Subtrees.{tree_of}
 use Rattle.image.specs.Refusals.{number_of, named}
+use Rattle.image.specs.declared.trees.Subtree.{Subtree}
 use Rattle.image.specs.declared.refusals.Refusal.{Refusal}
 use Rattle.image.specs.declared.refusals.Refusal.TheVariants.{Buffer, Record, Link, Depth, Form}
 use Rattle.plan.specs.Form.{bad_form}
@@ -28,6 +30,18 @@ formed_links (tree t) = formed_tree t
 -- the first of the tests 1 to 5 that s meets
 unfoldable pub formed : List ℕ → Formed
 formed s = cond (buffer_ok s) (stop (bad_words (length s / 32) s 0) Record (formed_links (linked s (length s / 32)))) (Err Buffer)
+
+-- s meets none of them, and x is the tree of its records
+pub record Passed (s : List ℕ) (x : Subtree) : Type 0 where
+  pub image : x.image.now ≡ s
+  pub number : x.number ≡ 0
+  pub links : linked s (length s / 32) ≡ tree (tree_of x)
+  pub is : formed s ≡ Ok tt
+
+-- that is so, or the first that it meets
+abbrev pub Checked : List ℕ → Result Subtree Refusal → Type 0
+Checked s (Ok x) = Passed s x
+Checked s (Err r) = formed s ≡ Err r
 
 -- its verdict; v is that of the later tests
 abbrev pub numbered : Formed → Verdict → Verdict

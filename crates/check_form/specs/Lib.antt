@@ -3,6 +3,5 @@ pub mod Formed
 pub mod Linking
 pub mod Misformed
 pub mod Patterns
-pub mod Rooted
 pub mod Sorts
 pub mod Sound

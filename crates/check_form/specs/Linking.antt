@@ -1,9 +1,17 @@
 -- What the links of an image come to, as the code hands it back.
-use Rattle.std.specs.Prelude.{Result, Ok, Err}
+use Rattle.std.specs.Prelude.{◌≡◌, List, ℕ, Result, Ok, Err}
+use Rattle.image.specs.Subtrees.{tree_of}
 use Rattle.image.specs.declared.links.BadLink.{BadLink}
-use Rattle.acceptance.specs.Check.{Links, tree, broken}
+use Rattle.image.specs.declared.trees.Subtree.{Subtree}
+use Rattle.acceptance.specs.Check.{tree, broken, linked}
 
--- the tree itself is not kept
-abbrev pub linking_of : Links → Result (Unit {0}) BadLink
-linking_of (tree t) = Ok tt
-linking_of (broken r) = Err (record { 0 = r })
+-- x is the tree that the links of the n records of s come to
+pub record Root (s : List ℕ) (n : ℕ) (x : Subtree) : Type 0 where
+  pub image : x.image.now ≡ s
+  pub number : x.number ≡ 0
+  pub is : linked s n ≡ tree (tree_of x)
+
+-- they come to it, or a record has a bad one
+abbrev pub Read : List ℕ → ℕ → Result Subtree BadLink → Type 0
+Read s n (Ok x) = Root s n x
+Read s n (Err bad) = linked s n ≡ broken bad.0

@@ -1,14 +1,13 @@
 // Form (5): the children of a record, and the length of lists: as specs/Form.antt of plan has them.
 ghost use Rattle.std.specs.Prelude.{◌≡◌, cond};
-ghost use Rattle.image.specs.Places.{Chained};
-ghost use Rattle.image.specs.Tree.{Forest, Label, Linked};
+ghost use Rattle.image.specs.Subtrees.{forest, tree_of};
 ghost use Rattle.plan.specs.Form.{children_by, children_e, children_p, children_q, conjuncts, exprs_in, form_ok, is_and, list_by};
 ghost use Rattle.plan.specs.Kinds.{what_of};
 
 use crate::patterns::{Item, meets};
 use crate::sorts::{Sort, of_sort};
 use image::limits::MAX_LIST;
-use image::records::{Node, from_record, look};
+use image::trees::{Siblings, Subtree};
 use plan::kinds::{
     AGGREGATE_ENTRY, BINARY_EXPR, COLUMN, ENTRY, ExprKind, FIELD, PAIR, PartKind, PlanKind,
     SORT_KEY, WINDOW_ENTRY, What, what_of,
@@ -43,75 +42,71 @@ const WINDOWS: Item = Item::Any(Sort::Kind(WINDOW_ENTRY));
 
 const FILTER: Item = Item::Perhaps(Sort::Expression);
 
-// Whether the trees from record `first` on are the children of an expression of the kind.
+// Whether the trees are the children of an expression of the kind.
 #[tactic(auto, unfolding(crate::specs::Patterns::meets, crate::specs::Sorts::sort_of))]
-pub fn children_e(s: &[u8], base: usize, first: usize, kind: ExprKind) -> bool
-    requires { Chained s.now base first }
-    ensures { (f : Forest) → Linked f s.now base first → result ≡ children_e kind f }
+pub fn children_e(trees: Siblings, kind: ExprKind) -> bool
+    ensures { result ≡ children_e kind (forest trees.entry) }
 {
     match kind {
-        ExprKind::Column => meets(s, base, first, &[]),
-        ExprKind::Integer => meets(s, base, first, &[]),
-        ExprKind::Boolean => meets(s, base, first, &[]),
-        ExprKind::Null => meets(s, base, first, &[]),
-        ExprKind::Binary => meets(s, base, first, &[EXPRESSION, EXPRESSION]),
-        ExprKind::Not => meets(s, base, first, &[EXPRESSION]),
-        ExprKind::Test => meets(s, base, first, &[EXPRESSION]),
-        ExprKind::Between => meets(s, base, first, &[EXPRESSION, EXPRESSION, EXPRESSION]),
-        ExprKind::InList => meets(s, base, first, &[EXPRESSION, EXPRESSION, EXPRESSIONS]),
-        ExprKind::Function => meets(s, base, first, &[EXPRESSIONS]),
+        ExprKind::Column => meets(trees, &[]),
+        ExprKind::Integer => meets(trees, &[]),
+        ExprKind::Boolean => meets(trees, &[]),
+        ExprKind::Null => meets(trees, &[]),
+        ExprKind::Binary => meets(trees, &[EXPRESSION, EXPRESSION]),
+        ExprKind::Not => meets(trees, &[EXPRESSION]),
+        ExprKind::Test => meets(trees, &[EXPRESSION]),
+        ExprKind::Between => meets(trees, &[EXPRESSION, EXPRESSION, EXPRESSION]),
+        ExprKind::InList => meets(trees, &[EXPRESSION, EXPRESSION, EXPRESSIONS]),
+        ExprKind::Function => meets(trees, &[EXPRESSIONS]),
     }
 }
 
 // .. of a plan; those of an Aggregate are more than its input.
 #[tactic(auto, unfolding(crate::specs::Patterns::meets, crate::specs::Sorts::sort_of))]
-pub fn children_p(s: &[u8], base: usize, first: usize, kind: PlanKind) -> bool
-    requires { Chained s.now base first }
-    ensures { (f : Forest) → Linked f s.now base first → result ≡ children_p kind f }
+pub fn children_p(trees: Siblings, kind: PlanKind) -> bool
+    ensures { result ≡ children_p kind (forest trees.entry) }
 {
     match kind {
-        PlanKind::TableScan => meets(s, base, first, &[FIELDS, EXPRESSIONS]),
-        PlanKind::Filter => meets(s, base, first, &[EXPRESSION, PLAN]),
-        PlanKind::Projection => meets(s, base, first, &[AN_ENTRY, ENTRIES, PLAN]),
-        PlanKind::Join => meets(s, base, first, &[PLAN, PLAN, PAIRS, FILTER]),
-        PlanKind::SubqueryAlias => meets(s, base, first, &[PLAN]),
-        PlanKind::Union => meets(s, base, first, &[PLAN, PLAN, PLANS]),
-        PlanKind::Distinct => meets(s, base, first, &[PLAN]),
-        PlanKind::Sort => meets(s, base, first, &[KEYS, PLAN]),
-        PlanKind::Repartition => meets(s, base, first, &[PLAN]),
-        PlanKind::Limit => meets(s, base, first, &[PLAN]),
+        PlanKind::TableScan => meets(trees, &[FIELDS, EXPRESSIONS]),
+        PlanKind::Filter => meets(trees, &[EXPRESSION, PLAN]),
+        PlanKind::Projection => meets(trees, &[AN_ENTRY, ENTRIES, PLAN]),
+        PlanKind::Join => meets(trees, &[PLAN, PLAN, PAIRS, FILTER]),
+        PlanKind::SubqueryAlias => meets(trees, &[PLAN]),
+        PlanKind::Union => meets(trees, &[PLAN, PLAN, PLANS]),
+        PlanKind::Distinct => meets(trees, &[PLAN]),
+        PlanKind::Sort => meets(trees, &[KEYS, PLAN]),
+        PlanKind::Repartition => meets(trees, &[PLAN]),
+        PlanKind::Limit => meets(trees, &[PLAN]),
         PlanKind::Aggregate => {
-            meets(s, base, first, &[ENTRIES, AGGREGATES, PLAN]) & !meets(s, base, first, &[PLAN])
+            meets(trees, &[ENTRIES, AGGREGATES, PLAN]) & !meets(trees, &[PLAN])
         }
-        PlanKind::Window => meets(s, base, first, &[A_WINDOW, WINDOWS, PLAN]),
+        PlanKind::Window => meets(trees, &[A_WINDOW, WINDOWS, PLAN]),
     }
 }
 
 // .. of a part.
 #[tactic(auto, unfolding(crate::specs::Patterns::meets, crate::specs::Sorts::sort_of))]
-pub fn children_q(s: &[u8], base: usize, first: usize, kind: PartKind) -> bool
-    requires { Chained s.now base first }
-    ensures { (f : Forest) → Linked f s.now base first → result ≡ children_q kind f }
+pub fn children_q(trees: Siblings, kind: PartKind) -> bool
+    ensures { result ≡ children_q kind (forest trees.entry) }
 {
     match kind {
-        PartKind::FieldPart => meets(s, base, first, &[]),
-        PartKind::EntryPart => meets(s, base, first, &[EXPRESSION]),
-        PartKind::PairPart => meets(s, base, first, &[EXPRESSION, EXPRESSION]),
-        PartKind::KeyPart => meets(s, base, first, &[EXPRESSION]),
-        PartKind::AggPart => meets(s, base, first, &[EXPRESSION]),
-        PartKind::WinPart => meets(s, base, first, &[EXPRESSION, COLUMNS]),
+        PartKind::FieldPart => meets(trees, &[]),
+        PartKind::EntryPart => meets(trees, &[EXPRESSION]),
+        PartKind::PairPart => meets(trees, &[EXPRESSION, EXPRESSION]),
+        PartKind::KeyPart => meets(trees, &[EXPRESSION]),
+        PartKind::AggPart => meets(trees, &[EXPRESSION]),
+        PartKind::WinPart => meets(trees, &[EXPRESSION, COLUMNS]),
     }
 }
 
-// Whether the trees from record `first` on are the children of such a record.
-pub fn children_ok(s: &[u8], base: usize, first: usize, what: What) -> bool
-    requires { Chained s.now base first }
-    ensures { (f : Forest) → Linked f s.now base first → result ≡ children_by what f }
+// Whether the trees are the children of such a record.
+pub fn children_ok(trees: Siblings, what: What) -> bool
+    ensures { result ≡ children_by what (forest trees.entry) }
 {
     match what {
-        What::Expr(kind) => children_e(s, base, first, kind),
-        What::Plan(kind) => children_p(s, base, first, kind),
-        What::Part(kind) => children_q(s, base, first, kind),
+        What::Expr(kind) => children_e(trees, kind),
+        What::Plan(kind) => children_p(trees, kind),
+        What::Part(kind) => children_q(trees, kind),
         What::Unknown => false,
     }
 }
@@ -122,76 +117,65 @@ fn one_if(b: bool) -> usize
     if b { 1 } else { 0 }
 }
 
-// How many expressions are among the trees from record `first` on.
-pub fn exprs_in(s: &[u8], base: usize, first: usize) -> usize
-    requires { Chained s.now base first }
-    ensures { (f : Forest) → Linked f s.now base first → result ≡ exprs_in f }
+// How many expressions are among the trees.
+pub fn exprs_in(trees: Siblings) -> usize
+    ensures { result ≡ exprs_in (forest trees.entry) }
 {
     let mut n = 0;
-    let mut at = first;
-    while at != 0 {
-        let v = look(from_record(s, base, at));
-        n += one_if(of_sort(v.kind, Sort::Expression));
-        at = v.next;
+    for tree in trees {
+        n += one_if(of_sort(tree.kind(), Sort::Expression));
     }
     n
 }
 
-// Whether the record before the children at s is an And of two expressions.
-fn splits(s: &[u8], base: usize, v: Node) -> bool
-    requires { Chained s.now base v.first }
-    ensures { (l : Label) (f : Forest) → v.kind ≡ l.kind → v.p ≡ l.p
-        → Linked f s.now base v.first → result ≡ is_and l f }
+// Whether the tree is an And of two expressions.
+fn splits(tree: Subtree) -> bool
+    ensures { result ≡ is_and (tree_of tree.entry).label (tree_of tree.entry).below }
 {
-    if v.kind != BINARY_EXPR {
+    let label = tree.label();
+    if (label.kind != BINARY_EXPR) | (label.p != AND) {
         return false;
     }
-    if v.p != AND {
-        return false;
-    }
-    meets(s, base, v.first, &[EXPRESSION, EXPRESSION])
+    meets(tree.children(), &[EXPRESSION, EXPRESSION])
 }
 
-// How many conjuncts the expressions among the trees from record `first` on have, split at Ands.
-pub fn conjuncts_in(s: &[u8], base: usize, first: usize) -> usize
-    requires { Chained s.now base first }
-    ensures { (f : Forest) → Linked f s.now base first → result ≡ conjuncts f }
+// How many conjuncts the expressions among the trees have, split at Ands.
+pub fn conjuncts_in(trees: Siblings) -> usize
+    ensures { result ≡ conjuncts (forest trees.entry) }
 {
-    if first == 0 {
-        return 0;
+    let mut n = 0;
+    for tree in trees {
+        n += if splits(tree) {
+            conjuncts_in(tree.children())
+        } else {
+            one_if(of_sort(tree.kind(), Sort::Expression))
+        };
     }
-    let part = from_record(s, base, first);
-    let v = look(part);
-    let rest = conjuncts_in(s, base, v.next);
-    if splits(part, first, v) {
-        return conjuncts_in(part, first, v.first) + rest;
-    }
-    one_if(of_sort(v.kind, Sort::Expression)) + rest
+    n
 }
 
 // The length of the list of such a record: the filters of a scan, the conjuncts of a Filter's or a join's one expression.
-pub fn list_len(s: &[u8], base: usize, first: usize, what: What) -> usize
-    requires { Chained s.now base first }
-    ensures { (f : Forest) → Linked f s.now base first → result ≡ list_by what f }
+pub fn list_len(trees: Siblings, what: What) -> usize
+    ensures { result ≡ list_by what (forest trees.entry) }
 {
     match what {
         What::Plan(kind) => match kind {
-            PlanKind::TableScan => exprs_in(s, base, first),
-            PlanKind::Filter | PlanKind::Join => conjuncts_in(s, base, first),
+            PlanKind::TableScan => exprs_in(trees),
+            PlanKind::Filter | PlanKind::Join => conjuncts_in(trees),
             _ => 0,
         },
         _ => 0,
     }
 }
 
-// Whether a record of the kind, with the trees from record `first` on for children, has the right form.
-pub fn form_ok(s: &[u8], base: usize, first: usize, kind: usize) -> bool
-    requires { Chained s.now base first }
-    ensures { (l : Label) (f : Forest) → kind ≡ l.kind → Linked f s.now base first → result ≡ form_ok l f }
+// Whether the tree's record has the right form.
+pub fn form_ok(tree: Subtree) -> bool
+    ensures { result ≡ form_ok (tree_of tree.entry).label (tree_of tree.entry).below }
 {
-    let what = what_of(kind);
-    if !children_ok(s, base, first, what) {
+    let trees = tree.children();
+    let what = what_of(tree.kind());
+    if !children_ok(trees, what) {
         return false;
     }
-    list_len(s, base, first, what) <= MAX_LIST
+    list_len(trees, what) <= MAX_LIST
 }

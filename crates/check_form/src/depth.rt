@@ -1,41 +1,34 @@
 // Depth (4): records that are deeper than an image may be.
 ghost use Rattle.std.specs.Prelude.{◌≡◌, ◌+◌, ◌≤◌};
 ghost use Rattle.image.specs.Limits.{max_depth};
-ghost use Rattle.image.specs.Places.{Chained};
-ghost use Rattle.image.specs.Tree.{At, Forest, Linked, Tree};
+ghost use Rattle.image.specs.Subtrees.{forest, tree_of};
 ghost use Rattle.acceptance.specs.Check.{too_deep};
 ghost use Rattle.check_form.specs.Deep.{deepest};
-ghost use Rattle.check_form.specs.Rooted.{Rooted};
 
 use image::limits::MAX_DEPTH;
-use image::records::{FIRST_LINK, from_record, look};
-use image::words::word_at;
+use image::trees::{Siblings, Subtree};
 
-// The lowest record that is too deep, of the trees from record `first` on, which stand at the depth `level`.
-pub fn too_deep(s: &[u8], base: usize, first: usize, level: usize) -> Option<usize>
-    requires { Chained s.now base first × (level ≤ max_depth + 1) }
-    ensures { (f : Forest) → Linked f s.now base first → result ≡ deepest level first f }
+// The lowest record that is too deep, of the trees, which stand at the depth `level`.
+pub fn too_deep(trees: Siblings, level: usize) -> Option<usize>
+    requires { level ≤ max_depth + 1 }
+    ensures { result ≡ deepest level trees.entry.first (forest trees.entry) }
 {
-    let mut at = first;
-    while at != 0 {
+    for tree in trees {
         if MAX_DEPTH < level {
-            return Some(at);
+            return Some(tree.number);
         }
-        let part = from_record(s, base, at);
-        let v = look(part);
-        let below = too_deep(part, at, v.first, level + 1);
-        if let Some(r) = below {
-            return Some(r);
+        let below = too_deep(tree.children(), level + 1);
+        if below.is_some() {
+            return below;
         }
-        at = v.next;
     }
     None
 }
 
 // The lowest record of an image that is too deep.
-pub fn bad_depth(s: &[u8]) -> Option<usize>
-    requires { Rooted s.now }
-    ensures { (t : Tree) → At t s.now 0 → result ≡ too_deep t }
+pub fn bad_depth(root: Subtree) -> Option<usize>
+    requires { root.number ≡ 0 }
+    ensures { result ≡ too_deep (tree_of root.entry) }
 {
-    too_deep(s, 0, word_at(s, FIRST_LINK), 2)
+    too_deep(root.children(), 2)
 }

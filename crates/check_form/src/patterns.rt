@@ -1,13 +1,12 @@
 // Patterns of children: items, one after another, and then the end.
 ghost use Rattle.std.specs.Prelude.{◌≡◌};
-ghost use Rattle.image.specs.Places.{Chained};
-ghost use Rattle.image.specs.Tree.{Forest, Linked};
+ghost use Rattle.image.specs.Subtrees.{forest};
 ghost use Rattle.plan.specs.Form.{one, past, perhaps};
 ghost use Rattle.check_form.specs.Patterns.{Leads, meets};
 ghost use Rattle.check_form.specs.Sorts.{of_sort};
 
 use crate::sorts::{Sort, of_sort};
-use image::records::{from_record, look};
+use image::trees::Siblings;
 
 // What stands next among the children.
 #[derive(Clone, Copy, Debug, PartialEq, Eq, Hash)]
@@ -19,63 +18,54 @@ pub enum Item {
     Perhaps(Sort),
 }
 
-// The record after all in front that are of the sort; 0 where none is left.
-pub fn past_all(s: &[u8], base: usize, first: usize, sort: Sort) -> usize
-    requires { Chained s.now base first }
-    ensures { (f : Forest) → Linked f s.now base first → Linked (past (of_sort sort) f) s.now base result }
+// What is left of the trees after all in front that are of the sort.
+pub fn past_all<'a>(trees: Siblings<'a>, sort: Sort) -> Siblings<'a>
+    ensures { forest result ≡ past (of_sort sort) (forest trees.entry) }
 {
-    let mut at = first;
-    while at != 0 {
-        let v = look(from_record(s, base, at));
-        if !of_sort(v.kind, sort) {
-            return at;
+    let mut left = trees;
+    while let Some((tree, others)) = left.split_first() {
+        if !of_sort(tree.kind(), sort) {
+            return left;
         }
-        at = v.next;
+        left = others;
     }
-    0
+    left
 }
 
-// The record after one of the sort; nowhere if the first is not of it.
-pub fn past_one(s: &[u8], base: usize, first: usize, sort: Sort) -> Option<usize>
-    requires { Chained s.now base first }
-    ensures { Leads (one (of_sort sort)) s.now base first result }
+// What is left after one of the sort; nothing if the first is not of it.
+pub fn past_one<'a>(trees: Siblings<'a>, sort: Sort) -> Option<Siblings<'a>>
+    ensures { Leads (one (of_sort sort)) (forest trees.entry) result }
 {
-    if first == 0 {
-        return None;
-    }
-    let v = look(from_record(s, base, first));
-    if of_sort(v.kind, sort) {
-        return Some(v.next);
+    let (tree, others) = trees.split_first()?;
+    if of_sort(tree.kind(), sort) {
+        return Some(others);
     }
     None
 }
 
 // Whether one of the sort or none is left.
-pub fn one_or_none(s: &[u8], base: usize, first: usize, sort: Sort) -> bool
-    requires { Chained s.now base first }
-    ensures { (f : Forest) → Linked f s.now base first → result ≡ perhaps (of_sort sort) f }
+pub fn one_or_none(trees: Siblings, sort: Sort) -> bool
+    ensures { result ≡ perhaps (of_sort sort) (forest trees.entry) }
 {
-    if first == 0 {
-        return true;
+    match trees.split_first() {
+        Some((tree, others)) => of_sort(tree.kind(), sort) & (others.first == 0),
+        None => true,
     }
-    let v = look(from_record(s, base, first));
-    of_sort(v.kind, sort) & (v.next == 0)
 }
 
-// Whether the trees from record `first` on are those of the items.
-pub fn meets(s: &[u8], base: usize, first: usize, items: &[Item]) -> bool
-    requires { Chained s.now base first }
-    ensures { (f : Forest) → Linked f s.now base first → result ≡ meets items.now f }
+// Whether the trees are those of the items.
+pub fn meets(trees: Siblings, items: &[Item]) -> bool
+    ensures { result ≡ meets items.now (forest trees.entry) }
 {
     let [item, rest @ ..] = items else {
-        return first == 0;
+        return trees.first == 0;
     };
     match *item {
-        Item::One(sort) => match past_one(s, base, first, sort) {
-            Some(next) => meets(s, base, next, rest),
+        Item::One(sort) => match past_one(trees, sort) {
+            Some(others) => meets(others, rest),
             None => false,
         },
-        Item::Any(sort) => meets(s, base, past_all(s, base, first, sort), rest),
-        Item::Perhaps(sort) => one_or_none(s, base, first, sort),
+        Item::Any(sort) => meets(past_all(trees, sort), rest),
+        Item::Perhaps(sort) => one_or_none(trees, sort),
     }
 }

@@ -6,5 +6,4 @@ use Rattle.check_form.proofs.children.children_p.Goals as goal
 
 pub returns-in-Aggregate : goal.returns-in-Aggregate
 unfolding meets sort_of
-returns-in-Aggregate c =
-    λ f h. rw (c.in-Aggregate.is, c.meets-in-Aggregate.ensures f h, c.meets-in-Aggregate-2.ensures f h) (both _ _)
+returns-in-Aggregate c = rw (c.in-Aggregate.is, c.meets-in-Aggregate.ensures, c.meets-in-Aggregate-2.ensures) (both _ _)

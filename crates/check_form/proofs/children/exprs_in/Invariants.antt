@@ -1,11 +1,8 @@
--- `children::exprs_in` meets its contract. The loop's invariant: n expressions stand before `at`.
-use Rattle.image.specs.Places.{left}
-use Rattle.image.proofs.Along.{Along}
+-- `children::exprs_in` meets its contract. The loop's invariant: n expressions have been met.
+use Rattle.image.specs.Subtrees.{forest}
+use Rattle.plan.specs.Form.{exprs_in}
 use Rattle.check_form.proofs.Counts.{Counted}
 use Rattle.check_form.proofs.children.exprs_in.Given as goal
 
-abbrev pub invariant-loop-at : goal.invariant-loop-at
-invariant-loop-at l = Along (Counted l.n) l.s l.base l.first l.at
-
-abbrev pub decreases-loop-at : goal.decreases-loop-at
-decreases-loop-at l = left l.s l.base l.at
+abbrev pub invariant-loop-tree : goal.invariant-loop-tree
+invariant-loop-tree l = Counted exprs_in l.n (forest l.trees) (forest l.tree-iterator)

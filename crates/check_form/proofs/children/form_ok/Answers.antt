@@ -5,9 +5,11 @@ use Rattle.check_form.proofs.children.form_ok.Goals as goal
 
 pub returns-then-not-children_ok : goal.returns-then-not-children_ok
 returns-then-not-children_ok c =
-    λ l f k h. form_children l f k c.what_of-what.ensures (sym c.if-not-children_ok.true ∙ c.children_ok.ensures f h)
+    let b = c.children-trees.ensures.is in
+    sym (form_children _ _ (rw c.kind.ensures at c.what_of-what.ensures) (sym (rw b at c.children_ok.ensures) ∙ c.if-not-children_ok.true))
 
 pub returns : goal.returns
 returns c =
-    λ l f k h. form_list l f k c.what_of-what.ensures (sym c.if-not-children_ok.false ∙ c.children_ok.ensures f h)
-    (c.list_len.ensures f h)
+    let b = c.children-trees.ensures.is in
+    form_list _ _ (rw c.kind.ensures at c.what_of-what.ensures) (sym (rw b at c.children_ok.ensures) ∙ c.if-not-children_ok.false)
+    (rw b at c.list_len.ensures)

@@ -1,18 +1,13 @@
 -- `children::splits` meets its contract.
+use mathlib.Core.Path.{◌∙◌}
 use Rattle.check_form.specs.Patterns.{meets}
 use Rattle.check_form.specs.Sorts.{sort_of}
-use Rattle.check_form.proofs.Counts.{and_kind, and_operator, and_two}
+use Rattle.check_form.proofs.Counts.{no_and, and_of}
 use Rattle.check_form.proofs.children.splits.Goals as goal
 
-pub returns-then-v-ne-BINARY_EXPR : goal.returns-then-v-ne-BINARY_EXPR
-returns-then-v-ne-BINARY_EXPR c =
-    λ l f k p h. and_kind l f k p c.if-v-ne-BINARY_EXPR.true
-
-pub returns-then-v-ne-AND : goal.returns-then-v-ne-AND
-returns-then-v-ne-AND c =
-    λ l f k p h. and_operator l f k p c.if-v-ne-BINARY_EXPR.false c.if-v-ne-AND.true
+pub returns-then-label : goal.returns-then-label
+returns-then-label c = no_and _ _ (rw c.label-label.ensures.label at c.if-label.true)
 
 pub returns : goal.returns
 unfolding meets sort_of
-returns c =
-    λ l f k p h. and_two l f k p c.if-v-ne-BINARY_EXPR.false c.if-v-ne-AND.false (c.meets.ensures f h)
+returns c = (rw c.children.ensures.is at c.meets.ensures) ∙ and_of _ _ (rw c.label-label.ensures.label at c.if-label.false)

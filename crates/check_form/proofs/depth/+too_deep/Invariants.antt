@@ -1,26 +1,16 @@
--- `depth::too_deep` meets its contract. The measure is how many bytes are left.
--- The loop's invariant: no record before `at` is too deep.
-use mathlib.Core.Bool.{Bool}
-use lib.Dec.{leb}
-use Rattle.image.specs.Limits.{max_depth}
-use Rattle.image.specs.Tree.{Label, Forest}
-use Rattle.image.specs.Limits.{max_depth}
-use Rattle.image.specs.Places.{left}
-use Rattle.check_form.proofs.Search.{Sought}
-use Prim.Native.Nat.{ℕ, ◌+◌}
+-- `depth::too_deep` meets its contract. The measure is how many trees there are.
+-- The loop's invariant: no record so far is too deep.
+use mathlib.Core.Path.{◌≡◌}
+use Prim.Native.Nat.{◌≤◌}
+use Rattle.image.specs.Subtrees.{forest}
+use Rattle.image.specs.Tree.{size}
+use Rattle.check_form.specs.Deep.{deepest}
 use Rattle.check_form.proofs.depth.+too_deep.Given as goal
 
-abbrev rule : ℕ → Label → Forest → Bool
-rule d l cs = leb d max_depth
-
-abbrev deeper : ℕ → ℕ
-deeper d = d + 1
-
 abbrev pub decreases-too_deep : goal.decreases-too_deep
-decreases-too_deep l = left l.s.now l.base l.first
+decreases-too_deep l = size (forest l.trees)
 
-abbrev pub invariant-loop-at : goal.invariant-loop-at
-invariant-loop-at l = Sought rule deeper l.level l.s l.base l.first l.at
-
-abbrev pub decreases-loop-at : goal.decreases-loop-at
-decreases-loop-at l = left l.s l.base l.at
+abbrev pub invariant-loop-tree : goal.invariant-loop-tree
+invariant-loop-tree l =
+    (size (forest l.tree-iterator) ≤ size (forest l.trees))
+    × (deepest l.level l.tree-iterator.first (forest l.tree-iterator) ≡ deepest l.level l.trees.first (forest l.trees))

@@ -1,60 +1,52 @@
-use mathlib.Core.Path.{sym, ◌∙◌}
+use mathlib.Core.Path.{refl, sym, ap, ◌∙◌}
 use mathlib.Core.Bool.{Bool}
+use Prim.Native.Nat.{ℕ}
 use native.Mathlib.Omega.{arith}
-use Rattle.image.specs.Tree.{Label, Forest}
+use Rattle.std.proofs.Common.{Some}
+use Rattle.image.specs.Tree.{Label, Forest, size}
+use Rattle.image.proofs.Finding.{place_none, place_here, place_below, place_after}
+use Rattle.image.proofs.Subtrees.{goes, gone}
 use Rattle.plan.specs.Form.{form_ok}
-use Rattle.image.proofs.Along.{here}
-use Rattle.check_form.proofs.Search.{search_here, search_below, search_on, search_end}
+use Rattle.plan.proofs.Turns.{next_is}
 use Rattle.check_form.proofs.form.+bad_form.Goals as goal
 
 abbrev rule : Unit {0} → Label → Forest → Bool
 rule c l cs = form_ok l cs
 
-abbrev same : Unit {0} → Unit {0}
-same c = c
-
-pub form_ok-requires : goal.form_ok-requires
-form_ok-requires t c =
-    let w = here c.loop-at.invariant c.loop-at-test.true c.from_record-part.ensures
-    c.look-v.ensures in
-    record { forest = w.below; linked = w.first }
+abbrev same : Unit {0} → Label → Forest → Unit {0} × Unit {0}
+same c l cs = (c, c)
 
 pub returns-then-not-form_ok : goal.returns-then-not-form_ok
 returns-then-not-form_ok t c =
-    search_here rule same tt c.loop-at.invariant
-    c.loop-at-test.true c.from_record-part.ensures
-    c.look-v.ensures
-    (λ f w. sym (c.form_ok.ensures w.label w.below w.kind w.first) ∙ c.if-not-form_ok.true)
+    let x = c.loop-tree.tree-iterator in
+    let g = goes x c.next.new.self c.in-Some.tree c.in-Some.ensures.steps in
+    ap (λ (n : ℕ). Some n) g.number
+    ∙ place_here rule same x.first g.is refl refl tt tt tt tt refl c.form_ok.ensures c.if-not-form_ok.true
+    ∙ c.loop-tree.invariant.1
 
 pub bad_form-below-requires : goal.bad_form-below-requires
 bad_form-below-requires t c =
-    let k = c.loop-at.invariant in
-    let w = here k c.loop-at-test.true c.from_record-part.ensures
-    c.look-v.ensures in (
-      omega (arith, w.down, k.less, c.decreases),
-      record
-          { forest = w.below; linked = w.first },
+    let g = goes c.loop-tree.tree-iterator c.next.new.self c.in-Some.tree c.in-Some.ensures.steps in
+    omega (arith, ap size g.is, ap size c.children.ensures.is, c.loop-tree.invariant.0, c.decreases)
+
+pub returns-then-is_some : goal.returns-then-is_some
+returns-then-is_some t c =
+    let x = c.loop-tree.tree-iterator in
+    let g = goes x c.next.new.self c.in-Some.tree c.in-Some.ensures.steps in
+    place_below rule same x.first g.is (rw g.number at c.children.ensures.first) refl tt tt tt tt refl c.form_ok.ensures c.if-not-form_ok.false _
+    (sym c.is_some.ensures ∙ c.if-is_some.true) (rw c.children.ensures.is at c.bad_form-below.ensures)
+    ∙ c.loop-tree.invariant.1
+
+pub loop-tree-preserved : goal.loop-tree-preserved
+loop-tree-preserved t c =
+    let x = c.loop-tree.tree-iterator in
+    let g = goes x c.next.new.self c.in-Some.tree c.in-Some.ensures.steps in (
+      omega (arith, ap size g.is, c.loop-tree.invariant.0),
+      place_after rule same x.first g.is (rw g.number at c.children.ensures.first)
+          (next_is x c.next.new.self c.in-Some.tree c.in-Some.ensures.steps) tt tt tt tt refl c.form_ok.ensures c.if-not-form_ok.false _
+          (sym c.is_some.ensures ∙ c.if-is_some.false) (rw c.children.ensures.is at c.bad_form-below.ensures)
+          ∙ c.loop-tree.invariant.1,
     )
 
-pub returns-in-Some : goal.returns-in-Some
-returns-in-Some t c =
-    search_below rule same tt c.loop-at.invariant
-    c.loop-at-test.true
-    c.from_record-part.ensures
-    c.look-v.ensures
-    (λ f w. sym (c.form_ok.ensures w.label w.below w.kind
-    w.first) ∙ c.if-not-form_ok.false)
-    c.bad_form-below.ensures c.in-Some.is
-
-pub loop-at-preserved : goal.loop-at-preserved
-loop-at-preserved t c =
-    search_on rule same tt c.loop-at.invariant
-    c.loop-at-test.true
-    c.from_record-part.ensures c.look-v.ensures
-    (λ f w. sym (c.form_ok.ensures w.label w.below w.kind
-    w.first) ∙ c.if-not-form_ok.false)
-    c.bad_form-below.ensures c.in_default.is
-
 pub returns : goal.returns
-returns t c =
-    search_end rule same tt c.loop-at.invariant c.loop-at-test.false
+returns t c = place_none rule same tt tt _ _ (gone c.loop-tree.tree-iterator c.in-None.ensures.steps.0) ∙ c.loop-tree.invariant.1

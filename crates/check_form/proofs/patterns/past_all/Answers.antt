@@ -1,19 +1,14 @@
-use mathlib.Core.Path.{◌∙◌}
-use Rattle.check_form.proofs.Patterned.{sorted, past_stay, past_on, past_end}
+use mathlib.Core.Path.{sym, ◌∙◌}
+use Rattle.check_form.proofs.Patterned.{past_none, past_stay, past_on}
 use Rattle.check_form.proofs.patterns.past_all.Goals as goal
 
 pub returns-then-not-of_sort : goal.returns-then-not-of_sort
 returns-then-not-of_sort c =
-    past_stay _ c.loop-at.invariant c.loop-at-test.true
-    c.from_record.ensures c.look-v.ensures
-    (λ f w. sorted _ w c.of_sort.ensures ∙ c.if-not-of_sort.true)
+    sym (c.loop-tree.invariant ∙ past_stay _ c.in-Some.ensures.is (sym (rw c.kind.ensures at c.of_sort.ensures) ∙ c.if-not-of_sort.true))
 
-pub loop-at-preserved : goal.loop-at-preserved
-loop-at-preserved c =
-    past_on _ c.loop-at.invariant c.loop-at-test.true
-    c.from_record.ensures c.look-v.ensures
-    (λ f w. sorted _ w c.of_sort.ensures ∙ c.if-not-of_sort.false)
+pub loop-tree-preserved : goal.loop-tree-preserved
+loop-tree-preserved c =
+    c.loop-tree.invariant ∙ past_on _ c.in-Some.ensures.is (sym (rw c.kind.ensures at c.of_sort.ensures) ∙ c.if-not-of_sort.false)
 
 pub returns : goal.returns
-returns c =
-    past_end _ c.loop-at.invariant c.loop-at-test.false
+returns c = c.in_default.ensures ∙ sym (c.loop-tree.invariant ∙ past_none _ c.in_default.ensures)
