@@ -9,16 +9,13 @@ use lib.Dec.{eqb, leb}
 use lib.ListN.{length, drop, length-drop, length-append}
 use borrow.Author.Tests.{leb-true, eqb-true}
 use Rattle.image.specs.Lowest.{alone}
-use Rattle.image.specs.Tree.{Forest, none, node, Tree, size, Stands, Linked, Node}
-use Rattle.plan.proofs.Fronts.{Front}
+use Rattle.image.specs.Tree.{Label, Forest, none, node, Tree, size, Stands, Linked}
 use Rattle.plan.specs.Kinds as K
-use Rattle.plan.specs.Kinds.{What, expr, plan, part, unknown, what, what_of, plan_w}
+use Rattle.plan.specs.Kinds.{What, expr, plan, part, unknown, what, plan_w, is_plan}
 use Rattle.plan.specs.FieldSources.{role, role_p, creates, renames, extends, gives_both, own}
 use Rattle.plan.specs.declared.field_sources.Role.{Role}
 use Rattle.plan.specs.declared.field_sources.Role.TheVariants.{NoPlan, Creates, Joins, Renames, Extends, Passes}
-use Rattle.plan.specs.Inputs.{plans_in}
-use Rattle.plan.specs.Siblings.{forest, PlanAt}
-use Rattle.plan.specs.declared.siblings.Branch.{Branch}
+use Rattle.plan.specs.Inputs.{plans_in, PlanAt}
 use Rattle.plan.specs.Lists.{put}
 use Rattle.plan.specs.Syntax.{Name, nm, full, right_semi, right_anti}
 use Rattle.plan.specs.Trees.{join_number}
@@ -76,49 +73,43 @@ drop_map (suc i) [] = refl
 drop_map (suc i) (t ∷ ts) = drop_map i ts
 
 -- so from the plan on that was found
-pub inputs_from : {f : Forest} {i : ℕ} {t : Branch} (y : PlanAt f i t) → drop i (inputs f) ≡ inputs (forest y.trees)
+pub inputs_from : {f : Forest} {i : ℕ} {t : Tree} (y : PlanAt f i t) → drop i (inputs f) ≡ inputs y.trees
 inputs_from {f} {i} y =
-    ap (drop i) (inputs_of f) ∙ drop_map i (plans_in f) ∙ ap (map own_schema) y.plans ∙ sym (inputs_of (forest y.trees))
+    ap (drop i) (inputs_of f) ∙ drop_map i (plans_in f) ∙ ap (map own_schema) y.plans ∙ sym (inputs_of y.trees)
 
 -- there is none
 pub inputs_none : (f : Forest) (i : ℕ) → drop i (plans_in f) ≡ [] → drop i (inputs f) ≡ []
 inputs_none f i e = ap (drop i) (inputs_of f) ∙ drop_map i (plans_in f) ∙ ap (map own_schema) e
 
-module _ {f : Forest} {v : Node} (w : Front f v) where
-  inputs_is : inputs f ≡ inputs_by (what_of v.kind) w.label w.below (inputs w.below) (inputs w.after)
+module _ {f : Forest} {l : Label} {cs ns : Forest} (w : f ≡ node l cs ns) where
+  inputs_is : inputs f ≡ inputs_by (what l) l cs (inputs cs) (inputs ns)
   unfolding inputs
-  inputs_is =
-      ap inputs w.is
-      ∙ ap (λ (k : ℕ). inputs_by (what_of k) w.label w.below (inputs w.below) (inputs w.after)) (sym w.says.kind)
+  inputs_is = ap inputs w
 
   -- a record that is no plan is passed over
-  pub skip_part : plan_w (what_of v.kind) ≡ false → inputs f ≡ inputs w.after
-  skip_part z = inputs_is ∙ go (what_of v.kind) z
+  pub skip_part : is_plan l ≡ false → inputs f ≡ inputs ns
+  skip_part z = inputs_is ∙ go (what l) z
     where
-      go : (u : What) → plan_w u ≡ false → inputs_by u w.label w.below (inputs w.below) (inputs w.after) ≡ inputs w.after
+      go : (u : What) → plan_w u ≡ false → inputs_by u l cs (inputs cs) (inputs ns) ≡ inputs ns
       go (expr k) e = refl
       go (K.part k) e = refl
       go unknown e = refl
       go (plan k) e = no_yes (sym e)
 
   -- a plan's schema, by its role, stands in front
-  pub plan_first : plan_w (what_of v.kind) ≡ true
-      → inputs f
-      ≡ fields_by (role (what_of v.kind)) v.p (made (parts_over v.kind (inputs w.below)) w.below) (inputs w.below) ∷ inputs w.after
-  plan_first z = inputs_is ∙ go (what_of v.kind) refl z
+  pub plan_first : is_plan l ≡ true
+      → inputs f ≡ fields_by (role (what l)) l.p (made (parts_over l.kind (inputs cs)) cs) (inputs cs) ∷ inputs ns
+  plan_first z = inputs_is ∙ go (what l) refl z
     where
-      go : (u : What) → what_of v.kind ≡ u → plan_w u ≡ true
-          → inputs_by u w.label w.below (inputs w.below) (inputs w.after)
-          ≡ fields_by (role u) v.p (made (parts_over v.kind (inputs w.below)) w.below) (inputs w.below) ∷ inputs w.after
+      go : (u : What) → what l ≡ u → plan_w u ≡ true
+          → inputs_by u l cs (inputs cs) (inputs ns) ≡ fields_by (role u) l.p (made (parts_over l.kind (inputs cs)) cs) (inputs cs) ∷ inputs ns
       go (expr k) q e = no_yes e
       go (K.part k) q e = no_yes e
       go unknown q e = no_yes e
-      go (plan k) q e =
-          let n : v.kind ≡ K.number_p k = w.says.kind ∙ kind_p w.label k (ap what_of (sym w.says.kind) ∙ q) in
-          rw (w.says.p, n)
+      go (plan k) q e = rw (kind_p l k q)
 
-  pub fields_here : plan_w (what_of v.kind) ≡ true → {r : Role} → r ≡ role (what_of v.kind)
-      → input 0 (inputs f) ≡ fields_by r v.p (made (parts_over v.kind (inputs w.below)) w.below) (inputs w.below)
+  pub fields_here : is_plan l ≡ true → {r : Role} → r ≡ role (what l)
+      → input 0 (inputs f) ≡ fields_by r l.p (made (parts_over l.kind (inputs cs)) cs) (inputs cs)
   unfolding input
   fields_here z R = rw (R, plan_first z)
 

@@ -8,11 +8,11 @@ use native.Mathlib.Omega.{arith}
 use lib.Dec.{eqb}
 use borrow.Author.Tests.{ne_eqb}
 use lib.ListN.{length, length-append}
-use Rattle.image.specs.Tree.{Label, Forest, Linked, Node}
+use Rattle.image.specs.Tree.{Label, Forest, Linked}
 use Rattle.plan.specs.Lists.{◌&◌}
 use Rattle.plan.specs.Schema.{same}
 use Rattle.plan.specs.Kinds as K
-use Rattle.plan.specs.Kinds.{What, expr, plan, part, unknown, what, what_of, plan_w}
+use Rattle.plan.specs.Kinds.{What, expr, plan, part, unknown, what, what_of, plan_w, is_plan}
 use Rattle.plan.specs.Syntax.{Name, nm}
 use Rattle.check_fields.specs.declared.scopes.View.{View}
 use Rattle.check_fields.specs.declared.scopes.View.TheVariants.{Nothing, FirstInput, SecondInput, BothInputs, Parts, FirstInputAndParts}
@@ -21,7 +21,6 @@ use Rattle.check_fields.specs.Fields.{Schema, input, made, inputs, names_in}
 use Rattle.acceptance.specs.Names.{holders}
 use Rattle.check_fields.specs.Rules.{Scope, over, seen, hand, hand_by, hand_p}
 use Rattle.plan.proofs.Rebuilt.{kind_w, kind_e}
-use Rattle.plan.specs.Siblings.{Says}
 use Rattle.check_fields.specs.Count.{hits, counted}
 use Rattle.std.specs.declared.ops.ControlFlow.TheVariants.{Continue}
 use Rattle.check_fields.specs.Seek.{Sought, seek, told, type_found, passed_of, all_places}
@@ -112,13 +111,11 @@ hand_q n g l cs (plan k) e z = let y : ◌≡◌ {A = ℕ} 0 1 = cc in absurd (o
 hand_q n g l cs unknown e z = rw (ne_eqb l.kind (K.number_q K.PairPart)
     (λ q. let k : what_of (K.number_q K.PairPart) ≡ unknown = ap what_of (sym q) ∙ e in no_pair k)) refl
 
-module _ {v : Node} {l : Label} (w : Says v l) (cs : Forest) where
+module _ (l : Label) (cs : Forest) where
   -- a plan hands its own scope to all its children
-  pub hand_plan : (c : Scope) (r : View) → r ≡ view_w (what_of v.kind) → plan_w (what_of v.kind) ≡ true
-      → hand c l cs ≡ (scope_of r cs, scope_of r cs)
+  pub hand_plan : (c : Scope) (r : View) → r ≡ view_w (what l) → is_plan l ≡ true → hand c l cs ≡ (scope_of r cs, scope_of r cs)
   unfolding hand
-  hand_plan c r e z =
-      go (what l) (e ∙ ap (λ (k : ℕ). view_w (what_of k)) w.kind) (sym (ap (λ (k : ℕ). plan_w (what_of k)) w.kind) ∙ z)
+  hand_plan c r e z = go (what l) e z
     where
       go : (u : What) → r ≡ view_w u → plan_w u ≡ true → hand_by u c cs ≡ (scope_of r cs, scope_of r cs)
       go (expr k) q y = let x : ◌≡◌ {A = ℕ} 0 1 = cc in absurd (omega arith)
@@ -127,13 +124,12 @@ module _ {v : Node} {l : Label} (w : Says v l) (cs : Forest) where
       go (plan k) q y = rw (q, hand_p_lem k cs) refl
 
   -- another record hands on the scope that it has, and a key pair a part of it
-  pub hand_part : (n : View) (g : Forest) {i j : View} → plan_w (what_of v.kind) ≡ false
-      → i ≡ first_view v.kind n → j ≡ rest_view v.kind n → hand (scope_of n g) l cs ≡ (scope_of i g, scope_of j g)
+  pub hand_part : (n : View) (g : Forest) {i j : View} → is_plan l ≡ false
+      → i ≡ first_view l.kind n → j ≡ rest_view l.kind n → hand (scope_of n g) l cs ≡ (scope_of i g, scope_of j g)
   unfolding hand
   hand_part n g {i} {j} z h k =
-      hand_q n g l cs (what l) refl (sym (ap (λ (x : ℕ). plan_w (what_of x)) w.kind) ∙ z)
-      ∙ ap (λ (x : ℕ). (scope_of (first_view x n) g, scope_of (rest_view x n) g)) (sym w.kind)
-      ∙ ap (λ (x : View). (scope_of x g, scope_of (rest_view v.kind n) g)) (sym h) ∙ ap (λ (x : View). (scope_of i g, scope_of x g)) (sym k)
+      hand_q n g l cs (what l) refl z
+      ∙ ap (λ (x : View). (scope_of x g, scope_of (rest_view l.kind n) g)) (sym h) ∙ ap (λ (x : View). (scope_of i g, scope_of x g)) (sym k)
 
 -- ---- what is found in a scope
 

@@ -12,25 +12,23 @@ use native.Mathlib.Omega.{arith}
 use lib.Dec.{eqb}
 use lib.ListN.{length, drop}
 use borrow.Author.Tests.{eq-eqb, ne_eqb}
-use Rattle.image.specs.Tree.{Label, Forest, none, size, Linked, Node}
+use Rattle.image.specs.Tree.{Label, Forest, none, node, Tree, size, Linked}
+use Rattle.image.specs.Subtrees.{tree_of}
+use Rattle.image.specs.declared.trees.Subtree.{Subtree}
 use Rattle.std.specs.declared.ops.ControlFlow.{ControlFlow}
 use Rattle.std.specs.declared.ops.ControlFlow.TheVariants.{Break, Continue}
 use Rattle.std.specs.Prelude.{Option, None, Some}
 use Rattle.plan.specs.Kinds as K
-use Rattle.plan.specs.Kinds.{What, expr, plan, part, unknown, what, what_of}
+use Rattle.plan.specs.Kinds.{What, expr, plan, part, unknown, what}
 use Rattle.plan.specs.FieldSources.{makes, role, creates, extends, gives_both, own}
 use Rattle.plan.specs.declared.field_sources.Role.{Role}
 use Rattle.plan.specs.declared.field_sources.Role.TheVariants.{NoPlan, Creates, Joins, Renames, Extends, Passes}
 use Rattle.plan.specs.Kinds.{is_plan}
-use Rattle.plan.specs.Inputs.{plans_in}
-use Rattle.plan.specs.Siblings.{forest, PlanAt, PlansAt}
-use Rattle.plan.specs.declared.siblings.Branch.{Branch}
-use Rattle.plan.proofs.Fronts.{Front, front}
+use Rattle.plan.specs.Inputs.{plans_in, PlanAt, PlansAt}
 use Rattle.plan.specs.Lists.{◌&◌}
 use Rattle.plan.specs.Schema.{same}
 use Rattle.plan.specs.Syntax.{Name, nm}
 use Rattle.plan.proofs.Bools.{no_yes}
-use Rattle.plan.proofs.Planning.{at_plan}
 use Rattle.check_fields.specs.Fields.{Schema, name_of, input, made, schema_made_by, inputs, parts_over, fields_by, requalify, type_in}
 use Rattle.check_fields.specs.Count.{hits, hit, counted, below, under_alias}
 use Rattle.check_fields.specs.declared.questions.Question.{Question}
@@ -147,42 +145,28 @@ pub made_done : (asks : Question) (k j : ℕ) (f g : Forest) → Made asks k j f
 unfolding seek made
 made_done asks k j f g e z d = sym (e d ∙ rw z refl)
 
-module _ (asks : Question) (j : ℕ) {f : Forest} {v : Node} (w : Front f v)
-    {x y : Bool} (X : x ≡ makes (what_of v.kind)) (Y : y ≡ hit asks v.p v.q) where
-  made_turn : (z : Bool) → (x && y) ≡ z → (d : Schema)
+-- whether the label is a part's that is asked for
+abbrev pub asked_for : Question → Label → Bool
+asked_for asks l = makes (what l) && hit asks l.p l.q
+
+module _ (asks : Question) (j : ℕ) {f : Forest} {l : Label} {cs ns : Forest} (w : f ≡ node l cs ns) where
+  made_turn : (z : Bool) → asked_for asks l ≡ z → (d : Schema)
       → seek (hits asks) j (made d f)
-      ≡ cond z (cond (eqb j 0) (Break (part_type (what w.label) d w.label w.below)) (seek (hits asks) (j - 1) (made d w.after)))
-      (seek (hits asks) j (made d w.after))
+      ≡ cond z (cond (eqb j 0) (Break (part_type (what l) d l cs)) (seek (hits asks) (j - 1) (made d ns))) (seek (hits asks) j (made d ns))
   unfolding made
-  made_turn z m d =
-      let e2 : x ≡ makes (what w.label) = X ∙ ap (λ (k : ℕ). makes (what_of k)) w.says.kind in
-      let g2 : y ≡ hit asks w.label.p w.label.q = Y ∙ ap (λ (k : ℕ). hit asks k v.q) w.says.p
-      ∙ ap (λ (k : ℕ). hit asks w.label.p k) w.says.q in
-      let m2 : (makes (what w.label) && hits asks (name_of w.label)) ≡ z = rw (← e2, ← g2) m in
-      ap (λ (g : Forest). seek (hits asks) j (made d g)) w.is
-      ∙ seek_made_by (hits asks) j d w.label w.below (made d w.after) (what w.label) ∙ rw m2
+  made_turn z m d = ap (λ (g : Forest). seek (hits asks) j (made d g)) w ∙ seek_made_by (hits asks) j d l cs (made d ns) (what l) ∙ rw m
 
   -- a part that is not asked for
-  pub made_skip : (x && y) ≡ false → {i : ℕ} → i ≡ j → Made asks j i f w.after
-  made_skip m e d = made_turn false m d ∙ ap (λ (n : ℕ). seek (hits asks) n (made d w.after)) (sym e)
+  pub made_skip : asked_for asks l ≡ false → Made asks j j f ns
+  made_skip m d = made_turn false m d
 
   -- one that is passed
-  pub made_pass : (x && y) ≡ true → (j ≡ 0 → ⊥) → {i : ℕ} → i ≡ j - 1 → Made asks j i f w.after
-  made_pass m z e d = made_turn true m d ∙ rw (ne_eqb j 0 z) (ap (λ (n : ℕ). seek (hits asks) n (made d w.after)) (sym e))
+  pub made_pass : asked_for asks l ≡ true → (j ≡ 0 → ⊥) → Made asks j (j - 1) f ns
+  made_pass m z d = made_turn true m d ∙ rw (ne_eqb j 0 z)
 
   -- the one sought
-  pub made_found : (x && y) ≡ true → j ≡ 0 → (d : Schema)
-      → Break (part_type (what w.label) d w.label w.below) ≡ seek (hits asks) j (made d f)
+  pub made_found : asked_for asks l ≡ true → j ≡ 0 → (d : Schema) → Break (part_type (what l) d l cs) ≡ seek (hits asks) j (made d f)
   made_found m z d = sym (made_turn true m d ∙ rw (eq-eqb j 0 z))
-
--- a part that is asked for makes a field
-pub it_makes : {f : Forest} {v : Node} (w : Front f v) {x : Bool} (y : Bool)
-    → x ≡ makes (what_of v.kind) → (x && y) ≡ true → makes (what w.label) ≡ true
-it_makes w {x} y X m = sym (ap (λ (k : ℕ). makes (what_of k)) w.says.kind) ∙ sym X ∙ go x y m
-  where
-    go : (a b : Bool) → (a && b) ≡ true → a ≡ true
-    go true b e = refl
-    go false b e = e
 
 -- ---- the plan with a place
 
@@ -194,7 +178,7 @@ input_drop (suc k) [] = refl
 input_drop (suc k) (s ∷ ss) = input_drop k ss
 
 -- the schema of the plan that was found
-pub plan_fields : {f : Forest} {i : ℕ} {t : Branch} (y : PlanAt f i t) → input 0 (inputs (forest y.trees)) ≡ input i (inputs f)
+pub plan_fields : {f : Forest} {i : ℕ} {t : Tree} (y : PlanAt f i t) → input 0 (inputs y.trees) ≡ input i (inputs f)
 plan_fields {f} {i} y = sym (input_drop i (inputs f) ∙ ap (input 0) (inputs_from y))
 
 -- there is no such plan
@@ -257,30 +241,29 @@ module _ (asks : Question) (k : ℕ) where
   seek_by_role p parts ins Extends e = seek-++ (hits asks) k _ _
   seek_by_role p parts ins Passes e = ap (seek (hits asks) k) (by_input p parts ins Passes refl refl) ∙ seek-++ (hits asks) k _ _
 
-  module _ {f : Forest} {v : Node} (w : Front f v) (z : is_plan w.label ≡ true) {r : Role}
-      (R : r ≡ role (what_of v.kind)) where
+  module _ {f : Forest} {l : Label} {cs ns : Forest} (w : f ≡ node l cs ns) (z : is_plan l ≡ true) {r : Role} (R : r ≡ role (what l)) where
     -- the schemas of the plan's inputs, and the fields of its parts
     abbrev ins : List Schema
-    ins = inputs w.below
+    ins = inputs cs
 
     abbrev parts_of : Schema
-    parts_of = made (parts_over v.kind ins) w.below
+    parts_of = made (parts_over l.kind ins) cs
 
     -- what the input is asked
     abbrev pub asked : Sought
-    asked = seek (hits (below r v.p asks)) k (input (own r v.p) ins)
+    asked = seek (hits (below r l.p asks)) k (input (own r l.p) ins)
 
     -- its parts make its fields
     pub of_parts : creates r ≡ true → seek (hits asks) k parts_of ≡ seek (hits asks) k (input 0 (inputs f))
-    of_parts c = sym (ap (seek (hits asks) k) (fields_here w (at_plan w z) R ∙ by_parts v.p parts_of ins r c))
+    of_parts c = sym (ap (seek (hits asks) k) (fields_here w z R ∙ by_parts l.p parts_of ins r c))
 
     -- and then
     abbrev after : ℕ → Sought
-    after = λ j. seek (hits asks) j (behind v.p parts_of ins r)
+    after = λ j. seek (hits asks) j (behind l.p parts_of ins r)
 
     module _ (c : creates r ≡ false) where
       of_role : onward asked after ≡ seek (hits asks) k (input 0 (inputs f))
-      of_role = sym (ap (seek (hits asks) k) (fields_here w (at_plan w z) R) ∙ seek_by_role v.p parts_of ins r c)
+      of_role = sym (ap (seek (hits asks) k) (fields_here w z R) ∙ seek_by_role l.p parts_of ins r c)
 
       -- the input has it
       pub of_input : (x : Sought) → x ≡ asked → ((g : ℕ → Sought) → onward x g ≡ x) → x ≡ seek (hits asks) k (input 0 (inputs f))
@@ -288,37 +271,38 @@ module _ (asks : Question) (k : ℕ) where
 
       -- it has it not: the other input, the parts, or none
       module _ {j : ℕ} (e : Continue j ≡ asked) where
-        pub of_second : gives_both r v.p ≡ true → seek (hits asks) j (input 1 ins) ≡ seek (hits asks) k (input 0 (inputs f))
+        pub of_second : gives_both r l.p ≡ true → seek (hits asks) j (input 1 ins) ≡ seek (hits asks) k (input 0 (inputs f))
         of_second g = rw g at (ap (λ (t : Sought). onward t after) e ∙ of_role)
 
-        pub of_more : gives_both r v.p ≡ false → extends r ≡ true
+        pub of_more : gives_both r l.p ≡ false → extends r ≡ true
             → seek (hits asks) j parts_of ≡ seek (hits asks) k (input 0 (inputs f))
         of_more g d = rw (g, d) at (ap (λ (t : Sought). onward t after) e ∙ of_role)
 
       -- nothing stands behind the input's
-      pub of_one : gives_both r v.p ≡ false → extends r ≡ false → asked ≡ seek (hits asks) k (input 0 (inputs f))
+      pub of_one : gives_both r l.p ≡ false → extends r ≡ false → asked ≡ seek (hits asks) k (input 0 (inputs f))
       of_one g d =
-          let b : [] ≡ behind v.p parts_of ins r = rw (g, d) in
+          let b : [] ≡ behind l.p parts_of ins r = rw (g, d) in
           sym (onward_none (hits asks) asked) ∙ ap (λ (t : Schema). onward asked (λ j. seek (hits asks) j t)) b ∙ of_role
 
 -- ---- the plan that is asked
 
 -- the plan that is sought is asked, or there is none
-abbrev pub Asked : Forest → ℕ → Question → Option Branch → Question → Type 0
+abbrev pub Asked : Forest → ℕ → Question → Option Subtree → Question → Type 0
 Asked f i asks None m = Fieldless f i asks
-Asked f i asks (Some t) m = Makes f i asks t m
+Asked f i asks (Some t) m = Makes f i asks (tree_of t) m
 
 -- the measure: how many trees there are below it
-abbrev pub depth_left : Option Branch → ℕ
+abbrev pub depth_left : Option Subtree → ℕ
 depth_left None = 0
-depth_left (Some t) = suc (size (forest t.below))
+depth_left (Some t) = suc (size (tree_of t).below)
 
 -- the plan with the place itself
-pub asked_start : (f : Forest) (i : ℕ) (asks : Question) (x : Option Branch) → PlansAt f i x → Asked f i asks x asks
+pub asked_start : (f : Forest) (i : ℕ) (asks : Question) (x : Option Subtree) → PlansAt f i x → Asked f i asks x asks
 asked_start f i asks None e = plan_missing asks f i e
 asked_start f i asks (Some t) y =
     record {
       trees = y.trees;
+      after = y.after;
       first = y.first;
       is = y.is;
       same = λ k. ap (seek (hits asks) k) (plan_fields y);
@@ -326,23 +310,24 @@ asked_start f i asks (Some t) y =
     }
 
 -- past a plan that has one input's fields and no others
-module _ {f : Forest} {i : ℕ} {asks m : Question} {t : Branch} (y : Makes f i asks t m) {x : Role} (X : x ≡ role (what_of t.node.kind))
-    (c : creates x ≡ false) (d : extends x ≡ false) (g : gives_both x t.node.p ≡ false) where
-  one_input : (k : ℕ) → seek (hits (below x t.node.p m)) k (input (own x t.node.p) (inputs (forest t.below))) ≡ seek (hits asks) k (input i (inputs f))
-  one_input k = of_one m k (front y.first) y.is X c g d ∙ y.same k
+module _ {f : Forest} {i : ℕ} {asks m : Question} {t : Tree} (y : Makes f i asks t m) {x : Role} (X : x ≡ role (what t.label))
+    (c : creates x ≡ false) (d : extends x ≡ false) (g : gives_both x t.label.p ≡ false) where
+  one_input : (k : ℕ) → seek (hits (below x t.label.p m)) k (input (own x t.label.p) (inputs t.below)) ≡ seek (hits asks) k (input i (inputs f))
+  one_input k = of_one m k y.first y.is X c g d ∙ y.same k
 
-  pub asked_next : {o : Question} {u : ℕ} → o ≡ below x t.node.p m → u ≡ own x t.node.p
-      → (z : Option Branch) → PlansAt (forest t.below) u z → Asked f i asks z o
+  pub asked_next : {o : Question} {u : ℕ} → o ≡ below x t.label.p m → u ≡ own x t.label.p
+      → (z : Option Subtree) → PlansAt t.below u z → Asked f i asks z o
   asked_next {o} {u} O U None e =
-      λ k. sym (seek_none (hits (below x t.node.p m)) k _ (ap (λ (n : ℕ). input n (inputs (forest t.below))) (sym U) ∙ missing (forest t.below) u e))
+      λ k. sym (seek_none (hits (below x t.label.p m)) k _ (ap (λ (n : ℕ). input n (inputs t.below)) (sym U) ∙ missing t.below u e))
       ∙ one_input k
   asked_next {o} {u} O U (Some n) z =
       record {
         trees = z.trees;
+        after = z.after;
         first = z.first;
         is = z.is;
         same =
-            λ k. ap (λ (a : Question). seek (hits a) k (input 0 (inputs (forest z.trees)))) O
-            ∙ ap (seek (hits (below x t.node.p m)) k) (plan_fields z ∙ ap (λ (e : ℕ). input e (inputs (forest t.below))) U) ∙ one_input k;
-        fewer = omega (arith, z.fewer, y.fewer, y.first.deeper);
+            λ k. ap (λ (a : Question). seek (hits a) k (input 0 (inputs z.trees))) O
+            ∙ ap (seek (hits (below x t.label.p m)) k) (plan_fields z ∙ ap (λ (e : ℕ). input e (inputs t.below)) U) ∙ one_input k;
+        fewer = omega (arith, z.fewer, y.fewer, ap size y.first);
       }

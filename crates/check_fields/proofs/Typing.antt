@@ -2,11 +2,9 @@
 -- Assumes nothing.
 use mathlib.Core.Path.{◌≡◌, refl, sym, ap, ◌∙◌}
 use Prim.Native.Nat.{ℕ}
-use Rattle.image.specs.Tree.{Label, Forest, none, Node}
-use Rattle.plan.proofs.Fronts.{Front}
-use Rattle.plan.specs.Siblings.{Says}
+use Rattle.image.specs.Tree.{Label, Forest, none, node}
 use Rattle.plan.specs.Kinds as K
-use Rattle.plan.specs.Kinds.{What, expr, plan, part, unknown, what, what_of, expr_w}
+use Rattle.plan.specs.Kinds.{What, expr, plan, part, unknown, what, what_of}
 use Rattle.plan.specs.Syntax.{nm}
 use Rattle.plan.proofs.Rebuilt.{kind_e}
 use Rattle.check_fields.specs.Fields.{Schema, type_in, type_of, type_by, type_first}
@@ -28,32 +26,27 @@ plain_by (expr K.Between) d l z = refl
 plain_by (expr K.InList) d l z = refl
 plain_by (expr K.Function) d l z = refl
 
--- of what was looked at in an expression
-module _ {v : Node} {l : Label} (w : Says v l) (d : Schema) where
+-- of an expression's label
+module _ (l : Label) (d : Schema) where
   -- a column has the type of its field
-  pub source_column : v.kind ≡ K.number_e K.Column → type_in d (nm v.p v.q) ≡ type_of d l
+  pub source_column : l.kind ≡ K.number_e K.Column → type_in d (nm l.p l.q) ≡ type_of d l
   unfolding type_of what_of K.among
-  source_column e = let z : l.kind ≡ 1 = sym w.kind ∙ e in rw (z, w.p, w.q) refl
+  source_column e = rw e refl
 
   -- another expression has it outright
-  pub source_plain : {t : ℕ} → (v.kind ≡ K.number_e K.Column → ⊥) → t ≡ plain_type (what_of v.kind) v.p v.r → t ≡ type_of d l
+  pub source_plain : {t : ℕ} → (l.kind ≡ K.number_e K.Column → ⊥) → t ≡ plain_type (what l) l.p l.r → t ≡ type_of d l
   unfolding type_of
-  source_plain {t} z e =
-      e ∙ ap (λ (n : ℕ). plain_type (what_of n) v.p v.r) w.kind ∙ ap (λ (n : ℕ). plain_type (what l) n v.r) w.p
-      ∙ ap (λ (n : ℕ). plain_type (what l) l.p n) w.r ∙ plain_by (what l) d l (λ q. z (w.kind ∙ kind_e l K.Column q))
+  source_plain {t} z e = e ∙ plain_by (what l) d l (λ q. z (kind_e l K.Column q))
 
 -- the type of the first expression
-pub first_typed : {f : Forest} {v : Node} (w : Front f v) (d : Schema) → type_of d w.label ≡ type_first d f
+pub first_typed : {f : Forest} {l : Label} {cs ns : Forest} → f ≡ node l cs ns → (d : Schema) → type_of d l ≡ type_first d f
 unfolding type_first
-first_typed w d = sym (ap (type_first d) w.is)
+first_typed w d = sym (ap (type_first d) w)
 
 pub first_untyped : (d : Schema) {f : Forest} → f ≡ none → 0 ≡ type_first d f
 unfolding type_first
 first_untyped d e = sym (ap (type_first d) e)
 
 -- an entry's field has that of its expression
-pub of_entry : {v : Node} {l : Label} (w : Says v l) (cs : Forest) (d : Schema) → what_of v.kind ≡ part K.EntryPart
-    → type_first d cs ≡ part_type (what l) d l cs
-of_entry {l = l} w cs d e =
-    let z : what l ≡ part K.EntryPart = ap what_of (sym w.kind) ∙ e in
-    sym (ap (λ (u : What). part_type u d l cs) z)
+pub of_entry : (l : Label) (cs : Forest) (d : Schema) → what l ≡ part K.EntryPart → type_first d cs ≡ part_type (what l) d l cs
+of_entry l cs d e = sym (ap (λ (u : What). part_type u d l cs) e)

@@ -5,7 +5,7 @@ use Rattle.plan.specs.Kinds.{What, expr, plan, part, unknown, PlanKind, TableSca
 use Rattle.plan.specs.Kinds.{Sort, Repartition, Limit, Aggregate, Window, number_q, PairPart}
 use Rattle.check_fields.specs.Fields.{made, input, inputs}
 use Rattle.check_fields.specs.Rules.{Scope, over}
-use Rattle.plan.specs.Siblings.{forest}
+use Rattle.image.specs.Subtrees.{forest}
 use Rattle.check_fields.specs.declared.scopes.Scope as declared
 use Rattle.check_fields.specs.declared.scopes.View.{View}
 use Rattle.check_fields.specs.declared.scopes.View.TheVariants.{Nothing, FirstInput, SecondInput, BothInputs, Parts}

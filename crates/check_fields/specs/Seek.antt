@@ -2,11 +2,9 @@
 use Rattle.std.specs.Prelude.{◌≡◌, Bool, true, cond, [], ◌∷◌, ℕ, ◌-◌, ◌≤◌, eqb, Option, None, Some}
 use Rattle.std.specs.declared.ops.ControlFlow.{ControlFlow}
 use Rattle.std.specs.declared.ops.ControlFlow.TheVariants.{Break, Continue}
-use Rattle.image.specs.Tree.{Forest, size}
+use Rattle.image.specs.Tree.{Forest, node, Tree, size}
+use Rattle.image.specs.Subtrees.{tree_of}
 use Rattle.plan.specs.Kinds.{is_plan}
-use Rattle.plan.specs.Siblings.{forest, First}
-use Rattle.plan.specs.declared.siblings.Siblings.{Siblings}
-use Rattle.plan.specs.declared.siblings.Branch.{Branch}
 use Rattle.plan.specs.Syntax.{Name, nm, no_type}
 use Rattle.check_fields.specs.Fields.{Schema, input, inputs, type_in}
 use Rattle.check_fields.specs.Count.{hits}
@@ -49,12 +47,13 @@ passed_of (Break t) = 0
 passed_of (Continue j) = all_places - j
 
 -- t is the plan that is asked, by the question m, for the fields of f's plan with the place `skip`: the first of some trees
-pub record Makes (f : Forest) (skip : ℕ) (asks : Question) (t : Branch) (m : Question) : Type 0 where
-  pub trees : Siblings
-  pub first : First trees t
-  pub is : is_plan first.label ≡ true
-  pub same : (k : ℕ) → seek (hits m) k (input 0 (inputs (forest trees))) ≡ seek (hits asks) k (input skip (inputs f))
-  pub fewer : size (forest trees) ≤ size f
+pub record Makes (f : Forest) (skip : ℕ) (asks : Question) (t : Tree) (m : Question) : Type 0 where
+  pub trees : Forest
+  pub after : Forest
+  pub first : trees ≡ node t.label t.below after
+  pub is : is_plan t.label ≡ true
+  pub same : (k : ℕ) → seek (hits m) k (input 0 (inputs trees)) ≡ seek (hits asks) k (input skip (inputs f))
+  pub fewer : size trees ≤ size f
 
 -- no field is found in f's plan with the place `skip`
 abbrev pub Fieldless : Forest → ℕ → Question → Type 0
@@ -63,4 +62,4 @@ Fieldless f skip asks = (k : ℕ) → Continue k ≡ seek (hits asks) k (input s
 -- there is none to ask, or it is x
 abbrev pub Makers : Forest → ℕ → Question → Option Maker → Type 0
 Makers f skip asks None = Fieldless f skip asks
-Makers f skip asks (Some x) = Makes f skip asks x.plan x.asks
+Makers f skip asks (Some x) = Makes f skip asks (tree_of x.plan) x.asks

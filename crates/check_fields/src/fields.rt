@@ -1,19 +1,19 @@
 // The fields of a plan's schema, asked for by recursion on the plan's records: no schema is stored.
 ghost use Rattle.std.specs.Prelude.{◌≡◌, true, []};
-ghost use Rattle.image.specs.Tree.{Label};
+ghost use Rattle.image.specs.Subtrees.{forest, tree_of};
 ghost use Rattle.plan.specs.Kinds.{what, what_of};
 ghost use Rattle.plan.specs.FieldSources.{makes};
-ghost use Rattle.plan.specs.Siblings.{Says, forest};
 ghost use Rattle.check_fields.specs.Count.{below, counted, hit, hits, near, under_alias};
 ghost use Rattle.check_fields.specs.Fields.{Schema, input, inputs, made, parts_over, type_of};
 ghost use Rattle.check_fields.specs.Seek.{Makers, passed_of, seek, told, told_in, type_found};
 ghost use Rattle.check_fields.specs.Typed.{part_type, plain_type};
 
 use crate::questions::Question;
-use image::records::Node;
+use image::records::Label;
+use image::trees::{Siblings, Subtree};
 use plan::field_sources::{Role, gives_both, makes_field, own_input, role_of};
+use plan::inputs::nth_plan;
 use plan::kinds::{COLUMN, ExprKind, PartKind, TABLE_SCAN, What, what_of};
-use plan::siblings::{Branch, Siblings};
 use plan::words::{BOOLEAN, INTEGER, NO_TYPE};
 use std::ops::ControlFlow;
 use std::ops::ControlFlow::{Break, Continue};
@@ -89,24 +89,25 @@ fn plain_type(kind: usize, p: usize, r: usize) -> usize
 }
 
 // The type of an expression.
-pub fn source_of(node: Node) -> FieldType
-    ensures { (l : Label) (d : Schema) → Says node l → told d result ≡ type_of d l }
+pub fn source_of(label: Label) -> FieldType
+    ensures { (d : Schema) → told d result ≡ type_of d label }
 {
-    if node.kind == COLUMN {
-        return FieldType::Named(node.p, node.q);
+    if label.kind == COLUMN {
+        return FieldType::Named(label.p, label.q);
     }
-    FieldType::Known(plain_type(node.kind, node.p, node.r))
+    FieldType::Known(plain_type(label.kind, label.p, label.r))
 }
 
 // The type of the field that a part makes.
-fn made_by(part: Branch) -> FieldType
-    ensures { (l : Label) (d : Schema) → Says part.entry.node l → makes (what l) ≡ true
-        → told d result ≡ part_type (what l) d l (forest part.entry.below) }
+fn made_by(part: Subtree) -> FieldType
+    ensures { let t = tree_of part.entry in (d : Schema) → makes (what t.label) ≡ true
+        → told d result ≡ part_type (what t.label) d t.label t.below }
 {
-    match what_of(part.node.kind) {
-        What::Part(PartKind::FieldPart) => FieldType::Known(part.node.r),
-        What::Part(PartKind::EntryPart) => match part.below.first() {
-            Some(value) => source_of(value.node),
+    let label = part.label();
+    match what_of(label.kind) {
+        What::Part(PartKind::FieldPart) => FieldType::Known(label.r),
+        What::Part(PartKind::EntryPart) => match part.children().split_first() {
+            Some((value, _)) => source_of(value.label()),
             None => FieldType::Known(NO_TYPE),
         },
         _ => FieldType::Known(INTEGER),
@@ -118,16 +119,14 @@ pub fn seek_made(parts: Siblings, asks: Question, k: usize) -> ControlFlow<Field
     ensures { (d : Schema) → told_in d result ≡ seek (hits asks) k (made d (forest parts.entry)) }
 {
     let mut left = k;
-    let mut here = parts;
-    while let Some(part) = here.first() {
-        let node = part.node;
-        if makes_field(node.kind) & is_hit(asks, node.p, node.q) {
+    for part in parts {
+        let label = part.label();
+        if makes_field(label.kind) & is_hit(asks, label.p, label.q) {
             if left == 0 {
                 return Break(made_by(part));
             }
             left -= 1;
         }
-        here = part.after;
     }
     Continue(left)
 }
@@ -146,7 +145,7 @@ pub fn seek_alone(parts: Siblings, asks: Question, k: usize) -> Sought
 // The plan that is asked for fields, and the question that is put to it.
 #[derive(Clone, Copy)]
 pub struct Maker<'a> {
-    pub plan: Branch<'a>,
+    pub plan: Subtree<'a>,
     pub asks: Question,
 }
 
@@ -155,10 +154,11 @@ fn find_maker<'a>(trees: Siblings<'a>, skip: usize, asks: Question) -> Option<Ma
     ensures { Makers (forest trees.entry) skip asks result }
 {
     let mut asked = asks;
-    let mut next = trees.plan(skip);
+    let mut next = nth_plan(trees, skip);
     while let Some(plan) = next {
-        let p = plan.node.p;
-        let role = role_of(plan.node.kind);
+        let label = plan.label();
+        let p = label.p;
+        let role = role_of(label.kind);
         if (role == Role::Creates) | (role == Role::Extends) | gives_both(role, p) {
             return Some(Maker {
                 plan: plan,
@@ -166,7 +166,7 @@ fn find_maker<'a>(trees: Siblings<'a>, skip: usize, asks: Question) -> Option<Ma
             });
         }
         asked = question(role, p, asked);
-        next = plan.below.plan(own_input(role, p));
+        next = nth_plan(plan.children(), own_input(role, p));
     }
     None
 }
@@ -188,19 +188,19 @@ pub fn seek_field(trees: Siblings, skip: usize, asks: Question, k: usize) -> Sou
         return Continue(k);
     };
     let asked = maker.asks;
-    let below = maker.plan.below;
-    let kind = maker.plan.node.kind;
-    let p = maker.plan.node.p;
-    let role = role_of(kind);
+    let below = maker.plan.children();
+    let label = maker.plan.label();
+    let p = label.p;
+    let role = role_of(label.kind);
     if role == Role::Creates {
-        return seek_parts(below, kind, asked, k);
+        return seek_parts(below, label.kind, asked, k);
     }
     let left = seek_field(below, own_input(role, p), question(role, p, asked), k)?;
     if gives_both(role, p) {
         return seek_field(below, 1, asked, left);
     }
     if role == Role::Extends {
-        return seek_parts(below, kind, asked, left);
+        return seek_parts(below, label.kind, asked, left);
     }
     Continue(left)
 }

@@ -1,8 +1,7 @@
 // What an expression stands over: the scope is the chain of a plan's children and which of their fields are seen; no schema is stored.
 ghost use Rattle.std.specs.Prelude.{◌≡◌};
-ghost use Rattle.image.specs.Tree.{Label};
+ghost use Rattle.image.specs.Subtrees.{tree_of};
 ghost use Rattle.plan.specs.Kinds.{what_of};
-ghost use Rattle.plan.specs.Siblings.{Says, forest};
 ghost use Rattle.check_fields.specs.Count.{counted, hits};
 ghost use Rattle.check_fields.specs.Fields.{type_of};
 ghost use Rattle.check_fields.specs.Rules.{hand, seen};
@@ -13,9 +12,9 @@ use crate::fields::{
     ALL, FieldType, Sought, passed, seek_alone, seek_field, source_of, type_found,
 };
 use crate::questions::Question;
-use image::records::Node;
+use image::records::Label;
+use image::trees::{Siblings, Subtree};
 use plan::kinds::{PAIR, PlanKind, What, is_plan, what_of};
-use plan::siblings::{Branch, Siblings};
 use std::ops::ControlFlow::Continue;
 
 // Which fields of a plan's children are seen.
@@ -129,14 +128,14 @@ pub fn rest_view(kind: usize, view: View) -> View
 }
 
 // What the tree, which stands over `here`, hands down to its children.
-pub fn hand<'a>(here: Scope<'a>, tree: Branch<'a>) -> Handed<'a>
-    ensures { (l : Label) → Says tree.entry.node l
-        → hand (scope_at here.entry) l (forest tree.entry.below) ≡ (scope_at result.first, scope_at result.rest) }
+pub fn hand<'a>(here: Scope<'a>, tree: Subtree<'a>) -> Handed<'a>
+    ensures { let t = tree_of tree.entry in
+        hand (scope_at here.entry) t.label t.below ≡ (scope_at result.first, scope_at result.rest) }
 {
-    let kind = tree.node.kind;
+    let kind = tree.kind();
     if is_plan(kind) {
         let own = Scope {
-            trees: tree.below,
+            trees: tree.children(),
             view: view_of(kind),
         };
         return Handed {
@@ -157,10 +156,10 @@ pub fn hand<'a>(here: Scope<'a>, tree: Branch<'a>) -> Handed<'a>
 }
 
 // The type of an expression in the scope.
-pub fn type_of(node: Node, here: Scope) -> usize
-    ensures { (l : Label) → Says node l → result ≡ type_of (seen (scope_at here.entry)) l }
+pub fn type_of(label: Label, here: Scope) -> usize
+    ensures { result ≡ type_of (seen (scope_at here.entry)) label }
 {
-    match source_of(node) {
+    match source_of(label) {
         FieldType::Known(t) => t,
         FieldType::Named(q, n) => type_found(seek_seen(here, Question::Exact(q, n), 0)),
     }

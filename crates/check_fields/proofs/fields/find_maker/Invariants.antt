@@ -1,5 +1,5 @@
 -- `fields::find_maker` meets its contract. The loop's invariant: the plan that is next is to be asked. The measure is what is below it.
-use Rattle.plan.specs.Siblings.{forest}
+use Rattle.image.specs.Subtrees.{forest}
 use Rattle.check_fields.proofs.Seeking.{Asked, depth_left}
 use Rattle.check_fields.proofs.fields.find_maker.Given as goal
 

@@ -2,8 +2,8 @@
 use Rattle.check_fields.proofs.Typing.{source_column, source_plain}
 use Rattle.check_fields.proofs.fields.source_of.Goals as goal
 
-pub returns-then-node-eq-COLUMN : goal.returns-then-node-eq-COLUMN
-returns-then-node-eq-COLUMN c = λ l d w. source_column w d c.if-node-eq-COLUMN.true
+pub returns-then-label-eq-COLUMN : goal.returns-then-label-eq-COLUMN
+returns-then-label-eq-COLUMN c = λ d. source_column _ d c.if-label-eq-COLUMN.true
 
 pub returns : goal.returns
-returns c = λ l d w. source_plain w d c.if-node-eq-COLUMN.false c.plain_type.ensures
+returns c = λ d. source_plain _ d c.if-label-eq-COLUMN.false c.plain_type.ensures

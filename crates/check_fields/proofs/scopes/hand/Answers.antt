@@ -6,8 +6,12 @@ use Rattle.check_fields.proofs.scopes.hand.Goals as goal
 
 pub returns-then-is_plan : goal.returns-then-is_plan
 returns-then-is_plan c =
-    λ l w. hand_plan w _ (scope_at c.args.here) _ c.view_of.ensures (sym c.is_plan.ensures ∙ c.if-is_plan.true)
+    let k = c.kind-kind.ensures in
+    rw c.children.ensures.is
+    (hand_plan _ _ (scope_at c.args.here) _ (rw k at c.view_of.ensures) (sym (rw k at c.is_plan.ensures) ∙ c.if-is_plan.true))
 
 pub returns : goal.returns
 returns c =
-    λ l w. hand_part w _ c.args.here.view _ (sym c.is_plan.ensures ∙ c.if-is_plan.false) c.first_view.ensures c.rest_view.ensures
+    let k = c.kind-kind.ensures in
+    hand_part _ _ c.args.here.view _ (sym (rw k at c.is_plan.ensures) ∙ c.if-is_plan.false)
+    (rw k at c.first_view.ensures) (rw k at c.rest_view.ensures)

@@ -6,4 +6,4 @@ use Rattle.check_fields.proofs.scopes.type_of.Goals as goal
 
 pub returns-in-Named : goal.returns-in-Named
 returns-in-Named c =
-    λ l w. c.type_found.ensures ∙ ap type_found c.seek_seen.ensures ∙ type_named _ c.in-Named.is (c.source_of.ensures l _ w)
+    c.type_found.ensures ∙ ap type_found c.seek_seen.ensures ∙ type_named _ c.in-Named.is (c.source_of.ensures _)
