@@ -8,15 +8,13 @@ use native.Mathlib.Omega.{arith}
 use lib.Dec.{eqb, ltb}
 use borrow.Author.Tests.{ltb-true}
 use Rattle.check_fields.specs.declared.questions.Question.TheVariants.{Exact}
-use Rattle.image.specs.Tree.{Label, Forest, none, node, Node}
-use Rattle.plan.proofs.Fronts.{Front}
+use Rattle.image.specs.Tree.{Label, Forest, none, node}
 use Rattle.plan.specs.Lists.{◌&◌}
 use Rattle.plan.specs.Kinds as K
-use Rattle.plan.specs.Kinds.{What, expr, plan, part, unknown, what, what_of, plan_w}
+use Rattle.plan.specs.Kinds.{What, expr, plan, part, unknown, what, what_of, plan_w, is_plan}
 use Rattle.plan.specs.FieldSources.{role, joins, gives_both, own}
 use Rattle.plan.specs.declared.field_sources.Role.{Role}
 use Rattle.plan.specs.declared.field_sources.Role.TheVariants.{NoPlan, Creates, Joins, Renames, Extends, Passes}
-use Rattle.plan.specs.Syntax.{nm}
 use Rattle.plan.proofs.Bools.{no_yes, told, untold}
 use Rattle.plan.proofs.Lists.{and_intro}
 use Rattle.plan.proofs.Rebuilt.{kind_e, kind_p}
@@ -67,11 +65,8 @@ module _ (c : Scope) (l : Label) (cs : Forest) where
   rule_column e = ap (λ (n : ℕ). name_by (what_of n) c l cs) (sym e)
 
   -- by the fields that are counted in its scope
-  pub rule_held : {kind p q k : ℕ} → kind ≡ l.kind → p ≡ l.p → q ≡ l.q → kind ≡ K.number_e K.Column → k ≡ counted (hits (Exact p q)) (seen c)
-      → eqb k 1 ≡ name_ok c l cs
-  rule_held {kind} {p} {q} {k} hk hp hq one e =
-      let same : nm p q ≡ name_of l = rw (hp, hq) in
-      ap (λ (n : ℕ). eqb n 1) (e ∙ counted_name p q (seen c) ∙ ap (holders (names_in (seen c))) same) ∙ rule_column (sym hk ∙ one)
+  pub rule_held : {k : ℕ} → l.kind ≡ K.number_e K.Column → k ≡ counted (hits (Exact l.p l.q)) (seen c) → eqb k 1 ≡ name_ok c l cs
+  rule_held {k} one e = ap (λ (n : ℕ). eqb n 1) (e ∙ counted_name l.p l.q (seen c)) ∙ rule_column one
 
   -- a record that is no plan and no reference
   pub rule_other : plan_w (what l) ≡ false → (l.kind ≡ K.number_e K.Column → ⊥) → true ≡ name_ok c l cs
@@ -157,16 +152,16 @@ sound_below c l cs {r} {n} R e g i m = go (what l) refl
 
 -- ---- what is known below and after a record
 
-module _ {f : Forest} {v : Node} (w : Front f v) where
+module _ {f : Forest} {l : Label} {cs ns : Forest} (w : f ≡ node l cs ns) where
   -- the record's own schema, where it is a plan
   pub sound_first : (n : ℕ) → ((i : ℕ) → i < n → sound (names_in (input i (inputs f))) ≡ true) → ltb 0 n ≡ true
-      → sound (names_in (input 0 (inputs (node w.label w.below none)))) ≡ true
+      → sound (names_in (input 0 (inputs (node l cs none)))) ≡ true
   unfolding sound names_in input inputs ◌&◌
-  sound_first n known l =
-      go (what w.label) (subst (λ (g : Forest). sound (names_in (input 0 (inputs g))) ≡ true) w.is (known 0 (ltb-true 0 n l)))
+  sound_first n known z =
+      go (what l) (subst (λ (g : Forest). sound (names_in (input 0 (inputs g))) ≡ true) w (known 0 (ltb-true 0 n z)))
     where
-      go : (u : What) → sound (names_in (input 0 (inputs_by u w.label w.below (inputs w.below) (inputs w.after)))) ≡ true
-          → sound (names_in (input 0 (inputs_by u w.label w.below (inputs w.below) (inputs none)))) ≡ true
+      go : (u : What) → sound (names_in (input 0 (inputs_by u l cs (inputs cs) (inputs ns)))) ≡ true
+          → sound (names_in (input 0 (inputs_by u l cs (inputs cs) (inputs none)))) ≡ true
       go (expr k) e = refl
       go (K.part k) e = refl
       go unknown e = refl
@@ -174,10 +169,10 @@ module _ {f : Forest} {v : Node} (w : Front f v) where
 
   module _ (n : ℕ) (known : (i : ℕ) → i < n → sound (names_in (input i (inputs f))) ≡ true) where
     -- those of the plans which come next: where it is none
-    pub sound_rest : plan_w (what_of v.kind) ≡ false → (i : ℕ) → i < n → sound (names_in (input i (inputs w.after))) ≡ true
-    sound_rest z i l = subst (λ (t : Schema). sound (names_in t) ≡ true) (ap (input i) (skip_part w z)) (known i l)
+    pub sound_rest : is_plan l ≡ false → (i : ℕ) → i < n → sound (names_in (input i (inputs ns))) ≡ true
+    sound_rest z i m = subst (λ (t : Schema). sound (names_in t) ≡ true) (ap (input i) (skip_part w z)) (known i m)
 
     -- where it is one
-    pub sound_next : plan_w (what_of v.kind) ≡ true → (i : ℕ) → i < n - 1 → sound (names_in (input i (inputs w.after))) ≡ true
+    pub sound_next : is_plan l ≡ true → (i : ℕ) → i < n - 1 → sound (names_in (input i (inputs ns))) ≡ true
     unfolding input
-    sound_next z i l = subst (λ (t : Schema). sound (names_in t) ≡ true) (ap (input (suc i)) (plan_first w z)) (known (suc i) (omega arith))
+    sound_next z i m = subst (λ (t : Schema). sound (names_in t) ≡ true) (ap (input (suc i)) (plan_first w z)) (known (suc i) (omega arith))

@@ -10,19 +10,17 @@ use borrow.Author.Tests.{le-leb, lt-leb}
 use Rattle.check_fields.specs.declared.questions.Question.{Question}
 use Rattle.check_fields.specs.declared.questions.Question.TheVariants.{Every}
 use Rattle.std.specs.Prelude.{Option, None, Some, unwrap_or}
-use Rattle.image.specs.Tree.{Label, Forest, none, Node}
-use Rattle.plan.proofs.Fronts.{Front}
+use Rattle.image.specs.Tree.{Label, Forest, none, node}
 use Rattle.image.specs.Limits.{max_fields}
 use Rattle.plan.specs.Lists.{◌&◌}
 use Rattle.plan.proofs.Lists.{and_true, and_false}
 use Rattle.plan.specs.Kinds as K
-use Rattle.plan.specs.Kinds.{What, expr, plan, part, unknown, what, what_of, is_plan}
+use Rattle.plan.specs.Kinds.{What, expr, plan, part, unknown, what, is_plan}
 use Rattle.plan.specs.FieldSources.{makes, role, creates, renames, extends, gives_both, own}
-use Rattle.plan.specs.Siblings.{forest}
+use Rattle.image.specs.Subtrees.{forest}
 use Rattle.check_names.specs.declared.schemas.Whole.{Whole}
 use Rattle.plan.specs.declared.field_sources.Role.{Role}
 use Rattle.plan.specs.declared.field_sources.Role.TheVariants.{Joins, Extends}
-use Rattle.plan.proofs.Planning.{at_plan}
 use Rattle.plan.specs.Syntax.{Name, nm}
 use Rattle.check_fields.specs.Count.{counted, hits}
 use Rattle.check_fields.specs.Fields.{Schema, name_of, input, made, schema_made_by, inputs, parts_over}
@@ -52,32 +50,24 @@ module _ (h : Name → Bool) where
   one_made c l cs rest (plan k) = refl
   one_made c l cs rest unknown = refl
 
-  module _ {f : Forest} {v : Node} (w : Front f v) (c : Schema) {x : Bool}
-      (e : x ≡ makes (what_of v.kind)) where
-    made_by : all_of h (made c f) ≡ cond x (h (nm v.p v.q) & all_of h (made c w.after)) (all_of h (made c w.after))
+  module _ {f : Forest} {l : Label} {cs ns : Forest} (w : f ≡ node l cs ns) (c : Schema) where
+    made_by : all_of h (made c f) ≡ cond (makes (what l)) (h (name_of l) & all_of h (made c ns)) (all_of h (made c ns))
     unfolding made
-    made_by =
-        ap (λ (g : Forest). all_of h (made c g)) w.is
-        ∙ one_made c w.label w.below (made c w.after) (what w.label)
-        ∙ ap (λ (k : Bool). cond k (h (name_of w.label) & all_of h (made c w.after)) (all_of h (made c w.after)))
-        (sym (e ∙ ap (λ (k : ℕ). makes (what_of k)) w.says.kind))
-        ∙ ap (λ (k : ℕ). cond x (h (nm k w.label.q) & all_of h (made c w.after)) (all_of h (made c w.after))) (sym w.says.p)
-        ∙ ap (λ (k : ℕ). cond x (h (nm v.p k) & all_of h (made c w.after)) (all_of h (made c w.after))) (sym w.says.q)
+    made_by = ap (λ (g : Forest). all_of h (made c g)) w ∙ one_made c l cs (made c ns) (what l)
 
     -- a part that makes none
-    pub made_other : x ≡ false → all_of h (made c w.after) ≡ all_of h (made c f)
-    made_other z =
-        sym (made_by ∙ ap (λ (k : Bool). cond k (h (nm v.p v.q) & all_of h (made c w.after)) (all_of h (made c w.after))) z)
+    pub made_other : makes (what l) ≡ false → all_of h (made c f) ≡ all_of h (made c ns)
+    made_other z = made_by ∙ rw z refl
 
     -- a part whose field fails
-    pub made_fails : x ≡ true → h (nm v.p v.q) ≡ false → false ≡ all_of h (made c f)
+    pub made_fails : makes (what l) ≡ true → h (name_of l) ≡ false → all_of h (made c f) ≡ false
     unfolding ◌&◌
-    made_fails z y = sym (made_by ∙ rw (z, y) refl)
+    made_fails z y = made_by ∙ rw (z, y) refl
 
     -- a part whose field passes
-    pub made_passes : x ≡ true → h (nm v.p v.q) ≡ true → all_of h (made c w.after) ≡ all_of h (made c f)
+    pub made_passes : makes (what l) ≡ true → h (name_of l) ≡ true → all_of h (made c f) ≡ all_of h (made c ns)
     unfolding ◌&◌
-    made_passes z y = sym (made_by ∙ rw (z, y) refl)
+    made_passes z y = made_by ∙ rw (z, y) refl
 
 -- a name as it is called
 pub called_by : (h : Name → Bool) (to : Option ℕ) (q m : ℕ) {n : ℕ} → n ≡ unwrap_or to q → h (called to (nm q m)) ≡ h (nm n m)
@@ -92,53 +82,52 @@ unfolding all_of
 none_held h t e = rw e
 
 -- the schema of a plan, by its role, as the code goes
-module _ {f : Forest} {v : Node} (w : Front f v) (z : is_plan w.label ≡ true) {r : Role}
-    (R : r ≡ role (what_of v.kind)) where
+module _ {f : Forest} {l : Label} {cs ns : Forest} (w : f ≡ node l cs ns) (z : is_plan l ≡ true) {r : Role} (R : r ≡ role (what l)) where
   -- the schemas of its inputs, and the schema that its parts stand over
   abbrev ins : List Schema
-  ins = inputs w.below
+  ins = inputs cs
 
   abbrev pub over : Schema
-  over = parts_over v.kind ins
+  over = parts_over l.kind ins
 
   -- its fields are made by its parts
-  pub held_parts : creates r ≡ true → made over w.below ≡ input 0 (inputs f)
-  held_parts c = sym (fields_here w (at_plan w z) R ∙ by_parts v.p (made over w.below) ins r c)
+  pub held_parts : creates r ≡ true → made over cs ≡ input 0 (inputs f)
+  held_parts c = sym (fields_here w z R ∙ by_parts l.p (made over cs) ins r c)
 
   -- an alias calls its fields by its own qualifier, unless another stands above
-  pub held_renamed : (t : Schema) (asks : Name → Question) (to : Option ℕ) {n : ℕ} → n ≡ unwrap_or to v.p → renames r ≡ true
+  pub held_renamed : (t : Schema) (asks : Name → Question) (to : Option ℕ) {n : ℕ} → n ≡ unwrap_or to l.p → renames r ≡ true
       → all_of (lone t asks (Some n)) (input 0 ins) ≡ all_of (lone t asks to) (input 0 (inputs f))
   held_renamed t asks to {n} N e =
-      sym (ap (all_of (lone t asks to)) (fields_here w (at_plan w z) R ∙ by_alias v.p (made over w.below) ins r e)
-      ∙ all_of_renamed (lone t asks to) v.p (input 0 ins)
-      ∙ all_of_cong (λ x. lone t asks to (called (Some v.p) x)) (lone t asks (Some n)) (agree to N) (input 0 ins))
+      sym (ap (all_of (lone t asks to)) (fields_here w z R ∙ by_alias l.p (made over cs) ins r e)
+      ∙ all_of_renamed (lone t asks to) l.p (input 0 ins)
+      ∙ all_of_cong (λ x. lone t asks to (called (Some l.p) x)) (lone t asks (Some n)) (agree to N) (input 0 ins))
     where
-      agree : (to : Option ℕ) → n ≡ unwrap_or to v.p → (x : Name) → lone t asks to (called (Some v.p) x) ≡ lone t asks (Some n) x
+      agree : (to : Option ℕ) → n ≡ unwrap_or to l.p → (x : Name) → lone t asks to (called (Some l.p) x) ≡ lone t asks (Some n) x
       agree None N (nm q m) = rw N refl
       agree (Some i) N (nm q m) = rw N refl
 
   module _ (h : Name → Bool) (c : creates r ≡ false) (d : renames r ≡ false) where
-    held : all_of h (input 0 (inputs f)) ≡ all_of h (input (own r v.p) ins) & all_of h (behind v.p (made over w.below) ins r)
+    held : all_of h (input 0 (inputs f)) ≡ all_of h (input (own r l.p) ins) & all_of h (behind l.p (made over cs) ins r)
     held =
-        ap (all_of h) (fields_here w (at_plan w z) R ∙ by_input v.p (made over w.below) ins r c d)
-        ∙ all_of-++ h (input (own r v.p) ins) (behind v.p (made over w.below) ins r)
+        ap (all_of h) (fields_here w z R ∙ by_input l.p (made over cs) ins r c d)
+        ∙ all_of-++ h (input (own r l.p) ins) (behind l.p (made over cs) ins r)
 
     -- where the input that is asked fails, the plan does
-    pub held_fails : all_of h (input (own r v.p) ins) ≡ false → false ≡ all_of h (input 0 (inputs f))
+    pub held_fails : all_of h (input (own r l.p) ins) ≡ false → false ≡ all_of h (input 0 (inputs f))
     unfolding ◌&◌
     held_fails y = sym (held ∙ rw y refl)
 
     -- where it passes, what stands behind it tells: the other input of a join, the parts, or nothing
-    module _ (y : all_of h (input (own r v.p) ins) ≡ true) where
-      pub held_both : gives_both r v.p ≡ true → all_of h (input 1 ins) ≡ all_of h (input 0 (inputs f))
+    module _ (y : all_of h (input (own r l.p) ins) ≡ true) where
+      pub held_both : gives_both r l.p ≡ true → all_of h (input 1 ins) ≡ all_of h (input 0 (inputs f))
       unfolding ◌&◌
       held_both g = sym (held ∙ rw (y, g) refl)
 
-      pub held_more : gives_both r v.p ≡ false → extends r ≡ true → all_of h (made over w.below) ≡ all_of h (input 0 (inputs f))
+      pub held_more : gives_both r l.p ≡ false → extends r ≡ true → all_of h (made over cs) ≡ all_of h (input 0 (inputs f))
       unfolding ◌&◌
       held_more g e = sym (held ∙ rw (y, g, e) refl)
 
-      pub held_first : gives_both r v.p ≡ false → extends r ≡ false → true ≡ all_of h (input 0 (inputs f))
+      pub held_first : gives_both r l.p ≡ false → extends r ≡ false → true ≡ all_of h (input 0 (inputs f))
       unfolding ◌&◌ all_of
       held_first g e = sym (held ∙ rw (y, g, e) refl)
 

@@ -7,7 +7,7 @@ use Rattle.plan.specs.declared.field_sources.Role.{Role}
 use Rattle.plan.specs.declared.field_sources.Role.TheVariants.{NoPlan, Creates, Joins, Renames, Extends, Passes}
 use Rattle.plan.specs.Lists.{◌&◌}
 use Rattle.plan.specs.Syntax.{Name, nm}
-use Rattle.plan.specs.Siblings.{forest}
+use Rattle.image.specs.Subtrees.{forest}
 use Rattle.check_names.specs.declared.schemas.Whole.{Whole}
 use Rattle.check_fields.specs.declared.scopes.View.{View}
 use Rattle.check_fields.specs.declared.scopes.View.TheVariants.{FirstInput, BothInputs, Parts, FirstInputAndParts}

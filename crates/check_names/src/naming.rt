@@ -1,8 +1,8 @@
 // Name (6): the lowest record whose reference does not name one field of what it stands over, or whose schema is not sound.
 ghost use Rattle.std.specs.Prelude.{◌≡◌, true, ◌<◌, ℕ};
 ghost use Rattle.image.specs.Lowest.{lowest};
-ghost use Rattle.image.specs.Tree.{At, Label, Tree, node, none};
-ghost use Rattle.plan.specs.Siblings.{Says, forest};
+ghost use Rattle.image.specs.Subtrees.{forest, tree_of};
+ghost use Rattle.image.specs.Tree.{node, none};
 ghost use Rattle.acceptance.specs.Names.{sound};
 ghost use Rattle.check_fields.specs.Fields.{input, inputs, names_in};
 ghost use Rattle.check_fields.specs.Rules.{bad_names, hand, name_ok};
@@ -12,31 +12,30 @@ ghost use Rattle.check_names.specs.Singles.{known_inputs};
 use crate::schemas::{is_sound, is_sound_beside};
 use check_fields::questions::Question;
 use check_fields::scopes::{Scope, View, hand, held_in};
+use image::trees::{Siblings, Subtree};
 use plan::field_sources::{Role, gives_both, role_of};
 use plan::kinds::{COLUMN, is_plan};
-use plan::siblings::{Branch, Siblings};
 
 // Whether the tree's record, which stands over `here`, keeps the rule. A plan that is known to be sound is not tested again, but of a
 // semi or anti join the other input.
-fn name_ok(tree: Branch, here: Scope, known: bool) -> bool
-    ensures { (l : Label) → Says tree.entry.node l
-        → (known ≡ true → sound (names_in (input 0 (inputs (node l (forest tree.entry.below) none)))) ≡ true)
-        → result ≡ name_ok (scope_at here.entry) l (forest tree.entry.below) }
+fn name_ok(tree: Subtree, here: Scope, known: bool) -> bool
+    ensures { let t = tree_of tree.entry in
+        (known ≡ true → sound (names_in (input 0 (inputs (node t.label t.below none)))) ≡ true)
+        → result ≡ name_ok (scope_at here.entry) t.label t.below }
 {
-    let kind = tree.node.kind;
-    let p = tree.node.p;
-    if kind == COLUMN {
-        return held_in(here, Question::Exact(p, tree.node.q)) == 1;
+    let label = tree.label();
+    if label.kind == COLUMN {
+        return held_in(here, Question::Exact(label.p, label.q)) == 1;
     }
-    if !is_plan(kind) {
+    if !is_plan(label.kind) {
         return true;
     }
-    let role = role_of(kind);
+    let role = role_of(label.kind);
     if !known {
-        return is_sound(tree.below, role);
+        return is_sound(tree.children(), role);
     }
-    if (role == Role::Joins) & !gives_both(role, p) {
-        return is_sound_beside(tree.below, p);
+    if (role == Role::Joins) & !gives_both(role, label.p) {
+        return is_sound_beside(tree.children(), label.p);
     }
     true
 }
@@ -54,21 +53,25 @@ fn known_inputs(role: Role) -> usize
 
 // The lowest record that breaks the rule, of the trees: the first stands over `here`, the others over `after`.
 // `known`: so many of the first plans among them are sound, since their fields are among those of their parent, which is.
-pub fn bad_name(trees: Siblings, here: Scope, after: Scope, known: usize) -> Option<usize>
+pub fn bad_name<'a>(
+    trees: Siblings<'a>,
+    here: Scope<'a>,
+    after: Scope<'a>,
+    known: usize,
+) -> Option<usize>
     ensures { ((i : ℕ) → i < known → sound (names_in (input i (inputs (forest trees.entry)))) ≡ true)
-        → result ≡ (lowest name_ok hand (scope_at here.entry) (scope_at after.entry) trees.entry.at (forest trees.entry)) }
+        → result ≡ (lowest name_ok hand (scope_at here.entry) (scope_at after.entry) trees.entry.first (forest trees.entry)) }
 {
-    let mut left = trees;
     let mut over = here;
     let mut sound = known;
-    while let Some(tree) = left.first() {
+    for tree in trees {
         if !name_ok(tree, over, 0 < sound) {
             return Some(tree.number);
         }
-        let kind = tree.node.kind;
+        let kind = tree.kind();
         let handed = hand(over, tree);
         let below = bad_name(
-            tree.below,
+            tree.children(),
             handed.first,
             handed.rest,
             known_inputs(role_of(kind)),
@@ -79,20 +82,22 @@ pub fn bad_name(trees: Siblings, here: Scope, after: Scope, known: usize) -> Opt
         if is_plan(kind) {
             sound = sound.saturating_sub(1);
         }
-        left = tree.after;
         over = after;
     }
     None
 }
 
-// The lowest record of the image that breaks the rule.
-pub fn bad_names(s: &[u8]) -> Option<usize>
-    requires { (t : Tree) × At t s.now 0 }
-    ensures { (t : Tree) → At t s.now 0 → result ≡ bad_names t }
+// The lowest record of an image that breaks the rule.
+pub fn bad_names(root: Subtree) -> Option<usize>
+    requires { root.number ≡ 0 }
+    ensures { result ≡ bad_names (tree_of root.entry) }
 {
-    let root = Branch::alone(s, 0);
+    let none = Siblings {
+        image: root.image,
+        first: 0,
+    };
     let nothing = Scope {
-        trees: root.after,
+        trees: none,
         view: View::Nothing,
     };
     if !name_ok(root, nothing, false) {
@@ -100,9 +105,9 @@ pub fn bad_names(s: &[u8]) -> Option<usize>
     }
     let handed = hand(nothing, root);
     bad_name(
-        root.below,
+        root.children(),
         handed.first,
         handed.rest,
-        known_inputs(role_of(root.node.kind)),
+        known_inputs(role_of(root.kind())),
     )
 }

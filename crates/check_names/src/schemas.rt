@@ -1,7 +1,7 @@
 // Whether a plan's schema is sound: each of its fields clashes with one field, itself, and there are not too many.
 ghost use Rattle.std.specs.Prelude.{◌≡◌, true, ℕ};
+ghost use Rattle.image.specs.Subtrees.{forest};
 ghost use Rattle.plan.specs.FieldSources.{own};
-ghost use Rattle.plan.specs.Siblings.{forest};
 ghost use Rattle.plan.specs.Syntax.{nm};
 ghost use Rattle.acceptance.specs.Names.{sound};
 ghost use Rattle.check_fields.specs.Count.{counted, hits};
@@ -12,8 +12,9 @@ ghost use Rattle.check_names.specs.Singles.{all_of, lone, own_question, own_view
 use check_fields::questions::Question;
 use check_fields::scopes::{Scope, View, held_in};
 use image::limits::MAX_FIELDS;
+use image::trees::Siblings;
 use plan::field_sources::{Role, gives_both, makes_field, own_input, role_of};
-use plan::siblings::Siblings;
+use plan::inputs::nth_plan;
 
 // The schema whose fields are told apart: the children of its plan, and the plan's role.
 #[derive(Clone, Copy)]
@@ -44,42 +45,40 @@ fn is_single(w: Whole, q: usize, n: usize) -> bool
 fn all_made(w: Whole, parts: Siblings, to: Option<usize>) -> bool
     ensures { (c : Schema) → result ≡ all_of (lone (whole_of w.entry) (own_question w.entry.role) to) (made c (forest parts.entry)) }
 {
-    let Some(part) = parts.first() else {
-        return true;
-    };
-    let node = part.node;
-    if !makes_field(node.kind) {
-        return all_made(w, part.after, to);
+    for part in parts {
+        let label = part.label();
+        if makes_field(label.kind) && !is_single(w, to.unwrap_or(label.p), label.q) {
+            return false;
+        }
     }
-    if !is_single(w, to.unwrap_or(node.p), node.q) {
-        return false;
-    }
-    all_made(w, part.after, to)
+    true
 }
 
 // Whether each field of the plan with the place `skip` is told apart.
 fn all_held(w: Whole, trees: Siblings, skip: usize, to: Option<usize>) -> bool
     ensures { result ≡ all_of (lone (whole_of w.entry) (own_question w.entry.role) to) (input skip (inputs (forest trees.entry))) }
 {
-    let Some(plan) = trees.plan(skip) else {
+    let Some(plan) = nth_plan(trees, skip) else {
         return true;
     };
-    let p = plan.node.p;
-    let role = role_of(plan.node.kind);
+    let below = plan.children();
+    let label = plan.label();
+    let p = label.p;
+    let role = role_of(label.kind);
     if role == Role::Creates {
-        return all_made(w, plan.below, to);
+        return all_made(w, below, to);
     }
     if role == Role::Renames {
-        return all_held(w, plan.below, 0, Some(to.unwrap_or(p)));
+        return all_held(w, below, 0, Some(to.unwrap_or(p)));
     }
-    if !all_held(w, plan.below, own_input(role, p), to) {
+    if !all_held(w, below, own_input(role, p), to) {
         return false;
     }
     if gives_both(role, p) {
-        return all_held(w, plan.below, 1, to);
+        return all_held(w, below, 1, to);
     }
     if role == Role::Extends {
-        return all_made(w, plan.below, to);
+        return all_made(w, below, to);
     }
     true
 }

@@ -4,8 +4,8 @@ use mathlib.Core.Path.{◌≡◌}
 use mathlib.Core.Bool.{true}
 use Prim.Native.Nat.{ℕ, ◌<◌, ◌≤◌}
 use Rattle.image.specs.Lowest.{lowest}
+use Rattle.image.specs.Subtrees.{forest}
 use Rattle.image.specs.Tree.{size}
-use Rattle.plan.specs.Siblings.{forest}
 use Rattle.acceptance.specs.Names.{sound}
 use Rattle.check_fields.specs.Fields.{input, inputs, names_in}
 use Rattle.check_fields.specs.Rules.{name_ok, hand}
@@ -17,11 +17,8 @@ decreases-bad_name l = size (forest l.trees)
 
 abbrev pub invariant-loop-tree : goal.invariant-loop-tree
 invariant-loop-tree l =
-    (size (forest l.left) ≤ size (forest l.trees))
+    (size (forest l.tree-iterator) ≤ size (forest l.trees))
     × (((i : ℕ) → i < l.known → sound (names_in (input i (inputs (forest l.trees)))) ≡ true)
-    → ((i : ℕ) → i < l.sound → sound (names_in (input i (inputs (forest l.left)))) ≡ true)
-    × (lowest name_ok hand (scope_at l.over) (scope_at l.after) l.left.at (forest l.left)
-    ≡ lowest name_ok hand (scope_at l.here) (scope_at l.after) l.trees.at (forest l.trees)))
-
-abbrev pub decreases-loop-tree : goal.decreases-loop-tree
-decreases-loop-tree l = size (forest l.left)
+    → ((i : ℕ) → i < l.sound → sound (names_in (input i (inputs (forest l.tree-iterator)))) ≡ true)
+    × (lowest name_ok hand (scope_at l.over) (scope_at l.after) l.tree-iterator.first (forest l.tree-iterator)
+    ≡ lowest name_ok hand (scope_at l.here) (scope_at l.after) l.trees.first (forest l.trees)))

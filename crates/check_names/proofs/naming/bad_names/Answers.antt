@@ -1,17 +1,12 @@
 -- `naming::bad_names` meets its contract: the root, which no link leads to, and then its children.
-use mathlib.Core.Path.{◌≡◌, sym, ap, ◌∙◌}
+use mathlib.Core.Path.{◌≡◌, refl, sym, ◌∙◌}
 use mathlib.Core.Bool.{true}
 use mathlib.Core.List.{[]}
-use Prim.Native.Nat.{ℕ}
-use Rattle.image.specs.Lowest.{lowest}
-use Rattle.image.specs.Tree.{Forest}
-use Rattle.plan.specs.Kinds.{what_of}
-use Rattle.plan.specs.FieldSources.{role}
-use Rattle.plan.specs.Siblings.{forest}
+use Rattle.image.specs.Subtrees.{tree_of}
+use Rattle.image.specs.Tree.{none}
+use Rattle.image.proofs.Finding.{root_here, root_below}
 use Rattle.plan.proofs.Bools.{no_yes}
 use Rattle.check_fields.specs.Rules.{Scope, over, name_ok, hand, bad_names}
-use Rattle.check_fields.specs.Scopes.{scope_at}
-use Rattle.image.proofs.Finding.{root_here, root_below}
 use Rattle.check_names.proofs.NameRule.{sound_below}
 use Rattle.check_names.proofs.naming.bad_names.Goals as goal
 
@@ -19,22 +14,19 @@ use Rattle.check_names.proofs.naming.bad_names.Goals as goal
 abbrev nothing : Scope
 nothing = over [] []
 
+pub invariant_of-none : goal.invariant_of-none
+invariant_of-none c = record { chained = record { forest = none; linked = refl } }
+
 pub returns-then-not-name_ok : goal.returns-then-not-name_ok
 unfolding bad_names
 returns-then-not-name_ok c =
-    λ t h. let w = c.alone-root.ensures t h in
-    root_here name_ok hand nothing nothing t
-    (ap (name_ok nothing t.label) (sym w.is) ∙ sym (c.name_ok.ensures t.label w.says no_yes) ∙ c.if-not-name_ok.true)
+    root_here name_ok hand nothing nothing (tree_of c.args.root) (sym (c.name_ok.ensures no_yes) ∙ c.if-not-name_ok.true)
 
 pub returns : goal.returns
 unfolding bad_names
 returns c =
-    λ t h. let w = c.alone-root.ensures t h in
-    let ok : name_ok nothing t.label (forest c.alone-root.result.below) ≡ true =
-    sym (c.name_ok.ensures t.label w.says no_yes) ∙ c.if-not-name_ok.false in
-    c.bad_name.ensures
-    (sound_below nothing t.label _ (c.role_of.ensures ∙ ap (λ (n : ℕ). role (what_of n)) w.says.kind) c.known_inputs.ensures ok)
-    ∙ ap (λ (f : Forest). lowest name_ok hand (scope_at c.hand-handed.result.first) (scope_at c.hand-handed.result.rest) c.alone-root.result.below.at f) w.is
-    ∙ root_below name_ok hand nothing nothing t _ _ _ w.below
-    (ap (hand nothing t.label) (sym w.is) ∙ c.hand-handed.ensures t.label w.says)
-    (ap (name_ok nothing t.label) (sym w.is) ∙ ok)
+    let t = tree_of c.args.root in
+    let ok : name_ok nothing t.label t.below ≡ true = sym (c.name_ok.ensures no_yes) ∙ c.if-not-name_ok.false in
+    (rw c.children.ensures.is at c.bad_name.ensures)
+    (sound_below nothing t.label t.below (rw c.kind.ensures at c.role_of.ensures) c.known_inputs.ensures ok)
+    ∙ root_below name_ok hand nothing nothing t _ _ _ (rw c.requires at c.children.ensures.first) c.hand-handed.ensures ok

@@ -2,7 +2,7 @@
 use mathlib.Core.Path.{◌∙◌}
 use native.Mathlib.Omega.{arith}
 use Rattle.plan.specs.declared.field_sources.Role.TheVariants.{Joins}
-use Rattle.plan.specs.Siblings.{forest}
+use Rattle.image.specs.Subtrees.{forest}
 use Rattle.check_fields.specs.Fields.{inputs}
 use Rattle.check_names.specs.Singles.{clashing}
 use Rattle.check_names.proofs.Singling.{rule_by_role, beside_own, own_few}
