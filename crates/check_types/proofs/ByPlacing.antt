@@ -10,25 +10,20 @@ use mathlib.Core.List.{List, [], ◌∷◌}
 use Prim.Native.Nat.{ℕ, zero, suc, ◌+◌, ◌-◌, ◌<◌}
 use native.Mathlib.Omega.{arith}
 use lib.Dec.{ltb}
-use lib.ListN.{length, drop}
+use lib.ListN.{length}
 use borrow.Author.Tests.{eq-eqb, ne_eqb, eqb-true, ltb-true, ltb-false}
 use Rattle.check_fields.specs.declared.questions.Question.TheVariants.{Every}
-use Rattle.image.specs.Tree.{Forest, none, Node}
-use Rattle.plan.proofs.Fronts.{Front, front}
+use Rattle.image.specs.Tree.{Label, Forest, none, node}
 use Rattle.plan.specs.Lists.{◌&◌, all}
 use Rattle.plan.proofs.Lists.{and_intro, and_l, and_r}
-use Rattle.plan.specs.Kinds.{what_of, plan_w}
-use Rattle.plan.specs.Inputs.{plans_in}
-use Rattle.plan.specs.Siblings.{forest, PlanAt}
-use Rattle.plan.specs.declared.siblings.Branch.{Branch}
-use Rattle.plan.proofs.Planning.{at_plan}
+use Rattle.plan.specs.Kinds.{is_plan}
 use Rattle.plan.specs.Syntax.{Name, nm}
 use Rattle.acceptance.specs.Types.{same_types}
 use Rattle.check_fields.specs.Fields.{Schema, input, inputs}
 use Rattle.check_fields.specs.Rules.{types_in, united}
 use Rattle.check_fields.specs.Count.{hits, counted}
 use Rattle.check_fields.specs.Seek.{seek, type_found}
-use Rattle.check_fields.proofs.Counting.{inputs_from, inputs_none, plan_first, skip_part, counted_all}
+use Rattle.check_fields.proofs.Counting.{plan_first, skip_part, counted_all}
 use Rattle.check_types.specs.ByPlace.{ty_at}
 
 -- ---- places
@@ -101,18 +96,12 @@ one_more P k h p m l = go (ltb m k) refl
 -- ---- the inputs of a Union
 
 -- there are none
-pub united_none : (f : Forest) → drop 0 (plans_in f) ≡ [] → true ≡ united (inputs f)
-unfolding united
-united_none f e = rw (inputs_none f 0 e)
-
--- those after the first are compared with it
-pub united_rest : {f : Forest} {t : Branch} (y : PlanAt f 0 t)
-    → all (λ s. same_types (types_in s) (types_in (input 0 (inputs f)))) (inputs (forest t.after)) ≡ united (inputs f)
-unfolding united input
-united_rest y = rw (inputs_from y ∙ plan_first (front y.first) (at_plan (front y.first) y.is))
+pub united_none : (f : Forest) → f ≡ none → united (inputs f) ≡ true
+unfolding united inputs
+united_none f e = rw e
 
 -- no inputs, no test
-pub all_none : (t : Schema → Bool) (f : Forest) → f ≡ none → true ≡ all t (inputs f)
+pub all_none : (t : Schema → Bool) (f : Forest) → f ≡ none → all t (inputs f) ≡ true
 unfolding all inputs
 all_none t f e = rw e
 
@@ -121,17 +110,27 @@ cons_all : (t : Schema → Bool) (ins : List Schema) (g : Schema) (rest : List S
 unfolding all input
 cons_all t ins g rest e = rw e
 
-module _ {f : Forest} {v : Node} (w : Front f v) {p : Bool}
-    (P : p ≡ plan_w (what_of v.kind)) (t : Schema → Bool) where
-  -- the first record is a plan
-  pub all_not : p ≡ true → {x : Bool} → x ≡ t (input 0 (inputs f)) → x ≡ false → false ≡ all t (inputs f)
-  unfolding ◌&◌
-  all_not z e n = sym (cons_all t (inputs f) _ _ (plan_first w (sym P ∙ z)) ∙ ap (λ (y : Bool). y & all t (inputs w.after)) (sym e ∙ n))
+module _ {f : Forest} {l : Label} {cs ns : Forest} (w : f ≡ node l cs ns) where
+  -- the inputs after the first are compared with it
+  pub united_rest : is_plan l ≡ true → united (inputs f) ≡ all (λ s. same_types (types_in s) (types_in (input 0 (inputs f)))) (inputs ns)
+  unfolding united input
+  united_rest z = rw (plan_first w z)
 
-  pub all_more : p ≡ true → {x : Bool} → x ≡ t (input 0 (inputs f)) → x ≡ true → all t (inputs w.after) ≡ all t (inputs f)
-  unfolding ◌&◌
-  all_more z e n = sym (cons_all t (inputs f) _ _ (plan_first w (sym P ∙ z)) ∙ ap (λ (y : Bool). y & all t (inputs w.after)) (sym e ∙ n))
+  module _ (t : Schema → Bool) where
+    -- the first tree is a plan
+    all_plan : is_plan l ≡ true → all t (inputs f) ≡ t (input 0 (inputs f)) & all t (inputs ns)
+    all_plan z = cons_all t (inputs f) _ _ (plan_first w z)
 
-  -- it is none
-  pub all_skip : p ≡ false → all t (inputs w.after) ≡ all t (inputs f)
-  all_skip z = ap (all t) (sym (skip_part w (sym P ∙ z)))
+    -- which fails
+    pub all_not : is_plan l ≡ true → t (input 0 (inputs f)) ≡ false → all t (inputs f) ≡ false
+    unfolding ◌&◌
+    all_not z e = all_plan z ∙ rw e
+
+    -- which passes
+    pub all_more : is_plan l ≡ true → t (input 0 (inputs f)) ≡ true → all t (inputs f) ≡ all t (inputs ns)
+    unfolding ◌&◌
+    all_more z e = all_plan z ∙ rw e
+
+    -- it is none
+    pub all_skip : is_plan l ≡ false → all t (inputs f) ≡ all t (inputs ns)
+    all_skip z = ap (all t) (skip_part w z)

@@ -1,100 +1,77 @@
 -- Laws of what a record asks of the types of its own expressions.
---     have_none, have_skip, have_not, have_more   all of a chain have a type, record by record
---     first_none, first_skip, first_here          the first type of a chain
---     alike_none, alike_skip, alike_here          one type for all of a chain
+--     types_none, types_other, types_more   the types of some trees, tree by tree
+--     have_none, have_not, have_more        all have a type
+--     alike_none, alike_first               they are one type
+--     first_none, first_is                  the first type
 -- Assumes nothing.
-use mathlib.Core.Path.{◌≡◌, sym, ap, ◌∙◌}
-use mathlib.Core.Bool.{Bool, true, false}
-use mathlib.Core.List.{[], ◌∷◌}
+use mathlib.Core.Path.{◌≡◌, ap, ◌∙◌}
+use mathlib.Core.Bool.{true, false}
+use mathlib.Core.List.{List, [], ◌∷◌}
 use Prim.Native.Nat.{ℕ}
 use lib.Dec.{eqb}
 use borrow.Author.Tests.{eq-eqb, ne_eqb}
-use Rattle.image.specs.Tree.{Forest, none, Node}
-use Rattle.plan.proofs.Fronts.{Front}
+use Rattle.image.specs.Tree.{Label, Forest, none, node}
 use Rattle.plan.specs.Lists.{◌&◌, put, all}
-use Rattle.plan.specs.Kinds.{what_of, expr_w}
+use Rattle.plan.specs.Kinds.{is_expr}
 use Rattle.check_fields.specs.Fields.{first, type_of}
 use Rattle.check_fields.specs.Rules.{Scope, seen, types_of, alike}
 
--- ---- the types of a chain
+-- ---- the types of some trees
 
--- no records, no types
+-- no trees, no types
 pub types_none : (c after : Scope) (f : Forest) → f ≡ none → types_of c after f ≡ []
 unfolding types_of
 types_none c after f e = rw e
 
-module _ {f : Forest} {v : Node} (w : Front f v) (c after : Scope) where
-  -- the types of the chain, by what its first record is
-  types_step : {x : Bool} → x ≡ expr_w (what_of v.kind) → types_of c after f ≡ put x (type_of (seen c) w.label) (types_of after after w.after)
+module _ {f : Forest} {l : Label} {cs ns : Forest} (w : f ≡ node l cs ns) (c after : Scope) where
+  types_step : types_of c after f ≡ put (is_expr l) (type_of (seen c) l) (types_of after after ns)
   unfolding types_of
-  types_step {x} e =
-      ap (types_of c after) w.is
-      ∙ ap (λ (y : Bool). put y (type_of (seen c) w.label) (types_of after after w.after)) (sym (e ∙ ap (λ (k : ℕ). expr_w (what_of k)) w.says.kind))
+  types_step = ap (types_of c after) w
 
-  -- it is no expression
-  pub types_other : {x : Bool} → x ≡ expr_w (what_of v.kind) → x ≡ false → types_of c after f ≡ types_of after after w.after
+  -- the first is no expression
+  pub types_other : is_expr l ≡ false → types_of c after f ≡ types_of after after ns
   unfolding put
-  types_other e z = types_step e ∙ rw z
+  types_other z = types_step ∙ rw z
 
-  -- it is one, and t is its type
-  pub types_more : {x : Bool} {t : ℕ} → x ≡ expr_w (what_of v.kind) → x ≡ true → t ≡ type_of (seen c) w.label
-      → types_of c after f ≡ t ∷ types_of after after w.after
+  -- it is one
+  pub types_more : is_expr l ≡ true → types_of c after f ≡ type_of (seen c) l ∷ types_of after after ns
   unfolding put
-  types_more e z k = types_step e ∙ rw (z, k)
+  types_more z = types_step ∙ rw z
 
 -- ---- all have the type t
 
--- of no expressions all have it
-pub have_none : (t : ℕ) (c after : Scope) (f : Forest) → f ≡ none → true ≡ all (eqb t) (types_of c after f)
-unfolding types_of all
-have_none t c after f e = rw e
+pub have_none : (t : ℕ) {ts : List ℕ} → ts ≡ [] → all (eqb t) ts ≡ true
+unfolding all
+have_none t e = rw e
+
+module _ (t : ℕ) {u : ℕ} {ts us : List ℕ} (e : ts ≡ u ∷ us) where
+  -- the first has another
+  pub have_not : (t ≡ u → ⊥) → all (eqb t) ts ≡ false
+  unfolding all ◌&◌
+  have_not n = rw (e, ne_eqb t u n)
+
+  -- it has it
+  pub have_more : t ≡ u → all (eqb t) ts ≡ all (eqb t) us
+  unfolding all ◌&◌
+  have_more n = rw (e, eq-eqb t u n)
 
 -- ---- all have one type
 
--- none are alike
-pub alike_none : (c after : Scope) (f : Forest) → f ≡ none → true ≡ alike (types_of c after f)
-unfolding types_of alike
-alike_none c after f e = rw e
+pub alike_none : {ts : List ℕ} → ts ≡ [] → alike ts ≡ true
+unfolding alike
+alike_none e = rw e
+
+-- that of the first
+pub alike_first : {u : ℕ} {ts us : List ℕ} → ts ≡ u ∷ us → alike ts ≡ all (eqb u) us
+unfolding alike
+alike_first e = rw e
 
 -- ---- the first type
 
--- no expressions, no type
-pub first_none : (c after : Scope) (f : Forest) → f ≡ none → 0 ≡ first 0 (types_of c after f)
-unfolding types_of first
-first_none c after f e = rw e
+pub first_none : {ts : List ℕ} → ts ≡ [] → first 0 ts ≡ 0
+unfolding first
+first_none e = rw e
 
-module _ {f : Forest} {v : Node} (w : Front f v) (c after : Scope)
-    {x : Bool} (e : x ≡ expr_w (what_of v.kind)) where
-  -- the first record is no expression
-  pub have_skip : (t : ℕ) → x ≡ false → all (eqb t) (types_of after after w.after) ≡ all (eqb t) (types_of c after f)
-  have_skip t z = ap (all (eqb t)) (sym (types_other w c after e z))
-
-  -- they are then alike if the rest is
-  pub alike_skip : x ≡ false → alike (types_of after after w.after) ≡ alike (types_of c after f)
-  alike_skip z = ap alike (sym (types_other w c after e z))
-
-  -- the first type is then that of the rest
-  pub first_skip : x ≡ false → first 0 (types_of after after w.after) ≡ first 0 (types_of c after f)
-  first_skip z = ap (first 0) (sym (types_other w c after e z))
-
-  -- it is one, and u is its type
-  module _ {u : ℕ} (z : x ≡ true) (k : u ≡ type_of (seen c) w.label) where
-    -- which is not t
-    pub have_not : (t : ℕ) → (t ≡ u → ⊥) → false ≡ all (eqb t) (types_of c after f)
-    unfolding all ◌&◌
-    have_not t n = sym (ap (all (eqb t)) (types_more w c after e z k) ∙ rw (ne_eqb t u n))
-
-    -- which is t
-    pub have_more : (t : ℕ) → t ≡ u → all (eqb t) (types_of after after w.after) ≡ all (eqb t) (types_of c after f)
-    unfolding all ◌&◌
-    have_more t n = sym (ap (all (eqb t)) (types_more w c after e z k) ∙ rw (eq-eqb t u n))
-
-    -- they are alike if the rest has it
-    pub alike_here : all (eqb u) (types_of after after w.after) ≡ alike (types_of c after f)
-    unfolding alike
-    alike_here = sym (ap alike (types_more w c after e z k))
-
-    -- which is the first type
-    pub first_here : u ≡ first 0 (types_of c after f)
-    unfolding first
-    first_here = sym (ap (first 0) (types_more w c after e z k))
+pub first_is : {u : ℕ} {ts us : List ℕ} → ts ≡ u ∷ us → first 0 ts ≡ u
+unfolding first
+first_is e = rw e

@@ -5,7 +5,7 @@ use mathlib.Core.Bool.{Bool, true, false, cond, ◌||◌}
 use mathlib.Core.List.{List, []}
 use Prim.Native.Nat.{ℕ}
 use lib.Dec.{eqb, leb}
-use Rattle.image.specs.Tree.{Label, Forest, Node}
+use Rattle.image.specs.Tree.{Label, Forest}
 use Rattle.plan.specs.Lists.{◌&◌}
 use Rattle.plan.proofs.Lists.{and_true, true_and}
 use Rattle.plan.specs.Kinds as K
@@ -18,7 +18,6 @@ use Rattle.plan.specs.Syntax.{no_type, integer_type}
 use Rattle.check_types.specs.declared.operands.Demand.{Demand}
 use Rattle.check_types.specs.declared.operands.Demand.TheVariants.{Nothing, Booleans, OneType, IntegerFirst}
 use Rattle.check_types.specs.Demands.{demand_of, met}
-use Rattle.plan.specs.Siblings.{Says}
 
 -- what a plan asks besides
 abbrev more_p : K.PlanKind → Forest → Label → Forest → Bool
@@ -106,15 +105,13 @@ module _ (root : Forest) (l : Label) (cs : Forest) (ts : List ℕ) where
   more_none (plan K.Aggregate) a b = refl
   more_none (plan K.Window) a b = refl
 
-module _ {l : Label} {v : Node} (k : Says v l) (cs root : Forest) (ts : List ℕ) {d : Demand} {m : Bool}
-    (D : d ≡ demand_of (what_of v.kind) v.p v.r) (M : m ≡ met d ts) where
+module _ (l : Label) (cs root : Forest) (ts : List ℕ) {d : Demand} {m : Bool}
+    (D : d ≡ demand_of (what l) l.p l.r) (M : m ≡ met d ts) where
   -- the same as the code asks it
   rule_by : type_ok_by (what l) root l cs ts ≡ m & more (what l) root l cs
   rule_by =
       rule_is root l cs ts (what l)
-      ∙ ap (λ (x : Bool). x & more (what l) root l cs)
-      (sym (M ∙ ap (λ (x : Demand). met x ts) (D ∙ ap (λ (x : ℕ). demand_of (what_of x) v.p v.r) k.kind
-      ∙ ap (λ (x : ℕ). demand_of (what l) x v.r) k.p ∙ ap (λ (x : ℕ). demand_of (what l) l.p x) k.r)))
+      ∙ ap (λ (x : Bool). x & more (what l) root l cs) (sym (M ∙ ap (λ (x : Demand). met x ts) D))
 
   -- its own expressions are wrong
   pub rule_not : m ≡ false → false ≡ type_ok_by (what l) root l cs ts
@@ -128,21 +125,16 @@ module _ {l : Label} {v : Node} (k : Says v l) (cs root : Forest) (ts : List ℕ
     rule_then = sym (rule_by ∙ ap (λ (x : Bool). x & more (what l) root l cs) e)
 
     -- a scan: the types of the first scan of its table
-    pub rule_scan : v.kind ≡ K.number_p K.TableScan → same_types (types_in (made [] cs)) (scan_types v.p [] root) ≡ type_ok_by (what l) root
+    pub rule_scan : l.kind ≡ K.number_p K.TableScan → same_types (types_in (made [] cs)) (scan_types l.p [] root) ≡ type_ok_by (what l) root
         l cs ts
     unfolding what_of K.among
-    rule_scan z =
-        ap (λ (x : ℕ). same_types (types_in (made [] cs)) (scan_types x [] root)) k.p
-        ∙ ap (λ (x : ℕ). more (what_of x) root l cs) (sym (sym k.kind ∙ z)) ∙ rule_then
+    rule_scan z = ap (λ (x : ℕ). more (what_of x) root l cs) (sym z) ∙ rule_then
 
     -- a Union: its inputs united
-    pub rule_union : v.kind ≡ K.number_p K.Union → united (inputs cs) ≡ type_ok_by (what l) root l cs ts
+    pub rule_union : l.kind ≡ K.number_p K.Union → united (inputs cs) ≡ type_ok_by (what l) root l cs ts
     unfolding what_of K.among
-    rule_union z = ap (λ (x : ℕ). more (what_of x) root l cs) (sym (sym k.kind ∙ z)) ∙ rule_then
+    rule_union z = ap (λ (x : ℕ). more (what_of x) root l cs) (sym z) ∙ rule_then
 
     -- another record asks no more
-    pub rule_rest : (v.kind ≡ K.number_p K.TableScan → ⊥) → (v.kind ≡ K.number_p K.Union → ⊥) → true ≡ type_ok_by (what l) root l cs ts
-    rule_rest a c =
-        more_none root l cs ts (what l)
-        (λ q. a (k.kind ∙ kind_p l K.TableScan q)) (λ q. c (k.kind ∙ kind_p l K.Union q))
-        ∙ rule_then
+    pub rule_rest : (l.kind ≡ K.number_p K.TableScan → ⊥) → (l.kind ≡ K.number_p K.Union → ⊥) → true ≡ type_ok_by (what l) root l cs ts
+    rule_rest a c = more_none root l cs ts (what l) (λ q. a (kind_p l K.TableScan q)) (λ q. c (kind_p l K.Union q)) ∙ rule_then

@@ -1,27 +1,29 @@
--- Laws of the first scan of a table, and of what is looked at in a record where a tree stands.
+-- Laws of the first scan of a table.
 -- Assumes nothing.
 use mathlib.Core.Path.{◌≡◌, refl, sym, ap, subst, ◌∙◌}
 use mathlib.Core.Bool.{Bool, true, false, cond, ◌&&◌}
 use mathlib.Core.List.{List, [], ◌∷◌}
-use Prim.Native.Nat.{ℕ, zero, suc, ◌+◌, ◌-◌, ◌*◌, ◌≤◌, ◌<◌}
+use Prim.Native.Nat.{ℕ, zero, suc, ◌+◌, ◌*◌, ◌≤◌, ◌<◌}
 use native.Mathlib.Omega.{arith}
 use lib.Dec.{eqb, ltb}
-use lib.ListN.{length, drop}
+use lib.ListN.{drop}
 use lib.Seq.{drop-drop}
 use borrow.Author.Tests.{eq-eqb, ne_eqb, eqb-true, eqb-false, ltb-true, ltb-false}
 use Rattle.check_fields.specs.declared.questions.Question.TheVariants.{Every}
 use Rattle.plan.specs.Kinds as K
 use Rattle.image.specs.Word.{word}
-use Rattle.image.specs.Tree.{Label, Forest, none, node, size, Stands, Tree, At, Node, node_of, label_at}
+use Rattle.image.specs.Tree.{Label, Forest, none, node, size, Stands, Tree, At, label_at}
 use Rattle.image.specs.Lowest.{alone}
-use Rattle.image.proofs.Walking.{only}
 use Rattle.plan.specs.Lists.{◌&◌}
 use Rattle.acceptance.specs.Types.{same_types}
 use Rattle.check_fields.specs.Fields.{Schema, made}
 use Rattle.check_fields.specs.Rules.{types_in, scan_types}
 use Rattle.check_fields.specs.Count.{hits, counted}
 use Rattle.check_fields.proofs.Counting.{counted_all}
-use Rattle.check_types.specs.Standing.{Filled}
+use Rattle.image.specs.Subtrees.{Below, forest, tree_of}
+use Rattle.image.specs.declared.trees.Siblings.{Siblings}
+use Rattle.image.specs.declared.trees.Subtree.{Subtree}
+use Rattle.image.proofs.Subtrees.{tree_is}
 
 -- ---- the first scan
 
@@ -135,22 +137,15 @@ module _ (t : ℕ) (s : List ℕ) where
         (sym (scan_at [] u.label u.below none 0 h.head.label (z 0 (omega arith))))
         (lowest_in [] u.below 1 (suc i) below_at (omega arith) (omega arith) e (λ j p q. z j q))
 
--- s is all a tree's records
-pub filled_size : {s : List ℕ} (y : Filled s) (u : Tree) → At u s 0 → length s ≡ 32 * suc (size u.below)
-filled_size y u h = y.bytes ∙ ap (λ (t : Tree). 32 * suc (size t.below)) (only y.at h)
+-- the root stands at the start of the image
+pub root_at : (x : Subtree) → x.number ≡ 0 → At (tree_of x) x.image.now 0
+root_at x e = subst (λ (n : ℕ). At (tree_of x) (drop (32 * n) x.image.now) n) e x.stood.at
 
--- what the code looks at
-module _ (s : List ℕ) {part : List ℕ} {v : Node} (i : ℕ) (e : part ≡ drop (32 * (i - 0)) s) (g : v ≡ node_of part) where
-  there : part ≡ drop (32 * i) s
-  there = let z : i - 0 ≡ i = omega arith in e ∙ ap (λ (n : ℕ). drop (32 * n) s) z
-
-  -- its test of a record
-  pub scan_test : (t : ℕ) {x : Bool} → (eqb v.kind (K.number_p K.TableScan) && eqb v.p t) ≡ x → scans_at t s i ≡ x
-  scan_test t h = rw (← there) (rw g at h)
-
-  -- the scan's tree
-  pub lowest_at : (t : ℕ) (ts : List ℕ) (y : Lowest t s ts i) → At y.tree part i
-  lowest_at t ts y = rw there y.at
+-- the types that the lowest scan of the table tells are those of what is below the record
+pub types_there : {x : Subtree} {y : Siblings} {t i : ℕ} {s ts : List ℕ} → Below x y → x.image.now ≡ s → x.number ≡ i → Lowest t s ts i
+    → ts ≡ types_in (made [] (forest y))
+types_there {x} w es en z =
+    z.types ∙ ap (λ (t : Tree). types_in (made [] t.below)) (sym (tree_is x z.tree es en z.at)) ∙ ap (λ (f : Forest). types_in (made [] f)) (sym w.is)
 
 -- a schema has no fields just where its types are none
 pub no_fields : (s : Schema) {n : ℕ} → n ≡ counted (hits Every) s → eqb n 0 ≡ same_types (types_in s) []

@@ -1,14 +1,10 @@
--- A tree that stands somewhere.
-use Rattle.std.specs.Prelude.{List, ◌≡◌, ℕ, suc, ◌*◌, length}
-use Rattle.image.specs.Tree.{Tree, At, size}
+-- A tree that an image holds, and no more.
+use Rattle.std.specs.Prelude.{◌≡◌, suc, ◌*◌, length}
+use Rattle.image.specs.Subtrees.{tree_of}
+use Rattle.image.specs.Tree.{size}
+use Rattle.image.specs.declared.trees.Subtree.{Subtree}
 
--- some tree stands at the start of s, its first record with the number b
-pub record Planted (s : List ℕ) (b : ℕ) : Type 0 where
-  pub tree : Tree
-  pub at : At tree s b
-
--- s is a tree's records and no more
-pub record Filled (s : List ℕ) : Type 0 where
-  pub tree : Tree
-  pub at : At tree s 0
-  pub bytes : length s ≡ 32 * suc (size tree.below)
+-- the image is the tree's records and no more
+pub record Whole (root : Subtree) : Type 0 where
+  pub first : root.number ≡ 0
+  pub bytes : length root.image.now ≡ 32 * suc (size (tree_of root).below)

@@ -1,8 +1,8 @@
 // What a record asks of the types of its own expressions, and whether they are so.
 ghost use Rattle.std.specs.Prelude.{◌≡◌, eqb};
+ghost use Rattle.image.specs.Subtrees.{forest};
 ghost use Rattle.plan.specs.Kinds.{what_of};
 ghost use Rattle.plan.specs.Lists.{all};
-ghost use Rattle.plan.specs.Siblings.{forest};
 ghost use Rattle.plan.specs.Syntax.{no_type};
 ghost use Rattle.check_fields.specs.Fields.{first};
 ghost use Rattle.check_fields.specs.Rules.{alike, types_of};
@@ -10,8 +10,8 @@ ghost use Rattle.check_fields.specs.Scopes.{scope_at};
 ghost use Rattle.check_types.specs.Demands.{demand_of, integer_or, met};
 
 use check_fields::scopes::{Scope, type_of};
+use image::trees::Siblings;
 use plan::kinds::{ExprKind, PartKind, PlanKind, What, is_expression, what_of};
-use plan::siblings::Siblings;
 use plan::words::{BOOLEAN, COUNT, INTEGER, IS_NOT_NULL, NO_TYPE, OR};
 
 // What a record asks of the types of its own expressions.
@@ -54,46 +54,54 @@ pub fn demand_of(kind: usize, p: usize, r: usize) -> Demand
 }
 
 // The type of the first expression among the trees, of which the first stands over `here` and the others over `after`; no type if none is.
-pub fn first_type(trees: Siblings, here: Scope, after: Scope) -> usize
+pub fn first_type<'a>(trees: Siblings<'a>, here: Scope<'a>, after: Scope<'a>) -> usize
     ensures { result ≡ first no_type (types_of (scope_at here.entry) (scope_at after.entry) (forest trees.entry)) }
 {
-    let Some(tree) = trees.first() else {
-        return NO_TYPE;
-    };
-    if is_expression(tree.node.kind) {
-        return type_of(tree.node, here);
+    let mut over = here;
+    for tree in trees {
+        let label = tree.label();
+        if is_expression(label.kind) {
+            return type_of(label, over);
+        }
+        over = after;
     }
-    first_type(tree.after, after, after)
+    NO_TYPE
 }
 
 // Whether all expressions among the trees have the type t.
-pub fn all_have(trees: Siblings, here: Scope, after: Scope, t: usize) -> bool
+pub fn all_have<'a>(trees: Siblings<'a>, here: Scope<'a>, after: Scope<'a>, t: usize) -> bool
     ensures { result ≡ all (eqb t) (types_of (scope_at here.entry) (scope_at after.entry) (forest trees.entry)) }
 {
-    let Some(tree) = trees.first() else {
-        return true;
-    };
-    if is_expression(tree.node.kind) && t != type_of(tree.node, here) {
-        return false;
+    let mut over = here;
+    for tree in trees {
+        let label = tree.label();
+        if is_expression(label.kind) && t != type_of(label, over) {
+            return false;
+        }
+        over = after;
     }
-    all_have(tree.after, after, after, t)
+    true
 }
 
 // Whether all expressions among the trees have one type: the first is asked for it, and then the others.
-pub fn all_alike(trees: Siblings, here: Scope, after: Scope) -> bool
+pub fn all_alike<'a>(trees: Siblings<'a>, here: Scope<'a>, after: Scope<'a>) -> bool
     ensures { result ≡ alike (types_of (scope_at here.entry) (scope_at after.entry) (forest trees.entry)) }
 {
-    let Some(tree) = trees.first() else {
-        return true;
-    };
-    if is_expression(tree.node.kind) {
-        return all_have(tree.after, after, after, type_of(tree.node, here));
+    let mut over = here;
+    let mut left = trees;
+    while let Some((tree, others)) = left.split_first() {
+        let label = tree.label();
+        if is_expression(label.kind) {
+            return all_have(others, after, after, type_of(label, over));
+        }
+        over = after;
+        left = others;
     }
-    all_alike(tree.after, after, after)
+    true
 }
 
 // Whether the expressions among the trees are as the record above them asks.
-pub fn meets(d: Demand, trees: Siblings, here: Scope, after: Scope) -> bool
+pub fn meets<'a>(d: Demand, trees: Siblings<'a>, here: Scope<'a>, after: Scope<'a>) -> bool
     ensures { result ≡ met d (types_of (scope_at here.entry) (scope_at after.entry) (forest trees.entry)) }
 {
     match d {

@@ -1,7 +1,7 @@
 // The types of a schema's fields by place, and whether two schemas have the same.
 ghost use Rattle.std.specs.Prelude.{◌≡◌};
+ghost use Rattle.image.specs.Subtrees.{forest};
 ghost use Rattle.plan.specs.Lists.{all};
-ghost use Rattle.plan.specs.Siblings.{forest};
 ghost use Rattle.acceptance.specs.Types.{same_types};
 ghost use Rattle.check_fields.specs.Fields.{input, inputs};
 ghost use Rattle.check_fields.specs.Rules.{seen, types_in, united};
@@ -11,8 +11,8 @@ ghost use Rattle.check_types.specs.ByPlace.{ty_at};
 use check_fields::fields::type_found;
 use check_fields::questions::Question;
 use check_fields::scopes::{Scope, View, held_in, seek_seen};
+use image::trees::Siblings;
 use plan::kinds::is_plan;
-use plan::siblings::Siblings;
 
 // The type of the field with the place k, or no type.
 pub fn place_type(fields: Scope, k: usize) -> usize
@@ -51,21 +51,27 @@ pub fn first_plan<'a>(trees: Siblings<'a>) -> Scope<'a>
 pub fn as_first(trees: Siblings, others: Siblings) -> bool
     ensures { result ≡ all (λ t. same_types (types_in t) (types_in (input 0 (inputs (forest others.entry))))) (inputs (forest trees.entry)) }
 {
-    let Some(tree) = trees.first() else {
-        return true;
-    };
-    if is_plan(tree.node.kind) && !same_fields(first_plan(trees), first_plan(others)) {
-        return false;
+    let first = first_plan(others);
+    let mut left = trees;
+    while let Some((tree, after)) = left.split_first() {
+        if is_plan(tree.kind()) && !same_fields(first_plan(left), first) {
+            return false;
+        }
+        left = after;
     }
-    as_first(tree.after, others)
+    true
 }
 
 // Whether the inputs of a Union have the types of the first, which is not compared with itself.
 pub fn united(trees: Siblings) -> bool
     ensures { result ≡ united (inputs (forest trees.entry)) }
 {
-    let Some(first) = trees.plan(0) else {
-        return true;
-    };
-    as_first(first.after, trees)
+    let mut left = trees;
+    while let Some((tree, after)) = left.split_first() {
+        if is_plan(tree.kind()) {
+            return as_first(after, left);
+        }
+        left = after;
+    }
+    true
 }

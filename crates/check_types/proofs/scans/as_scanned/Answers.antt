@@ -1,28 +1,31 @@
-use mathlib.Core.Path.{sym, ap, ◌∙◌}
+use mathlib.Core.Path.{refl, sym, ap, ◌∙◌}
 use mathlib.Core.List.{[]}
 use native.Mathlib.Omega.{arith}
 use Rattle.acceptance.specs.Types.{same_types}
-use Rattle.plan.specs.Siblings.{forest}
+use Rattle.image.specs.Subtrees.{forest, tree_of}
 use Rattle.check_fields.specs.Fields.{made}
 use Rattle.check_fields.specs.Rules.{types_in}
-use Rattle.check_types.proofs.Scanning.{none_scans, lowest_scan, lowest_at, scan_test, filled_size, no_fields}
+use Rattle.check_types.proofs.Scanning.{root_at, none_scans, lowest_scan, types_there, no_fields}
 use Rattle.check_types.proofs.scans.as_scanned.Goals as goal
 
-pub alone-scan-requires : goal.alone-scan-requires
-alone-scan-requires c =
-    let y = lowest_scan c.args.table _ c.requires.tree c.requires.at c.loop-at.at (omega (arith, c.requires.bytes))
-    (scan_test c.args.root.now c.loop-at.at c.from_record-part.ensures c.look-node.ensures _ c.if-node-table.true) c.loop-at.invariant in
-    (y.tree, lowest_at c.args.root.now c.loop-at.at c.from_record-part.ensures c.look-node.ensures _ _ y)
+pub invariant_of-scan : goal.invariant_of-scan
+invariant_of-scan c =
+    let x = c.args.root in
+    let y = lowest_scan c.args.table x.image.now (tree_of x) (root_at x c.requires.first) c.loop-number.number (omega (arith, c.requires.bytes))
+    (rw (c.word_at.ensures.0, c.word_at-in-loop-number.ensures.0, c.record_at-record.ensures) at c.if-word_at-table.true) c.loop-number.invariant in
+    record { stood = record { tree = y.tree; at = y.at } }
 
-pub returns-then-node-table : goal.returns-then-node-table
-returns-then-node-table c =
-    λ u h. let y = lowest_scan c.args.table _ u h c.loop-at.at (omega (arith, filled_size c.requires u h))
-    (scan_test c.args.root.now c.loop-at.at c.from_record-part.ensures c.look-node.ensures _ c.if-node-table.true) c.loop-at.invariant in
-    let w = c.alone-scan.ensures y.tree (lowest_at c.args.root.now c.loop-at.at c.from_record-part.ensures c.look-node.ensures _ _ y) in
-    (rw (c.scanned-fields.ensures, c.scanned.ensures, w.is, ← y.types) at c.same_fields.ensures)
+pub returns-then-word_at-table : goal.returns-then-word_at-table
+returns-then-word_at-table c =
+    let x = c.args.root in
+    let y = lowest_scan c.args.table x.image.now (tree_of x) (root_at x c.requires.first) c.loop-number.number (omega (arith, c.requires.bytes))
+    (rw (c.word_at.ensures.0, c.word_at-in-loop-number.ensures.0, c.record_at-record.ensures) at c.if-word_at-table.true) c.loop-number.invariant in
+    let e = types_there c.children.ensures refl refl y in
+    rw (c.scanned-fields.ensures, c.scanned.ensures, ← e) at c.same_fields.ensures
 
 pub returns : goal.returns
 returns c =
-    λ u h. no_fields _ (rw c.scanned-fields.ensures at c.held_in.ensures)
+    no_fields _ (rw c.scanned-fields.ensures at c.held_in.ensures)
     ∙ ap (same_types (types_in (made [] (forest c.args.parts))))
-    (sym (none_scans c.args.table _ u h (λ i l. c.loop-at.invariant i (omega (arith, filled_size c.requires u h)))))
+    (sym (none_scans c.args.table c.args.root.image.now (tree_of c.args.root) (root_at c.args.root c.requires.first)
+    (λ i l. c.loop-number.invariant i (omega (arith, c.requires.bytes)))))

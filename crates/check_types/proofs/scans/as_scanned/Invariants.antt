@@ -5,5 +5,5 @@ use Prim.Native.Nat.{ℕ, ◌<◌}
 use Rattle.check_types.proofs.Scanning.{scans_at}
 use Rattle.check_types.proofs.scans.as_scanned.Given as goal
 
-abbrev pub invariant-loop-at : goal.invariant-loop-at
-invariant-loop-at l = (i : ℕ) → i < l.at → scans_at l.table l.root i ≡ false
+abbrev pub invariant-loop-number : goal.invariant-loop-number
+invariant-loop-number l = (i : ℕ) → i < l.number → scans_at l.table l.root.image.now i ≡ false

@@ -3,8 +3,8 @@
 use mathlib.Core.Path.{◌≡◌}
 use Prim.Native.Nat.{◌≤◌}
 use Rattle.image.specs.Lowest.{alone, lowest}
-use Rattle.image.specs.Tree.{At, Tree, size}
-use Rattle.plan.specs.Siblings.{forest}
+use Rattle.image.specs.Subtrees.{forest, tree_of}
+use Rattle.image.specs.Tree.{size}
 use Rattle.check_fields.specs.Rules.{type_ok, hand}
 use Rattle.check_fields.specs.Scopes.{scope_at}
 use Rattle.check_types.proofs.walk.+bad_type.Given as goal
@@ -14,10 +14,6 @@ decreases-bad_type l = size (forest l.trees)
 
 abbrev pub invariant-loop-tree : goal.invariant-loop-tree
 invariant-loop-tree l =
-    (size (forest l.left) ≤ size (forest l.trees))
-    × ((u : Tree) → At u l.root 0
-    → lowest (type_ok (alone u)) hand (scope_at l.over) (scope_at l.after) l.left.at (forest l.left)
-    ≡ lowest (type_ok (alone u)) hand (scope_at l.here) (scope_at l.after) l.trees.at (forest l.trees))
-
-abbrev pub decreases-loop-tree : goal.decreases-loop-tree
-decreases-loop-tree l = size (forest l.left)
+    (size (forest l.tree-iterator) ≤ size (forest l.trees))
+    × (lowest (type_ok (alone (tree_of l.root))) hand (scope_at l.over) (scope_at l.after) l.tree-iterator.first (forest l.tree-iterator)
+    ≡ lowest (type_ok (alone (tree_of l.root))) hand (scope_at l.here) (scope_at l.after) l.trees.first (forest l.trees))
