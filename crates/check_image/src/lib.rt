@@ -12,16 +12,17 @@ use check_form::checked::checked_form;
 use check_names::naming::bad_names;
 use check_types::walk::bad_types;
 use image::refusals::Refusal;
+use image::trees::Subtree;
 
-// Names and types of an image that meets none of the tests 1 to 5.
-fn checked_plan(s: &[u8]) -> Result<(), Refusal>
-    requires { Sound s.now }
-    ensures { verdict_of result ≡ later (linked s.now (length s.now / 32)) }
+// Names and types of an image that meets none of the tests 1 to 5, by the tree of its records.
+fn checked_plan(root: Subtree) -> Result<(), Refusal>
+    requires { Sound root }
+    ensures { verdict_of result ≡ later (linked root.entry.image.now (length root.entry.image.now / 32)) }
 {
-    if let Some(r) = bad_names(s) {
+    if let Some(r) = bad_names(root) {
         return Err(Refusal::Names(r));
     }
-    if let Some(r) = bad_types(s) {
+    if let Some(r) = bad_types(root) {
         return Err(Refusal::Types(r));
     }
     Ok(())
@@ -31,6 +32,6 @@ fn checked_plan(s: &[u8]) -> Result<(), Refusal>
 pub fn check(s: &[u8]) -> Result<(), Refusal>
     ensures { verdict_of result ≡ Check.check s.now }
 {
-    checked_form(s)?;
-    checked_plan(s)
+    let root = checked_form(s)?;
+    checked_plan(root)
 }
