@@ -9,16 +9,17 @@ use native.Mathlib.Omega.{arith}
 use lib.Dec.{leb}
 use lib.IntN.{ℤ}
 use lib.ListN.{length, take, drop, length-take, length-drop}
-use lib.Seq.{drop-drop}
 use borrow.Author.Tests.{ne_eqb, leb-true}
 use Rattle.image.specs.Word.{Bytes, word}
 use Rattle.image.specs.Flat.{enc}
-use Rattle.image.specs.Limits.{max_below, max_depth, max_fields}
+use Rattle.image.specs.Limits.{max_depth, max_fields}
 use Rattle.std.specs.Prelude.{None, Some, Ok}
 use Rattle.image.specs.Lowest.{Found, or_else, unless, lowest, alone}
+use Rattle.image.specs.Places.{Stood}
 use Rattle.image.specs.Tree as T
-use Rattle.image.specs.Tree.{Label, Forest, node, At, Deep, Linked, size, Stands}
-use Rattle.image.proofs.Walking.{linked_first}
+use Rattle.image.specs.Tree.{Label, Forest, node, Tree, At, Deep, size}
+use Rattle.image.specs.declared.trees.Subtree.{Subtree}
+use Rattle.image.proofs.Subtrees.{tree_is}
 use Rattle.plan.specs.Integers.{FitsE}
 use Rattle.plan.specs.Kinds.{Filter, number_p, plan_w, what_of, among}
 use Rattle.plan.specs.Lists.{choose}
@@ -55,7 +56,7 @@ use Rattle.rewrite.specs.RowTest.{row_ok, lent, no_functions, no_test, truth_num
 use Rattle.rewrite.specs.Utils.{any_fn}
 use Rattle.evaluate.specs.Truths.{value_of}
 use Rattle.evaluate.specs.Operators.{expr_in}
-use Rattle.call_row_test.specs.Standing.{Sound, Whole}
+use Rattle.call_row_test.specs.Standing.{FilterHere, Sound, Whole}
 use Rattle.call_row_test.specs.Answer.{tested_of}
 use Rattle.evaluate.specs.declared.logic.Truth.{Truth}
 use Rattle.evaluate.proofs.TruthLaws.{never, of_value, of_value_f}
@@ -92,51 +93,32 @@ module _ (n : ℕ) (e : Expr) (p : Plan) (zs : List ℤ) (ms ts : List ℕ) (is 
 
 -- ---- the parts of a Filter
 
-pub record Parts (s : List ℕ) (b : ℕ) (e : Expr) (p : Plan) : Type 0 where
-  pub linked : Linked (kids_p (filter e p)) s b (word s 24)
-  pub past : b ≤ word s 24
-  pub fits : 32 * (word s 24 - b) + 32 ≤ length s
-  pub predicate : At (expr_tree e) (drop (32 * (word s 24 - b)) s) (word s 24)
-  pub past₂ : b ≤ word (drop (32 * (word s 24 - b)) s) 28
-  pub fits₂ : 32 * (word (drop (32 * (word s 24 - b)) s) 28 - b) + 32 ≤ length s
-  pub input : At (plan_tree p) (drop (32 * (word (drop (32 * (word s 24 - b)) s) 28 - b)) s) (word (drop (32 * (word s 24 - b)) s) 28)
+one_node : {l m : Label} {cs ds ns os : Forest} → node l cs ns ≡ node m ds os → (l ≡ m) × (cs ≡ ds) × (ns ≡ os)
+one_node e = (cc, cc, cc)
 
--- the input, behind a predicate of k records below its own
-input_at : (s : List ℕ) (b k m : ℕ) (p : Plan) → m ≡ b + 1 + 1 + k
-    → Stands (node (label_p p) (kids_p p) T.none) (drop (32 * suc k) (drop 32 s)) (b + 1 + 1 + k) → At (plan_tree p) (drop (32 * (m - b)) s) m
-input_at s b k m p e w =
-    let z : 32 + 32 * suc k ≡ 32 * (m - b) = omega arith in
-    let a : At (plan_tree p) (drop (32 * suc k) (drop 32 s)) (b + 1 + 1 + k) = record { head = w.head; below = w.below } in
-    rw (drop-drop, z, ← e) at a
+module _ (e : Expr) (p : Plan) {f : Forest} (h : f ≡ kids_p (filter e p)) where
+  kids : f ≡ node (label_e e) (kids_e e) (node (label_p p) (kids_p p) T.none)
+  unfolding kids_p
+  kids = h
 
-pub filter_parts : (s : List ℕ) (b : ℕ) (e : Expr) (p : Plan) → At (plan_tree (filter e p)) s b → Parts s b e p
-unfolding kids_p
-filter_parts s b e p h =
-    let a : word s 24 ≡ b + 1 = h.head.first in
-    let w : Stands (node (label_e e) (kids_e e) (node (label_p p) (kids_p p) T.none)) (drop 32 s) (b + 1) = h.below in
-    let room : 32 * suc (suc (size (kids_e e) + suc (size (kids_p p) + 0))) ≤ length s = h.head.room in
-    let x : 32 * (word s 24 - b) ≡ 32 = omega arith in
-    let n : word (drop (32 * (word s 24 - b)) s) 28 ≡ b + 1 + 1 + size (kids_e e) = rw x w.next in
-    record {
-      linked = linked_first (plan_tree (filter e p)) s b h;
-      past = omega arith;
-      fits = omega arith;
-      predicate = rw (x, a) (record { head = w.head; below = w.below });
-      past₂ = omega arith;
-      fits₂ = omega arith;
-      input = input_at s b (size (kids_e e)) _ p n w.after;
-    }
+  pub no_predicate : f ≡ T.none → ⊥
+  no_predicate z = omega (arith, ap size kids, ap size z)
 
--- its schema has at most `max_fields` fields, and one level fewer may stand below its parts
+  module _ {a : Tree} {g : Forest} (u : f ≡ node a.label a.below g) where
+    first_is : (a.label ≡ label_e e) × (a.below ≡ kids_e e) × (g ≡ node (label_p p) (kids_p p) T.none)
+    first_is = one_node (sym u ∙ kids)
+
+    pub predicate_is : a ≡ expr_tree e
+    predicate_is = λ i. record { label = first_is.0 i; below = first_is.1 i }
+
+    pub no_input : g ≡ T.none → ⊥
+    no_input z = omega (arith, ap size first_is.2, ap size z)
+
+    pub input_is : {b : Tree} {k : Forest} → g ≡ node b.label b.below k → b ≡ plan_tree p
+    input_is v = let w = one_node (sym v ∙ first_is.2) in λ i. record { label = w.0 i; below = w.1 i }
+
+-- its schema has at most `max_fields` fields
 module _ (e : Expr) (p : Plan) (o : Sound (filter e p)) where
-  pub below_predicate : Deep (kids_e e) (max_below - 1)
-  unfolding kids_p
-  below_predicate = o.deep.1
-
-  pub below_input : Deep (kids_p p) (max_below - 1)
-  unfolding kids_p
-  below_input = o.deep.2.1
-
   few : length (schema p) ≤ max_fields
   unfolding rule sound
   few = leb-true (length (schema p)) max_fields (and_r _ _ (rule_sound (λ a b. true) p (and_r _ _ o.names)))
@@ -253,11 +235,17 @@ present {s} {n} (there {c} o h) l k =
     }
 
 module _ {s : List ℕ} {n : ℕ} {o : Option Focus} (f : Present s n o) where
-  pub filter_sound : Sound (filter f.filter_is.predicate f.filter_is.input)
+  filter_sound : Sound (filter f.filter_is.predicate f.filter_is.input)
   filter_sound = subst Sound f.filter_is.is f.sound
 
-  pub filter_stands : At (plan_tree (filter f.filter_is.predicate f.filter_is.input)) (drop (32 * n) s) n
+  filter_stands : At (plan_tree (filter f.filter_is.predicate f.filter_is.input)) (drop (32 * n) s) n
   filter_stands = subst (λ (q : Plan). At (plan_tree q) (drop (32 * n) s) n) f.filter_is.is f.stands
+
+  pub filter_stood : Stood s n
+  filter_stood = record { tree = plan_tree (filter f.filter_is.predicate f.filter_is.input); at = filter_stands }
+
+  pub filter_here : {x : Subtree} → x.image.now ≡ s → x.number ≡ n → FilterHere x f.filter_is.predicate f.filter_is.input
+  filter_here {x} i k = record { is = tree_is x _ i k filter_stands; sound = filter_sound }
 
   pub filter_tested : (zs : List ℤ) (ms : List ℕ)
       → test_predicate n f.filter_is.predicate f.filter_is.input zs ms ≡ test_focus n o zs ms

@@ -1,49 +1,45 @@
 // The row test: a named Filter's predicate on a row over its input's schema.
 ghost use Rattle.std.specs.Prelude.{◌≡◌, ◌≤◌};
-ghost use Rattle.image.specs.Limits.{max_below, max_fields};
-ghost use Rattle.image.specs.Tree.{At, Readable};
+ghost use Rattle.image.specs.Limits.{max_fields};
+ghost use Rattle.image.specs.Subtrees.{tree_of};
 ghost use Rattle.plan.specs.Integers.{FitsE};
 ghost use Rattle.plan.specs.Schema.{schema};
-ghost use Rattle.plan.specs.Syntax.{Expr, Plan, filter};
-ghost use Rattle.plan.specs.Trees.{expr_tree, plan_tree};
+ghost use Rattle.plan.specs.Syntax.{Expr, Plan};
+ghost use Rattle.plan.specs.Trees.{expr_tree};
 ghost use Rattle.rewrite.specs.OnBytes.{plan_in};
 ghost use Rattle.rewrite.specs.RewriteAt.{focus};
 ghost use Rattle.evaluate.specs.Truths.{value_of};
 ghost use Rattle.rewrite.specs.RowTest.{row_test_bytes, test_focus, test_predicate, truth_number};
 ghost use Rattle.utils.specs.Fields.{Names};
 ghost use Rattle.call_row_test.specs.Answer.{tested_of};
-ghost use Rattle.call_row_test.specs.Standing.{FilterHere, Sound, Whole};
+ghost use Rattle.call_row_test.specs.Standing.{FilterHere, Parts, Whole};
 ghost use Rattle.plan.specs.Types as Types;
 
 use crate::schemas::field_types;
 use check_image::check;
-use conjuncts::volatility::{Functions, has_function};
+use conjuncts::volatility::{Functions, has_function_xx};
 use evaluate::cells::{NamedRow, Row};
-use evaluate::expressions::evaluate;
+use evaluate::expressions::evaluate_xx;
 use evaluate::logic::Truth;
-use image::limits::{MAX_DEPTH, RECORD_BYTES};
-use image::records::{FIRST_LINK, KIND, NEXT_LINK, from_record, record_at};
+use image::limits::RECORD_BYTES;
+use image::records::{KIND, record_at};
 use image::refusals::Refusal;
+use image::trees::Subtree;
 use image::words::word_at;
 use plan::kinds::FILTER;
-use utils::schema_columns::{Fields, no_fields, schema_columns};
+use utils::schema_columns::{Fields, no_fields, schema_columns_xx};
 
-// The levels that there may be below the root.
-const BELOW: usize = MAX_DEPTH - 1;
-
-// The predicate at the start of `part`, of the Filter with this record, on a row over the fields with these names and types.
+// The predicate of the Filter at this record, on a row over the fields with these names and types.
 fn test_predicate(
-    part: &[u8],
-    base: usize,
+    predicate: Subtree,
     node: usize,
     fields: Fields,
     types: &[usize],
     values: &[i64],
     marks: &[u8],
 ) -> Result<Truth, Refusal>
-    requires readable { Readable max_below part.now base }
-    requires len_le_max_fields { fields.len ≤ max_fields }
-    ensures { (e : Expr) (p : Plan) → At (expr_tree e) part.now base → FitsE e → Names fields (schema p)
+    requires { fields.len ≤ max_fields }
+    ensures { (e : Expr) (p : Plan) → tree_of predicate.entry ≡ expr_tree e → FitsE e → Names fields (schema p)
         → types.now ≡ Types.types p → tested_of result ≡ test_predicate node e p values.now marks.now }
 {
     let row = Row {
@@ -54,27 +50,35 @@ fn test_predicate(
     if !row.is_ok() {
         return Err(Refusal::Row);
     }
-    if has_function(part, base, BELOW, Functions::All) {
+    if has_function_xx(predicate, Functions::All) {
         return Err(Refusal::Function(node));
     }
     let named = NamedRow { row, fields };
-    Ok(Truth::of(evaluate(part, base, BELOW, &named)))
+    Ok(Truth::of(evaluate_xx(predicate, &named)))
 }
 
-// The Filter at the start of `part`.
-fn test_filter(part: &[u8], node: usize, values: &[i64], marks: &[u8]) -> Result<Truth, Refusal>
-    requires { FilterHere part.now node }
-    ensures { (e : Expr) (p : Plan) → At (plan_tree (filter e p)) part.now node → Sound (filter e p)
-        → tested_of result ≡ test_predicate node e p values.now marks.now }
+// The predicate of a Filter, and its input.
+fn parts_of(filter: Subtree) -> Option<(Subtree, Subtree)>
+    ensures { (e : Expr) (p : Plan) → FilterHere filter.entry e p → Parts e p result }
 {
-    let first = word_at(part, FIRST_LINK);
-    let predicate = from_record(part, node, first);
-    let second = word_at(predicate, NEXT_LINK);
-    let input = from_record(part, node, second);
-    let fields = schema_columns(input, second, BELOW, no_fields());
+    let (predicate, others) = filter.children().split_first()?;
+    let (input, _) = others.split_first()?;
+    Some((predicate, input))
+}
+
+// A Filter.
+fn test_filter(filter: Subtree, values: &[i64], marks: &[u8]) -> Result<Truth, Refusal>
+    requires { (e : Expr) × (p : Plan) × FilterHere filter e p }
+    ensures { (e : Expr) (p : Plan) → FilterHere filter.entry e p
+        → tested_of result ≡ test_predicate filter.entry.number e p values.now marks.now }
+{
+    let Some((predicate, input)) = parts_of(filter) else {
+        return Err(Refusal::Absent(filter.number));
+    };
+    let fields = schema_columns_xx(input, no_fields());
+    let types = field_types(filter.children(), fields.len);
     let n = fields.len;
-    let types = field_types(part, node, first, n);
-    test_predicate(predicate, first, node, fields, &types[..n], values, marks)
+    test_predicate(predicate, filter.number, fields, &types[..n], values, marks)
 }
 
 // What stands at the record, if it is there: a Filter or not.
@@ -86,11 +90,14 @@ fn test_at(image: &[u8], node: usize, values: &[i64], marks: &[u8]) -> Result<Tr
     if image.len() / RECORD_BYTES <= node {
         return Err(Refusal::Absent(node));
     }
-    let part = record_at(image, node);
-    if word_at(part, KIND) != FILTER {
+    if word_at(record_at(image, node), KIND) != FILTER {
         return Err(Refusal::Absent(node));
     }
-    test_filter(part, node, values, marks)
+    let filter = Subtree {
+        image,
+        number: node,
+    };
+    test_filter(filter, values, marks)
 }
 
 // Every slice, node, row and marks get their answer.

@@ -1,6 +1,6 @@
--- `schemas::field_types` meets its contract.
+-- `schemas::field_types` meets its contract. The loop's invariant: the types of the places passed stand there.
 use mathlib.Core.Path.{◌≡◌}
-use Prim.Native.Nat.{ℕ, ◌≤◌, ◌<◌, ◌-◌}
+use Prim.Native.Nat.{ℕ, ◌<◌}
 use lib.ListN.{length, get_or}
 use Rattle.image.specs.Limits.{max_fields}
 use Rattle.check_fields.specs.Rules.{seen}
@@ -10,8 +10,4 @@ use Rattle.call_row_test.proofs.schemas.field_types.Given as goal
 
 abbrev pub invariant-loop-k : goal.invariant-loop-k
 invariant-loop-k l =
-    (l.k ≤ l.n) × (length l.types ≡ max_fields) × ((m : ℕ) → m < l.k
-    → get_or l.types m 0 ≡ ty_at m (seen (scope_at l.fields)))
-
-abbrev pub decreases-loop-k : goal.decreases-loop-k
-decreases-loop-k l = l.n - l.k
+    (length l.types ≡ max_fields) × ((m : ℕ) → m < l.k → get_or l.types m 0 ≡ ty_at m (seen (scope_at l.fields)))
