@@ -18,7 +18,7 @@ ghost use Rattle.utils.specs.Masks.{Masks};
 ghost use Rattle.push_down_join.specs.Clauses.{Operands, kept, operator_of, or_clause, yields};
 ghost use Rattle.push_down_join.specs.Sides.{Sides};
 
-use conjuncts::items::CLAUSE;
+use conjuncts::items::{CLAUSE, item_tree};
 use conjuncts::lists::{Conjuncts, add};
 use image::copying::{Writer, copy_tree, put_label};
 use image::limits::{MAX_DEPTH, MAX_RECORDS, NO_ROOM};
@@ -35,7 +35,7 @@ use utils::sets::FieldSet;
 // Appends the clause of the conjunct n for a side, if it yields one.
 fn add_clause(s: &[u8], to: Conjuncts, n: usize, fields: Fields, side: FieldSet) -> Conjuncts
     requires present { Present s.now n }
-    requires s_len_bound { (length s.now ≤ work_bytes) × (fields.len ≤ max_fields) }
+    requires len_le_max_fields { fields.len ≤ max_fields }
     ensures { (σ : Name → Expr) (ns : List Name) (t : Name → Bool) (es : List Expr) (e : Expr) →
         Sides s.now σ ns t to es →
         Item s.now n e → Names fields ns → on_cols (has ns) e ≡ true → Masks side ns t →
@@ -56,7 +56,7 @@ pub fn extract_or_clauses_for_join(
     side: FieldSet,
 ) -> Conjuncts
     requires known { Known s.now c }
-    requires s_len_bound { (length s.now ≤ work_bytes) × (fields.len ≤ max_fields) }
+    requires len_le_max_fields { fields.len ≤ max_fields }
     ensures { (σ : Name → Expr) (ns : List Name) (t : Name → Bool) (es fs : List Expr) → Sides s.now σ ns t to es →
         Lists s.now c fs → Names fields ns → All (λ e. on_cols (has ns) e ≡ true) fs → Masks side ns t →
         Sides s.now σ ns t result (es ++ extract_or_clauses_for_join t fs) }
@@ -179,20 +179,18 @@ pub fn copy_clause(
     copy_clause(right, y, depth - 1, f, side, out, to, level + 1)
 }
 
-// Whether the conjunct at record n, if it is an OR at its top, yields one: 0 stands for FALSE, which is none.
+// Whether the item n, if it is an OR at its top, yields one.
 pub fn or_clause_at(s: &[u8], n: usize, f: Fields, side: FieldSet) -> bool
     requires present { Present s.now n }
-    requires s_len_bound { length s.now ≤ work_bytes }
     requires len_le_max_fields { f.len ≤ max_fields }
     ensures { (e : Expr) (ns : List Name) (c : Name → Bool) → Item s.now n e → Names f ns
         → on_cols (has ns) e ≡ true → Masks side ns c → result ≡ yields (or_clause c e) }
 {
-    if n == 0 {
+    let Some(tree) = item_tree(s, n) else {
         return false;
-    }
-    let part = record_at(s, n);
-    match operator(part) {
-        Some(Connective::Or) => extract_or_clause(part, n, MAX_DEPTH, f, side),
+    };
+    match operator_xx(tree) {
+        Some(Connective::Or) => extract_or_clause_xx(tree, f, side),
         _ => false,
     }
 }

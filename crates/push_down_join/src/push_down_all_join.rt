@@ -66,7 +66,7 @@ pub struct Part {
 // The list of a side, in the source's order.
 pub fn side_push(s: &[u8], above: Part, own: Part, fields: Fields, side: FieldSet) -> Conjuncts
     requires wholes { Wholes s.now above × Wholes s.now own }
-    requires s_len_bound { (length s.now ≤ work_bytes) × (fields.len ≤ max_fields) }
+    requires len_le_max_fields { fields.len ≤ max_fields }
     ensures { (σ : Name → Expr) (ns : List Name) (t : Name → Bool) (a i u b j v : List Expr) →
         Parted s.now ns above a i u →
         Parted s.now ns own b j v → Names fields ns → Masks side ns t →
