@@ -1,14 +1,20 @@
 -- Renamed predicates: no longer than they were, and read off a predicate whose columns are to be replaced.
-use Prim.Native.Nat.{ℕ, ◌≤◌}
+use Prim.Native.Nat.{ℕ, ◌+◌, ◌≤◌}
 use native.Mathlib.Nat.{le_trans, le_of_eq, max-le}
-use mathlib.Core.Path.{◌≡◌}
+use mathlib.Core.Path.{◌≡◌, ap, ◌∙◌}
 use mathlib.Core.List.{List, map}
 use mathlib.Core.Option.{some}
 use lib.ListN.{length}
 use borrow.Author.Tests.{leb-true}
 use Rattle.image.specs.Limits.{max_list, max_fields}
 use Rattle.plan.specs.Syntax.{Name, Expr, Plan, filter, alias}
+use Rattle.image.specs.Tree.{Tree}
+use Rattle.image.specs.declared.trees.Subtree.{Subtree}
 use Rattle.plan.specs.Schema.{schema, requalify}
+use Rattle.plan.specs.Trees.{kids_p}
+use Rattle.conjuncts.specs.Standing.{StandingP}
+use Rattle.writing.proofs.Maps.{plan_is}
+use Rattle.push_down_base.specs.Inputs.{Last, last_of}
 use Rattle.plan.proofs.Lists.{and_l, and_r}
 use Rattle.acceptance.specs.Names.{sound}
 use Rattle.acceptance.specs.NamesRule.{rule}
@@ -39,3 +45,8 @@ module _ {s : List ℕ} {x i : ℕ} {p : Predicate} {e : Expr} {q : Plan} (h : R
   pub alias_lists : list_p (alias i (filter (renamed (schema (alias i q)) (schema q) e) q)) ≤ max_list
   unfolding list_p renamed
   alias_lists = max-le (le_trans (le_of_eq (renamed_parts (ren (schema (alias i q)) (schema q)) e)) (few h.shaped)) h.placed.lists
+
+-- the last child of an alias is its input
+pub alias_last : {t u : Subtree} {i : ℕ} {q : Plan} → Last t u → StandingP t.image.now t.number (alias i q) → u.number ≡ t.number + 1
+unfolding kids_p
+alias_last {t} w h = w.number ∙ ap (λ (v : Tree). last_of t.number (t.number + 1) v.below) (plan_is t h)

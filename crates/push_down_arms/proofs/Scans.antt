@@ -58,11 +58,11 @@ filters_start {fs = fs} {es} h k = record {
 abbrev pub Added : List ℕ → Label → ℕ → Conjuncts → Conjuncts → Type 0
 Added s l n c r = (ds : List Expr) → Lists s c ds → Adds s l n r ds
 
-pub filters_next : {s part : List ℕ} {x y : ℕ} {r r' : Conjuncts} {es : List Expr} (l : Label) (cs ns : Forest) → Filters s r es (node l cs ns)
-    → length s ≤ work_bytes → Stretch s x part → x < y → At (record { label = l; below = cs }) (drop (32 * (y - x)) part) y → Deep cs max_below
+pub filters_here : {s : List ℕ} {y : ℕ} {r r' : Conjuncts} {es : List Expr} (l : Label) (cs ns : Forest) → Filters s r es (node l cs ns)
+    → length s ≤ work_bytes → 0 < y → At (record { label = l; below = cs }) (drop (32 * y) s) y → Deep cs max_below
     → Added s l y r r' → Filters s r' es ns
 unfolding each
-filters_next {s} {part} {x} {y} {r} {r'} {es} l cs ns h short stretch past here deep add = go h.fields h.rest h.is h.fits h.completes
+filters_here {s} {y} {r} {r'} {es} l cs ns h short past here deep add = go h.fields h.rest h.is h.fits h.completes
   where
     go : (fields : List Field) (rest : List Expr) → node l cs ns ≡ each field_label nothing_below fields (each label_e kids_e rest none)
         → Every FitsE rest → h.done ++ rest ≡ es → Filters s r' es ns
@@ -70,7 +70,7 @@ filters_next {s} {part} {x} {y} {r} {r'} {es} l cs ns h short stretch past here 
     go [] (x₁ ∷ rest) i f e =
         let il : l ≡ label_e x₁ = cc in
         let ic : cs ≡ kids_e x₁ = cc in
-        let t : At (expr_tree x₁) (drop (32 * y) s) y = rw (il, ic, part_of s part x y stretch (omega arith)) at here in
+        let t : At (expr_tree x₁) (drop (32 * y) s) y = rw (il, ic) at here in
         let st : Standing s y x₁ = record {
           within = omega (arith, t.head.room, length-drop (32 * y) s);
           here = t;
@@ -98,6 +98,12 @@ filters_next {s} {part} {x} {y} {r} {r'} {es} l cs ns h short stretch past here 
           lists = (add h.done h.lists).field (ap (λ (k : Label). k.kind) il);
           completes = e;
         }
+
+pub filters_next : {s part : List ℕ} {x y : ℕ} {r r' : Conjuncts} {es : List Expr} (l : Label) (cs ns : Forest) → Filters s r es (node l cs ns)
+    → length s ≤ work_bytes → Stretch s x part → x < y → At (record { label = l; below = cs }) (drop (32 * (y - x)) part) y → Deep cs max_below
+    → Added s l y r r' → Filters s r' es ns
+filters_next {s} {part} {x} {y} l cs ns h short stretch past here deep add =
+    filters_here l cs ns h short (omega arith) (rw (part_of s part x y stretch (omega arith)) at here) deep add
 
 pub filters_end : {s : List ℕ} {r : Conjuncts} {es : List Expr} → Filters s r es none → Lists s r es
 unfolding each

@@ -13,7 +13,7 @@ use lib.Dec.{eqb}
 use lib.ListN.{length, take, drop, length-drop}
 use borrow.Author.Tests.{leb-true}
 use Rattle.image.specs.Limits.{max_fields, max_below}
-use Rattle.image.specs.Tree.{Forest, none}
+use Rattle.image.specs.Tree.{Label, Forest, none, node}
 use Rattle.image.specs.Word.{word}
 use Rattle.plan.specs.Columns.{on_cols}
 use Rattle.plan.specs.Lists.{◌&◌, any}
@@ -76,6 +76,25 @@ field_bit (f ∷ fs) ns (suc i) {s} {m} h lt =
     let e : m + suc 0 + i ≡ m + suc i = omega arith in
     rw e at (field_bit fs ns i (rest_trees h) (omega arith))
 
+-- the first field of those that are left, and the others
+pub field_step : (fs : List Field) (i : ℕ) (ns : Forest) {l : Label} {cs f : Forest} → i < length fs
+    → each field_label nothing_below (drop i fs) ns ≡ node l cs f
+    → (eqb l.lo 1 ≡ exact_at fs i) × (each field_label nothing_below (drop (suc i) fs) ns ≡ f)
+unfolding each
+field_step [] i ns lt e = absurd (omega arith)
+field_step (g ∷ fs) zero ns {l} {f = f} lt e =
+    let h : field_label g ≡ l = cc in
+    let k : each field_label nothing_below fs ns ≡ f = cc in
+    (sym (ap (λ (m : Label). eqb m.lo 1) h) ∙ bit g.exact, k)
+field_step (g ∷ fs) (suc i) ns lt e = field_step fs i ns (omega arith) e
+
+-- there is one
+pub field_left : (fs : List Field) (i : ℕ) (ns : Forest) → i < length fs → each field_label nothing_below (drop i fs) ns ≡ none → ⊥
+unfolding each
+field_left [] i ns lt e = omega arith
+field_left (g ∷ fs) zero ns lt e = let z : ◌≡◌ {A = ℕ} 0 1 = cc in omega arith
+field_left (g ∷ fs) (suc i) ns lt e = field_left fs i ns (omega arith) e
+
 names_length : (fs : List Field) → length (names fs) ≡ length fs
 names_length [] = refl
 names_length (f ∷ fs) = ap suc (names_length fs)
@@ -135,14 +154,16 @@ module _ {s : List ℕ} {x t : ℕ} {fs : List Field} {es : List Expr} (h : Plac
   pub passed_start : Passed 0 0
   passed_start = record { masks = masks_start (names fs) (marked fs) }
 
+  pub passed_more : {m r : ℕ} (i : ℕ) {v : Bool} → Marks m r i v → i < length fs → v ≡ exact_at fs i → Passed m i → Passed r (i + 1)
+  unfolding schema
+  passed_more i {v} f lt e k = record {
+    masks = masks_step i v (names fs) (marked fs) f (omega (arith, names_length fs))
+        (e ∙ sym (marked_place fs i (names_nodup (names fs) (rule_sound eqb (scan t fs es) h.rules)) lt)) k.masks;
+  }
+
   pub passed_next : {m r : ℕ} (i : ℕ) {v : Bool} → Marks m r i v → i < length fs → v ≡ eqb (word (drop (32 * (x + 1 + i)) s) 16) 1 → Passed m i
       → Passed r (i + 1)
-  unfolding schema
-  passed_next i {v} f lt e k = record {
-    masks = masks_step i v (names fs) (marked fs) f (omega (arith, names_length fs))
-        (e ∙ field_bit fs (each label_e kids_e es none) i scan_fields lt
-        ∙ sym (marked_place fs i (names_nodup (names fs) (rule_sound eqb (scan t fs es) h.rules)) lt)) k.masks;
-  }
+  passed_next i f lt e k = passed_more i f lt (e ∙ field_bit fs (each label_e kids_e es none) i scan_fields lt) k
 
   pub passed_end : {m : ℕ} (i : ℕ) → length fs ≤ i → Passed m i → Masks m (schema (scan t fs es)) (marked fs)
   unfolding schema

@@ -149,12 +149,11 @@ module _ {s : List ℕ} {x : ℕ} {from : Fields} {below : Predicate} {e : Expr}
   }
 
   -- the first of those that are left may be written
-  pub renames_first : {out₀ : List ℕ} {at₀ level : ℕ} {out : List ℕ} {to y : ℕ} {l : Label} {cs f : Forest}
-      {part : List ℕ} (k : First (schema (union ps)) e ps out₀ at₀ level out to l cs f) → Stretch s x part → x < y
-      → At (record { label = l; below = cs }) (drop (32 * (y - x)) part) y → Deep cs max_below
-      → Renamed s from below y e k.plan (schema (union ps))
-  renames_first {y = y} {part = part} k stretch past here deep =
-      let t : At (plan_tree k.plan) (drop (32 * y) s) y = rw (k.label, k.below, part_of s part x y stretch (omega arith)) at here in
+  pub renames_here : {out₀ : List ℕ} {at₀ level : ℕ} {out : List ℕ} {to : ℕ} (y : ℕ) {l : Label} {cs f : Forest}
+      (k : First (schema (union ps)) e ps out₀ at₀ level out to l cs f) → At (record { label = l; below = cs }) (drop (32 * y) s) y
+      → Deep cs max_below → Renamed s from below y e k.plan (schema (union ps))
+  renames_here y k here deep =
+      let t : At (plan_tree k.plan) (drop (32 * y) s) y = rw (k.label, k.below) at here in
       record {
         standing = record {
           within = omega (arith, t.head.room, length-drop (32 * y) s);
@@ -169,6 +168,18 @@ module _ {s : List ℕ} {x : ℕ} {from : Fields} {below : Predicate} {e : Expr}
         most = h.most;
         changed = h.changed;
       }
+
+  pub renames_first : {out₀ : List ℕ} {at₀ level : ℕ} {out : List ℕ} {to y : ℕ} {l : Label} {cs f : Forest}
+      {part : List ℕ} (k : First (schema (union ps)) e ps out₀ at₀ level out to l cs f) → Stretch s x part → x < y
+      → At (record { label = l; below = cs }) (drop (32 * (y - x)) part) y → Deep cs max_below
+      → Renamed s from below y e k.plan (schema (union ps))
+  renames_first {y = y} {part = part} k stretch past here deep =
+      renames_here y k (rw (part_of s part x y stretch (omega arith)) at here) deep
+
+-- .. of another name of the image
+pub renamed_in : {s z : List ℕ} {from : Fields} {p : Predicate} {y : ℕ} {e : Expr} {q : Plan} {ns : List Name} → z ≡ s → Renamed s from p y e q ns
+    → Renamed z from p y e q ns
+renamed_in {from = from} {p} {y} {e} {q} {ns} i h = subst (λ (w : List ℕ). Renamed w from p y e q ns) (sym i) h
 
 -- there is such a Union
 pub record SomeSpread (s : List ℕ) (x : ℕ) (from : Fields) (below : Predicate) : Type 0 where

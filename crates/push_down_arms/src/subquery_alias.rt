@@ -14,12 +14,13 @@ use crate::replaced::changed_predicate;
 use crate::with_filters::copy_some;
 use image::copying::Writer;
 use image::limits::MAX_DEPTH;
-use image::records::{from_record, record_at};
+use image::records::from_record;
 use image::trees::Subtree;
+use push_down_base::inputs::last_child_xx;
 use push_down_base::predicates::{Predicate, Written};
-use utils::schema_columns::{Fields, no_fields, schema_columns};
-use writing::make_filter::make_filter;
-use writing::renames::write_renames;
+use utils::schema_columns::{Fields, no_fields, schema_columns, schema_columns_xx};
+use writing::make_filter::{make_filter, make_filter_xx};
+use writing::renames::{write_renames, write_renames_xx};
 
 // Writes the plan at record y, of which `input` is the stretch, under a Filter, whose columns get the names of the plan's own fields in the
 // places of those of `from`.
@@ -72,6 +73,32 @@ pub fn rewrite_subquery_alias(
     Written { next, flag: true }
 }
 
+// Writes the input of a plan under a Filter, whose columns get the names of the input's own fields in the places of those of `from`.
+pub fn copy_renamed_xx(
+    from: Fields,
+    p: Predicate,
+    input: Subtree,
+    m: &mut [u8],
+    out: &mut Writer,
+    level: usize,
+)
+    requires renaming { Renaming input.image.now from p input.number }
+    requires map_room { map_bytes ≤ length m.old }
+    requires shallow { Shallow 4 level }
+    ensures same { out.new.bytes.ghost_name ≡ out.old.bytes.ghost_name }
+    ensures wrote { (e : Expr) (q : Plan) (ns : List Name) → Renamed input.entry.image.now from p input.entry.number e q ns →
+        Wrote out.old.bytes.now out.new.bytes.now out.old.next level out.new.next (plan_tree (filter (renamed ns (schema q) e) q)) }
+{
+    let to = schema_columns_xx(input, no_fields());
+    write_renames_xx(from, to, m);
+    let map = Subtree {
+        image: m,
+        number: 0,
+    };
+    let list = p.list;
+    make_filter_xx(input.image, map, p.written, list, input, out, level);
+}
+
 // Filter over SubqueryAlias: the predicate goes below, with the names of the alias's input.
 pub fn rewrite_subquery_alias_xx(
     plan: Subtree,
@@ -88,16 +115,9 @@ pub fn rewrite_subquery_alias_xx(
         Answers out.old.bytes.now out.new.bytes.now out.old.next level (record { next = out.new.next; flag = result })
         (rewrite_filter e (alias i q)) }
 {
-    let w = rewrite_subquery_alias(
-        plan.image,
-        record_at(plan.image, plan.number),
-        plan.number,
-        p,
-        m,
-        out.bytes,
-        out.next,
-        level,
-    );
-    out.next = w.next;
-    w.flag
+    let from = schema_columns_xx(plan, no_fields());
+    let below = changed_predicate(p);
+    out.put(plan.label(), level);
+    copy_renamed_xx(from, below, last_child_xx(plan), m, out, level + 1);
+    true
 }

@@ -5,6 +5,7 @@ ghost use Rattle.image.specs.Buffers.{BufferAt};
 ghost use Rattle.image.specs.Limits.{Shallow, max_fields, max_records};
 ghost use Rattle.image.specs.Records.{recs_any};
 ghost use Rattle.image.specs.Room.{Wrote};
+ghost use Rattle.image.specs.Subtrees.{tree_of};
 ghost use Rattle.image.specs.Tree.{label_at, none};
 ghost use Rattle.plan.specs.Columns.{on_cols};
 ghost use Rattle.plan.specs.Lists.{All, keep};
@@ -23,14 +24,14 @@ ghost use Rattle.push_down_base.specs.Around.{WroteAll};
 ghost use Rattle.push_down_base.specs.Predicates.{Listing};
 ghost use Rattle.push_down_arms.specs.Scans.{Adds, OverScan, ScanHere, Shares, SomeScan, supports};
 
-use crate::through::keep_filter;
-use crate::with_filters::copy_some;
+use crate::through::{keep_filter, keep_filter_xx};
+use crate::with_filters::{copy_some, copy_some_xx};
 use conjuncts::lists::{Conjuncts, add, empty};
 use conjuncts::unique::unique;
 use conjuncts::volatility::is_volatile;
 use image::copying::{Writer, put_kind};
 use image::limits::{MAX_DEPTH, MAX_LIST, NO_ROOM};
-use image::records::{FIRST_LINK, KIND, LO, NEXT_LINK, from_record, record_at};
+use image::records::{FIRST_LINK, KIND, LO, NEXT_LINK, from_record};
 use image::trees::Subtree;
 use image::words::word_at;
 use plan::kinds::{FIELD, FILTER};
@@ -38,9 +39,9 @@ use plan::words::MARKED;
 use push_down_base::parting::partition;
 use push_down_base::predicates::{Predicate, Written};
 use utils::has_all_column_refs::columns_at;
-use utils::schema_columns::{Fields, no_fields, schema_columns};
+use utils::schema_columns::{Fields, no_fields, schema_columns, schema_columns_xx};
 use utils::sets::FieldSet;
-use writing::conjunction::{copy_item, copy_joined};
+use writing::conjunction::{copy_item, copy_item_xx, copy_joined, copy_joined_xx};
 
 // The scan's answer to the conjunct n: it takes one that has a column if all its columns are marked.
 pub fn supports_filters_pushdown(s: &[u8], n: usize, fields: Fields, marked: FieldSet) -> bool
@@ -276,6 +277,23 @@ pub fn rewrite_table_scan(
     Written { next, flag: true }
 }
 
+// The marked fields of the scan, which has k: they come first.
+fn marked_fields_xx(plan: Subtree, k: usize) -> FieldSet
+    requires { SomeScan plan.image.now plan.number k }
+    ensures { (t : ℕ) (fs : List Field) (es : List Expr) → Placed plan.entry.image.now plan.entry.number (scan t fs es) →
+        k ≡ length fs → Masks result (schema (scan t fs es)) (marked fs) }
+{
+    let mut set = FieldSet::empty();
+    let mut fields = plan.children();
+    for i in 0..k {
+        let Some(field) = fields.next() else {
+            return set;
+        };
+        set = set.mark(i, field.label().lo == MARKED);
+    }
+    set
+}
+
 // The share of the scan in the predicate p: of what is left the volatile conjuncts come last.
 pub fn share_of_xx(plan: Subtree, p: Predicate) -> Share
     requires { OverScan plan.image.now plan.number p }
@@ -283,12 +301,93 @@ pub fn share_of_xx(plan: Subtree, p: Predicate) -> Share
         Rests plan.entry.image.now plan.entry.number p e (scan t fs es) →
         Shares plan.entry.image.now result.fields result.taken result.left fs e }
 {
-    share_of(
-        plan.image,
-        record_at(plan.image, plan.number),
-        plan.number,
-        p,
-    )
+    let list = p.list;
+    let fields = schema_columns_xx(plan, no_fields());
+    let k = fields.len;
+    let marked = marked_fields_xx(plan, k);
+    let (volatile, lasting) = part_volatile(plan.image, list);
+    let (taken, rest) = part_supported(plan.image, lasting, fields, marked);
+    Share {
+        fields: k,
+        taken,
+        left: extend(rest, volatile),
+    }
+}
+
+// Appends a child of the scan, unless it is a field.
+fn add_filter_xx(c: Conjuncts, child: Subtree) -> Conjuncts
+    requires { child.number < max_records }
+    ensures { (s : List ℕ) (ds : List Expr) → Lists s c ds → Adds s (tree_of child.entry).label child.entry.number result ds }
+{
+    if child.kind() == FIELD {
+        return c;
+    }
+    add(c, child.number)
+}
+
+// The filters of the scan: its children that are no fields.
+fn scan_filters_xx(plan: Subtree) -> Conjuncts
+    requires { (k : ℕ) × SomeScan plan.image.now plan.number k }
+    ensures { (t : ℕ) (fs : List Field) (es : List Expr) → Placed plan.entry.image.now plan.entry.number (scan t fs es) →
+        Lists plan.entry.image.now result es }
+{
+    let mut r = empty();
+    for child in plan.children() {
+        r = add_filter_xx(r, child);
+    }
+    r
+}
+
+// Writes the items of a list, one after another. None has its columns replaced: the scan serves as the map.
+fn copy_items_xx(plan: Subtree, c: Conjuncts, out: &mut Writer, level: usize)
+    requires known { Known plan.image.now c × ThereP plan.image.now plan.number }
+    requires shallow { Shallow 2 level }
+    ensures same { out.new.bytes.ghost_name ≡ out.old.bytes.ghost_name }
+    ensures wrote { (es : List Expr) → Lists plan.entry.image.now c es →
+        WroteAll out.old.bytes.now out.new.bytes.now out.old.next out.new.next (recs_any level (each label_e kids_e es none)) }
+{
+    for n in c.items() {
+        copy_item_xx(plan.image, plan, usize::from(*n), out, level);
+    }
+}
+
+// Writes the scan, which has k fields, with the filters of the list in the place of its own.
+fn write_scan_xx(plan: Subtree, k: usize, filters: Conjuncts, out: &mut Writer, level: usize)
+    requires some_scan { SomeScan plan.image.now plan.number k × Known plan.image.now filters }
+    requires shallow { Shallow 3 level }
+    ensures same { out.new.bytes.ghost_name ≡ out.old.bytes.ghost_name }
+    ensures wrote { (t : ℕ) (fs : List Field) (es ys : List Expr) →
+        Placed plan.entry.image.now plan.entry.number (scan t fs es) → k ≡ length fs → Lists plan.entry.image.now filters ys →
+        Wrote out.old.bytes.now out.new.bytes.now out.old.next level out.new.next (plan_tree (scan t fs ys)) }
+{
+    copy_some_xx(plan, plan.number + 1 + k, out, level);
+    copy_items_xx(plan, filters, out, level + 1);
+}
+
+// The same under a Filter of what stays above, if anything does.
+fn write_filtered_xx(
+    plan: Subtree,
+    k: usize,
+    above: Conjuncts,
+    filters: Conjuncts,
+    out: &mut Writer,
+    level: usize,
+)
+    requires some_scan { SomeScan plan.image.now plan.number k × Known plan.image.now above × Known plan.image.now filters }
+    requires shallow { Shallow 4 level }
+    ensures same { out.new.bytes.ghost_name ≡ out.old.bytes.ghost_name }
+    ensures wrote { (t : ℕ) (fs : List Field) (es xs ys : List Expr) →
+        Placed plan.entry.image.now plan.entry.number (scan t fs es) → k ≡ length fs → Lists plan.entry.image.now above xs →
+        Lists plan.entry.image.now filters ys →
+        Wrote out.old.bytes.now out.new.bytes.now out.old.next level out.new.next (plan_tree (with_filters xs (scan t fs ys))) }
+{
+    if above.len == 0 {
+        write_scan_xx(plan, k, filters, out, level);
+        return;
+    }
+    out.put_kind(FILTER, 0, level);
+    copy_joined_xx(plan.image, plan, above, out, level + 1);
+    write_scan_xx(plan, k, filters, out, level + 1);
 }
 
 // Filter over TableScan.
@@ -300,15 +399,16 @@ pub fn rewrite_table_scan_xx(plan: Subtree, p: Predicate, out: &mut Writer, leve
         Answers out.old.bytes.now out.new.bytes.now out.old.next level (record { next = out.new.next; flag = result })
         (rewrite_filter e (scan t fs es)) }
 {
-    let w = rewrite_table_scan(
-        plan.image,
-        record_at(plan.image, plan.number),
-        plan.number,
-        p,
-        out.bytes,
-        out.next,
-        level,
-    );
-    out.next = w.next;
-    w.flag
+    let share = share_of_xx(plan, p);
+    let taken = share.taken;
+    if taken.len == 0 {
+        return keep_filter_xx(plan, p, out, level);
+    }
+    let filters = unique(plan.image, scan_filters_xx(plan), taken);
+    if MAX_LIST < filters.len {
+        out.next = NO_ROOM;
+        return true;
+    }
+    write_filtered_xx(plan, share.fields, share.left, filters, out, level);
+    true
 }

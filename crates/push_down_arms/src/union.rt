@@ -7,14 +7,14 @@ ghost use Rattle.conjuncts.specs.Standing.{Stretch};
 ghost use Rattle.push_down_base.specs.Arms.{Answers, ArmOver, OverUnion, Rests};
 
 use crate::replaced::changed_predicate;
-use crate::subquery_alias::copy_renamed;
+use crate::subquery_alias::{copy_renamed, copy_renamed_xx};
 use image::copying::{Writer, put_label};
 use image::limits::MAX_DEPTH;
-use image::records::{FIRST_LINK, NEXT_LINK, from_record, record_at};
+use image::records::{FIRST_LINK, NEXT_LINK, from_record};
 use image::trees::Subtree;
 use image::words::word_at;
 use push_down_base::predicates::{Predicate, Written};
-use utils::schema_columns::{no_fields, schema_columns};
+use utils::schema_columns::{no_fields, schema_columns, schema_columns_xx};
 
 // Filter over Union: each input gets the predicate, with the names of its own fields.
 pub fn rewrite_union(
@@ -61,16 +61,11 @@ pub fn rewrite_union_xx(
         Answers out.old.bytes.now out.new.bytes.now out.old.next level (record { next = out.new.next; flag = result })
         (rewrite_filter e (union ps)) }
 {
-    let w = rewrite_union(
-        plan.image,
-        record_at(plan.image, plan.number),
-        plan.number,
-        p,
-        m,
-        out.bytes,
-        out.next,
-        level,
-    );
-    out.next = w.next;
-    w.flag
+    let from = schema_columns_xx(plan, no_fields());
+    let below = changed_predicate(p);
+    out.put(plan.label(), level);
+    for input in plan.children() {
+        copy_renamed_xx(from, below, input, m, out, level + 1);
+    }
+    true
 }
