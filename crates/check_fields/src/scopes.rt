@@ -134,8 +134,9 @@ pub fn hand<'a>(here: Scope<'a>, tree: Subtree<'a>) -> Handed<'a>
 {
     let kind = tree.kind();
     if is_plan(kind) {
+        let below = tree.children();
         let own = Scope {
-            trees: tree.children(),
+            trees: below,
             view: view_of(kind),
         };
         return Handed {

@@ -7,7 +7,7 @@ use Rattle.check_fields.proofs.scopes.hand.Goals as goal
 pub returns-then-is_plan : goal.returns-then-is_plan
 returns-then-is_plan c =
     let k = c.kind-kind.ensures in
-    rw c.children.ensures.is
+    rw c.children-below.ensures.is
     (hand_plan _ _ (scope_at c.args.here) _ (rw k at c.view_of.ensures) (sym (rw k at c.is_plan.ensures) ∙ c.if-is_plan.true))
 
 pub returns : goal.returns
