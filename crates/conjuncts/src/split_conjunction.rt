@@ -8,7 +8,7 @@ ghost use Rattle.conjuncts.specs.Operands.{IsAnd};
 ghost use Rattle.conjuncts.specs.Says.{LeftDeep, Says};
 ghost use Rattle.conjuncts.specs.Standing.{Standing, There};
 
-use crate::lists::{Conjuncts, add};
+use crate::lists::Conjuncts;
 use image::trees::Subtree;
 use plan::kinds::BINARY_EXPR;
 use plan::words::AND;
@@ -28,6 +28,23 @@ fn and_operands(tree: Subtree) -> Option<(Subtree, Subtree)>
 }
 
 // Appends the conjuncts of an expression, which is not at the root.
+fn add_conjuncts(tree: Subtree, list: &mut Conjuncts)
+    requires there { There tree.image.now tree.number }
+    requires number_nonzero { 0 < tree.number }
+    requires image_bound { length tree.image.now ≤ work_bytes }
+    ensures { (e : Expr) (es : List Expr) → Standing tree.entry.image.now tree.entry.number e → Lists tree.entry.image.now list.old es →
+        Lists tree.entry.image.now list.new (es ++ split_conjunction e) }
+{
+    match and_operands(tree) {
+        Some((left, right)) => {
+            add_conjuncts(left, list);
+            add_conjuncts(right, list);
+        }
+        None => list.push(tree.number as u16),
+    }
+}
+
+// A list with the conjuncts of an expression, which is not at the root, behind its own.
 pub fn split_conjunction_xx(tree: Subtree, c: Conjuncts) -> Conjuncts
     requires there { There tree.image.now tree.number }
     requires number_nonzero { 0 < tree.number }
@@ -35,10 +52,9 @@ pub fn split_conjunction_xx(tree: Subtree, c: Conjuncts) -> Conjuncts
     ensures { (e : Expr) (es : List Expr) → Standing tree.entry.image.now tree.entry.number e → Lists tree.entry.image.now c es →
         Lists tree.entry.image.now result (es ++ split_conjunction e) }
 {
-    match and_operands(tree) {
-        Some((left, right)) => split_conjunction_xx(right, split_conjunction_xx(left, c)),
-        None => add(c, tree.number),
-    }
+    let mut list = c;
+    add_conjuncts(tree, &mut list);
+    list
 }
 
 // Whether an expression is joined left-deep: no right operand of an And is one.

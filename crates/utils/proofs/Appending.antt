@@ -12,10 +12,8 @@ use Prim.Native.Nat.{ℕ, ◌+◌, ◌-◌, ◌*◌, ◌≤◌, ◌<◌}
 use native.Mathlib.Omega.{arith}
 use lib.ListN.{length, get_or, drop, length-drop}
 use lib.Seq.{get_or-drop}
-use Rattle.image.specs.Tree.{Label, Tree, Linked, At, Deep, Readable}
+use Rattle.image.specs.Tree.{Label, Forest, Tree, Linked, At, Deep, Readable, size}
 use Rattle.image.specs.Word.{word}
-use Rattle.image.specs.Subtrees.{tree_of}
-use Rattle.image.specs.declared.trees.Subtree.{Subtree}
 use Rattle.image.proofs.Walking.{linked_first}
 use Rattle.image.specs.Limits.{max_depth}
 use Rattle.plan.specs.Schema.{schema, requalify}
@@ -24,10 +22,11 @@ use Rattle.plan.specs.Trees.{label_p, kids_p, plan_tree}
 use Rattle.plan.specs.Kinds.{what}
 use Rattle.plan.specs.FieldSources.{role, creates, renames, extends, gives_both, own}
 use Rattle.plan.specs.declared.field_sources.Role.{Role}
-use Rattle.plan.specs.Inputs.{plans_in}
+use Rattle.plan.specs.Inputs.{plans_in, PlanAt}
+use Rattle.plan.specs.Lists.{put}
 use Rattle.conjuncts.specs.Standing.{StandingP}
 use Rattle.utils.specs.Fields.{Fields, Names}
-use Rattle.utils.specs.Inputs.{below, called, made, PlanHere, PlanOf}
+use Rattle.utils.specs.Inputs.{below, called, made, PlanHere}
 use Rattle.utils.proofs.Inputting.{Below, no_tree, Input}
 use Rattle.utils.proofs.Making.{called_append}
 use Rattle.utils.proofs.Shapes.{role_of, Rest, nothing_more, parts, second, Shape, own_parts, no_input, over, shape, deep_plan}
@@ -164,19 +163,21 @@ module _ (p : Plan) (l : Label) (e : l ≡ label_p p) {r : Role} (R : r ≡ role
 -- ---- the inputs, as the code has them
 
 -- the plan with a place among some trees, by its number
-plan_at : (xs others : List Tree) (place : ℕ) {t : Tree} → drop place xs ≡ t ∷ others → (place < length xs) × (get_or xs place no_tree ≡ t)
-plan_at xs others place {t} e =
+plan_at : {f : Forest} (place : ℕ) {t : Tree} → PlanAt f place t → (place < length (plans_in f)) × (get_or (plans_in f) place no_tree ≡ t)
+unfolding plans_in put
+plan_at {f} place {t} w =
+    let e : drop place (plans_in f) ≡ t ∷ plans_in w.after = w.plans ∙ (ap plans_in w.first ∙ rw w.is) in
     let k : place + 0 ≡ place = omega arith in
-    let n : length xs - place ≡ length (t ∷ others) = rw (← length-drop place xs, e) in
-    (omega (arith, n), rw k at (sym (get_or-drop place xs 0 no_tree) ∙ ap (λ (ys : List Tree). get_or ys 0 no_tree) e))
+    let n : length (plans_in f) - place ≡ length (t ∷ plans_in w.after) = rw (← length-drop place (plans_in f), e) in
+    (omega (arith, n), rw k at (sym (get_or-drop place (plans_in f) 0 no_tree) ∙ ap (λ (ys : List Tree). get_or ys 0 no_tree) e))
 
 none_at : (xs : List Tree) (place : ℕ) → drop place xs ≡ [] → length xs ≤ place
 none_at xs place e = omega (arith, length-drop place xs, ap length e)
 
 -- an input, and what comes behind its fields
-pub record Of (u : Subtree) (Q : Plan → Type 0) : Type 0 where
+pub record Of (u : Tree) (Q : Plan → Type 0) : Type 0 where
   pub input : Plan
-  pub is : tree_of u ≡ plan_tree input
+  pub is : u ≡ plan_tree input
   pub rest : Q input
 
 module _ (p : Plan) {t : Tree} (is : t ≡ plan_tree p) (l : Label) (e : l ≡ t.label) {r : Role} (R : r ≡ role (what l)) where
@@ -190,12 +191,12 @@ module _ (p : Plan) {t : Tree} (is : t ≡ plan_tree p) (l : Label) (e : l ≡ t
   all_made m = schema_made p l label_is R m ∙ ap made (sym below_is)
 
   -- the input whose fields come first
-  pub first_input : creates r ≡ false → {place : ℕ} → place ≡ own r l.p → {u : Subtree} → PlanOf t.below place u → Of u (Rest p)
+  pub first_input : creates r ≡ false → {place : ℕ} → place ≡ own r l.p → {u : Tree} → PlanAt t.below place u → Of u (Rest p)
   first_input m at {u} w = go (rw (R, label_is) at m) (shape p)
     where
       here : (own (role_of p) (label_p p).p < length (plans_in (kids_p p)))
-          × (get_or (plans_in (kids_p p)) (own (role_of p) (label_p p).p) no_tree ≡ tree_of u)
-      here = rw (at, R, label_is, below_is) at (plan_at (plans_in t.below) w.others _ w.plans)
+          × (get_or (plans_in (kids_p p)) (own (role_of p) (label_p p).p) no_tree ≡ u)
+      here = rw (at, R, label_is, below_is) at (plan_at _ w)
 
       go : creates (role_of p) ≡ false → Shape p → Of u (Rest p)
       go m (own_parts k is) = never k m
@@ -216,11 +217,11 @@ module _ (p : Plan) {t : Tree} (is : t ≡ plan_tree p) (l : Label) (e : l ≡ t
 
   module _ (i : Plan) (rest : Rest p i) (both : gives_both r l.p ≡ true) where
     -- the second input of a join that gives the fields of both
-    pub second_input : {u : Subtree} → PlanOf t.below 1 u → Of u (λ j. (renames (role_of p) ≡ false) × (schema p ≡ schema i ++ schema j))
+    pub second_input : {u : Tree} → PlanAt t.below 1 u → Of u (λ j. (renames (role_of p) ≡ false) × (schema p ≡ schema i ++ schema j))
     second_input {u} w = go (rw (R, label_is) at both) rest
       where
-        here : get_or (plans_in (kids_p p)) 1 no_tree ≡ tree_of u
-        here = rw below_is at (plan_at (plans_in t.below) w.others 1 w.plans).1
+        here : get_or (plans_in (kids_p p)) 1 no_tree ≡ u
+        here = rw below_is at (plan_at 1 w).1
 
         go : gives_both (role_of p) (label_p p).p ≡ true → Rest p i → Of u (λ j. (renames (role_of p) ≡ false) × (schema p ≡ schema i ++ schema j))
         go both (nothing_more x y is) = never both y
@@ -238,3 +239,7 @@ module _ (p : Plan) {t : Tree} (is : t ≡ plan_tree p) (l : Label) (e : l ≡ t
         go both (nothing_more x y is) = never both y
         go both (parts x y z is) = never both y
         go both (second x y z j le at is) = absurd (omega (arith, here))
+
+-- an input has fewer records
+pub fewer : {f : Forest} {place : ℕ} {t : Tree} → PlanAt f place t → size t.below < size f
+fewer w = omega (arith, w.fewer, ap size w.first)

@@ -1,15 +1,13 @@
 -- Laws of a plan's inputs: where the plan with a place among its children stands.
 -- Assumes nothing.
-use mathlib.Core.Path.{◌≡◌, refl, ap, ◌∙◌}
-use mathlib.Core.Bool.{Bool, true, false}
-use mathlib.Core.List.{List, [], ◌∷◌}
-use Prim.Native.Nat.{ℕ, zero, suc, ◌+◌, ◌-◌, ◌*◌, ◌≤◌, ◌<◌}
+use mathlib.Core.Path.{◌≡◌, ap}
+use mathlib.Core.List.{List, ◌∷◌}
+use Prim.Native.Nat.{ℕ, ◌+◌, ◌-◌, ◌*◌, ◌≤◌, ◌<◌}
 use native.Mathlib.Omega.{arith}
 use lib.ListN.{length, get_or, drop, length-drop}
 use lib.Seq.{get_or-drop}
 use Rattle.image.specs.Tree.{Forest, none, node, Tree, At, Linked}
 use Rattle.plan.specs.Inputs.{plans_in, Begins, Planned}
-use Rattle.plan.specs.Kinds.{what_of, plan_w}
 use Rattle.plan.specs.Lists.{put}
 
 -- t stands at record r of bytes that begin at record b, before it
@@ -49,41 +47,3 @@ input_from {f} {s} {b} {at} {place} {r} y = go y.forest y.linked y.begins y.plan
           });
           absent = λ l. absurd (omega (arith, count (node m cs ns) e, ap length first));
         }
-
--- ---- a walk along the trees below a plan
-
--- one that is not sought is passed by
-passed : (j : ℕ) (t : Tree) (ts : List Tree) → (j ≡ 0 → ⊥) → drop j (t ∷ ts) ≡ drop (j - 1) ts
-passed zero t ts nz = absurd (nz refl)
-passed (suc j) t ts nz = let e : suc j - 1 ≡ j = omega arith in rw e
-
--- the trees of g are left, the first of them u, and xs are their plans from the j-th on
-module _ {g after : Forest} {u : Tree} (is : g ≡ node u.label u.below after) {xs : List Tree} (j : ℕ) (so_far : xs ≡ drop j (plans_in g))
-    {kind : ℕ} (K : kind ≡ u.label.kind) {b : Bool} (B : b ≡ plan_w (what_of kind)) where
-  all : plans_in g ≡ put b u (plans_in after)
-  unfolding plans_in
-  all = rw (is, B, K)
-
-  -- it is no plan
-  pub walk_part : b ≡ false → xs ≡ drop j (plans_in after)
-  unfolding put
-  walk_part z = so_far ∙ ap (drop j) (all ∙ rw z)
-
-  -- it is one that is not sought
-  pub walk_plan : b ≡ true → (j ≡ 0 → ⊥) → xs ≡ drop (j - 1) (plans_in after)
-  unfolding put
-  walk_plan z nz = so_far ∙ (ap (drop j) (all ∙ rw z) ∙ passed j u (plans_in after) nz)
-
-  -- it is the one
-  pub walk_found : b ≡ true → j ≡ 0 → xs ≡ u ∷ plans_in after
-  unfolding put
-  walk_found z e = so_far ∙ (ap (λ (i : ℕ). drop i (plans_in g)) e ∙ (all ∙ rw z))
-
--- none is left
-pub walk_none : {g : Forest} → g ≡ none → {xs : List Tree} (j : ℕ) → xs ≡ drop j (plans_in g) → xs ≡ []
-unfolding plans_in
-walk_none is j so_far = so_far ∙ (ap (λ (h : Forest). drop j (plans_in h)) is ∙ drop_nil j)
-  where
-    drop_nil : (i : ℕ) → drop {A = Tree} i [] ≡ []
-    drop_nil zero = refl
-    drop_nil (suc i) = refl

@@ -4,6 +4,7 @@
 -- Assumes nothing.
 use mathlib.Core.Path.{◌≡◌, refl, sym, ap, subst, ◌∙◌}
 use mathlib.Core.Bool.{Bool, true, false}
+use Rattle.std.specs.Option.{unwrap_or}
 use Rattle.std.specs.Prelude.{Option, Some, None}
 use mathlib.Core.List.{List, [], ◌∷◌, ◌++◌, append_assoc, append-nil, map-append}
 use Prim.Native.Nat.{ℕ}
@@ -32,6 +33,11 @@ module _ (o : Option ℕ) (l : Label) where
   pub part_none : makes (what l) ≡ false → called o (called_label l) ≡ []
   unfolding put called_label
   part_none k = rw k (called_nil o)
+
+-- the field that a part makes, with its qualifier or another
+pub part_made : (o : Option ℕ) (l : Label) → makes (what l) ≡ true → called o (called_label l) ≡ nm (unwrap_or o l.p) l.q ∷ []
+part_made (Some q) l k = part_set (Some q) l refl k
+part_made None l k = part_kept None l refl k
 
 pub called_append : (o : Option ℕ) (a b : List Name) → called o (a ++ b) ≡ called o a ++ called o b
 called_append (Some q) a b = map-append (requalify q) a b

@@ -1,9 +1,6 @@
 -- The fields of a plan, read off its records.
-use Rattle.std.specs.Prelude.{◌≡◌, Bool, cond, Option, Some, None, List, [], ◌∷◌, map, ℕ, ◌-◌, ◌<◌, drop}
-use Rattle.image.specs.Subtrees.{tree_of}
-use Rattle.image.specs.Tree.{Label, Forest, none, node, Tree, At, Deep, size}
-use Rattle.image.specs.declared.trees.Subtree.{Subtree}
-use Rattle.plan.specs.Inputs.{plans_in}
+use Rattle.std.specs.Prelude.{◌≡◌, Bool, cond, Option, Some, None, List, [], map, ℕ, ◌-◌, ◌<◌}
+use Rattle.image.specs.Tree.{Label, Forest, none, node, Tree, At, Deep}
 use Rattle.plan.specs.FieldSources.{makes}
 use Rattle.plan.specs.Kinds.{what}
 use Rattle.plan.specs.Lists.{put}
@@ -41,14 +38,3 @@ pub record PlanHere (s : List ℕ) (b d : ℕ) : Type 0 where
 pub record IsPlan (t : Tree) : Type 0 where
   pub plan : Plan
   pub is : t ≡ plan_tree plan
-
--- t is the plan with this place among the trees f
-pub record PlanOf (f : Forest) (place : ℕ) (t : Subtree) : Type 0 where
-  pub others : List Tree
-  pub plans : drop place (plans_in f) ≡ tree_of t ∷ others
-  pub fewer : size (tree_of t).below < size f
-
--- there is none, or it is that
-abbrev pub Input : Forest → ℕ → Option Subtree → Type 0
-Input f place None = drop place (plans_in f) ≡ []
-Input f place (Some t) = PlanOf f place t

@@ -7,7 +7,7 @@ ghost use Rattle.plan.specs.Schema.{schema};
 ghost use Rattle.plan.specs.Syntax.{Name, Plan, nm};
 ghost use Rattle.plan.specs.Trees.{plan_tree};
 ghost use Rattle.utils.specs.Fields.{Names, place_in};
-ghost use Rattle.utils.specs.Inputs.{Input, IsPlan, PlanHere, below, called, called_label, made};
+ghost use Rattle.utils.specs.Inputs.{IsPlan, PlanHere, below, called, called_label, made};
 
 use bounded::Bounded;
 use image::limits::MAX_FIELDS;
@@ -15,8 +15,7 @@ use image::records::{FIRST_LINK, NEXT_LINK, from_record, label_at};
 use image::trees::Subtree;
 use image::words::{wide, word_at};
 use plan::field_sources::{creates, extends, gives_both, makes_field, own_input, renames, role_of};
-use plan::inputs::plan_at;
-use plan::kinds::is_plan;
+use plan::inputs::{nth_plan, plan_at};
 
 // ColumnReference (utils.rs 125): the qualifier and the name of a field.
 #[derive(Clone, Copy, Debug, Default, PartialEq, Eq, PartialOrd, Ord, Hash)]
@@ -150,78 +149,62 @@ pub fn schema_columns(part: &[u8], base: usize, depth: usize, into: Fields) -> F
 }
 
 // Appends the field that a part makes, with the alias for its qualifier if there is one.
-fn add_part_xx(part: Subtree, into: Fields, alias: Option<u32>) -> Fields
-    ensures { (ns : List Name) → Names into ns → Names result (ns ++ called alias (called_label (tree_of part.entry).label)) }
+fn add_part_xx(part: Subtree, into: &mut Fields, alias: Option<u32>)
+    ensures { (ns : List Name) → Names into.old ns → Names into.new (ns ++ called alias (called_label (tree_of part.entry).label)) }
 {
     let l = part.label();
-    if !makes_field(l.kind) {
-        return into;
-    }
-    match alias {
-        Some(q) => add_field(into, wide(q), l.q),
-        None => add_field(into, l.p, l.q),
+    if makes_field(l.kind) {
+        into.push(ColumnReference {
+            q: alias.unwrap_or(l.p as u32),
+            n: l.q as u32,
+        });
     }
 }
 
 // Appends the fields that the parts of a plan make.
-fn add_parts_xx(plan: Subtree, into: Fields, alias: Option<u32>) -> Fields
-    ensures { (ns : List Name) → Names into ns → Names result (ns ++ called alias (made (tree_of plan.entry).below)) }
+fn add_parts_xx(plan: Subtree, into: &mut Fields, alias: Option<u32>)
+    ensures { (ns : List Name) → Names into.old ns → Names into.new (ns ++ called alias (made (tree_of plan.entry).below)) }
 {
-    let mut r = into;
     for part in plan.children() {
-        r = add_part_xx(part, r, alias);
+        add_part_xx(part, into, alias);
     }
-    r
-}
-
-// The input of a plan with this place: of the trees below it, the plan with it.
-fn input(plan: Subtree, place: usize) -> Option<Subtree>
-    ensures { Input (tree_of plan.entry).below place result }
-{
-    let mut left = place;
-    for tree in plan.children() {
-        if is_plan(tree.kind()) {
-            if left == 0 {
-                return Some(tree);
-            }
-            left -= 1;
-        }
-    }
-    None
 }
 
 // Appends the fields of a plan, all with the alias for their qualifier if there is one.
-pub fn add_schema_xx(plan: Subtree, into: Fields, alias: Option<u32>) -> Fields
+fn add_schema_xx(plan: Subtree, into: &mut Fields, alias: Option<u32>)
     requires { IsPlan (tree_of plan) }
-    ensures { (p : Plan) (ns : List Name) → tree_of plan.entry ≡ plan_tree p → Names into ns
-        → Names result (ns ++ called alias (schema p)) }
+    ensures { (p : Plan) (ns : List Name) → tree_of plan.entry ≡ plan_tree p → Names into.old ns
+        → Names into.new (ns ++ called alias (schema p)) }
 {
     let l = plan.label();
     let role = role_of(l.kind);
     if creates(role) {
-        return add_parts_xx(plan, into, alias);
+        add_parts_xx(plan, into, alias);
+        return;
     }
-    let Some(first) = input(plan, own_input(role, l.p)) else {
-        return into;
+    let Some(first) = nth_plan(plan.children(), own_input(role, l.p)) else {
+        return;
     };
     let lower = below_alias(renames(role), l.p as u32, alias);
-    let r = add_schema_xx(first, into, lower);
+    add_schema_xx(first, into, lower);
     if extends(role) {
-        return add_parts_xx(plan, r, alias);
+        add_parts_xx(plan, into, alias);
+        return;
     }
     if !gives_both(role, l.p) {
-        return r;
+        return;
     }
-    match input(plan, 1) {
-        Some(second) => add_schema_xx(second, r, alias),
-        None => r,
+    if let Some(second) = nth_plan(plan.children(), 1) {
+        add_schema_xx(second, into, alias);
     }
 }
 
-// Appends the fields of a plan.
+// The fields of a plan, behind others.
 pub fn schema_columns_xx(plan: Subtree, into: Fields) -> Fields
     requires { IsPlan (tree_of plan) }
     ensures { (p : Plan) (ns : List Name) → tree_of plan.entry ≡ plan_tree p → Names into ns → Names result (ns ++ schema p) }
 {
-    add_schema_xx(plan, into, None)
+    let mut fields = into;
+    add_schema_xx(plan, &mut fields, None);
+    fields
 }

@@ -6,7 +6,7 @@ use Rattle.utils.proofs.schema_columns.add_parts_xx.Goals as goal
 pub loop-part-preserved : goal.loop-part-preserved
 loop-part-preserved c =
     λ ns h. let g = goes c.loop-part.part-iterator c.next.new.self c.in-Some.part c.in-Some.ensures.steps in
-    sum_next c.args.alias (tree_of c.in-Some.part) (forest c.next.new.self) (rw g.is at (c.loop-part.invariant ns h)) c.add_part_xx-r.ensures
+    sum_next c.args.alias (tree_of c.in-Some.part) (forest c.next.new.self) (rw g.is at (c.loop-part.invariant ns h)) c.add_part_xx.ensures
 
 pub returns : goal.returns
 returns c =

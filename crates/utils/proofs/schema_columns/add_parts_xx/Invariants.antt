@@ -9,5 +9,5 @@ use Rattle.utils.proofs.schema_columns.add_parts_xx.Given as goal
 
 abbrev pub invariant-loop-part : goal.invariant-loop-part
 invariant-loop-part l =
-    (ns : List Name) → Names l.initial.r ns
-    → Sum l.r (called l.alias (made (forest l.part-iterator))) (ns ++ called l.alias (made (tree_of l.plan).below))
+    (ns : List Name) → Names l.fn.into ns
+    → Sum l.into (called l.alias (made (forest l.part-iterator))) (ns ++ called l.alias (made (tree_of l.plan).below))

@@ -7,18 +7,18 @@ use Rattle.conjuncts.specs.Labels.{is_and}
 use Rattle.conjuncts.proofs.Operands.{and_of, fewer_left, fewer_right, there_left, there_right, item_of, single}
 use Rattle.conjuncts.proofs.Standing.{tree_standing}
 use Rattle.conjuncts.proofs.Listed.{lists_add}
-use Rattle.conjuncts.proofs.split_conjunction.+split_conjunction_xx.Goals as goal
+use Rattle.conjuncts.proofs.split_conjunction.+add_conjuncts.Goals as goal
 
-pub split_conjunction_xx-requires : goal.split_conjunction_xx-requires
-split_conjunction_xx-requires t c =
+pub add_conjuncts-requires : goal.add_conjuncts-requires
+add_conjuncts-requires t c =
     let k = c.in-Some.ensures in
     let p = c.requires in (
       omega (arith, fewer_left k.0 k.1 p.image_bound, c.decreases),
       (there_left k.0 k.1 p.image_bound p.there, (omega (arith, k.1.left), rw k.1.left_image p.image_bound)),
     )
 
-pub split_conjunction_xx-requires-in-Some : goal.split_conjunction_xx-requires-in-Some
-split_conjunction_xx-requires-in-Some t c =
+pub add_conjuncts-requires-in-Some : goal.add_conjuncts-requires-in-Some
+add_conjuncts-requires-in-Some t c =
     let k = c.in-Some.ensures in
     let p = c.requires in (
       omega (arith, fewer_right k.0 k.1 p.image_bound, c.decreases),
@@ -31,10 +31,10 @@ returns-in-Some t c =
     λ e es h l. let k = c.in-Some.ensures in
     let u = and_of k.0 k.1 c.requires.image_bound h in
     rw (ap split_conjunction u.is, ← append_assoc)
-    (rw k.1.right_image at c.split_conjunction_xx-in-Some.ensures u.rhs _ u.right
-    (rw k.1.left_image at c.split_conjunction_xx.ensures u.lhs es u.left l))
+    (rw k.1.right_image at c.add_conjuncts-in-Some.ensures u.rhs _ u.right
+    (rw k.1.left_image at c.add_conjuncts.ensures u.lhs es u.left l))
 
 pub returns-in-None : goal.returns-in-None
 returns-in-None t c =
     λ e es h l. let is = ap (λ (u : Tree). is_and u.label) (tree_standing c.args.tree refl refl h) in
-    rw (single e (sym is ∙ c.in-None.ensures)) (lists_add _ l (item_of h c.requires.number_nonzero) c.add.ensures)
+    rw (single e (sym is ∙ c.in-None.ensures)) (lists_add _ l (item_of h c.requires.number_nonzero) c.push.ensures)
