@@ -1,6 +1,6 @@
 -- Laws of test 11 on the plan after a merge.
 use mathlib.Core.Path.{◌≡◌, refl, sym, ◌∙◌}
-use mathlib.Core.Bool.{Bool, true, false}
+use mathlib.Core.Bool.{Bool, true, false, ◌&&◌}
 use mathlib.Core.List.{List, [], ◌∷◌}
 use mathlib.Core.Option.{some}
 use Prim.Native.Nat.{ℕ, ◌+◌, ◌*◌, ◌≤◌, ◌<◌, max as larger}
@@ -28,7 +28,7 @@ use Rattle.answers.specs.Splicing.{Sized}
 use Rattle.writing.proofs.Pushing.{pushes_of}
 use Rattle.answers.proofs.Spliced.{split_at}
 use Rattle.answers.proofs.Splice.{Begun, within, level_is}
-use Rattle.answers.proofs.Fitting.{list_back, fits_deep, fits_long, fits_all}
+use Rattle.answers.proofs.Fitting.{list_back, fits_deep, fits_long, fits_all, fits_over}
 use Rattle.push_down_base.specs.Predicates.{Predicate}
 use Rattle.push_down_merge.specs.Merging.{Made, Inside}
 use Rattle.push_down_merge.proofs.Root.{lists_fit, image_short, standing_root, names_kept}
@@ -48,6 +48,10 @@ made_predicate {s} {p} {e} σ h =
 pub inside_of : (s : List ℕ) (w : Plan) → Accepted s w → {node : ℕ} {c : Focus} → focus node w ≡ some c → Inside s node w c
 inside_of s w a e =
     record { short = image_short s w a; root = standing_root s w a; rules = names_kept s w a; lists = lists_fit w a.well; there = e }
+
+-- what stands in an image stands in the same bytes elsewhere
+pub elsewhere : {s t : List ℕ} {n : ℕ} {q : Plan} → t ≡ s → StandingP s n q → StandingP t n q
+elsewhere e h = rw e h
 
 module _ {s : List ℕ} {node : ℕ} {w : Plan} {c : Focus} (h : Inside s node w c) where
   -- the image is of its size
@@ -112,3 +116,12 @@ fits_is p b few lists = go (leb (depth_t (plan_tree p)) max_depth) refl
     go : (d : Bool) → leb (depth_t (plan_tree p)) max_depth ≡ d → d ≡ within_limits p
     go true e = sym (fits_all p b few e lists)
     go false e = sym (fits_deep p e)
+
+-- where its lists are, the plan that was written fits exactly if its records and its depth are within the limits
+pub within_is : {out : List ℕ} {n : ℕ} (p : Plan) → Begun out n (plan_tree p) → leb (list_p p) max_list ≡ true
+    → (leb n max_records && leb (depth_t (plan_tree p)) max_depth) ≡ within_limits p
+within_is {n = n} p b lists = go (leb n max_records) refl
+  where
+    go : (d : Bool) → leb n max_records ≡ d → (d && leb (depth_t (plan_tree p)) max_depth) ≡ within_limits p
+    go true e = fits_is p b (leb-true n max_records e) lists
+    go false e = sym (fits_over p b (leb-false n max_records e))

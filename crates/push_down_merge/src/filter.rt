@@ -1,9 +1,13 @@
 // What PushDownFilter::rewrite does of a Filter before the match (799 to 832), and the arm Filter (835 to 850) up to where it calls the
 // rewrite again: a predicate is simplified, and merged with that of the Filter below.
-ghost use Rattle.std.specs.Prelude.{◌≡◌, true, is_some, List, ◌<◌, ◌≤◌, ℕ, is_ok, length};
+ghost use Rattle.std.specs.Prelude.{◌≡◌, ◌&&◌, ◌++◌, true, is_some, List, ◌<◌, ◌≤◌, ℕ, is_ok, leb, length};
 ghost use Rattle.std.proofs.Math.Option.{some};
-ghost use Rattle.image.specs.Buffers.{Scratch};
-ghost use Rattle.image.specs.Limits.{max_list, work_bytes};
+ghost use Rattle.image.specs.Buffers.{Scratch as Space};
+ghost use Rattle.image.specs.Flat.{flat, size_t};
+ghost use Rattle.image.specs.Limits.{max_depth, max_list, max_records, work_bytes};
+ghost use Rattle.image.specs.Room.{cap};
+ghost use Rattle.image.specs.Tree.{Tree};
+ghost use Rattle.plan.specs.Measure.{depth_t};
 ghost use Rattle.plan.specs.Syntax.{Expr, Plan, filter};
 ghost use Rattle.rewrite.specs.Limits.{list_p, within_limits};
 ghost use Rattle.rewrite.specs.PushDownFilter.{merged, simplify_filter};
@@ -12,13 +16,16 @@ ghost use Rattle.rewrite.specs.Utils.{conjunction, split_conjunction};
 ghost use Rattle.conjuncts.specs.Items.{Known, Lists};
 ghost use Rattle.conjuncts.specs.Standing.{Standing, StandingP, Stretch, There};
 ghost use Rattle.push_down_base.specs.Arms.{Shaped};
+ghost use Rattle.push_down_merge.specs.Lent.{SameSpace};
 ghost use Rattle.push_down_merge.specs.Merging.{FilterAt, FilterIn, FilterInput, Formed, Inside, Made, Mergeable, Remains};
 
 use answers::handing_out::is_shallow;
-use answers::splicing::{write_before, write_records};
+use crate::scratch::Scratch;
+use answers::splicing::{write_before, write_before_xx, write_records, write_records_xx};
 use conjuncts::lists::{Conjuncts, empty};
 use conjuncts::split_conjunction::split_at;
 use conjuncts::unique::unique;
+use image::copying::Writer;
 use image::limits::{MAX_DEPTH, MAX_LIST, MAX_RECORDS};
 use image::records::{NEXT_LINK, from_record, record_at};
 use image::trees::Subtree;
@@ -28,7 +35,7 @@ use simplify_expressions::reorder_predicates::reorder_predicates;
 use simplify_expressions::simplify_predicates::simplify_predicates;
 use std::error::Error;
 use std::fmt;
-use writing::make_filter::make_filter;
+use writing::make_filter::{make_filter, make_filter_xx};
 
 // Test 11: an answer, or a plan on the way to it, is too large for an image.
 #[derive(Clone, Copy, Debug, PartialEq, Eq, Hash)]
@@ -122,6 +129,54 @@ pub fn filter_input_xx(plan: Subtree) -> Subtree
     }
 }
 
+// Whether the plan that was written fits: there was room for its records, and none is too deep.
+pub fn fits(out: &Writer) -> bool
+    ensures { (t : Tree) (rest : List ℕ) → out.now.next ≡ cap (size_t t) →
+        (out.now.next ≤ max_records → out.now.bytes.now ≡ flat 1 t ++ rest) →
+        result ≡ (leb out.now.next max_records && leb (depth_t t) max_depth) }
+{
+    let records = out.next;
+    if MAX_RECORDS < records {
+        return false;
+    }
+    is_shallow(out.bytes, records)
+}
+
+// Test 11 on the plan after a merge: the whole, with the Filter p over `input` in the place of `plan`.
+pub fn merge_fits_xx(
+    plan: Subtree,
+    p: Predicate,
+    input: Subtree,
+    scratch: &mut Scratch,
+) -> Result<(), TooLarge>
+    requires image { input.image.now ≡ plan.image.now }
+    requires mergeable { Mergeable plan.image.now plan.number p input.number }
+    ensures same { SameSpace scratch.old scratch.new }
+    ensures fits { (w : Plan) (c : Focus) → Inside plan.entry.image.now plan.entry.number w c → (e : Expr) (q : Plan) →
+        Made plan.entry.image.now p e → StandingP plan.entry.image.now input.entry.number q → list_p q ≤ max_list →
+        is_ok result ≡ within_limits (c.back (filter e q)) }
+{
+    let list = p.list;
+    if MAX_LIST < list.len {
+        return Err(TooLarge);
+    }
+    let s = plan.image;
+    let levels = &mut *scratch.levels;
+    let work = &mut *scratch.work;
+    let mut out = Writer {
+        bytes: work,
+        next: 0,
+    };
+    let spot = write_before_xx(s, plan.number, &mut out, levels);
+    // No item of a merged list has its columns replaced: any plan of the image serves as the map.
+    make_filter_xx(s, input, p.written, list, input, &mut out, spot.level);
+    write_records_xx(s, levels, spot.end, spot.records, &mut out);
+    if !fits(&out) {
+        return Err(TooLarge);
+    }
+    Ok(())
+}
+
 // Test 11 on the plan after a merge: the whole, with the Filter p over `input`, the plan at record x, in the place of record `node`.
 pub fn merge_fits(
     s: &[u8],
@@ -134,7 +189,7 @@ pub fn merge_fits(
 ) -> Result<(), TooLarge>
     requires stretch { Stretch s.now x input.now }
     requires mergeable { Mergeable s.now node p x }
-    requires scratch { Scratch work.old levels.old }
+    requires scratch { Space work.old levels.old }
     ensures { (w : Plan) (c : Focus) → Inside s.now node w c → (e : Expr) (q : Plan) → Made s.now p e →
         StandingP s.now x q → list_p q ≤ max_list → is_ok result ≡ within_limits (c.back (filter e q)) }
 {
