@@ -1,7 +1,7 @@
 -- Laws of test 11 on the plan after a merge.
 use mathlib.Core.Path.{◌≡◌, refl, sym, ◌∙◌}
 use mathlib.Core.Bool.{Bool, true, false, ◌&&◌}
-use mathlib.Core.List.{List, [], ◌∷◌}
+use mathlib.Core.List.{List, [], ◌∷◌, ◌++◌}
 use mathlib.Core.Option.{some}
 use Prim.Native.Nat.{ℕ, ◌+◌, ◌*◌, ◌≤◌, ◌<◌, max as larger}
 use native.Mathlib.Nat.{le-max_left, max-le}
@@ -12,10 +12,12 @@ use borrow.Author.Tests.{leb-true, leb-false, le-leb, lt-leb}
 use Rattle.image.specs.Limits.{max_records, max_depth, max_list, no_room}
 use Rattle.image.specs.Places.{Stood}
 use Rattle.image.specs.Word.{word}
-use Rattle.image.specs.Flat.{flat}
+use Rattle.image.specs.Flat.{flat, size_t}
+use Rattle.image.specs.Tree.{Tree}
 use Rattle.plan.specs.Syntax.{Name, Expr, Plan, filter}
 use Rattle.plan.specs.Trees.{plan_tree}
 use Rattle.plan.specs.Measure.{depth_t, size_p}
+use Rattle.plan.proofs.Bools.{no_yes}
 use Rattle.acceptance.specs.Accepted.{Accepted}
 use Rattle.rewrite.specs.Utils.{split_conjunction, conjunction}
 use Rattle.rewrite.specs.Limits.{list_p, within_limits}
@@ -28,9 +30,9 @@ use Rattle.answers.specs.Splicing.{Sized}
 use Rattle.writing.proofs.Pushing.{pushes_of}
 use Rattle.answers.proofs.Spliced.{split_at}
 use Rattle.answers.proofs.Splice.{Begun, within, level_is}
-use Rattle.answers.proofs.Fitting.{list_back, fits_deep, fits_long, fits_all, fits_over}
+use Rattle.answers.proofs.Fitting.{list_back, fits_deep, fits_long, fits_all, fits_over, begun_count}
 use Rattle.push_down_base.specs.Predicates.{Predicate}
-use Rattle.push_down_merge.specs.Merging.{Made, Inside}
+use Rattle.push_down_merge.specs.Merging.{Fitting, Made, Inside}
 use Rattle.push_down_merge.proofs.Root.{lists_fit, image_short, standing_root, names_kept}
 use Rattle.push_down_base.proofs.Steps.{stands_there}
 
@@ -117,11 +119,39 @@ fits_is p b few lists = go (leb (depth_t (plan_tree p)) max_depth) refl
     go true e = sym (fits_all p b few e lists)
     go false e = sym (fits_deep p e)
 
--- where its lists are, the plan that was written fits exactly if its records and its depth are within the limits
-pub within_is : {out : List ℕ} {n : ℕ} (p : Plan) → Begun out n (plan_tree p) → leb (list_p p) max_list ≡ true
-    → (leb n max_records && leb (depth_t (plan_tree p)) max_depth) ≡ within_limits p
-within_is {n = n} p b lists = go (leb n max_records) refl
+-- ---- what was written is tested
+
+-- there was no room
+pub fitting_full : {out : List ℕ} {n : ℕ} → max_records < n → Fitting false out n
+fitting_full {n = n} many = record { full = λ h. refl; is = λ t rest e f. rw (lt-leb n max_records many) }
+
+-- there was
+pub fitting_is : {b : Bool} {out : List ℕ} {n : ℕ} → n ≤ max_records
+    → ((t : Tree) (rest : List ℕ) → n ≡ size_t t → out ≡ flat 1 t ++ rest → b ≡ leb (depth_t t) max_depth) → Fitting b out n
+fitting_is {b} {out} {n} few f = record {
+  full = λ h. absurd (omega arith);
+  is = λ t rest e g.
+      let k : Begun out n t = record { count = e; rest = rest; bytes = g } in
+      rw (le-leb n max_records few) (f t rest (begun_count k few) (g few));
+}
+
+-- where its lists are within the limit, the plan fits exactly if that says so
+pub within_is : {b : Bool} {out : List ℕ} {n : ℕ} → Fitting b out n → (p : Plan) → Begun out n (plan_tree p) → leb (list_p p) max_list ≡ true
+    → b ≡ within_limits p
+within_is {n = n} f p g lists = f.is (plan_tree p) g.rest g.count g.bytes ∙ go (leb n max_records) refl
   where
     go : (d : Bool) → leb n max_records ≡ d → (d && leb (depth_t (plan_tree p)) max_depth) ≡ within_limits p
-    go true e = fits_is p b (leb-true n max_records e) lists
-    go false e = sym (fits_over p b (leb-false n max_records e))
+    go true e = fits_is p g (leb-true n max_records e) lists
+    go false e = sym (fits_over p g (leb-false n max_records e))
+
+-- what fits had room, and is not too deep
+module _ {b : Bool} {out : List ℕ} {n : ℕ} (f : Fitting b out n) (e : b ≡ true) where
+  pub fitting_few : n ≤ max_records
+  fitting_few = go (leb n max_records) refl
+    where
+      go : (d : Bool) → leb n max_records ≡ d → n ≤ max_records
+      go true t = leb-true n max_records t
+      go false t = no_yes (sym (f.full (leb-false n max_records t)) ∙ e)
+
+  pub fitting_deep : {t : Tree} → Begun out n t → leb (depth_t t) max_depth ≡ true
+  fitting_deep {t} g = sym (rw (le-leb n max_records fitting_few) at (f.is t g.rest g.count g.bytes)) ∙ e

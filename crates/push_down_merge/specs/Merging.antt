@@ -1,8 +1,12 @@
 -- What the merging of Filters is asked and answers: predicates that are simplified and merged, and the plan after a merge.
-use Rattle.std.specs.Prelude.{◌≡◌, None, Bool, true, false, List, ℕ, ◌+◌, ◌*◌, ◌≤◌, length, drop}
+use Rattle.std.specs.Prelude.{◌≡◌, None, Bool, true, false, ◌&&◌, leb, List, ◌++◌, ℕ, ◌+◌, ◌*◌, ◌≤◌, ◌<◌, length, drop}
 use Rattle.std.proofs.Math.Option.{Option, none, some}
 use Rattle.image.specs.Word.{word}
-use Rattle.image.specs.Limits.{work_bytes, max_list}
+use Rattle.image.specs.Flat.{flat, size_t}
+use Rattle.image.specs.Limits.{max_depth, max_list, max_records, work_bytes}
+use Rattle.image.specs.Room.{cap}
+use Rattle.image.specs.Tree.{Tree}
+use Rattle.plan.specs.Measure.{depth_t}
 use Rattle.plan.specs.Syntax.{Expr, Plan, scan, filter, project, join, alias, union, distinct, sort, repartition, limit, aggregate, window}
 use Rattle.acceptance.specs.NamesRule.{ok}
 use Rattle.rewrite.specs.Utils.{split_conjunction, conjunction}
@@ -30,6 +34,14 @@ pub record Made (s : List ℕ) (p : Predicate) (e : Expr) : Type 0 where
 pub record Formed (s : List ℕ) (p : Predicate) : Type 0 where
   pub expr : Expr
   pub shaped : Shaped s p expr
+
+-- ---- test 11
+
+-- b says whether the plan fits of which n records were counted: there was room for them, and none is too deep
+pub record Fitting (b : Bool) (out : List ℕ) (n : ℕ) : Type 0 where
+  pub full : max_records < n → b ≡ false
+  pub is : (t : Tree) (rest : List ℕ) → n ≡ cap (size_t t) → (n ≤ max_records → out ≡ flat 1 t ++ rest)
+      → b ≡ (leb n max_records && leb (depth_t t) max_depth)
 
 -- ---- plans
 

@@ -1,13 +1,9 @@
 // What PushDownFilter::rewrite does of a Filter before the match (799 to 832), and the arm Filter (835 to 850) up to where it calls the
 // rewrite again: a predicate is simplified, and merged with that of the Filter below.
-ghost use Rattle.std.specs.Prelude.{◌≡◌, ◌&&◌, ◌++◌, true, is_some, List, ◌<◌, ◌≤◌, ℕ, is_ok, leb, length};
+ghost use Rattle.std.specs.Prelude.{◌≡◌, true, is_some, List, ◌<◌, ◌≤◌, ℕ, is_ok, length};
 ghost use Rattle.std.proofs.Math.Option.{some};
 ghost use Rattle.image.specs.Buffers.{Scratch as Space};
-ghost use Rattle.image.specs.Flat.{flat, size_t};
-ghost use Rattle.image.specs.Limits.{max_depth, max_list, max_records, work_bytes};
-ghost use Rattle.image.specs.Room.{cap};
-ghost use Rattle.image.specs.Tree.{Tree};
-ghost use Rattle.plan.specs.Measure.{depth_t};
+ghost use Rattle.image.specs.Limits.{max_list, work_bytes};
 ghost use Rattle.plan.specs.Syntax.{Expr, Plan, filter};
 ghost use Rattle.rewrite.specs.Limits.{list_p, within_limits};
 ghost use Rattle.rewrite.specs.PushDownFilter.{merged, simplify_filter};
@@ -17,13 +13,13 @@ ghost use Rattle.conjuncts.specs.Items.{Known, Lists};
 ghost use Rattle.conjuncts.specs.Standing.{Standing, StandingP, Stretch, There};
 ghost use Rattle.push_down_base.specs.Arms.{Shaped};
 ghost use Rattle.push_down_merge.specs.Lent.{SameSpace};
-ghost use Rattle.push_down_merge.specs.Merging.{FilterAt, FilterIn, FilterInput, Formed, Inside, Made, Mergeable, Remains};
+ghost use Rattle.push_down_merge.specs.Merging.{FilterAt, FilterIn, FilterInput, Fitting, Formed, Inside, Made, Mergeable, Remains};
 
 use answers::handing_out::is_shallow;
 use crate::scratch::Scratch;
 use answers::splicing::{write_before, write_before_xx, write_records, write_records_xx};
 use conjuncts::lists::{Conjuncts, empty};
-use conjuncts::split_conjunction::split_at;
+use conjuncts::split_conjunction::{split_at, split_conjunction_xx};
 use conjuncts::unique::unique;
 use image::copying::Writer;
 use image::limits::{MAX_DEPTH, MAX_LIST, MAX_RECORDS};
@@ -70,10 +66,13 @@ pub fn predicate_at_xx(plan: Subtree) -> Predicate
     ensures { (e : Expr) (q : Plan) → StandingP plan.entry.image.now plan.entry.number (filter e q) →
         length (split_conjunction e) ≤ max_list → Shaped plan.entry.image.now result e }
 {
-    let n = plan.number + 1;
+    let predicate = Subtree {
+        image: plan.image,
+        number: plan.number + 1,
+    };
     Predicate {
-        written: Some(n),
-        list: split_at(plan.image, n, empty()),
+        written: Some(predicate.number),
+        list: split_conjunction_xx(predicate, empty()),
     }
 }
 
@@ -131,9 +130,7 @@ pub fn filter_input_xx(plan: Subtree) -> Subtree
 
 // Whether the plan that was written fits: there was room for its records, and none is too deep.
 pub fn fits(out: &Writer) -> bool
-    ensures { (t : Tree) (rest : List ℕ) → out.now.next ≡ cap (size_t t) →
-        (out.now.next ≤ max_records → out.now.bytes.now ≡ flat 1 t ++ rest) →
-        result ≡ (leb out.now.next max_records && leb (depth_t t) max_depth) }
+    ensures { Fitting result out.now.bytes.now out.now.next }
 {
     let records = out.next;
     if MAX_RECORDS < records {

@@ -58,8 +58,7 @@ returns-then-not-fits-clause-fits c =
     let v = c.make_filter_xx.ensures.wrote (map_of q) (plan_maps_to t) e (made_predicate _ m) q (plan_is c.args.input t) in
     let a = c.write_records_xx.ensures.ran (plan_tree w) h.root.here (few_records h) (omega (arith, b.records)) b.depths in
     let g = spliced w _ f h.there (filter e q) c.write_before_xx-spot.new.out.long (few_records h) b (rw c.write_before_xx-spot.ensures.next at v) a in
-    sym c.if-not-fits.true ∙ c.fits.ensures (plan_tree (f.back (filter e q))) g.rest g.count g.bytes
-    ∙ within_is (f.back (filter e q)) g (few_lists h m q l c.if-list-gt-MAX_LIST.false)
+    sym c.if-not-fits.true ∙ within_is c.fits.ensures (f.back (filter e q)) g (few_lists h m q l c.if-list-gt-MAX_LIST.false)
 
 pub returns-clause-fits : goal.returns-clause-fits
 unfolding size_p
@@ -69,5 +68,4 @@ returns-clause-fits c =
     let v = c.make_filter_xx.ensures.wrote (map_of q) (plan_maps_to t) e (made_predicate _ m) q (plan_is c.args.input t) in
     let a = c.write_records_xx.ensures.ran (plan_tree w) h.root.here (few_records h) (omega (arith, b.records)) b.depths in
     let g = spliced w _ f h.there (filter e q) c.write_before_xx-spot.new.out.long (few_records h) b (rw c.write_before_xx-spot.ensures.next at v) a in
-    sym c.if-not-fits.false ∙ c.fits.ensures (plan_tree (f.back (filter e q))) g.rest g.count g.bytes
-    ∙ within_is (f.back (filter e q)) g (few_lists h m q l c.if-list-gt-MAX_LIST.false)
+    sym c.if-not-fits.false ∙ within_is c.fits.ensures (f.back (filter e q)) g (few_lists h m q l c.if-list-gt-MAX_LIST.false)
