@@ -19,9 +19,9 @@ use Rattle.rewrite.specs.RewriteAt.{Focus}
 use Rattle.rewrite.specs.Utils.{conjunction}
 use Rattle.rewrite.proofs.SimplifyFilter.{simplify_filter_reads}
 use Rattle.push_down_base.specs.Predicates.{Predicate}
-use Rattle.push_down_base.specs.Arms.{Rests}
+use Rattle.push_down_base.specs.Arms.{Rests, Shaped}
 use Rattle.push_down_base.proofs.Perhapsing.{is_gone}
-use Rattle.push_down_merge.specs.Merging.{Remains, is_filter}
+use Rattle.push_down_merge.specs.Merging.{FilterInput, Remains, is_filter}
 use Rattle.push_down_merge.proofs.OneMerge.{leaves_none, leaves_some, unmerged, kind_filter}
 use Rattle.push_down_stays.proofs.Nodes.{AFilter, a_filter}
 use Rattle.push_down_rewrite.specs.Filters.{Left}
@@ -37,6 +37,16 @@ pub record LeftOn (s : List ℕ) (x : ℕ) (p : Predicate) (o : Option Expr) (q 
   pub is : o ≡ some expr
   pub rests : Rests s x p expr q
   pub other : is_filter q ≡ false
+
+-- what is said of some bytes is said of the same elsewhere
+pub shaped_here : {s t : List ℕ} {p : Predicate} {e : Expr} → t ≡ s → Shaped t p e → Shaped s p e
+shaped_here e h = rw (sym e) h
+
+pub input_here : {s t : List ℕ} {x y : ℕ} {q : Plan} → t ≡ s → FilterInput t x y q → FilterInput s x y q
+input_here e h = rw (sym e) h
+
+pub left_elsewhere : {s t : List ℕ} {x : ℕ} {p : Predicate} {o : Option Expr} {q : Plan} → t ≡ s → Left s x p o q → Left t x p o q
+left_elsewhere e h = rw e h
 
 pub left_on : {s : List ℕ} {x : ℕ} {p : Predicate} {o : Option Expr} {q : Plan} → Left s x p o q → is_gone p ≡ false → LeftOn s x p o q
 left_on {q = q} h g =

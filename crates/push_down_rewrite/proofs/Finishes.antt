@@ -20,12 +20,12 @@ use Rattle.rewrite.specs.PushDownFilter.{Transformed}
 use Rattle.rewrite.specs.RewriteAt.{Focus}
 use Rattle.answers.specs.declared.splicing.Spot.{Spot}
 use Rattle.answers.specs.Splicing.{Ran}
-use Rattle.answers.proofs.Whole.{wrote_small}
 use Rattle.answers.proofs.Splice.{Begun, spliced}
-use Rattle.answers.proofs.Fitting.{list_back, fits_over, fits_long}
+use Rattle.answers.proofs.Fitting.{list_back, fits_long}
 use Rattle.push_down_base.specs.Arms.{Written}
 use Rattle.plan.proofs.Lists.{and_true}
-use Rattle.push_down_merge.proofs.Tested.{few_records, fits_is}
+use Rattle.push_down_merge.specs.Merging.{Fitting}
+use Rattle.push_down_merge.proofs.Tested.{few_records, fitting_few, within_is}
 use Rattle.push_down_merge.specs.declared.filter.TooLarge.{TooLarge}
 use Rattle.push_down_rewrite.specs.Outcomes.{Replaces, Finishes}
 
@@ -42,14 +42,6 @@ at_once c q e = e ∙ sym (and_true (within_limits (c.back q)))
 
 module _ {s levels work : List ℕ} {spot : Spot} {new : Written} {node : ℕ} {w : Plan} {c : Focus} {t : Transformed}
     (h : Replaces s levels work spot new node w c t) where
-  -- the answer's lists are within the limit, or nothing was written
-  pub next_small : new.next ≤ no_room
-  next_small = go (leb (list_p t.plan) max_list) refl
-    where
-      go : (b : Bool) → leb (list_p t.plan) max_list ≡ b → new.next ≤ no_room
-      go true e = wrote_small (h.answers.fits (leb-true (list_p t.plan) max_list e))
-      go false e = omega (arith, (h.answers.over (leb-false (list_p t.plan) max_list e)).0)
-
   -- what stands behind it is written again
   module _ {out : List ℕ} {n : ℕ}
       (v : Ran work out new.next (spot.records - spot.end) n (slice (32 * spot.end) (32 * spot.records) (flat 1 (plan_tree w)))) where
@@ -59,25 +51,24 @@ module _ {s levels work : List ℕ} {spot : Spot} {new : Written} {node : ℕ} {
     lists_back : leb (list_p (c.back t.plan)) max_list ≡ leb (list_p t.plan) max_list
     lists_back = list_back w node c h.inside.there t.plan max_list h.inside.lists
 
-    pub too_many : max_records < n → false ≡ within_limits (c.back t.plan)
-    too_many many = go (leb (list_p t.plan) max_list) refl
-      where
-        go : (b : Bool) → leb (list_p t.plan) max_list ≡ b → false ≡ within_limits (c.back t.plan)
-        go true e = rw (fits_over (c.back t.plan) (begun_of (leb-true (list_p t.plan) max_list e)) many)
-        go false e = rw (fits_long (c.back t.plan) (lists_back ∙ e))
-
-    module _ (few : n ≤ max_records) where
-      lists_small : list_p t.plan ≤ max_list
+    -- the whole fits exactly if the test says so
+    module _ {b : Bool} (f : Fitting b out n) where
+      pub decides : b ≡ within_limits (c.back t.plan)
       unfolding cap
-      lists_small = go (leb (list_p t.plan) max_list) refl
+      decides = go (leb (list_p t.plan) max_list) refl
         where
-          go : (b : Bool) → leb (list_p t.plan) max_list ≡ b → list_p t.plan ≤ max_list
-          go true e = leb-true (list_p t.plan) max_list e
-          go false e = absurd (omega (arith, (h.answers.over (leb-false (list_p t.plan) max_list e)).0, v.next))
+          go : (d : Bool) → leb (list_p t.plan) max_list ≡ d → b ≡ within_limits (c.back t.plan)
+          go true e = within_is f (c.back t.plan) (begun_of (leb-true (list_p t.plan) max_list e)) (lists_back ∙ e)
+          go false e =
+              f.full (omega (arith, (h.answers.over (leb-false (list_p t.plan) max_list e)).0, v.next))
+              ∙ sym (fits_long (c.back t.plan) (lists_back ∙ e))
 
-      pub begun : Begun out n (plan_tree (c.back t.plan))
-      begun = begun_of lists_small
-
-      -- then it fits exactly if its depth does
-      pub depth_decides : leb (depth_t (plan_tree (c.back t.plan))) max_depth ≡ within_limits (c.back t.plan)
-      depth_decides = fits_is (c.back t.plan) begun few (lists_back ∙ le-leb (list_p t.plan) max_list lists_small)
+      -- then it begins the buffer
+      pub begun : b ≡ true → Begun out n (plan_tree (c.back t.plan))
+      unfolding cap
+      begun y = go (leb (list_p t.plan) max_list) refl
+        where
+          go : (d : Bool) → leb (list_p t.plan) max_list ≡ d → Begun out n (plan_tree (c.back t.plan))
+          go true e = begun_of (leb-true (list_p t.plan) max_list e)
+          go false e =
+              absurd (omega (arith, (h.answers.over (leb-false (list_p t.plan) max_list e)).0, v.next, fitting_few f y))

@@ -25,6 +25,16 @@ use Rattle.push_down_merge.proofs.Tested.{few_records}
 use Rattle.push_down_stays.specs.Staying.{Stays}
 use Rattle.push_down_rewrite.specs.Outcomes.{Outcome, Finishes, Image, answer, Outcomes}
 
+-- ---- what stands in the work space is known otherwise
+
+pub finishes_as : {a b : List ℕ} {r : Outcome} {c : Focus} {ms : List Plan} {t : Transformed} → Finishes a r c ms t → b ≡ a → Finishes b r c ms t
+finishes_as h e = rw e h
+
+pub outcomes_as : {a b : List ℕ} {r : Outcome} {w : Plan} {c : Focus} → Outcomes a r w c → b ≡ a → Outcomes b r w c
+outcomes_as h e = rw e h
+
+-- ---- a plan that is written
+
 -- the answer is written
 pub outcomes : {work : List ℕ} {r : Outcome} {w : Plan} {c : Focus} → Finishes work r c (merges c.plan) (rewrite c.plan) → Outcomes work r w c
 unfolding result_fits

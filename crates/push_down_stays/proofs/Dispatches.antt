@@ -4,7 +4,10 @@ use mathlib.Core.Path.{◌≡◌, sym, ap, ◌∙◌}
 use mathlib.Core.List.{List}
 use mathlib.Core.Option.{Option}
 use lib.ListN.{drop}
+use Rattle.image.specs.Subtrees.{tree_of}
+use Rattle.image.specs.Tree.{Tree}
 use Rattle.image.specs.Word.{word}
+use Rattle.image.specs.declared.trees.Subtree.{Subtree}
 use Rattle.plan.specs.Kinds.{What, PlanKind, plan, what_of, number_p}
 use Rattle.plan.specs.Syntax.{Expr, Field, Entry, AggEntry, WinEntry, Kind, Pair, Plan, Plans}
 use Rattle.plan.specs.Syntax.{scan, project, join, alias, union, aggregate, window}
@@ -12,6 +15,7 @@ use Rattle.plan.specs.Trees.{label_p}
 use Rattle.plan.proofs.Rebuilt.{kind_p}
 use Rattle.rewrite.specs.PushDownFilter.{rewrite_filter}
 use Rattle.conjuncts.specs.Standing.{StandingP}
+use Rattle.writing.proofs.Maps.{plan_is}
 use Rattle.push_down_base.specs.Predicates.{Predicate}
 use Rattle.push_down_arms.specs.Divided.{OverProjection, OverAggregate, OverWindow}
 use Rattle.push_down_arms.specs.Scans.{OverScan}
@@ -23,6 +27,10 @@ use Rattle.push_down_stays.proofs.KindOf.{kind_there, when_scan, when_project, w
 -- the number that is read at a record
 pub read_kind : {s part : List ℕ} {x k : ℕ} {q : Plan} → part ≡ drop (32 * x) s → k ≡ word part 0 → StandingP s x q → k ≡ (label_p q).kind
 read_kind e f h = f ∙ ap (λ t. word t 0) e ∙ kind_there h
+
+-- .. of a tree
+pub kind_of : (x : Subtree) {k : ℕ} {q : Plan} → k ≡ (tree_of x).label.kind → StandingP x.image.now x.number q → k ≡ (label_p q).kind
+kind_of x e h = e ∙ ap (λ (t : Tree). t.label.kind) (plan_is x h)
 
 -- the number of its kind
 pub numbered : {n : ℕ} {w : What} {j : PlanKind} (k : PlanKind) → w ≡ what_of n → w ≡ plan j → j ≡ k → n ≡ number_p k
