@@ -32,7 +32,7 @@ use Rattle.call_rewrite.specs.Answer.{refusal, rewritten_of, outcome_of}
 use Rattle.call_rewrite.specs.declared.call_rewrite.Answer.{Answer}
 use Rattle.push_down_merge.specs.Found.{Whole, Here}
 use Rattle.push_down_rewrite.proofs.Images.{records_are}
-use Rattle.push_down_rewrite.specs.Outcomes.{Image, Outcome, Outcomes, answer}
+use Rattle.push_down_rewrite.specs.Outcomes.{Image, answer}
 use Rattle.push_down_stays.specs.Staying.{Stays}
 use Rattle.push_down_rewrite.proofs.Outcoming.{stays_outcomes}
 
@@ -86,11 +86,6 @@ module _ {s : List ℕ} (w : Whole s) where
     a_plan e =
         let f = found_there (focus n (plan_in s)) (plan_told ∙ e) in
         record { whole = w; spot = f.0; inside = inside_of s (plan_in s) w.accepted f.1 }
-
--- ---- what was written is known otherwise
-
-pub outcomes_as : {a b : List ℕ} {r : Outcome} {w : Plan} {c : Focus} → Outcomes a r w c → b ≡ a → Outcomes b r w c
-outcomes_as h e = rw e h
 
 -- ---- a plan that stays as it is
 

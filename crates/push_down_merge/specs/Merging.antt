@@ -12,7 +12,7 @@ use Rattle.acceptance.specs.NamesRule.{ok}
 use Rattle.rewrite.specs.Utils.{split_conjunction, conjunction}
 use Rattle.rewrite.specs.Limits.{list_p}
 use Rattle.rewrite.specs.RewriteAt.{Focus, focus}
-use Rattle.conjuncts.specs.Standing.{StandingP, Stretch}
+use Rattle.conjuncts.specs.Standing.{StandingP}
 use Rattle.conjuncts.specs.Items.{Lists}
 use Rattle.push_down_base.specs.Predicates.{Predicate}
 use Rattle.push_down_base.specs.Arms.{Shaped}
@@ -58,13 +58,6 @@ pub record FilterAt (s : List ℕ) (x : ℕ) : Type 0 where
   pub expr : Expr
   pub plan : Plan
   pub standing : StandingP s x (filter expr plan)
-
--- a Filter stands at the start of `part`, which is record x of an image
-pub record FilterIn (part : List ℕ) (x : ℕ) : Type 0 where
-  pub image : List ℕ
-  pub stretch : Stretch image x part
-  pub short : length image ≤ work_bytes
-  pub there : FilterAt image x
 
 -- the plan q is the input of the Filter at record x: it stands at record y, to which the link of the Filter's predicate leads
 pub record FilterInput (s : List ℕ) (x y : ℕ) (q : Plan) : Type 0 where

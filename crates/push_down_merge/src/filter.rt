@@ -2,7 +2,6 @@
 // rewrite again: a predicate is simplified, and merged with that of the Filter below.
 ghost use Rattle.std.specs.Prelude.{◌≡◌, true, is_some, List, ◌<◌, ◌≤◌, ℕ, is_ok, length};
 ghost use Rattle.std.proofs.Math.Option.{some};
-ghost use Rattle.image.specs.Buffers.{Scratch as Space};
 ghost use Rattle.image.specs.Limits.{max_list, work_bytes};
 ghost use Rattle.plan.specs.Syntax.{Expr, Plan, filter};
 ghost use Rattle.rewrite.specs.Limits.{list_p, within_limits};
@@ -10,20 +9,20 @@ ghost use Rattle.rewrite.specs.PushDownFilter.{merged, simplify_filter};
 ghost use Rattle.rewrite.specs.RewriteAt.{Focus};
 ghost use Rattle.rewrite.specs.Utils.{conjunction, split_conjunction};
 ghost use Rattle.conjuncts.specs.Items.{Known, Lists};
-ghost use Rattle.conjuncts.specs.Standing.{Standing, StandingP, Stretch, There};
+ghost use Rattle.conjuncts.specs.Standing.{StandingP};
 ghost use Rattle.push_down_base.specs.Arms.{Shaped};
 ghost use Rattle.push_down_merge.specs.Lent.{SameSpace};
-ghost use Rattle.push_down_merge.specs.Merging.{FilterAt, FilterIn, FilterInput, Fitting, Formed, Inside, Made, Mergeable, Remains};
+ghost use Rattle.push_down_merge.specs.Merging.{FilterAt, FilterInput, Fitting, Formed, Inside, Made, Mergeable, Remains};
 
-use answers::handing_out::is_shallow;
 use crate::scratch::Scratch;
-use answers::splicing::{write_before, write_before_xx, write_records, write_records_xx};
+use answers::handing_out::is_shallow;
+use answers::splicing::{write_before_xx, write_records_xx};
 use conjuncts::lists::{Conjuncts, empty};
-use conjuncts::split_conjunction::{split_at, split_conjunction_xx};
+use conjuncts::split_conjunction::split_conjunction_xx;
 use conjuncts::unique::unique;
 use image::copying::Writer;
-use image::limits::{MAX_DEPTH, MAX_LIST, MAX_RECORDS};
-use image::records::{NEXT_LINK, from_record, record_at};
+use image::limits::{MAX_LIST, MAX_RECORDS};
+use image::records::{NEXT_LINK, record_at};
 use image::trees::Subtree;
 use image::words::word_at;
 use push_down_base::predicates::Predicate;
@@ -31,7 +30,7 @@ use simplify_expressions::reorder_predicates::reorder_predicates;
 use simplify_expressions::simplify_predicates::simplify_predicates;
 use std::error::Error;
 use std::fmt;
-use writing::make_filter::{make_filter, make_filter_xx};
+use writing::make_filter::make_filter_xx;
 
 // Test 11: an answer, or a plan on the way to it, is too large for an image.
 #[derive(Clone, Copy, Debug, PartialEq, Eq, Hash)]
@@ -44,20 +43,6 @@ impl fmt::Display for TooLarge {
 }
 
 impl Error for TooLarge {}
-
-// The predicate at record n as it is written, with its conjuncts.
-pub fn predicate_at(s: &[u8], n: usize) -> Predicate
-    requires there { There s.now n }
-    requires n_nonzero { 0 < n }
-    requires s_len_bound { length s.now ≤ work_bytes }
-    ensures { (e : Expr) → Standing s.now n e → length (split_conjunction e) ≤ max_list → Shaped s.now result e }
-{
-    let list = split_at(s, n, empty());
-    Predicate {
-        written: Some(n),
-        list,
-    }
-}
 
 // The predicate of the Filter `plan` as it is written, with its conjuncts.
 pub fn predicate_at_xx(plan: Subtree) -> Predicate
@@ -102,15 +87,6 @@ pub fn merge(s: &[u8], upper: Predicate, lower: Conjuncts) -> Predicate
 {
     let list = upper.list;
     Predicate::joined(unique(s, lower, list))
-}
-
-// The record of the input of the Filter at the start of `part`, which is record x: what follows its predicate, right behind the Filter.
-pub fn filter_input(part: &[u8], x: usize) -> usize
-    requires { FilterIn part.now x }
-    ensures { (s : List ℕ) (e : Expr) (q : Plan) → Stretch s x part.now → length s ≤ work_bytes →
-        StandingP s x (filter e q) → FilterInput s x result q }
-{
-    word_at(from_record(part, x, x + 1), NEXT_LINK)
 }
 
 // The input of the Filter `plan`: what follows its predicate, which is right behind it.
@@ -169,41 +145,6 @@ pub fn merge_fits_xx(
     make_filter_xx(s, input, p.written, list, input, &mut out, spot.level);
     write_records_xx(s, levels, spot.end, spot.records, &mut out);
     if !fits(&out) {
-        return Err(TooLarge);
-    }
-    Ok(())
-}
-
-// Test 11 on the plan after a merge: the whole, with the Filter p over `input`, the plan at record x, in the place of record `node`.
-pub fn merge_fits(
-    s: &[u8],
-    node: usize,
-    p: Predicate,
-    input: &[u8],
-    x: usize,
-    work: &mut [u8],
-    levels: &mut [u32],
-) -> Result<(), TooLarge>
-    requires stretch { Stretch s.now x input.now }
-    requires mergeable { Mergeable s.now node p x }
-    requires scratch { Space work.old levels.old }
-    ensures { (w : Plan) (c : Focus) → Inside s.now node w c → (e : Expr) (q : Plan) → Made s.now p e →
-        StandingP s.now x q → list_p q ≤ max_list → is_ok result ≡ within_limits (c.back (filter e q)) }
-{
-    let list = p.list;
-    if MAX_LIST < list.len {
-        return Err(TooLarge);
-    }
-    let spot = write_before(s, node, work, levels);
-    // No item of a merged list has its columns replaced: any plan of the image serves as the map.
-    let end = make_filter(
-        s, input, x, MAX_DEPTH, p.written, list, input, x, work, node, spot.level,
-    );
-    let records = write_records(s, levels, spot.end, spot.records, work, end);
-    if MAX_RECORDS < records {
-        return Err(TooLarge);
-    }
-    if !is_shallow(work, records) {
         return Err(TooLarge);
     }
     Ok(())

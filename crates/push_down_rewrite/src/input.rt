@@ -23,13 +23,7 @@ use push_down_base::predicates::Predicate;
 use push_down_join::push_down_all_join::rewrite_join_xx;
 
 // A predicate that rests on `input`, which is no Filter.
-fn rewrite_input(
-    input: Subtree,
-    p: Predicate,
-    m: &mut [u8],
-    out: &mut Writer,
-    level: usize,
-) -> bool
+fn rewrite_input(input: Subtree, p: Predicate, m: &mut [u8], out: &mut Writer, level: usize) -> bool
     requires on_input { OnInput input.image.now input.number p }
     requires arm { Shallow 6 level }
     requires map_room { map_bytes ≤ length m.old }
@@ -61,13 +55,7 @@ fn rewrite_input(
 }
 
 // What is done with the predicate p that is left over `input`: the plan alone where none is (819 to 823), else the match.
-pub fn resume(
-    input: Subtree,
-    p: Predicate,
-    m: &mut [u8],
-    out: &mut Writer,
-    level: usize,
-) -> bool
+pub fn resume(input: Subtree, p: Predicate, m: &mut [u8], out: &mut Writer, level: usize) -> bool
     requires some_left { SomeLeft input.image.now input.number p }
     requires arm { Shallow 6 level }
     requires map_room { map_bytes ≤ length m.old }

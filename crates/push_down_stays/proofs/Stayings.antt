@@ -2,7 +2,7 @@
 use Rattle.std.specs.Prelude.{Option as Maybe, Some, None, is_some}
 use Prim.Native.Nat.{ℕ}
 use native.Mathlib.Omega.{arith}
-use mathlib.Core.Path.{◌≡◌, refl, sym, ap, ◌∙◌}
+use mathlib.Core.Path.{◌≡◌, refl, sym, ap, subst, ◌∙◌}
 use mathlib.Core.Bool.{Bool, true, false, not}
 use mathlib.Core.List.{List, []}
 use mathlib.Core.Option.{Option, none, some}
@@ -10,6 +10,7 @@ use lib.Dec.{eqb}
 use lib.ListN.{length}
 use borrow.Author.Tests.{eqb-true, eqb-false}
 use Rattle.std.specs.Prelude as P
+use Rattle.image.specs.declared.trees.Subtree.{Subtree}
 use Rattle.image.proofs.Walking.{only}
 use Rattle.plan.specs.Columns.{on_cols}
 use Rattle.plan.specs.Schema.{schema}
@@ -35,7 +36,7 @@ use Rattle.push_down_arms.specs.Movable.{may_move}
 use Rattle.push_down_base.specs.Predicates.{Predicate}
 use Rattle.push_down_arms.specs.Through.{takes_none}
 use Rattle.push_down_arms.proofs.Divisions.{aggregate_pushed, window_pushed, project_kept}
-use Rattle.push_down_join.specs.JoinPlans.{FilterOf, has_none, has_one}
+use Rattle.push_down_join.specs.JoinPlans.{FilterOf_xx, has_none_xx, has_one_xx}
 use Rattle.push_down_merge.proofs.OneMerge.{input_placed, unmerged}
 use Rattle.push_down_base.proofs.Plain.{split_some}
 use Rattle.push_down_arms.proofs.ScanShares.{scan_kept}
@@ -63,15 +64,15 @@ kept_as e h = record { yes = λ y. h.yes (e ∙ y); no = λ n. h.no (e ∙ n) }
 
 module _ {s : List ℕ} where
   -- it is at record n
-  pub own_deep : {n : ℕ} {f : Option Expr} {b : Bool} → FilterOf s (P.Some n) f → ((e : Expr) → Standing s n e → Says b (LeftDeep e))
-      → Says b (conjunction (split_conjunction? f) ≡ f)
+  pub own_deep : {t : Subtree} {f : Option Expr} {b : Bool} → FilterOf_xx s (P.Some t) f
+      → ((e : Expr) → Standing t.image.now t.number e → Says b (LeftDeep e)) → Says b (conjunction (split_conjunction? f) ≡ f)
   unfolding split_conjunction?
-  own_deep (has_one {e = e} h pos) g = g e h
+  own_deep {t} (has_one_xx {e = e} here h pos) g = g e (subst (λ z. Standing z t.number e) (sym here) h)
 
   -- there is none
-  pub own_bare : {f : Option Expr} → FilterOf s P.None f → Says true (conjunction (split_conjunction? f) ≡ f)
+  pub own_bare : {f : Option Expr} → FilterOf_xx s P.None f → Says true (conjunction (split_conjunction? f) ≡ f)
   unfolding split_conjunction? conjunction
-  own_bare has_none = says_so refl
+  own_bare has_none_xx = says_so refl
 
 no_conjuncts : (f : Option Expr) → length (split_conjunction? f) ≡ 0 → f ≡ none
 unfolding split_conjunction?
@@ -303,3 +304,7 @@ module _ {s : List ℕ} {p r : Predicate} {e x : Expr} (h : Shaped s p e) (i : s
 
 pub simple_gone : {e : Expr} → simplify_filter e ≡ none → Says false (simplify_filter e ≡ some e)
 simple_gone i = says_not (λ m. let z : ◌≡◌ {A = ℕ} 0 1 = cc in absurd (omega arith))
+
+-- a predicate that rests on a plan rests on it in the same bytes elsewhere
+pub rests_elsewhere : {s t : List ℕ} {x : ℕ} {p : Predicate} {e : Expr} {q : Plan} → t ≡ s → Rests s x p e q → Rests t x p e q
+rests_elsewhere e h = rw e h

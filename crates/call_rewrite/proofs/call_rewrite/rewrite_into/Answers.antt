@@ -1,6 +1,6 @@
 -- `call_rewrite::rewrite_into` meets its contract.
 use Rattle.std.proofs.Common.{rules}
-use Rattle.call_rewrite.proofs.Calls.{outcomes_as}
+use Rattle.push_down_rewrite.proofs.Outcoming.{outcomes_as}
 use Rattle.call_rewrite.proofs.call_rewrite.rewrite_into.Goals as goal
 
 pub returns : goal.returns

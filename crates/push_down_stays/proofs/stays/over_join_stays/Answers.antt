@@ -11,11 +11,11 @@ returns-then-not-is_left_deep c =
 
 pub is_left_deep-requires : goal.is_left_deep-requires
 is_left_deep-requires c =
-    let r = c.requires.over_join.rests in (record { expr = _; shaped = r.shaped }, r.placed.short)
+    let r = c.requires.rests in (record { expr = _; shaped = r.shaped }, r.placed.short)
 
-pub nothing_moves-requires-clause-join_between : goal.nothing_moves-requires-clause-join_between
-nothing_moves-requires-clause-join_between c =
-    let p = c.requires.over_join in
+pub nothing_moves-requires : goal.nothing_moves-requires
+nothing_moves-requires c =
+    let p = c.requires in
     let h = p.rests in record {
       kind = p.kind;
       lhs = p.lhs;
@@ -26,7 +26,7 @@ nothing_moves-requires-clause-join_between c =
       above = split_conjunction p.expr;
       reads = over_reads h;
       own = split_conjunction? p.condition;
-      reads_own = c.own_filter.ensures p.kind p.lhs p.rhs p.keys p.condition h.placed;
+      reads_own = c.own_filter_xx.ensures p.kind p.lhs p.rhs p.keys p.condition h.placed;
     }
 
 pub returns-then-own_left_deep : goal.returns-then-own_left_deep
@@ -35,7 +35,7 @@ returns-then-own_left_deep c =
     (c.own_left_deep.ensures k l r on f h.placed))
     (says_as (c.if-not-is_left_deep.false) (c.is_left_deep.ensures e h.shaped))
     (c.nothing_moves.ensures k l r on f (split_conjunction e) (split_conjunction? f) h.placed (over_reads h)
-    (c.own_filter.ensures k l r on f h.placed))
+    (c.own_filter_xx.ensures k l r on f h.placed))
 
 pub returns : goal.returns
 returns c =
