@@ -1,5 +1,0 @@
--- `extract_or_clause::copy_clause` meets its contract. The measure is the depth.
-use Rattle.push_down_join.proofs.extract_or_clause.+copy_clause.Given as goal
-
-abbrev pub decreases-copy_clause : goal.decreases-copy_clause
-decreases-copy_clause l = l.depth
