@@ -1,11 +1,11 @@
 -- How many conjuncts a list has once the entries of a plan replace its columns.
 --     single_label       a conjunct is no And
 --     fits_map           the expressions that a plan's entries name have integers of 64 bits
---     value_single       where no entry names a conjunct, one conjunct is left of it
---     value_standing     where one does, its expression stands in the image
+--     single_found       where no entry names a conjunct, one conjunct is left of it
+--     standing_found     where one does, its expression stands in the image
 --     counts-..          a list that counts
 -- Assumes nothing.
-use Prim.Native.Nat.{ℕ, ◌+◌, ◌-◌, ◌*◌, ◌≤◌, ◌<◌}
+use Prim.Native.Nat.{ℕ, ◌+◌, ◌-◌, ◌≤◌, ◌<◌}
 use native.Mathlib.Omega.{arith}
 use mathlib.Core.Path.{◌≡◌, refl, sym, ap, subst, ◌∙◌}
 use mathlib.Core.Bool.{Bool, true, false, cond}
@@ -13,13 +13,12 @@ use mathlib.Core.List.{List, [], ◌∷◌, ◌++◌}
 use borrow.Author.Rules.{rules}
 use Rattle.std.specs.Prelude.{IsTrue, ◌↔◌}
 use lib.Dec.{ltb}
-use lib.ListN.{length, get_or, drop, length-drop, length-append}
+use lib.ListN.{length, get_or, drop, length-append}
 use borrow.Author.Tests.{ltb-true, ltb-false}
 use Rattle.image.specs.Subtrees.{tree_of}
-use Rattle.image.specs.Tree.{Forest, none, Tree, At, label_at}
+use Rattle.image.specs.Tree.{Forest, none, Tree}
 use Rattle.image.specs.declared.trees.Subtree.{Subtree}
 use Rattle.image.specs.Limits.{work_bytes, max_list, max_below}
-use Rattle.image.proofs.Walking.{only}
 use Rattle.plan.specs.Lists.{flatten}
 use Rattle.plan.specs.Schema.{same}
 use Rattle.plan.specs.Syntax.{Name, Expr, col, num, bool, nul, bin, neg, test, between, inlist, fn, Exprs, enil, econs, Entry}
@@ -32,13 +31,12 @@ use Rattle.conjuncts.specs.Items.{Conjuncts, FALSE, listed, Holds, Item, Lists}
 use Rattle.conjuncts.specs.Labels.{is_and}
 use Rattle.conjuncts.specs.Standing.{Standing, StandingP}
 use Rattle.conjuncts.proofs.Listed.{lists_none, lists_add, lists_length, known_of, next, at_end}
-use Rattle.conjuncts.proofs.Operands.{Both, and_label, single, part_of}
+use Rattle.conjuncts.proofs.Operands.{Both, and_label, single}
 use Rattle.conjuncts.proofs.Standing.{standing_tree}
-use Rattle.writing.specs.Replaced.{Begins, Leads, value_for}
-use Rattle.writing.proofs.Entries.{value, no_value, deep_found, replaced_below, replaced_found}
+use Rattle.writing.specs.Replaced.{Begins, value_for}
+use Rattle.writing.proofs.Entries.{deep_found, replaced_below, replaced_found}
 use Rattle.writing.specs.Maps.{map_of}
 use Rattle.writing.proofs.Maps.{plan_is, plan_map, replaced_expr}
-use Rattle.writing.proofs.Pushing.{plan_readable}
 use Rattle.push_down_arms.specs.Divided.{parts, Counts}
 use Rattle.push_down_base.proofs.Plain.{split_some}
 use Rattle.push_down_base.proofs.Steps.{deep_more}
@@ -104,41 +102,30 @@ module _ (σ : Name → Expr) (h : (x : Name) → FitsE (σ x)) where
 
 -- ---- what an entry names
 
--- what `value_for` finds for the conjunct at record n
-pub value_leads : {s part here : List ℕ} {x n v : ℕ} {e : Expr} {p : Plan} → here ≡ drop (32 * n) s → part ≡ drop (32 * x) s → Standing s n e
-    → StandingP s x p → ((t : Tree) → At t part x → Leads (value_for t (label_at here)) part x v)
-    → Leads (value_for (plan_tree p) (label_e e)) (drop (32 * x) s) x v
-value_leads {x = x} {v = v} {p = p} i j h k f =
-    rw (← h.here.head.label, ← i, ← j) (f (plan_tree p) (rw j k.here))
+module _ (map t : Subtree) (e : Expr) (p : Plan) (k : StandingP map.image.now map.number p) (is : tree_of t ≡ expr_tree e) where
+  found_here : value_for (tree_of map) (tree_of t).label ≡ value_for (plan_tree p) (label_e e)
+  found_here = ap (λ (u : Tree). value_for u (tree_of t).label) (plan_is map k) ∙ ap (λ (u : Tree). value_for (plan_tree p) u.label) is
 
-module _ {s : List ℕ} {x v : ℕ} (e : Expr) (p : Plan) (k : StandingP s x p) (l : Leads (value_for (plan_tree p) (label_e e)) (drop (32 * x) s) x v) where
   -- none does: what stands at the top of the conjunct stays
-  pub value_single : v ≡ 0 → split_conjunction e ≡ e ∷ [] → length (split_conjunction (replace_cols (map_of p) e)) ≡ 1
-  value_single z h =
+  pub single_found : value_for (tree_of map) (tree_of t).label ≡ none → split_conjunction e ≡ e ∷ []
+      → length (split_conjunction (replace_cols (map_of p) e)) ≡ 1
+  single_found z h =
       let i : expr_tree (replace_cols (map_of p) e) ≡ _ = sym (replaced_expr (plan_tree p) (map_of p) (plan_map p) e)
-      ∙ no_value (plan_tree p) (label_e e) l z _ in
-      let j : label_e (replace_cols (map_of p) e) ≡ label_e e = ap (λ (t : Tree). t.label) i in
+      ∙ replaced_below (plan_tree p) (expr_tree e) (sym found_here ∙ z) in
+      let j : label_e (replace_cols (map_of p) e) ≡ label_e e = ap (λ (u : Tree). u.label) i in
       ap length (single (replace_cols (map_of p) e) (ap is_and j ∙ single_label e h))
 
   -- one does
-  pub value_past : (v ≡ 0 → ⊥) → x < v
-  value_past nz = (value (plan_tree p) (label_e e) (plan_readable k) k.here l nz).past
-
-  pub value_standing : length s ≤ work_bytes → FitsE e → (v ≡ 0 → ⊥) → Standing s v (replace_cols (map_of p) e)
-  value_standing short f nz =
-      let w = value (plan_tree p) (label_e e) (plan_readable k) k.here l nz in
-      let i : expr_tree (replace_cols (map_of p) e) ≡ w.tree =
-      sym (replaced_expr (plan_tree p) (map_of p) (plan_map p) e) ∙ w.is _ in
-      let n = length-drop (32 * x) s in
-      let here : At (expr_tree (replace_cols (map_of p) e)) (drop (32 * (v - x)) (drop (32 * x) s)) v = rw i w.here in
-      let t : w.readable.tree ≡ expr_tree (replace_cols (map_of p) e) = only w.readable.at here in
-      record {
-        within = omega (arith, w.past, w.fits);
-        here = rw (← part_of s (drop (32 * x) s) x v refl (omega (arith, w.past))) here;
-        deep = deep_more (kids_e (replace_cols (map_of p) e)) (max_below - 2) max_below (rw t at w.readable.deep) (omega arith);
-        fits = fits_replaced (map_of p) (λ y. fits_map p y k.fits) e f;
-        small = omega (arith, w.past, w.fits);
-      }
+  pub standing_found : {x : Subtree} → length map.image.now ≤ work_bytes → FitsE e → Begins (value_for (tree_of map) (tree_of t).label) map x
+      → Standing map.image.now x.number (replace_cols (map_of p) e)
+  standing_found {x} short f b =
+      let c : Begins (value_for (plan_tree p) (label_e e)) map x = subst (λ (g : Forest). Begins g map x) found_here b in
+      let d = deep_found (plan_tree p) (label_e e) k.deep c in
+      let i : tree_of x ≡ expr_tree (replace_cols (map_of p) e) =
+      replaced_found (plan_tree p) (expr_tree e) c ∙ replaced_expr (plan_tree p) (map_of p) (plan_map p) e in
+      rw (← b.image) (standing_tree x (replace_cols (map_of p) e) i (rw b.image short)
+      (deep_more (kids_e (replace_cols (map_of p) e)) (max_below - 1 - 1) max_below (rw i at d.1) (omega arith))
+      (fits_replaced (map_of p) (λ y. fits_map p y k.fits) e f))
 
 -- FALSE has no columns
 pub false_parts : (σ : Name → Expr) (e : Expr) → e ≡ FALSE → length (split_conjunction (replace_cols σ e)) ≡ 1
@@ -202,30 +189,3 @@ module _ {s : List ℕ} {σ : Name → Expr} {es : List Expr} where
           let no : max_list < r.len → ⊥ = λ l. let t : IsTrue b = long.1 l in search (rules, e) in
           let m : r.len ≤ max_list = omega (arith, no) in
           absurd (omega (arith, ltb-true max_list (parts σ es) f, lists_length h.counts.lists m))
-
--- ---- what an entry names, as a tree
-
-module _ (map t : Subtree) (e : Expr) (p : Plan) (k : StandingP map.image.now map.number p) (is : tree_of t ≡ expr_tree e) where
-  found_here : value_for (tree_of map) (tree_of t).label ≡ value_for (plan_tree p) (label_e e)
-  found_here = ap (λ (u : Tree). value_for u (tree_of t).label) (plan_is map k) ∙ ap (λ (u : Tree). value_for (plan_tree p) u.label) is
-
-  -- none does: what stands at the top of the conjunct stays
-  pub single_found : value_for (tree_of map) (tree_of t).label ≡ none → split_conjunction e ≡ e ∷ []
-      → length (split_conjunction (replace_cols (map_of p) e)) ≡ 1
-  single_found z h =
-      let i : expr_tree (replace_cols (map_of p) e) ≡ _ = sym (replaced_expr (plan_tree p) (map_of p) (plan_map p) e)
-      ∙ replaced_below (plan_tree p) (expr_tree e) (sym found_here ∙ z) in
-      let j : label_e (replace_cols (map_of p) e) ≡ label_e e = ap (λ (u : Tree). u.label) i in
-      ap length (single (replace_cols (map_of p) e) (ap is_and j ∙ single_label e h))
-
-  -- one does
-  pub standing_found : {x : Subtree} → length map.image.now ≤ work_bytes → FitsE e → Begins (value_for (tree_of map) (tree_of t).label) map x
-      → Standing map.image.now x.number (replace_cols (map_of p) e)
-  standing_found {x} short f b =
-      let c : Begins (value_for (plan_tree p) (label_e e)) map x = subst (λ (g : Forest). Begins g map x) found_here b in
-      let d = deep_found (plan_tree p) (label_e e) k.deep c in
-      let i : tree_of x ≡ expr_tree (replace_cols (map_of p) e) =
-      replaced_found (plan_tree p) (expr_tree e) c ∙ replaced_expr (plan_tree p) (map_of p) (plan_map p) e in
-      rw (← b.image) (standing_tree x (replace_cols (map_of p) e) i (rw b.image short)
-      (deep_more (kids_e (replace_cols (map_of p) e)) (max_below - 1 - 1) max_below (rw i at d.1) (omega arith))
-      (fits_replaced (map_of p) (λ y. fits_map p y k.fits) e f))

@@ -11,5 +11,5 @@ pub mod Counting
 pub mod Divides
 pub mod Moves
 pub mod Divisions
-pub mod Lent
+pub mod Trees
 pub mod Behind

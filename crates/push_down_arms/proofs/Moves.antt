@@ -1,24 +1,21 @@
 -- Laws of the fields with which a conjunct may move.
 --     lets_window, lets_other, move_group, move_other   by the kind of a record
---     named_stop, named_step, lets_stop, lets_step      along the records of a plan
 --     project_moves, group_moves, window_moves          the fields of each plan
+--     any_named, all_let, ..                            over the trees below a plan; some_found   what is found there
 -- Assumes nothing.
 use mathlib.Core.Path.{◌≡◌, refl, sym, ap, ap₂, ◌∙◌}
 use mathlib.Core.Bool.{Bool, true, false, not, ◌&&◌, ◌||◌, cond}
 use mathlib.Core.List.{List, [], ◌∷◌}
-use Prim.Native.Nat.{ℕ, ◌+◌, ◌-◌, ◌*◌}
+use Prim.Native.Nat.{ℕ, ◌+◌}
 use native.Mathlib.Omega.{arith}
 use lib.Dec.{eqb}
-use lib.ListN.{drop}
 use borrow.Author.Tests.{eq-eqb, ne_eqb}
 use Rattle.std.specs.List.{list_any, list_all}
 use Rattle.std.specs.Prelude.{Option, None, Some}
 use Rattle.std.specs.Option.{is_some as found}
 use Rattle.image.specs.declared.trees.Subtree.{Subtree}
 use Rattle.image.specs.Subtrees.{Place, places_from}
-use Rattle.image.specs.Tree.{Label, Forest, none, node, Tree, Readable, size}
-use Rattle.image.specs.Word.{word}
-use Rattle.image.proofs.Walking.{Chain, chain, round, again}
+use Rattle.image.specs.Tree.{Label, Forest, none, node, Tree, size}
 use Rattle.plan.specs.Lists.{◌&◌, any, all}
 use Rattle.plan.specs.Schema.{same, has}
 use Rattle.plan.specs.Syntax.{Name, nm, Expr, col, num, bool, nul, bin, neg, test, between, inlist, fn, Entry, AggEntry, WinEntry, Plan, scan, filter}
@@ -28,7 +25,7 @@ use Rattle.plan.specs.Trees.{agg_label, agg_kids, win_label, win_kids}
 use Rattle.rewrite.specs.Utils.{is_volatile_expr, is_leafward_expr}
 use Rattle.rewrite.specs.PushDownFilter.{names, non_pushable}
 use Rattle.conjuncts.proofs.FunctionsIn.{or_nil, fn_tree}
-use Rattle.writing.specs.Replaced.{is_entry, either, lookup, Leads, Finds}
+use Rattle.writing.specs.Replaced.{is_entry, either, lookup, Finds}
 use Rattle.writing.proofs.Maps.{NoEntry, same_entry, lookup_none, and_is, plan_none, parts_none}
 use Rattle.push_down_arms.specs.Movable.{leaf_here, fixed, is_named, named_in, partition_in, lets, lets_all, is_some, may_move}
 
@@ -53,38 +50,6 @@ module _ (x : Name) (t : Tree) where
   pub move_other : (t.label.kind ≡ 42 → ⊥) → may_move t x ≡ lets_all x t.below
   unfolding may_move
   move_other h = rw (ne_eqb t.label.kind 42 h)
-
--- a link that is not 0 leads to something
-pub some_linked : {s : List ℕ} {b v : ℕ} (f : Forest) → Leads f s b v → not (eqb v 0) ≡ is_some f
-some_linked {v = v} none h = ap not (eq-eqb v 0 h.linked)
-some_linked {v = v} (node l cs ns) h = ap not (ne_eqb v 0 (λ z. omega (arith, h.linked.0)))
-
--- ---- along the records of a plan
-
-module _ (x : Name) (l : Label) (cs ns : Forest) where
-  pub named_stop : is_named x l ≡ true → true ≡ named_in x (node l cs ns)
-  unfolding named_in
-  named_stop h = rw h
-
-  pub named_step : is_named x l ≡ false → named_in x (node l cs ns) ≡ named_in x ns
-  unfolding named_in
-  named_step h = rw h
-
-  pub lets_stop : lets x (record { label = l; below = cs }) ≡ false → false ≡ lets_all x (node l cs ns)
-  unfolding lets_all
-  lets_stop h = rw h
-
-  pub lets_step : lets x (record { label = l; below = cs }) ≡ true → lets_all x (node l cs ns) ≡ lets_all x ns
-  unfolding lets_all
-  lets_step h = rw h
-
--- behind the first child the partition columns are to come
-pub partition_chain : {d : ℕ} {s part : List ℕ} {b first next : ℕ} (x : Name) → Readable d s b → first ≡ word s 24 → (first ≡ 0 → ⊥)
-    → part ≡ drop (32 * (first - b)) s → next ≡ word part 28 → Chain (λ t rest. partition_in x t.below ≡ named_in x rest) d s b next
-unfolding partition_in
-partition_chain {first = first} x h e nz i j =
-    let k = chain (λ t rest. partition_in x t.below ≡ partition_in x rest) h refl in
-    rw (j, i, e) (let u = round _ k (λ z. nz (e ∙ z)) in again _ k u u.so_far)
 
 -- ---- the fields of each plan
 

@@ -8,20 +8,18 @@ use mathlib.Core.List.{List, [], ◌∷◌, ◌++◌, append_assoc, append-nil}
 use Prim.Native.Nat.{ℕ, suc, ◌+◌, ◌-◌, ◌*◌, ◌≤◌, ◌<◌}
 use native.Mathlib.Omega.{arith}
 use lib.ListN.{length, take, drop, get_or, length-drop}
-use lib.Seq.{take_at, length-sets}
+use lib.Seq.{take_at}
 use Rattle.image.specs.Limits.{work_bytes, no_room, max_below}
 use Rattle.image.specs.Room.{Wrote}
 use Rattle.image.specs.Tree.{Label, Forest, none, node, Deep, At}
 use Rattle.image.specs.Records.{Rec, recs, recs_any}
-use Rattle.image.proofs.Room.{cap_le}
 use Rattle.plan.specs.Integers.{FitsE, Every}
 use Rattle.plan.specs.Measure.{sizes}
 use Rattle.plan.specs.Syntax.{Expr, Field, scan}
 use Rattle.plan.specs.Trees.{label_e, kids_e, label_p, kids_p, expr_tree, plan_tree, each, field_label, nothing_below}
 use Rattle.conjuncts.specs.Items.{Conjuncts, FALSE, listed, Lists}
-use Rattle.conjuncts.specs.Standing.{Standing, Stretch}
+use Rattle.conjuncts.specs.Standing.{Standing}
 use Rattle.conjuncts.proofs.Listed.{lists_none, next, at_end}
-use Rattle.conjuncts.proofs.Operands.{part_of}
 use Rattle.push_down_base.specs.Around.{WroteAll}
 use Rattle.push_down_base.specs.Arms.{Placed}
 use Rattle.push_down_arms.specs.Scans.{Adds}
@@ -58,11 +56,11 @@ filters_start {fs = fs} {es} h k = record {
 abbrev pub Added : List ℕ → Label → ℕ → Conjuncts → Conjuncts → Type 0
 Added s l n c r = (ds : List Expr) → Lists s c ds → Adds s l n r ds
 
-pub filters_here : {s : List ℕ} {y : ℕ} {r r' : Conjuncts} {es : List Expr} (l : Label) (cs ns : Forest) → Filters s r es (node l cs ns)
+pub filters_next : {s : List ℕ} {y : ℕ} {r r' : Conjuncts} {es : List Expr} (l : Label) (cs ns : Forest) → Filters s r es (node l cs ns)
     → length s ≤ work_bytes → 0 < y → At (record { label = l; below = cs }) (drop (32 * y) s) y → Deep cs max_below
     → Added s l y r r' → Filters s r' es ns
 unfolding each
-filters_here {s} {y} {r} {r'} {es} l cs ns h short past here deep add = go h.fields h.rest h.is h.fits h.completes
+filters_next {s} {y} {r} {r'} {es} l cs ns h short past here deep add = go h.fields h.rest h.is h.fits h.completes
   where
     go : (fields : List Field) (rest : List Expr) → node l cs ns ≡ each field_label nothing_below fields (each label_e kids_e rest none)
         → Every FitsE rest → h.done ++ rest ≡ es → Filters s r' es ns
@@ -98,12 +96,6 @@ filters_here {s} {y} {r} {r'} {es} l cs ns h short past here deep add = go h.fie
           lists = (add h.done h.lists).field (ap (λ (k : Label). k.kind) il);
           completes = e;
         }
-
-pub filters_next : {s part : List ℕ} {x y : ℕ} {r r' : Conjuncts} {es : List Expr} (l : Label) (cs ns : Forest) → Filters s r es (node l cs ns)
-    → length s ≤ work_bytes → Stretch s x part → x < y → At (record { label = l; below = cs }) (drop (32 * (y - x)) part) y → Deep cs max_below
-    → Added s l y r r' → Filters s r' es ns
-filters_next {s} {part} {x} {y} l cs ns h short stretch past here deep add =
-    filters_here l cs ns h short (omega arith) (rw (part_of s part x y stretch (omega arith)) at here) deep add
 
 pub filters_end : {s : List ℕ} {r : Conjuncts} {es : List Expr} → Filters s r es none → Lists s r es
 unfolding each
@@ -146,13 +138,6 @@ module _ {out₀ : List ℕ} {at₀ level : ℕ} {es : List Expr} where
   copied_end {out} {to} i le h =
       let e : h.done ≡ run level es = sym (append-nil h.done) ∙ (rw (at_end es i le) at h.completes) in
       subst (λ xs. WroteAll out₀ out at₀ to xs) e h.wrote
-
--- the buffer keeps its length
-pub wrote_long : {out out₁ : List ℕ} {at r : ℕ} {xs : List Rec} → length out ≡ work_bytes → WroteAll out out₁ at r xs → length out₁ ≡ work_bytes
-wrote_long long h = rw (h.bytes, length-sets) long
-
-pub wrote_few : {out out₁ : List ℕ} {at r : ℕ} {xs : List Rec} → WroteAll out out₁ at r xs → r ≤ no_room
-wrote_few {at = at} {xs = xs} h = rw h.next (cap_le (at + length xs))
 
 -- ---- the scan
 

@@ -1,25 +1,24 @@
 -- Which conjuncts a scan takes, and what its fields' records say of that.
 --     supports_none, -some         a conjunct without columns, and one with columns
---     field_room, field_bit        the record of a field, and its mark
+--     field_step, field_left       the first of the fields that are left, and its mark
 --     marked_place                 a column is marked exactly if its field is: no field's name is repeated
---     scan_fields, ..              of a scan that stands in an image: where its fields stand, that they are few, and their set
+--     scan_few, Passed, ..         of a scan that stands in an image: that its fields are few, and their set
 -- Assumes nothing.
 use mathlib.Core.Path.{◌≡◌, refl, sym, ap, ◌∙◌}
 use mathlib.Core.Bool.{Bool, true, false, not, ◌||◌}
 use mathlib.Core.List.{List, [], ◌∷◌, map}
-use Prim.Native.Nat.{ℕ, zero, suc, ◌+◌, ◌*◌, ◌≤◌, ◌<◌}
+use Prim.Native.Nat.{ℕ, zero, suc, ◌+◌, ◌≤◌, ◌<◌}
 use native.Mathlib.Omega.{arith}
 use lib.Dec.{eqb}
-use lib.ListN.{length, take, drop, length-drop}
+use lib.ListN.{length, take, drop}
 use borrow.Author.Tests.{leb-true}
-use Rattle.image.specs.Limits.{max_fields, max_below}
+use Rattle.image.specs.Limits.{max_fields}
 use Rattle.image.specs.Tree.{Label, Forest, none, node}
-use Rattle.image.specs.Word.{word}
 use Rattle.plan.specs.Columns.{on_cols}
 use Rattle.plan.specs.Lists.{◌&◌, any}
 use Rattle.plan.specs.Schema.{same, has, schema, nodup}
 use Rattle.plan.specs.Syntax.{Name, Expr, Field, scan}
-use Rattle.plan.specs.Trees.{label_e, kids_e, kids_p, each, field_label, nothing_below, bit_of}
+use Rattle.plan.specs.Trees.{each, field_label, nothing_below, bit_of}
 use Rattle.plan.proofs.Lists.{and_l, and_r}
 use Rattle.plan.proofs.Names.{apart, same_refl}
 use Rattle.acceptance.specs.Names.{sound}
@@ -30,7 +29,6 @@ use Rattle.utils.proofs.Marking.{has_at}
 use Rattle.push_down_base.specs.Arms.{Placed}
 use Rattle.push_down_arms.specs.Scans.{supports}
 use Rattle.push_down_base.proofs.Masking.{Marks, masks_start, masks_step, masks_end}
-use Rattle.push_down_base.proofs.Steps.{On, rest_trees, children}
 
 -- ---- one conjunct
 
@@ -57,24 +55,6 @@ exact_at (f ∷ fs) (suc i) = exact_at fs i
 bit : (b : Bool) → eqb (bit_of b) 1 ≡ b
 bit true = refl
 bit false = refl
-
-pub field_room : (fs : List Field) (ns : Forest) (i : ℕ) {s : List ℕ} {m d : ℕ} → On s m d (each field_label nothing_below fs ns) → i < length fs
-    → 32 * (m + i) + 32 ≤ length s
-unfolding each
-field_room [] ns i h lt = absurd (omega arith)
-field_room (f ∷ fs) ns zero {s} {m} h lt = omega (arith, h.stands.head.room, length-drop (32 * m) s)
-field_room (f ∷ fs) ns (suc i) {s} {m} h lt = omega (arith, field_room fs ns i (rest_trees h) (omega arith))
-
-pub field_bit : (fs : List Field) (ns : Forest) (i : ℕ) {s : List ℕ} {m d : ℕ} → On s m d (each field_label nothing_below fs ns) → i < length fs
-    → eqb (word (drop (32 * (m + i)) s) 16) 1 ≡ exact_at fs i
-unfolding each
-field_bit [] ns i h lt = absurd (omega arith)
-field_bit (f ∷ fs) ns zero {s} {m} h lt =
-    let e : m + 0 ≡ m = omega arith in
-    rw e (ap (λ l. eqb l.lo 1) h.stands.head.label ∙ bit f.exact)
-field_bit (f ∷ fs) ns (suc i) {s} {m} h lt =
-    let e : m + suc 0 + i ≡ m + suc i = omega arith in
-    rw e at (field_bit fs ns i (rest_trees h) (omega arith))
 
 -- the first field of those that are left, and the others
 pub field_step : (fs : List Field) (i : ℕ) (ns : Forest) {l : Label} {cs f : Forest} → i < length fs
@@ -131,11 +111,6 @@ marked_place (f ∷ fs) (suc i) h lt =
     rw (or_left (same f.name (name_at (names fs) i)) k) (marked_place fs i (and_r (not (has (names fs) f.name)) _ h) (omega arith))
 
 module _ {s : List ℕ} {x t : ℕ} {fs : List Field} {es : List Expr} (h : Placed s x (scan t fs es)) where
-  -- the fields stand right behind the scan's own record, one record each
-  pub scan_fields : On s (x + 1) max_below (each field_label nothing_below fs (each label_e kids_e es none))
-  unfolding kids_p
-  scan_fields = children h.short h.standing
-
   pub scan_width : length (schema (scan t fs es)) ≡ length fs
   unfolding schema
   scan_width = names_length fs
@@ -154,16 +129,12 @@ module _ {s : List ℕ} {x t : ℕ} {fs : List Field} {es : List Expr} (h : Plac
   pub passed_start : Passed 0 0
   passed_start = record { masks = masks_start (names fs) (marked fs) }
 
-  pub passed_more : {m r : ℕ} (i : ℕ) {v : Bool} → Marks m r i v → i < length fs → v ≡ exact_at fs i → Passed m i → Passed r (i + 1)
+  pub passed_next : {m r : ℕ} (i : ℕ) {v : Bool} → Marks m r i v → i < length fs → v ≡ exact_at fs i → Passed m i → Passed r (i + 1)
   unfolding schema
-  passed_more i {v} f lt e k = record {
+  passed_next i {v} f lt e k = record {
     masks = masks_step i v (names fs) (marked fs) f (omega (arith, names_length fs))
         (e ∙ sym (marked_place fs i (names_nodup (names fs) (rule_sound eqb (scan t fs es) h.rules)) lt)) k.masks;
   }
-
-  pub passed_next : {m r : ℕ} (i : ℕ) {v : Bool} → Marks m r i v → i < length fs → v ≡ eqb (word (drop (32 * (x + 1 + i)) s) 16) 1 → Passed m i
-      → Passed r (i + 1)
-  passed_next i f lt e k = passed_more i f lt (e ∙ field_bit fs (each label_e kids_e es none) i scan_fields lt) k
 
   pub passed_end : {m : ℕ} (i : ℕ) → length fs ≤ i → Passed m i → Masks m (schema (scan t fs es)) (marked fs)
   unfolding schema

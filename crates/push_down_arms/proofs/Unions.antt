@@ -1,5 +1,5 @@
 -- The inputs of a Union, each under its own Filter.
-use Prim.Native.Nat.{ℕ, ◌+◌, ◌-◌, ◌*◌, ◌≤◌, ◌<◌}
+use Prim.Native.Nat.{ℕ, ◌+◌, ◌*◌, ◌≤◌}
 use native.Mathlib.Omega.{arith}
 use native.Mathlib.Nat.{le_trans, le_of_eq, max-le, le-max_left, le-max_right}
 use mathlib.Core.Path.{◌≡◌, refl, sym, subst}
@@ -9,11 +9,10 @@ use mathlib.Core.Option.{some}
 use lib.Dec.{eqb}
 use lib.ListN.{length, drop, length-drop}
 use borrow.Author.Tests.{leb-true, eqb-true}
-use Rattle.image.specs.Limits.{max_list, max_fields, work_bytes, max_below, max_depth}
+use Rattle.image.specs.Limits.{max_list, max_fields, work_bytes, max_below}
 use Rattle.image.specs.Room.{Put, Wrote}
-use Rattle.image.specs.Tree.{Label, Forest, none, node, Tree, Deep, At, Readable}
+use Rattle.image.specs.Tree.{Label, Forest, none, node, Deep, At}
 use Rattle.image.proofs.Room.{Left, put_start, left_next, left_end}
-use Rattle.image.proofs.Walking.{only}
 use Rattle.plan.specs.Syntax.{Name, Expr, Plan, Plans, pnil, pcons, filter, union}
 use Rattle.plan.specs.Schema.{schema, schema_first}
 use Rattle.plan.specs.Trees.{label_p, kids_p, forest_p, plan_tree}
@@ -25,15 +24,13 @@ use Rattle.acceptance.specs.NamesRule.{ok_all, rule}
 use Rattle.rewrite.specs.Utils.{replace_cols}
 use Rattle.rewrite.specs.Limits.{list_p, list_ps}
 use Rattle.rewrite.specs.PushDownFilter.{filter_each, renamed, ren, rewrite_filter}
-use Rattle.conjuncts.specs.Standing.{StandingP, Stretch}
-use Rattle.conjuncts.proofs.Operands.{part_of}
+use Rattle.conjuncts.specs.Standing.{StandingP}
 use Rattle.utils.specs.Fields.{Fields, Names}
 use Rattle.push_down_base.specs.Predicates.{Predicate, Perhaps}
 use Rattle.push_down_arms.specs.Renaming.{Renamed}
 use Rattle.push_down_base.specs.Arms.{Rests}
 use Rattle.push_down_base.proofs.Answering.{few}
 use Rattle.push_down_base.proofs.Plain.{renamed_parts}
-use Rattle.push_down_base.proofs.Steps.{deep_more}
 
 -- of the inputs, whose names are ns by place, `rest` is left, the trees of `f`: each of one width, and to be written from record `to` on
 pub record Inputs (ns : List Name) (e : Expr) (all : Plans) (out₀ : List ℕ) (at₀ level : ℕ) (out : List ℕ) (to : ℕ) (f : Forest) : Type 0 where
@@ -149,10 +146,10 @@ module _ {s : List ℕ} {x : ℕ} {from : Fields} {below : Predicate} {e : Expr}
   }
 
   -- the first of those that are left may be written
-  pub renames_here : {out₀ : List ℕ} {at₀ level : ℕ} {out : List ℕ} {to : ℕ} (y : ℕ) {l : Label} {cs f : Forest}
+  pub renames_first : {out₀ : List ℕ} {at₀ level : ℕ} {out : List ℕ} {to : ℕ} (y : ℕ) {l : Label} {cs f : Forest}
       (k : First (schema (union ps)) e ps out₀ at₀ level out to l cs f) → At (record { label = l; below = cs }) (drop (32 * y) s) y
       → Deep cs max_below → Renamed s from below y e k.plan (schema (union ps))
-  renames_here y k here deep =
+  renames_first y k here deep =
       let t : At (plan_tree k.plan) (drop (32 * y) s) y = rw (k.label, k.below) at here in
       record {
         standing = record {
@@ -168,13 +165,6 @@ module _ {s : List ℕ} {x : ℕ} {from : Fields} {below : Predicate} {e : Expr}
         most = h.most;
         changed = h.changed;
       }
-
-  pub renames_first : {out₀ : List ℕ} {at₀ level : ℕ} {out : List ℕ} {to y : ℕ} {l : Label} {cs f : Forest}
-      {part : List ℕ} (k : First (schema (union ps)) e ps out₀ at₀ level out to l cs f) → Stretch s x part → x < y
-      → At (record { label = l; below = cs }) (drop (32 * (y - x)) part) y → Deep cs max_below
-      → Renamed s from below y e k.plan (schema (union ps))
-  renames_first {y = y} {part = part} k stretch past here deep =
-      renames_here y k (rw (part_of s part x y stretch (omega arith)) at here) deep
 
 -- .. of another name of the image
 pub renamed_in : {s z : List ℕ} {from : Fields} {p : Predicate} {y : ℕ} {e : Expr} {q : Plan} {ns : List Name} → z ≡ s → Renamed s from p y e q ns
@@ -206,8 +196,3 @@ pub union_wrote : {out₀ out₁ out : List ℕ} {at at₁ level to : ℕ} {l : 
     → Wrote out₀ out at level to (plan_tree (rewrite_filter e (union ps)).plan)
 unfolding label_p kids_p rewrite_filter schema
 union_wrote e ps long p i h = rw i at (left_end long p h)
-
--- a tree that stands below the top of a plan is no deeper than a plan
-pub readable_deep : {t : Tree} {s : List ℕ} {b : ℕ} → At t s b → Readable (max_depth - 1) s b → Deep t.below max_below
-readable_deep {t} h r =
-    deep_more t.below (max_below - 1) max_below (subst (λ (x : Tree). Deep x.below (max_below - 1)) (only r.at h) r.deep) (omega arith)

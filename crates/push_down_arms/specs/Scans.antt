@@ -9,7 +9,6 @@ use Rattle.plan.specs.Trees.{label_e}
 use Rattle.rewrite.specs.Utils.{no_columns}
 use Rattle.rewrite.specs.PushDownFilter.{supported_filters, unsupported_filters, volatile_filters}
 use Rattle.conjuncts.specs.Items.{Conjuncts, Item, Lists}
-use Rattle.conjuncts.specs.Standing.{Stretch}
 use Rattle.push_down_base.specs.Predicates.{Predicate}
 use Rattle.push_down_base.specs.Arms.{Placed, Rests}
 
@@ -35,12 +34,6 @@ pub record SomeScan (s : List ℕ) (x k : ℕ) : Type 0 where
   pub filters : List Expr
   pub placed : Placed s x (scan table fields filters)
   pub count : k ≡ length fields
-
--- some scan of k fields stands at record x of some image, of which `part` is the stretch
-pub record ScanHere (part : List ℕ) (x k : ℕ) : Type 0 where
-  pub image : List ℕ
-  pub stretch : Stretch image x part
-  pub scan : SomeScan image x k
 
 -- some predicate rests on a TableScan
 pub record OverScan (s : List ℕ) (x : ℕ) (p : Predicate) : Type 0 where

@@ -1,42 +1,16 @@
 // rewrite_projection (1295 to 1341), and the arm that calls it (894 to 906).
-// `part` is the Projection at record x, as its stretch of the image.
 ghost use Rattle.std.specs.Prelude.{◌≡◌, List};
 ghost use Rattle.image.specs.Limits.{Shallow};
 ghost use Rattle.plan.specs.Syntax.{Entry, Expr, Plan, project};
 ghost use Rattle.rewrite.specs.PushDownFilter.{rewrite_filter};
-ghost use Rattle.conjuncts.specs.Standing.{Stretch};
-ghost use Rattle.push_down_base.specs.Arms.{Answers, Arm, Rests};
+ghost use Rattle.push_down_base.specs.Arms.{Answers, Rests};
 ghost use Rattle.push_down_arms.specs.Divided.{OverProjection};
 
-use crate::push_some::{divide, divide_xx, push_some, push_some_xx};
-use crate::through::{keep_filter, keep_filter_xx};
+use crate::push_some::{divide_xx, push_some_xx};
+use crate::through::keep_filter_xx;
 use image::copying::Writer;
 use image::trees::Subtree;
-use push_down_base::predicates::{Predicate, Written};
-
-// Filter over Projection: what reads no volatile or leafward entry moves; if nothing does, the Filter stays as it is.
-pub fn rewrite_projection(
-    s: &[u8],
-    part: &[u8],
-    x: usize,
-    p: Predicate,
-    out: &mut [u8],
-    at: usize,
-    level: usize,
-) -> Written
-    requires stretch { Stretch s.now x part.now }
-    requires over_projection { OverProjection s.now x p }
-    requires arm { Arm out.old at level }
-    ensures { (e : Expr) (es : List Entry) (q : Plan) → Rests s.now x p e (project es q) →
-        Answers out.old out.new at level result (rewrite_filter e (project es q)) }
-{
-    let d = divide(s, part, x, p);
-    let moved = d.moved;
-    if moved.len == 0 {
-        return keep_filter(s, part, x, p, out, at, level);
-    }
-    push_some(s, part, x, d, out, at, level)
-}
+use push_down_base::predicates::Predicate;
 
 // Filter over Projection: what reads no volatile or leafward entry moves; if nothing does, the Filter stays as it is.
 pub fn rewrite_projection_xx(plan: Subtree, p: Predicate, out: &mut Writer, level: usize) -> bool

@@ -1,77 +1,22 @@
-// The arm SubqueryAlias (876 to 893): columns are renamed by place. `part` is the alias at record x, as its stretch of the image.
+// The arm SubqueryAlias (876 to 893): columns are renamed by place.
 ghost use Rattle.std.specs.Prelude.{◌≡◌, List, ◌≤◌, ℕ, length};
-ghost use Rattle.image.specs.Limits.{Shallow, map_bytes, work_bytes};
+ghost use Rattle.image.specs.Limits.{Shallow, map_bytes};
 ghost use Rattle.image.specs.Room.{Wrote};
 ghost use Rattle.plan.specs.Schema.{schema};
 ghost use Rattle.plan.specs.Syntax.{Expr, Name, Plan, alias, filter};
 ghost use Rattle.plan.specs.Trees.{plan_tree};
 ghost use Rattle.rewrite.specs.PushDownFilter.{renamed, rewrite_filter};
-ghost use Rattle.conjuncts.specs.Standing.{Stretch};
-ghost use Rattle.push_down_base.specs.Arms.{Answers, ArmOver, OverAlias, Rests};
+ghost use Rattle.push_down_base.specs.Arms.{Answers, OverAlias, Rests};
 ghost use Rattle.push_down_arms.specs.Renaming.{Renamed, Renaming};
 
 use crate::replaced::changed_predicate;
-use crate::with_filters::copy_some;
 use image::copying::Writer;
-use image::limits::MAX_DEPTH;
-use image::records::from_record;
 use image::trees::Subtree;
 use push_down_base::inputs::last_child_xx;
-use push_down_base::predicates::{Predicate, Written};
-use utils::schema_columns::{Fields, no_fields, schema_columns, schema_columns_xx};
-use writing::make_filter::{make_filter, make_filter_xx};
-use writing::renames::{write_renames, write_renames_xx};
-
-// Writes the plan at record y, of which `input` is the stretch, under a Filter, whose columns get the names of the plan's own fields in the
-// places of those of `from`.
-pub fn copy_renamed(
-    s: &[u8],
-    from: Fields,
-    p: Predicate,
-    input: &[u8],
-    y: usize,
-    m: &mut [u8],
-    out: &mut [u8],
-    at: usize,
-    level: usize,
-) -> usize
-    requires stretch { Stretch s.now y input.now }
-    requires renaming { Renaming s.now from p y }
-    requires map_bytes_in_bounds { (map_bytes ≤ length m.old) × Shallow 4 level × (length out.old ≡ work_bytes) }
-    ensures { (e : Expr) (q : Plan) (ns : List Name) → Renamed s.now from p y e q ns →
-        Wrote out.old out.new at level result (plan_tree (filter (renamed ns (schema q) e) q)) }
-{
-    let to = schema_columns(input, y, MAX_DEPTH, no_fields());
-    write_renames(from, to, m);
-    let list = p.list;
-    make_filter(s, m, 0, 3, p.written, list, input, y, out, at, level)
-}
-
-// Filter over SubqueryAlias: the predicate goes below, with the names of the alias's input.
-pub fn rewrite_subquery_alias(
-    s: &[u8],
-    part: &[u8],
-    x: usize,
-    p: Predicate,
-    m: &mut [u8],
-    out: &mut [u8],
-    at: usize,
-    level: usize,
-) -> Written
-    requires stretch { Stretch s.now x part.now }
-    requires over_alias { OverAlias s.now x p }
-    requires arm_over { ArmOver m.old out.old at level }
-    ensures { (e : Expr) (i : ℕ) (q : Plan) → Rests s.now x p e (alias i q) →
-        Answers out.old out.new at level result (rewrite_filter e (alias i q)) }
-{
-    let from = schema_columns(part, x, MAX_DEPTH, no_fields());
-    let below = changed_predicate(p);
-    let y = x + 1;
-    let input = from_record(part, x, y);
-    let first = copy_some(part, x, MAX_DEPTH, y, out, at, level);
-    let next = copy_renamed(s, from, below, input, y, m, out, first, level + 1);
-    Written { next, flag: true }
-}
+use push_down_base::predicates::Predicate;
+use utils::schema_columns::{Fields, no_fields, schema_columns_xx};
+use writing::make_filter::make_filter_xx;
+use writing::renames::write_renames_xx;
 
 // Writes the input of a plan under a Filter, whose columns get the names of the input's own fields in the places of those of `from`.
 pub fn copy_renamed_xx(

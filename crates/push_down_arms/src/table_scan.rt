@@ -1,12 +1,10 @@
 // The arm TableScan (1118 to 1195): the conjuncts that the scan takes join its filters, the rest stays above, volatile ones last.
-// `part` is the scan at record x, as its stretch of the image.
 ghost use Rattle.std.specs.Prelude.{◌≡◌, Bool, true, not, ◌++◌, List, ◌<◌, ◌≤◌, ℕ, length};
-ghost use Rattle.image.specs.Buffers.{BufferAt};
 ghost use Rattle.image.specs.Limits.{Shallow, max_fields, max_records};
 ghost use Rattle.image.specs.Records.{recs_any};
 ghost use Rattle.image.specs.Room.{Wrote};
 ghost use Rattle.image.specs.Subtrees.{tree_of};
-ghost use Rattle.image.specs.Tree.{label_at, none};
+ghost use Rattle.image.specs.Tree.{none};
 ghost use Rattle.plan.specs.Columns.{on_cols};
 ghost use Rattle.plan.specs.Lists.{All, keep};
 ghost use Rattle.plan.specs.Schema.{has, schema};
@@ -15,33 +13,30 @@ ghost use Rattle.plan.specs.Trees.{each, kids_e, label_e, plan_tree};
 ghost use Rattle.rewrite.specs.PushDownFilter.{marked, rewrite_filter};
 ghost use Rattle.rewrite.specs.Utils.{is_volatile_expr, with_filters};
 ghost use Rattle.conjuncts.specs.Items.{Item, Known, Lists, Present};
-ghost use Rattle.conjuncts.specs.Standing.{Stretch};
 ghost use Rattle.utils.specs.Fields.{Names};
 ghost use Rattle.utils.specs.Masks.{Masks};
 ghost use Rattle.writing.specs.Plans.{ThereP};
-ghost use Rattle.push_down_base.specs.Arms.{Answers, Arm, Placed, Rests};
+ghost use Rattle.push_down_base.specs.Arms.{Answers, Placed, Rests};
 ghost use Rattle.push_down_base.specs.Around.{WroteAll};
 ghost use Rattle.push_down_base.specs.Predicates.{Listing};
-ghost use Rattle.push_down_arms.specs.Scans.{Adds, OverScan, ScanHere, Shares, SomeScan, supports};
+ghost use Rattle.push_down_arms.specs.Scans.{Adds, OverScan, Shares, SomeScan, supports};
 
-use crate::through::{keep_filter, keep_filter_xx};
-use crate::with_filters::{copy_some, copy_some_xx};
+use crate::through::keep_filter_xx;
+use crate::with_filters::copy_some_xx;
 use conjuncts::lists::{Conjuncts, add, empty};
 use conjuncts::unique::unique;
 use conjuncts::volatility::is_volatile;
-use image::copying::{Writer, put_kind};
-use image::limits::{MAX_DEPTH, MAX_LIST, NO_ROOM};
-use image::records::{FIRST_LINK, KIND, LO, NEXT_LINK, from_record};
+use image::copying::Writer;
+use image::limits::{MAX_LIST, NO_ROOM};
 use image::trees::Subtree;
-use image::words::word_at;
 use plan::kinds::{FIELD, FILTER};
 use plan::words::MARKED;
 use push_down_base::parting::partition;
-use push_down_base::predicates::{Predicate, Written};
+use push_down_base::predicates::Predicate;
 use utils::has_all_column_refs::columns_at;
-use utils::schema_columns::{Fields, no_fields, schema_columns, schema_columns_xx};
+use utils::schema_columns::{Fields, no_fields, schema_columns_xx};
 use utils::sets::FieldSet;
-use writing::conjunction::{copy_item, copy_item_xx, copy_joined, copy_joined_xx};
+use writing::conjunction::{copy_item_xx, copy_joined_xx};
 
 // The scan's answer to the conjunct n: it takes one that has a column if all its columns are marked.
 pub fn supports_filters_pushdown(s: &[u8], n: usize, fields: Fields, marked: FieldSet) -> bool
@@ -95,188 +90,6 @@ fn extend(into: Conjuncts, c: Conjuncts) -> Conjuncts
     r
 }
 
-// The marked fields of the scan, which has k: each is one record.
-fn marked_fields(part: &[u8], x: usize, k: usize) -> FieldSet
-    requires { ScanHere part.now x k }
-    ensures { (s : List ℕ) (t : ℕ) (fs : List Field) (es : List Expr) → Stretch s x part.now →
-        Placed s x (scan t fs es) → k ≡ length fs → Masks result (schema (scan t fs es)) (marked fs) }
-{
-    let mut set = FieldSet::empty();
-    for i in 0..k {
-        let field = from_record(part, x, x + 1 + i);
-        set = set.mark(i, word_at(field, LO) == MARKED);
-    }
-    set
-}
-
-// What a scan takes of a predicate's conjuncts, and what stays above it; and how many fields it has.
-#[derive(Clone, Copy)]
-pub struct Share {
-    pub fields: usize,
-    pub taken: Conjuncts,
-    pub left: Conjuncts,
-}
-
-// The share of the scan in the predicate p: of what is left the volatile conjuncts come last.
-pub fn share_of(s: &[u8], part: &[u8], x: usize, p: Predicate) -> Share
-    requires stretch { Stretch s.now x part.now }
-    requires over_scan { OverScan s.now x p }
-    ensures { (e : Expr) (t : ℕ) (fs : List Field) (es : List Expr) → Rests s.now x p e (scan t fs es) →
-        Shares s.now result.fields result.taken result.left fs e }
-{
-    let list = p.list;
-    let fields = schema_columns(part, x, MAX_DEPTH, no_fields());
-    let k = fields.len;
-    let marked = marked_fields(part, x, k);
-    let (volatile, lasting) = part_volatile(s, list);
-    let (taken, rest) = part_supported(s, lasting, fields, marked);
-    Share {
-        fields: k,
-        taken,
-        left: extend(rest, volatile),
-    }
-}
-
-// Appends a child, of which `child` is the stretch and n the number, unless it is a field.
-fn add_filter(c: Conjuncts, child: &[u8], n: usize) -> Conjuncts
-    requires { (32 ≤ length child.now) × (n < max_records) }
-    ensures { (s : List ℕ) (ds : List Expr) → Lists s c ds → Adds s (label_at child.now) n result ds }
-{
-    if word_at(child, KIND) == FIELD {
-        return c;
-    }
-    add(c, n)
-}
-
-// The filters of the scan: its children that are no fields.
-fn scan_filters(part: &[u8], x: usize) -> Conjuncts
-    requires { (k : ℕ) × ScanHere part.now x k }
-    ensures { (s : List ℕ) (t : ℕ) (fs : List Field) (es : List Expr) → Stretch s x part.now →
-        Placed s x (scan t fs es) → Lists s result es }
-{
-    let mut r = empty();
-    let mut at = word_at(part, FIRST_LINK);
-    while at != 0 {
-        let child = from_record(part, x, at);
-        r = add_filter(r, child, at);
-        at = word_at(child, NEXT_LINK);
-    }
-    r
-}
-
-// Writes the items of a list, one after another. None has its columns replaced: the scan serves as the map.
-fn copy_items(
-    s: &[u8],
-    part: &[u8],
-    x: usize,
-    c: Conjuncts,
-    out: &mut [u8],
-    at: usize,
-    level: usize,
-) -> usize
-    requires stretch { Stretch s.now x part.now }
-    requires known { Known s.now c × ThereP s.now x }
-    requires buffer_at { BufferAt 2 level out.old at }
-    ensures { (es : List Expr) → Lists s.now c es →
-        WroteAll out.old out.new at result (recs_any level (each label_e kids_e es none)) }
-{
-    let mut to = at;
-    for n in c.items() {
-        to = copy_item(s, part, x, MAX_DEPTH, usize::from(*n), out, to, level);
-    }
-    to
-}
-
-// Writes the scan, which has k fields, with the filters of the list in the place of its own.
-fn write_scan(
-    s: &[u8],
-    part: &[u8],
-    x: usize,
-    k: usize,
-    filters: Conjuncts,
-    out: &mut [u8],
-    at: usize,
-    level: usize,
-) -> usize
-    requires stretch { Stretch s.now x part.now }
-    requires some_scan { SomeScan s.now x k × Known s.now filters }
-    requires buffer_at { BufferAt 3 level out.old at }
-    ensures { (t : ℕ) (fs : List Field) (es ys : List Expr) → Placed s.now x (scan t fs es) → k ≡ length fs →
-        Lists s.now filters ys → Wrote out.old out.new at level result (plan_tree (scan t fs ys)) }
-{
-    let first = copy_some(part, x, MAX_DEPTH, x + 1 + k, out, at, level);
-    copy_items(s, part, x, filters, out, first, level + 1)
-}
-
-// The same under a Filter of what stays above, if anything does.
-fn write_filtered(
-    s: &[u8],
-    part: &[u8],
-    x: usize,
-    k: usize,
-    above: Conjuncts,
-    filters: Conjuncts,
-    out: &mut [u8],
-    at: usize,
-    level: usize,
-) -> usize
-    requires stretch { Stretch s.now x part.now }
-    requires some_scan { SomeScan s.now x k × Known s.now above × Known s.now filters }
-    requires buffer_at { BufferAt 4 level out.old at }
-    ensures { (t : ℕ) (fs : List Field) (es xs ys : List Expr) → Placed s.now x (scan t fs es) → k ≡ length fs →
-        Lists s.now above xs → Lists s.now filters ys →
-        Wrote out.old out.new at level result (plan_tree (with_filters xs (scan t fs ys))) }
-{
-    if above.len == 0 {
-        return write_scan(s, part, x, k, filters, out, at, level);
-    }
-    let predicate = put_kind(out, at, FILTER, 0, level);
-    let input = copy_joined(s, part, x, MAX_DEPTH, above, out, predicate, level + 1);
-    write_scan(s, part, x, k, filters, out, input, level + 1)
-}
-
-// Filter over TableScan.
-pub fn rewrite_table_scan(
-    s: &[u8],
-    part: &[u8],
-    x: usize,
-    p: Predicate,
-    out: &mut [u8],
-    at: usize,
-    level: usize,
-) -> Written
-    requires stretch { Stretch s.now x part.now }
-    requires over_scan { OverScan s.now x p }
-    requires arm { Arm out.old at level }
-    ensures { (e : Expr) (t : ℕ) (fs : List Field) (es : List Expr) → Rests s.now x p e (scan t fs es) →
-        Answers out.old out.new at level result (rewrite_filter e (scan t fs es)) }
-{
-    let share = share_of(s, part, x, p);
-    let taken = share.taken;
-    if taken.len == 0 {
-        return keep_filter(s, part, x, p, out, at, level);
-    }
-    let filters = unique(s, scan_filters(part, x), taken);
-    if MAX_LIST < filters.len {
-        return Written {
-            next: NO_ROOM,
-            flag: true,
-        };
-    }
-    let next = write_filtered(
-        s,
-        part,
-        x,
-        share.fields,
-        share.left,
-        filters,
-        out,
-        at,
-        level,
-    );
-    Written { next, flag: true }
-}
-
 // The marked fields of the scan, which has k: they come first.
 fn marked_fields_xx(plan: Subtree, k: usize) -> FieldSet
     requires { SomeScan plan.image.now plan.number k }
@@ -292,6 +105,14 @@ fn marked_fields_xx(plan: Subtree, k: usize) -> FieldSet
         set = set.mark(i, field.label().lo == MARKED);
     }
     set
+}
+
+// What a scan takes of a predicate's conjuncts, and what stays above it; and how many fields it has.
+#[derive(Clone, Copy)]
+pub struct Share {
+    pub fields: usize,
+    pub taken: Conjuncts,
+    pub left: Conjuncts,
 }
 
 // The share of the scan in the predicate p: of what is left the volatile conjuncts come last.

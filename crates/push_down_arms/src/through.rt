@@ -1,104 +1,22 @@
 // The arms Repartition (851), Distinct (856) and Sort (871), which take the predicate in its shape; Limit, and a Sort with a fetch, which
 // leave it where it is, as the source's test of fetch and skip does (827 to 832).
-// `part` is the plan at record x, as its stretch of the image.
-ghost use Rattle.std.specs.Prelude.{◌≡◌, true, ◌≤◌, length};
+ghost use Rattle.std.specs.Prelude.{◌≡◌, true};
 ghost use Rattle.image.specs.Limits.{Shallow};
 ghost use Rattle.image.specs.Subtrees.{tree_of};
-ghost use Rattle.image.specs.Tree.{label_at};
 ghost use Rattle.plan.specs.Syntax.{Expr, Plan, filter};
 ghost use Rattle.rewrite.specs.PushDownFilter.{transformed_no, transformed_yes, rewrite_filter};
-ghost use Rattle.conjuncts.specs.Standing.{Stretch};
-ghost use Rattle.push_down_base.specs.Arms.{Answers, Arm, Resting, Rests, Taken, Takes};
+ghost use Rattle.push_down_base.specs.Arms.{Answers, Resting, Rests, Taken, Takes};
 ghost use Rattle.push_down_arms.specs.Through.{OverThrough, takes_none, through};
 
-use crate::with_filters::{write_over, write_over_xx};
+use crate::with_filters::write_over_xx;
 use conjuncts::lists::empty;
 use image::copying::Writer;
-use image::limits::MAX_DEPTH;
-use image::records::{KIND, P, record_at};
 use image::trees::Subtree;
-use image::words::word_at;
 use plan::kinds::{LIMIT, SORT};
 use plan::words::FETCHES;
-use push_down_base::inputs::{last_child, last_child_xx};
-use push_down_base::predicates::{Predicate, Written};
-use writing::make_filter::{make_filter, make_filter_xx};
-
-// Filter over a plan that takes nothing: both stay as they are.
-pub fn keep_filter(
-    s: &[u8],
-    part: &[u8],
-    x: usize,
-    p: Predicate,
-    out: &mut [u8],
-    at: usize,
-    level: usize,
-) -> Written
-    requires stretch { Stretch s.now x part.now }
-    requires resting { Resting s.now x p }
-    requires arm { Arm out.old at level }
-    ensures { (e : Expr) (q : Plan) → Rests s.now x p e q →
-        Answers out.old out.new at level result (transformed_no (filter e q)) }
-{
-    let list = p.list;
-    let next = make_filter(
-        s, part, x, MAX_DEPTH, p.written, list, part, x, out, at, level,
-    );
-    Written { next, flag: false }
-}
-
-// Filter over a plan that takes it whole: the predicate goes below, in its shape, over the plan's input.
-pub fn push_filter(
-    s: &[u8],
-    part: &[u8],
-    x: usize,
-    p: Predicate,
-    out: &mut [u8],
-    at: usize,
-    level: usize,
-) -> Written
-    requires stretch { Stretch s.now x part.now }
-    requires taken { Taken s.now x p }
-    requires arm { Arm out.old at level }
-    ensures { (e : Expr) (q : Plan) (f : Plan → Plan) → Rests s.now x p e (f q) → Takes s.now x f q →
-        Answers out.old out.new at level result (transformed_yes (f (filter e q))) }
-{
-    let y = last_child(part, x);
-    let nothing = Predicate::joined(empty());
-    let next = write_over(s, part, x, nothing, p, y, out, at, level);
-    Written { next, flag: true }
-}
-
-// Whether the plan at the start of `part`, a Distinct, a Sort, a Repartition or a Limit, takes no Filter: it counts rows.
-pub fn takes_none(part: &[u8]) -> bool
-    requires { 32 ≤ length part.now }
-    ensures { result ≡ takes_none (label_at part.now) }
-{
-    let kind = word_at(part, KIND);
-    (kind == LIMIT) | ((kind == SORT) & (word_at(part, P) == FETCHES))
-}
-
-// Filter over Distinct, Sort, Repartition or Limit.
-pub fn rewrite_through(
-    s: &[u8],
-    part: &[u8],
-    x: usize,
-    p: Predicate,
-    out: &mut [u8],
-    at: usize,
-    level: usize,
-) -> Written
-    requires stretch { Stretch s.now x part.now }
-    requires over_through { OverThrough s.now x p }
-    requires arm { Arm out.old at level }
-    ensures { (e : Expr) (q : Plan) → Rests s.now x p e q → through q ≡ true →
-        Answers out.old out.new at level result (rewrite_filter e q) }
-{
-    if takes_none(part) {
-        return keep_filter(s, part, x, p, out, at, level);
-    }
-    push_filter(s, part, x, p, out, at, level)
-}
+use push_down_base::inputs::last_child_xx;
+use push_down_base::predicates::Predicate;
+use writing::make_filter::make_filter_xx;
 
 // Filter over a plan that takes nothing: both stay as they are.
 pub fn keep_filter_xx(plan: Subtree, p: Predicate, out: &mut Writer, level: usize) -> bool

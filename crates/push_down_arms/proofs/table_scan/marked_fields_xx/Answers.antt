@@ -8,7 +8,7 @@ use Rattle.image.specs.Tree.{Label, Tree, none}
 use Rattle.image.proofs.Subtrees.{goes, gone}
 use Rattle.plan.specs.Trees.{each, kids_p, label_e, kids_e}
 use Rattle.writing.proofs.Maps.{plan_is}
-use Rattle.push_down_arms.proofs.Supported.{scan_few, field_step, field_left, passed_start, passed_more, passed_end}
+use Rattle.push_down_arms.proofs.Supported.{scan_few, field_step, field_left, passed_start, passed_next, passed_end}
 use Rattle.push_down_arms.proofs.table_scan.marked_fields_xx.Goals as goal
 
 pub loop-i-init : goal.loop-i-init
@@ -37,7 +37,7 @@ loop-i-preserved c =
     let lt : i < length fs = omega (arith, c.loop-i-test.true) in
     let g = goes c.loop-i.fields c.next.new.self c.in-Some.field c.in-Some.ensures.steps in
     let w = field_step fs i (each label_e kids_e es none) lt (sym k.1 ∙ g.is) in
-    (passed_more h i c.mark-set.ensures lt (ap (λ (l : Label). eqb l.lo 1) c.label.ensures.label ∙ w.0) k.0, rw add-one (sym w.1))
+    (passed_next h i c.mark-set.ensures lt (ap (λ (l : Label). eqb l.lo 1) c.label.ensures.label ∙ w.0) k.0, rw add-one (sym w.1))
 
 pub returns : goal.returns
 returns c =

@@ -7,8 +7,8 @@ use Rattle.image.proofs.Subtrees.{goes, gone}
 use Rattle.writing.proofs.Entries.{inside, inside_step}
 use Rattle.writing.proofs.Maps.{plan_is, plan_deep}
 use Rattle.push_down_arms.proofs.Behind.{goes_past, deep_goes}
-use Rattle.push_down_arms.proofs.Lent.{tree_at, tree_small}
-use Rattle.push_down_arms.proofs.Scans.{filters_start, filters_here, filters_end}
+use Rattle.push_down_arms.proofs.Trees.{tree_at, tree_small}
+use Rattle.push_down_arms.proofs.Scans.{filters_start, filters_next, filters_end}
 use Rattle.push_down_arms.proofs.table_scan.scan_filters_xx.Goals as goal
 
 pub loop-child-init : goal.loop-child-init
@@ -41,7 +41,7 @@ loop-child-preserved c =
     let deep = deep_goes g.is k.1 in (
       here.1,
       deep.1,
-      λ n fs es h. filters_here (tree_of t).label (tree_of t).below (forest y) (rw g.is at (k.2 n fs es h)) h.short (goes_past x y t steps)
+      λ n fs es h. filters_next (tree_of t).label (tree_of t).below (forest y) (rw g.is at (k.2 n fs es h)) h.short (goes_past x y t steps)
           (tree_at t here.0) deep.0 (λ ds l. c.add_filter_xx-r.ensures _ ds l),
     )
 

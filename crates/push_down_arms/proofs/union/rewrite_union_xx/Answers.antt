@@ -10,8 +10,8 @@ use Rattle.writing.proofs.Entries.{inside, inside_step}
 use Rattle.writing.proofs.Maps.{plan_is, plan_deep}
 use Rattle.push_down_base.proofs.Answering.{answers}
 use Rattle.push_down_arms.proofs.Behind.{deep_goes}
-use Rattle.push_down_arms.proofs.Lent.{tree_at}
-use Rattle.push_down_arms.proofs.Unions.{spread_of, all_inputs, first, renames_here, renamed_in, more, none_more, union_lists, union_wrote}
+use Rattle.push_down_arms.proofs.Trees.{tree_at}
+use Rattle.push_down_arms.proofs.Unions.{spread_of, all_inputs, first, renames_first, renamed_in, more, none_more, union_lists, union_wrote}
 use Rattle.push_down_arms.proofs.union.rewrite_union_xx.Goals as goal
 
 pub schema_columns_xx-from-requires : goal.schema_columns_xx-from-requires
@@ -53,7 +53,7 @@ copy_renamed_xx-requires-clause-renaming c =
       expr = w.expr;
       plan = f.plan;
       over = schema (union w.inputs);
-      renamed = renamed_in here (renames_here w.spread t.number f (tree_at t here) (deep_goes g.is k.4).0);
+      renamed = renamed_in here (renames_first w.spread t.number f (tree_at t here) (deep_goes g.is k.4).0);
     }
 
 pub loop-input-preserved : goal.loop-input-preserved
@@ -72,7 +72,7 @@ loop-input-preserved c =
       here.1,
       deep.1,
       λ e ps h. let f = first _ _ _ (rw g.is at (k.5 e ps h)) in
-          more f (c.copy_renamed_xx.ensures.wrote e f.plan (schema (union ps)) (renamed_in here.0 (renames_here h t.number f (tree_at t here.0) deep.0))),
+          more f (c.copy_renamed_xx.ensures.wrote e f.plan (schema (union ps)) (renamed_in here.0 (renames_first h t.number f (tree_at t here.0) deep.0))),
     )
 
 pub returns-clause-answers : goal.returns-clause-answers

@@ -2,7 +2,7 @@ use native.Mathlib.Omega.{arith}
 use Rattle.writing.proofs.Maps.{over_at}
 use Rattle.push_down_arms.specs.Over.{under}
 use Rattle.push_down_arms.proofs.Framing.{wrote_framed}
-use Rattle.push_down_arms.proofs.Lent.{map_low}
+use Rattle.push_down_arms.proofs.Trees.{map_low}
 use Rattle.push_down_arms.proofs.with_filters.write_below_xx.Goals as goal
 
 pub copy_some_xx-requires : goal.copy_some_xx-requires
