@@ -47,7 +47,8 @@ pub fn rewrite_aggregate_xx(plan: Subtree, p: Predicate, out: &mut Writer, level
     requires over_aggregate { OverAggregate plan.image.now plan.number p }
     requires arm { Shallow 6 level }
     ensures same { out.new.bytes.ghost_name ≡ out.old.bytes.ghost_name }
-    ensures answers { (e : Expr) (gs : List Entry) (ags : List AggEntry) (q : Plan) → Rests plan.entry.image.now plan.entry.number p e (aggregate gs ags q) →
+    ensures answers { (e : Expr) (gs : List Entry) (ags : List AggEntry) (q : Plan) →
+        Rests plan.entry.image.now plan.entry.number p e (aggregate gs ags q) →
         Answers out.old.bytes.now out.new.bytes.now out.old.next level (record { next = out.new.next; flag = result })
         (rewrite_filter e (aggregate gs ags q)) }
 {

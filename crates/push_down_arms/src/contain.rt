@@ -26,13 +26,13 @@ fn is_leafward_xx(tree: Subtree) -> bool
 }
 
 // Whether the entry's expression is volatile or leafward.
-fn is_fixed_xx(tree: Subtree) -> bool
-    ensures { result ≡ fixed (tree_of tree.entry) }
+fn is_fixed_xx(part: Subtree) -> bool
+    ensures { result ≡ fixed (tree_of part.entry) }
 {
-    if has_function_xx(tree, Functions::Volatile) {
+    if has_function_xx(part, Functions::Volatile) {
         return true;
     }
-    match tree.children().split_first() {
+    match part.children().split_first() {
         Some((expr, _)) => is_leafward_xx(expr),
         None => false,
     }
@@ -47,43 +47,43 @@ fn is_named_xx(tree: Subtree, c: ColumnReference) -> bool
 }
 
 // Whether the entry of a Window is partitioned by the column: they stand behind its expression.
-fn has_partition_xx(tree: Subtree, c: ColumnReference) -> bool
-    ensures { result ≡ partition_in (named c) (tree_of tree.entry).below }
+fn has_partition_xx(part: Subtree, c: ColumnReference) -> bool
+    ensures { result ≡ partition_in (named c) (tree_of part.entry).below }
 {
-    match tree.children().split_first() {
+    match part.children().split_first() {
         Some((_, mut columns)) => columns.any(|x| is_named_xx(x, c)),
         None => false,
     }
 }
 
 // Whether the part of a plan lets a conjunct pass that reads the field.
-fn lets_pass_xx(tree: Subtree, c: ColumnReference) -> bool
-    ensures { result ≡ lets (named c) (tree_of tree.entry) }
+fn lets_pass_xx(part: Subtree, c: ColumnReference) -> bool
+    ensures { result ≡ lets (named c) (tree_of part.entry) }
 {
-    if tree.kind() == WINDOW_ENTRY {
-        return has_partition_xx(tree, c);
+    if part.kind() == WINDOW_ENTRY {
+        return has_partition_xx(part, c);
     }
-    if is_entry_xx(tree, wide(c.q), wide(c.n)) {
-        return !is_fixed_xx(tree);
+    if is_entry_xx(part, wide(c.q), wide(c.n)) {
+        return !is_fixed_xx(part);
     }
     true
 }
 
 // Whether each part of the plan does.
-fn all_let_pass_xx(tree: Subtree, c: ColumnReference) -> bool
-    ensures { result ≡ lets_all (named c) (tree_of tree.entry).below }
+fn all_let_pass_xx(plan: Subtree, c: ColumnReference) -> bool
+    ensures { result ≡ lets_all (named c) (tree_of plan.entry).below }
 {
-    tree.children().all(|part| lets_pass_xx(part, c))
+    plan.children().all(|part| lets_pass_xx(part, c))
 }
 
 // Whether a conjunct that reads the field may move below the plan.
-fn may_move_xx(tree: Subtree, c: ColumnReference) -> bool
-    ensures { result ≡ may_move (tree_of tree.entry) (named c) }
+fn may_move_xx(plan: Subtree, c: ColumnReference) -> bool
+    ensures { result ≡ may_move (tree_of plan.entry) (named c) }
 {
-    if tree.kind() == AGGREGATE {
-        return find_xx(tree, wide(c.q), wide(c.n)).is_some();
+    if plan.kind() == AGGREGATE {
+        return find_xx(plan, wide(c.q), wide(c.n)).is_some();
     }
-    all_let_pass_xx(tree, c)
+    all_let_pass_xx(plan, c)
 }
 
 // The set of the fields with which a conjunct may move below the plan.

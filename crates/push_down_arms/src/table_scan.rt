@@ -216,7 +216,8 @@ pub fn rewrite_table_scan_xx(plan: Subtree, p: Predicate, out: &mut Writer, leve
     requires over_scan { OverScan plan.image.now plan.number p }
     requires arm { Shallow 6 level }
     ensures same { out.new.bytes.ghost_name ≡ out.old.bytes.ghost_name }
-    ensures answers { (e : Expr) (t : ℕ) (fs : List Field) (es : List Expr) → Rests plan.entry.image.now plan.entry.number p e (scan t fs es) →
+    ensures answers { (e : Expr) (t : ℕ) (fs : List Field) (es : List Expr) →
+        Rests plan.entry.image.now plan.entry.number p e (scan t fs es) →
         Answers out.old.bytes.now out.new.bytes.now out.old.next level (record { next = out.new.next; flag = result })
         (rewrite_filter e (scan t fs es)) }
 {

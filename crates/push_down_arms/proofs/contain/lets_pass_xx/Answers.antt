@@ -8,11 +8,11 @@ use Rattle.push_down_arms.proofs.contain.lets_pass_xx.Goals as goal
 
 pub returns-then-kind-eq-WINDOW_ENTRY : goal.returns-then-kind-eq-WINDOW_ENTRY
 returns-then-kind-eq-WINDOW_ENTRY c =
-    c.has_partition_xx.ensures ∙ sym (lets_window _ (tree_of c.args.tree) (sym c.kind.ensures ∙ c.if-kind-eq-WINDOW_ENTRY.true))
+    c.has_partition_xx.ensures ∙ sym (lets_window _ (tree_of c.args.part) (sym c.kind.ensures ∙ c.if-kind-eq-WINDOW_ENTRY.true))
 
 pub returns-then-is_entry_xx : goal.returns-then-is_entry_xx
 returns-then-is_entry_xx c =
-    let t = tree_of c.args.tree in
+    let t = tree_of c.args.part in
     let e : is_entry t.label c.args.c.q c.args.c.n ≡ true =
     rw (c.wide.ensures.0, c.wide-2.ensures.0) at (sym c.is_entry_xx.ensures ∙ c.if-is_entry_xx.true) in
     ap not c.is_fixed_xx.ensures
@@ -20,7 +20,7 @@ returns-then-is_entry_xx c =
 
 pub returns : goal.returns
 returns c =
-    let t = tree_of c.args.tree in
+    let t = tree_of c.args.part in
     let e : is_entry t.label c.args.c.q c.args.c.n ≡ false =
     rw (c.wide.ensures.0, c.wide-2.ensures.0) at (sym c.is_entry_xx.ensures ∙ c.if-is_entry_xx.false) in
     sym (lets_other (named c.args.c) t (λ z. c.if-kind-eq-WINDOW_ENTRY.false (c.kind.ensures ∙ z)) false e)

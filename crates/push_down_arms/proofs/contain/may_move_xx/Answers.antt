@@ -5,9 +5,9 @@ use Rattle.push_down_arms.proofs.contain.may_move_xx.Goals as goal
 
 pub returns-then-kind-eq-AGGREGATE : goal.returns-then-kind-eq-AGGREGATE
 returns-then-kind-eq-AGGREGATE c =
-    c.is_some.ensures ∙ some_found c.args.tree _ _ (rw (c.wide.ensures.0, c.wide-then-kind-eq-AGGREGATE.ensures.0) at c.find_xx.ensures)
-    ∙ sym (move_group _ (tree_of c.args.tree) (sym c.kind.ensures ∙ c.if-kind-eq-AGGREGATE.true))
+    c.is_some.ensures ∙ some_found c.args.plan _ _ (rw (c.wide.ensures.0, c.wide-then-kind-eq-AGGREGATE.ensures.0) at c.find_xx.ensures)
+    ∙ sym (move_group _ (tree_of c.args.plan) (sym c.kind.ensures ∙ c.if-kind-eq-AGGREGATE.true))
 
 pub returns : goal.returns
 returns c =
-    c.all_let_pass_xx.ensures ∙ sym (move_other _ (tree_of c.args.tree) (λ z. c.if-kind-eq-AGGREGATE.false (c.kind.ensures ∙ z)))
+    c.all_let_pass_xx.ensures ∙ sym (move_other _ (tree_of c.args.plan) (λ z. c.if-kind-eq-AGGREGATE.false (c.kind.ensures ∙ z)))
