@@ -24,10 +24,10 @@ use Rattle.plan.proofs.Names.{same_eq, same_refl, not_true}
 use Rattle.plan.proofs.Written.{name_back}
 use Rattle.utils.specs.Sets.{member, within}
 use Rattle.utils.specs.Masks.{name_at, Masks, Answers}
-use Rattle.utils.specs.Fields.{Fields, Names, place_in}
+use Rattle.utils.specs.Fields.{place_in}
 use Rattle.utils.specs.Referring.{on_any, on_tree}
 use Rattle.utils.proofs.Members.{within_none, within_both, within_with}
-use Rattle.utils.proofs.Named.{names_count, place_has}
+use Rattle.utils.proofs.Named.{place_has}
 use Rattle.utils.proofs.Marking.{has_at}
 
 -- ---- the columns of an expression are those of its tree
@@ -100,10 +100,10 @@ has_add (y ∷ xs) x z = rw (has_add xs x z) (turn (same y z) (same x z))
     turn true false = refl
     turn false b = refl
 
-module _ {f : Fields} (ns : List Name) (h : Names f ns) (small : f.len ≤ max_fields) (x : Name) (held : has ns x ≡ true) where
+module _ (ns : List Name) (few : length ns ≤ max_fields) (x : Name) (held : has ns x ≡ true) where
   -- it has a place
   pub place_small : place_in ns x < max_fields
-  place_small = omega (arith, (place_has ns x held).0, names_count h small)
+  place_small = omega (arith, (place_has ns x held).0)
 
   -- the set of that place
   pub answers_one : (r : ℕ) → ((j : ℕ) → member r j ≡ (eqb (place_in ns x) j || member 0 j)) → Answers r ns (λ c. c x)

@@ -1,7 +1,7 @@
 -- Laws of the names that the code's list holds.
 --     names_count, names_fit, names_at   how many there are, and which
 --     names_none, names_more             none, and one more
---     place_is, place_has                the place of a name
+--     place_is, place_found, place_has   the place of a name
 -- Assumes nothing.
 use mathlib.Core.Path.{◌≡◌, refl, sym, ap, ◌∙◌}
 use mathlib.Core.Bool.{Bool, true, false, not, ◌&&◌, ◌||◌, cond}
@@ -76,6 +76,11 @@ place_is (nm p m ∷ ns) q n = go (eqb p q) (eqb m n) (place_is ns q n)
 -- a search that ends at the length where it finds none
 pub found_or_len : {A : Type 0} (p : A → Bool) (xs : List A) → unwrap_or (position p xs) (length xs) ≡ position_or_len p xs
 found_or_len p xs = grind (arith, prefix_len-le-length (λ x. not (p x)) xs)
+
+-- the place of a name, sought among the names as the code has them
+pub place_found : (ns : List Name) (q n : ℕ) {xs : List ColumnReference} → xs ≡ map coded ns
+    → unwrap_or (position (is_name q n) xs) (length xs) ≡ place_in ns (nm q n)
+place_found ns q n e = rw e (found_or_len (is_name q n) (map coded ns) ∙ place_is ns q n)
 
 -- a name that the schema has is at its place
 pub place_has : (ns : List Name) (x : Name) → has ns x ≡ true → (place_in ns x < length ns) × (name_at ns (place_in ns x) ≡ x)

@@ -1,5 +1,5 @@
 // has_all_column_refs (utils.rs 93 to 106): the columns that an expression refers to, as a set of the fields of a schema, counted.
-ghost use Rattle.std.specs.Prelude.{◌≡◌, ◌||◌, Bool, true, List, ◌≤◌, ℕ, eqb};
+ghost use Rattle.std.specs.Prelude.{◌≡◌, ◌||◌, Bool, true, List, map, ◌≤◌, ℕ, eqb, length};
 ghost use Rattle.image.specs.Limits.{max_fields};
 ghost use Rattle.image.specs.Subtrees.{tree_of};
 ghost use Rattle.image.specs.Tree.{At, Readable, Tree};
@@ -8,12 +8,12 @@ ghost use Rattle.plan.specs.Schema.{has};
 ghost use Rattle.plan.specs.Syntax.{Expr, Name, nm};
 ghost use Rattle.plan.specs.Trees.{expr_tree};
 ghost use Rattle.conjuncts.specs.Items.{Item, Present};
-ghost use Rattle.utils.specs.Fields.{Names, place_in};
+ghost use Rattle.utils.specs.Fields.{Names, coded, place_in};
 ghost use Rattle.utils.specs.Masks.{Answers, Masks, Refers};
 ghost use Rattle.utils.specs.Referring.{on_tree};
 ghost use Rattle.utils.specs.Sets.{member};
 
-use crate::schema_columns::{Fields, place_in};
+use crate::schema_columns::{ColumnReference, Fields, place_in, place_of};
 use crate::sets::FieldSet;
 use conjuncts::items::item_tree;
 use image::limits::MAX_FIELDS;
@@ -71,21 +71,42 @@ pub fn has_all_column_refs(
     columns(part, base, depth, f).is_within(side)
 }
 
+// The set of the field with this name.
+fn column(fields: &[ColumnReference], q: usize, n: usize) -> FieldSet
+    requires { length fields.now ≤ max_fields }
+    ensures { (ns : List Name) → fields.now ≡ map coded ns → has ns (nm q n) ≡ true
+        → (j : ℕ) → member result j ≡ (eqb (place_in ns (nm q n)) j || member 0 j) }
+{
+    match place_of(fields, q, n) {
+        Some(place) => FieldSet::empty().with(place),
+        None => FieldSet::empty(),
+    }
+}
+
+// The set of those of the fields that a tree refers to.
+fn columns_of(tree: Subtree, fields: &[ColumnReference]) -> FieldSet
+    requires { length fields.now ≤ max_fields }
+    ensures { (ns : List Name) → fields.now ≡ map coded ns → on_tree (has ns) (tree_of tree.entry) ≡ true
+        → Answers result ns (λ c. on_tree c (tree_of tree.entry)) }
+{
+    let label = tree.label();
+    if label.kind == COLUMN {
+        return column(fields, label.p, label.q);
+    }
+    let mut set = FieldSet::empty();
+    for child in tree.children() {
+        set = set.union(columns_of(child, fields));
+    }
+    set
+}
+
 // The set of the fields that a tree refers to.
 pub fn columns_xx(tree: Subtree, f: Fields) -> FieldSet
     requires { f.len ≤ max_fields }
     ensures { (ns : List Name) → Names f ns → on_tree (has ns) (tree_of tree.entry) ≡ true
         → Answers result ns (λ c. on_tree c (tree_of tree.entry)) }
 {
-    let label = tree.label();
-    if label.kind == COLUMN {
-        return add_column(FieldSet::empty(), f, label.p, label.q);
-    }
-    let mut set = FieldSet::empty();
-    for child in tree.children() {
-        set = set.union(columns_xx(child, f));
-    }
-    set
+    columns_of(tree, f.items())
 }
 
 // Whether all columns of an expression are fields of the side: those that are, counted, are all of them.

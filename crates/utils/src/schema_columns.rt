@@ -47,7 +47,7 @@ pub fn add_field(f: Fields, q: usize, n: usize) -> Fields
 }
 
 // The first of some fields with this name.
-fn place_of(fields: &[ColumnReference], q: usize, n: usize) -> Option<usize>
+pub fn place_of(fields: &[ColumnReference], q: usize, n: usize) -> Option<usize>
     ensures { result ≡ position (λ x. (x.q == q) && (x.n == n)) fields.now }
 {
     fields

@@ -8,6 +8,7 @@ use Rattle.plan.specs.Schema.{has}
 use Rattle.utils.specs.Masks.{Answers}
 use Rattle.utils.specs.Referring.{on_tree}
 use Rattle.utils.proofs.Answering.{answers_one, so_start, so_held, so_next, so_end, so_column, column_held}
+use Rattle.utils.proofs.Named.{names_count}
 use Rattle.utils.proofs.has_all_column_refs.+columns.Goals as goal
 
 pub returns-then-word_at-eq-COLUMN : goal.returns-then-word_at-eq-COLUMN
@@ -16,7 +17,7 @@ returns-then-word_at-eq-COLUMN t c =
     ∙ (sym c.word_at.ensures.0 ∙ c.if-word_at-eq-COLUMN.true)) in
     let p = c.word_at-then-word_at-eq-COLUMN.ensures.0 ∙ ap (λ (l : Label). l.p) h.head.label in
     let q = c.word_at-then-word_at-eq-COLUMN-2.ensures.0 ∙ ap (λ (l : Label). l.q) h.head.label in
-    so_column ns t is (rw (← p, ← q) (answers_one ns g c.requires.len_le_max_fields _
+    so_column ns t is (rw (← p, ← q) (answers_one ns (omega (arith, names_count g c.requires.len_le_max_fields, c.requires.len_le_max_fields)) _
     (rw (p, q) (column_held ns t is held)) _
     (rw c.empty.ensures at (c.add_column.ensures ns g (rw (p, q) (column_held ns t is held))))))
 
