@@ -1,5 +1,5 @@
 // Equal expressions: `==` of the source's Expr, record by record.
-ghost use Rattle.std.specs.Prelude.{◌≡◌, List, ◌≤◌, length};
+ghost use Rattle.std.specs.Prelude.{◌≡◌, List};
 ghost use Rattle.image.specs.Subtrees.{tree_of};
 ghost use Rattle.plan.specs.Syntax.{Expr};
 ghost use Rattle.rewrite.specs.Utils.{same_e};

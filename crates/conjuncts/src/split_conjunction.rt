@@ -85,15 +85,3 @@ pub fn split_at(s: &[u8], n: usize, c: Conjuncts) -> Conjuncts
         c,
     )
 }
-
-// Whether the expression at record n of the image is joined left-deep.
-pub fn left_deep_at(s: &[u8], n: usize) -> bool
-    requires there { There s.now n }
-    requires s_len_bound { length s.now ≤ work_bytes }
-    ensures { (e : Expr) → Standing s.now n e → Says result (LeftDeep e) }
-{
-    is_left_deep_xx(Subtree {
-        image: s,
-        number: n,
-    })
-}

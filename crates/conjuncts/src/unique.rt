@@ -7,8 +7,7 @@ ghost use Rattle.conjuncts.specs.Items.{Item, Known, Lists, Present, Some};
 ghost use Rattle.conjuncts.specs.Onto.{is_in, onto};
 
 use crate::equality::same_item;
-use crate::lists::{Conjuncts, add_if, empty, item_at};
-use image::limits::MAX_LIST;
+use crate::lists::{Conjuncts, add_if, empty};
 
 // Whether an item of c equals the item x.
 fn contains(s: &[u8], c: Conjuncts, x: usize) -> bool

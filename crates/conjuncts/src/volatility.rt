@@ -1,7 +1,6 @@
 // is_volatile (datafusion-expr Expr), and the functions that make a predicate expensive: those in an expression.
-ghost use Rattle.std.specs.Prelude.{◌≡◌, List, ◌<◌, ◌≤◌, get_or, length};
+ghost use Rattle.std.specs.Prelude.{◌≡◌, List, ◌<◌, get_or};
 ghost use Rattle.image.specs.Subtrees.{tree_of};
-ghost use Rattle.image.specs.Tree.{At, Readable, Tree, label_at};
 ghost use Rattle.plan.specs.Syntax.{Expr};
 ghost use Rattle.rewrite.specs.Utils.{any_fn, is_volatile_expr};
 ghost use Rattle.conjuncts.specs.Functions.{fn_here, fn_in, marked};
@@ -9,9 +8,8 @@ ghost use Rattle.conjuncts.specs.Items.{FALSE, Item, Known, Lists, Present};
 
 use crate::items::item_tree;
 use crate::lists::{Conjuncts, item_at};
-use image::records::{FIRST_LINK, KIND, Label, NEXT_LINK, Q, from_record};
+use image::records::Label;
 use image::trees::Subtree;
-use image::words::word_at;
 use plan::kinds::FUNCTION;
 use plan::words::{VOLATILE, VOLATILE_LEAFWARD};
 
@@ -34,35 +32,8 @@ impl Functions {
     }
 }
 
-// Whether the record at the start of `part` is a function that is asked for.
-fn is_function(part: &[u8], asked: Functions) -> bool
-    requires { 32 ≤ length part.now }
-    ensures { result ≡ fn_here (marked asked) (label_at part.now) }
-{
-    (word_at(part, KIND) == FUNCTION) & asked.include(word_at(part, Q))
-}
-
-// Whether the tree at the start of `part` holds such a function.
-pub fn has_function(part: &[u8], base: usize, depth: usize, asked: Functions) -> bool
-    requires { Readable depth part.now base }
-    ensures { (t : Tree) → At t part.now base → result ≡ fn_in (marked asked) t }
-{
-    if is_function(part, asked) {
-        return true;
-    }
-    let mut at = word_at(part, FIRST_LINK);
-    while at != 0 {
-        let child = from_record(part, base, at);
-        if has_function(child, at, depth - 1, asked) {
-            return true;
-        }
-        at = word_at(child, NEXT_LINK);
-    }
-    false
-}
-
 // Whether the record is a function that is asked for.
-fn is_function_xx(label: Label, asked: Functions) -> bool
+fn is_function(label: Label, asked: Functions) -> bool
     ensures { result ≡ fn_here (marked asked) label }
 {
     (label.kind == FUNCTION) & asked.include(label.q)
@@ -72,7 +43,7 @@ fn is_function_xx(label: Label, asked: Functions) -> bool
 pub fn has_function_xx(tree: Subtree, asked: Functions) -> bool
     ensures { result ≡ fn_in (marked asked) (tree_of tree.entry) }
 {
-    if is_function_xx(tree.label(), asked) {
+    if is_function(tree.label(), asked) {
         return true;
     }
     for child in tree.children() {

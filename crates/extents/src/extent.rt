@@ -1,5 +1,5 @@
 // How large a merged predicate is: its records and its levels, read off its conjuncts. Nothing is written for it.
-ghost use Rattle.std.specs.Prelude.{◌≡◌, ◌∷◌, List, ◌<◌, ◌≤◌, max, length};
+ghost use Rattle.std.specs.Prelude.{◌∷◌, List, ◌<◌, ◌≤◌, max, length};
 ghost use Rattle.image.specs.Limits.{work_bytes};
 ghost use Rattle.image.specs.Subtrees.{tree_of};
 ghost use Rattle.plan.specs.Syntax.{Expr};
