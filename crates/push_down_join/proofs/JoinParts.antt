@@ -1,5 +1,4 @@
--- The parts of a join in an image: its right input, its filter, its keys.
---     right_at        where the right input stands
+-- The parts of a join in an image: its filter, its keys.
 --     Last, ..        the last child of a join is its filter, if it has one, and else no expression
 --     PairsLeft, ..   a loop that writes the pairs of keys
 --     conditions-..   a list written as a join's filter
@@ -20,7 +19,7 @@ use Rattle.std.specs.Prelude as P
 use Rattle.std.specs.Bool.{then_some}
 use Rattle.image.specs.Limits.{work_bytes, no_room, max_below}
 use Rattle.image.specs.Room.{Wrote}
-use Rattle.image.specs.Tree.{Label, Forest, none, node, Tree, At, size}
+use Rattle.image.specs.Tree.{Label, Forest, none, node, Tree, size}
 use Rattle.image.specs.Subtrees.{tree_of}
 use Rattle.image.specs.declared.trees.Subtree.{Subtree}
 use Rattle.image.specs.Word.{word}
@@ -28,38 +27,28 @@ use Rattle.image.specs.Records.{Rec, recs, recs_any}
 use Rattle.image.proofs.Room.{cap_le}
 use Rattle.plan.specs.Integers.{Fits?}
 use Rattle.plan.specs.Lists.{when}
-use Rattle.plan.specs.Measure.{size_p}
 use Rattle.plan.specs.Schema.{has, schema}
 use Rattle.plan.specs.Syntax.{Name, Expr, col, num, bool, nul, bin, neg, test, between, inlist, fn, Pair, Kind, Plan, scan, filter, project, join}
 use Rattle.plan.specs.Syntax.{alias}
 use Rattle.plan.specs.Syntax.{union, distinct, sort, repartition, limit, aggregate, window}
-use Rattle.plan.specs.Trees.{label_e, expr_tree, label_p, kids_p, plan_tree, each, pair_label, pair_kids, filter_kids}
+use Rattle.plan.specs.Trees.{label_e, expr_tree, label_p, kids_p, each, pair_label, pair_kids, filter_kids}
 use Rattle.plan.proofs.Lists.{and_l, and_r}
 use Rattle.acceptance.specs.NamesRule.{rule}
 use Rattle.rewrite.specs.Limits.{list_p}
 use Rattle.rewrite.specs.Utils.{split_conjunction, split_conjunction?, conjoin, conjunction}
 use Rattle.rewrite.proofs.Project.{split_cols}
 use Rattle.conjuncts.specs.Items.{Conjuncts, Lists}
-use Rattle.conjuncts.specs.Standing.{Standing, StandingP, Stretch, There}
+use Rattle.conjuncts.specs.Standing.{Standing, StandingP, There}
 use Rattle.conjuncts.proofs.Listed.{known_of}
 use Rattle.conjuncts.proofs.Standing.{plan_standing}
 use Rattle.push_down_base.specs.Around.{WroteAll}
 use Rattle.push_down_base.specs.Arms.{Placed}
 use Rattle.push_down_base.specs.Inputs as L
 use Rattle.push_down_base.specs.Inputs.{last_of}
-use Rattle.push_down_join.specs.JoinPlans.{pair_recs, FilterOf, has_none, has_one, FilterOf_xx, has_none_xx, has_one_xx}
+use Rattle.push_down_join.specs.JoinPlans.{pair_recs, FilterOf_xx, has_none_xx, has_one_xx}
 use Rattle.push_down_base.specs.Parting.{Reads}
-use Rattle.push_down_base.proofs.Steps.{On, rest_trees, children, expr_first, right_input}
+use Rattle.push_down_base.proofs.Steps.{On, rest_trees, children, expr_first}
 use Rattle.push_down_base.proofs.WrittenRuns.{wrote_none, wrote_then, wrote_tree}
-
--- ---- the right input
-
-pub right_at : {s : List ℕ} (short : length s ≤ work_bytes) {x z : ℕ} {k : Kind} {l r : Plan} {on : List Pair} {f : Option Expr}
-    → StandingP s x (join k l r on f) → z ≡ word (drop (32 * (x + 1)) s) 28 → StandingP s z r × (x ≤ z)
-unfolding kids_p size_p
-right_at {s} short {x} {z} {l = l} {r} h e =
-    let i : x + 1 + size_p l ≡ z = sym (e ∙ (children short h).stands.next ∙ omega arith) in
-    (subst (λ n. StandingP s n r) i (right_input short h), omega (arith, i))
 
 -- ---- the filter
 
@@ -124,50 +113,7 @@ module _ {s : List ℕ} (short : length s ≤ work_bytes) where
       (omega (arith, right.stands.head.room, length-drop (32 * (x + 1 + suc (size (kids_p l)))) s))
       (omega (arith, ap (λ (l : Label). l.kind) right.stands.head.label, plan_kind r))))
 
--- the last of trees behind record x is behind it
-last_behind : (f : Forest) (x d b : ℕ) → x ≤ d → x ≤ b → x ≤ last_of d b f
-last_behind none x d b le to = le
-last_behind (node l cs ns) x d b le to = last_behind ns x b (b + 1 + size cs) to (omega arith)
-
--- as `last_child` finds it
-module _ {s part : List ℕ} {x n : ℕ} {k : Kind} {l r : Plan} {on : List Pair} {f : Option Expr} (e : Stretch s x part)
-    (h : Placed s x (join k l r on f)) (g : (t : Tree) → At t part x → n ≡ last_of 0 (x + 1) t.below) where
-  last_number : n ≡ last_of 0 (x + 1) (kids_p (join k l r on f))
-  last_number = g (plan_tree (join k l r on f)) (rw e h.standing.here)
-
-  pub last_found : Last s n f
-  last_found = subst (λ i. Last s i f) (sym last_number) (last_is h.short k l r on f h.standing)
-
-  pub last_after : x ≤ n
-  unfolding kids_p
-  last_after =
-      rw last_number (last_behind (node (label_p r) (kids_p r) (each pair_label pair_kids on (filter_kids f))) x (x + 1) (x + 1 + 1 + size (kids_p l))
-      (omega arith) (omega arith))
-
-module _ {s : List ℕ} {n : ℕ} where
-  pub last_room : {f : Option Expr} → Last s n f → 32 * n + 32 ≤ length s
-  last_room (no_filter room kind) = room
-  last_room (a_filter h pos kind) = omega (arith, h.here.head.room, length-drop (32 * n) s, h.within)
-
-  pub last_filter : {f : Option Expr} (w : ℕ) → w ≡ word (drop (32 * n) s) 0 → Last s n f → FilterOf s (then_some (ltb w 32) n) f
-  last_filter w e (no_filter room kind) = rw (e, le-ltb (word (drop (32 * n) s) 0) 32 kind) has_none
-  last_filter w e (a_filter h pos kind) = rw (e, lt-ltb (word (drop (32 * n) s) 0) 32 kind) (has_one h pos)
-
-  pub own_there : {f : Option Expr} → FilterOf s (P.Some n) f → There s n × (0 < n)
-  own_there (has_one {e = e} h pos) = (record { expr = e; standing = h }, pos)
-
--- what is split at the filter
-pub own_reads : {s : List ℕ} {x n : ℕ} {k : Kind} {l r : Plan} {on : List Pair} {f : Option Expr} {z : Conjuncts} → Placed s x (join k l r on f)
-    → FilterOf s (P.Some n) f → ((e : Expr) → Standing s n e → Lists s z (split_conjunction e))
-    → Reads s (schema l ++ schema r) z (split_conjunction? f)
-unfolding split_conjunction? rule list_p
-own_reads {l = l} {r} p (has_one {e = e} h pos) g = record {
-  lists = g e h;
-  over = split_cols (has (schema l ++ schema r)) e (and_l _ _ (and_r _ _ (and_r _ _ p.rules)));
-  most = (known_of (g e h) (le_trans (le-max_left (length (split_conjunction e)) _) p.lists)).most;
-}
-
--- the same of trees
+-- the last child of a join, as `last_child` finds it
 module _ {t u : Subtree} {k : Kind} {l r : Plan} {on : List Pair} {f : Option Expr} (w : L.Last t u)
     (h : Placed t.image.now t.number (join k l r on f)) where
   pub last_filter_xx : {n : ℕ} → n ≡ (tree_of u).label.kind → FilterOf_xx t.image.now (then_some (ltb n 32) u) f
@@ -190,25 +136,26 @@ pub own_there_xx : {s : List ℕ} {u : Subtree} {f : Option Expr} → FilterOf_x
 own_there_xx {u = u} (has_one_xx {e = e} here h pos) short =
     (record { expr = e; standing = subst (λ z. Standing z u.number e) (sym here) h }, pos, rw here short)
 
+-- what is split at the filter
 pub own_reads_xx : {s : List ℕ} {x : ℕ} {u : Subtree} {k : Kind} {l r : Plan} {on : List Pair} {f : Option Expr} {z : Conjuncts}
     → Placed s x (join k l r on f)
     → FilterOf_xx s (P.Some u) f → ((e : Expr) → Standing u.image.now u.number e → Lists u.image.now z (split_conjunction e))
     → Reads s (schema l ++ schema r) z (split_conjunction? f)
 unfolding split_conjunction? rule list_p
-own_reads_xx {s} {x} {u} {k} {l} {r} {on} {z = z} p (has_one_xx {e = e} here h pos) g =
-    own_reads p (has_one h pos) (λ e' h'. subst (λ b. Lists b z (split_conjunction e')) here
-    (g e' (subst (λ b. Standing b u.number e') (sym here) h')))
+own_reads_xx {s} {u = u} {l = l} {r} {z = z} p (has_one_xx {e = e} here h pos) g =
+    let listed : Lists s z (split_conjunction e) =
+    subst (λ b. Lists b z (split_conjunction e)) here (g e (subst (λ b. Standing b u.number e) (sym here) h)) in
+    record {
+      lists = listed;
+      over = split_cols (has (schema l ++ schema r)) e (and_l _ _ (and_r _ _ (and_r _ _ p.rules)));
+      most = (known_of listed (le_trans (le-max_left (length (split_conjunction e)) _) p.lists)).most;
+    }
 
+-- where there is none
 pub own_none_xx : {s : List ℕ} {f : Option Expr} {ns : List Name} {z : Conjuncts} → FilterOf_xx s P.None f → Reads s ns z []
     → Reads s ns z (split_conjunction? f)
 unfolding split_conjunction?
 own_none_xx has_none_xx h = h
-
--- where there is none
-pub own_none : {s : List ℕ} {f : Option Expr} {ns : List Name} {z : Conjuncts} → FilterOf s P.None f → Reads s ns z []
-    → Reads s ns z (split_conjunction? f)
-unfolding split_conjunction?
-own_none has_none h = h
 
 -- ---- the keys
 

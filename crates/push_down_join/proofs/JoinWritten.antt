@@ -5,56 +5,34 @@
 use mathlib.Core.Path.{◌≡◌, refl, sym, ap, subst, ◌∙◌}
 use mathlib.Core.List.{List, [], ◌∷◌, ◌++◌, append_assoc}
 use mathlib.Core.Option.{Option}
-use Prim.Native.Nat.{ℕ, ◌+◌, ◌-◌, ◌*◌, ◌≤◌, ◌<◌}
-use lib.ListN.{length, drop}
+use Prim.Native.Nat.{ℕ, ◌+◌, ◌-◌, ◌≤◌, ◌<◌}
+use lib.ListN.{length}
 use Rattle.image.specs.Limits.{work_bytes, max_list, max_below, max_level}
 use Rattle.image.specs.Room.{Low, Put, Wrote}
 use Rattle.image.specs.Subtrees.{tree_of}
 use Rattle.image.specs.Tree.{Label, Tree, none}
 use Rattle.image.specs.declared.trees.Subtree.{Subtree}
-use Rattle.image.specs.Word.{word}
 use Rattle.image.specs.Records.{Rec, recs, recs_any}
 use Rattle.plan.specs.Schema.{has, schema}
 use Rattle.plan.specs.Read.{joins, nth}
 use Rattle.plan.specs.Syntax.{Name, Expr, Pair, Kind, inner, left, right, full, left_semi, right_semi, left_anti, right_anti, Plan, join}
 use Rattle.plan.specs.Trees.{join_number, label_p, kids_p, plan_tree, each, pair_label, pair_kids, filter_kids}
-use Rattle.conjuncts.specs.Items.{Conjuncts, Known}
-use Rattle.conjuncts.specs.Standing.{StandingP, Stretch}
+use Rattle.conjuncts.specs.Items.{Conjuncts}
+use Rattle.conjuncts.specs.Standing.{StandingP}
 use Rattle.conjuncts.proofs.Standing.{plan_standing}
-use Rattle.writing.specs.Maps.{Maps, MapsTo}
+use Rattle.writing.specs.Maps.{MapsTo}
 use Rattle.writing.specs.Pushed.{Some}
 use Rattle.writing.proofs.Maps.{plan_deep}
 use Rattle.writing.proofs.Pushing.{pushes_of}
 use Rattle.push_down_base.specs.Around.{WroteAll}
 use Rattle.push_down_base.specs.Arms.{Placed}
-use Rattle.push_down_join.specs.JoinPlans.{Moves, Moved, pair_recs, Carries, Carries_xx, JoinHere, JoinPart}
-use Rattle.push_down_join.specs.Scopes.{Scope, Scopes, Asked, JoinAt}
+use Rattle.push_down_join.specs.JoinPlans.{Moves, Moved, pair_recs, Carries_xx}
+use Rattle.push_down_join.specs.Scopes.{Scope, Scopes, Asked}
 use Rattle.push_down_base.specs.Parting.{Reads}
-use Rattle.push_down_join.specs.Sides.{SomeSided, Side, Side_xx}
+use Rattle.push_down_join.specs.Sides.{SomeSided, Side_xx}
 use Rattle.push_down_join.proofs.JoinParts.{pairs_join}
 use Rattle.push_down_base.proofs.Runs.{run_recs}
-use Rattle.push_down_base.proofs.Steps.{left_input}
 use Rattle.push_down_base.proofs.WrittenRuns.{wrote_one, wrote_then, wrote_tree, tree_wrote}
-
-module _ {s m : List ℕ} {x z : ℕ} {sc : Scope} {v : Moves} {k : Kind} {l r : Plan} {on : List Pair} {f : Option Expr} {P G : List Expr}
-    {σ : Name → Expr} (h : Carries s m x z sc v k l r on f P G σ) where
-  pub left_side : Side m sc.fields sc.left σ (schema l ++ schema r) (has (schema l))
-  left_side = record { maps = h.maps; names = h.scopes.names; masks = h.scopes.left }
-
-  pub right_side : Side m sc.fields sc.right σ (schema l ++ schema r) (has (schema r))
-  right_side = record { maps = h.maps; names = h.scopes.names; masks = h.scopes.right }
-
-  pub left_some : SomeSided s v.left
-  left_some = record { mapping = σ; names = schema l ++ schema r; test = has (schema l); exprs = _; sides = h.moved.left; most = h.left_most }
-
-  pub right_some : SomeSided s v.right
-  right_some = record { mapping = σ; names = schema l ++ schema r; test = has (schema r); exprs = _; sides = h.moved.right; most = h.right_most }
-
-  pub conditions_known : Known s v.conditions
-  conditions_known = record { exprs = _; lists = h.moved.conditions; most = h.conditions_most }
-
-  pub kept_some : Some s v.kept
-  kept_some = record { mapping = σ; exprs = _; pushes = pushes_of h.moved.kept.lists; most = h.moved.kept.most }
 
 module _ {plan map : Subtree} {sc : Scope} {v : Moves} {k : Kind} {l r : Plan} {on : List Pair} {f : Option Expr} {P G : List Expr}
     {σ : Name → Expr} (h : Carries_xx plan map sc v k l r on f P G σ) where
@@ -69,9 +47,6 @@ module _ {plan map : Subtree} {sc : Scope} {v : Moves} {k : Kind} {l r : Plan} {
 
   pub right_some_xx : SomeSided plan.image.now v.right
   right_some_xx = record { mapping = σ; names = schema l ++ schema r; test = has (schema r); exprs = _; sides = h.moved.right; most = h.right_most }
-
-  pub conditions_known_xx : Known plan.image.now v.conditions
-  conditions_known_xx = record { exprs = _; lists = h.moved.conditions; most = h.conditions_most }
 
   pub kept_some_xx : Some plan.image.now v.kept
   kept_some_xx = record { mapping = σ; exprs = _; pushes = pushes_of h.moved.kept.lists; most = h.moved.kept.most }
@@ -105,24 +80,6 @@ join_wrote {o₃ = o₃} {o₄} {n₃ = n₃} {n₄} {level = level} {top} k l r
 
 -- ---- what the functions are asked
 
-pub join_here : {s : List ℕ} {x : ℕ} {k : Kind} {l r : Plan} {on : List Pair} {f : Option Expr} → Placed s x (join k l r on f) → JoinHere s x
-join_here {k = k} {l} {r} {on} {f} h = record { kind = k; lhs = l; rhs = r; keys = on; condition = f; placed = h }
-
-pub join_part : {s part : List ℕ} {x : ℕ} → Stretch s x part → JoinHere s x → JoinPart part x
-join_part {s} e h = record { image = s; stretch = e; here = h }
-
-pub join_at : {s part : List ℕ} {x z : ℕ} {k : Kind} {l r : Plan} {on : List Pair} {f : Option Expr} → Stretch s x part
-    → Placed s x (join k l r on f) → StandingP s z r × (x ≤ z) → JoinAt part x z k l r on f
-join_at {s} e h z = record {
-  image = s;
-  stretch = e;
-  standing = h.standing;
-  first = left_input h.short h.standing;
-  second = z.0;
-  after = z.1;
-  rules = h.rules;
-}
-
 pub asked : {s : List ℕ} {sc : Scope} {c : Conjuncts} {l r : List Name} {on : List Pair} {es : List Expr} → Scopes sc l r on → Reads s (l ++ r) c es
     → Asked s sc c
 asked {l = l} {r} {on} {es} sc h = record { lefts = l; rights = r; keys = on; exprs = es; scopes = sc; reads = h }
@@ -139,33 +96,10 @@ kind_numbered right_semi = refl
 kind_numbered left_anti = refl
 kind_numbered right_anti = refl
 
-pub kind_is : {s part : List ℕ} {x n : ℕ} {k : Kind} {l r : Plan} {on : List Pair} {f : Option Expr} → StandingP s x (join k l r on f)
-    → part ≡ drop (32 * x) s → n ≡ word part 4 → n ≡ join_number k
-unfolding label_p
-kind_is h e i = i ∙ ap (λ b. word b 4) e ∙ ap (λ (t : Label). t.p) h.here.head.label
-
 pub kind_of : (t : Subtree) {k : Kind} {l r : Plan} {on : List Pair} {f : Option Expr} → StandingP t.image.now t.number (join k l r on f)
     → (tree_of t).label.p ≡ join_number k
 unfolding label_p
 kind_of t h = ap (λ (u : Tree). u.label.p) (plan_standing t refl refl h)
-
-pub carries : {s m : List ℕ} {x z : ℕ} {sc : Scope} {v : Moves} {k : Kind} {l r : Plan} {on : List Pair} {f : Option Expr} {P G : List Expr}
-    {σ : Name → Expr} → Placed s x (join k l r on f) → StandingP s z r × (x ≤ z) → Maps m 0 3 σ → Scopes sc (schema l) (schema r) on
-    → Moved s σ v k (schema l) (schema r) on P G → (v.left.len ≤ max_list) × (v.right.len ≤ max_list) × (v.conditions.len ≤ max_list)
-    → Carries s m x z sc v k l r on f P G σ
-carries h z m sc v few = record {
-  short = h.short;
-  standing = h.standing;
-  first = left_input h.short h.standing;
-  second = z.0;
-  after = z.1;
-  maps = m;
-  scopes = sc;
-  moved = v;
-  left_most = few.0;
-  right_most = few.1;
-  conditions_most = few.2;
-}
 
 pub carries_xx : {plan map : Subtree} {sc : Scope} {v : Moves} {k : Kind} {l r : Plan} {on : List Pair} {f : Option Expr} {P G : List Expr}
     {σ : Name → Expr} → Placed plan.image.now plan.number (join k l r on f) → MapsTo map σ → Scopes sc (schema l) (schema r) on

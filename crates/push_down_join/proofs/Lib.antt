@@ -11,4 +11,3 @@ pub mod JoinsUnder
 pub mod ScopeSets
 pub mod JoinScope
 pub mod Extracting
-mod Apart

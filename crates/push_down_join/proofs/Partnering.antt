@@ -1,25 +1,20 @@
 -- Laws of the partners of columns.
 --     pair_is                         the partner in a pair of columns
---     at_some, at_none                where a link leads
---     key_none, key_is, pair_empty,   the partner in a record: it is no pair, it has too few below it, or both keys
---     pair_one, pair_two
+--     key_none, key_is, few_pair,     the partner in a record: it is no pair, it has too few below it, or both keys
+--     two_pair
 --     partner_stop, partner_step      the partner along the children of a record
 -- Assumes nothing.
-use mathlib.Core.Path.{◌≡◌, refl, sym, ◌∙◌}
-use mathlib.Core.Bool.{Bool, true, false, not, ◌&&◌, cond}
-use mathlib.Core.List.{List}
+use mathlib.Core.Path.{◌≡◌, refl}
+use mathlib.Core.Bool.{Bool, true, false, ◌&&◌, cond}
 use mathlib.Core.Option as O
 use mathlib.Core.Option.{Option, some}
-use Prim.Native.Nat.{ℕ}
 use lib.Dec.{eqb}
-use borrow.Author.Tests.{eq-eqb, eqb-false, eqb-true, ne_eqb}
+use borrow.Author.Tests.{eq-eqb, ne_eqb}
 use Rattle.std.specs.Prelude as P
 use Rattle.std.specs.Option.{is_some}
-use Rattle.std.specs.Bool.{then_some}
 use Rattle.image.specs.Subtrees.{tree_of}
 use Rattle.image.specs.Tree.{Label, Forest, none, node}
 use Rattle.image.specs.declared.trees.Subtree.{Subtree}
-use Rattle.image.proofs.Walking.{Turn}
 use Rattle.plan.specs.Lists.{◌&◌}
 use Rattle.plan.specs.Syntax.{Name}
 use Rattle.rewrite.specs.PushDownFilter.{pair_of}
@@ -41,22 +36,6 @@ pub pair_is : (x y z : ColumnReference) → pair_of (named x) (some (named y)) (
 unfolding pair_of
 pair_is x y z = rw (both (eqb y.q x.q) (eqb y.n x.n), both (eqb z.q x.q) (eqb z.n x.n))
 
--- ---- where a link leads
-
-pub at_some : (w n : ℕ) → then_some (not (eqb w 0)) w ≡ P.Some n → (n ≡ w) × (n ≡ 0 → ⊥)
-at_some w n e = go (eqb w 0) refl e
-  where
-    go : (b : Bool) → eqb w 0 ≡ b → then_some (not b) w ≡ P.Some n → (n ≡ w) × (n ≡ 0 → ⊥)
-    go true k e = absurd (cc)
-    go false k e = let i : n ≡ w = cc in (i, λ z. eqb-false w 0 k (sym i ∙ z))
-
-pub at_none : (w : ℕ) → then_some (not (eqb w 0)) w ≡ P.None → w ≡ 0
-at_none w e = go (eqb w 0) refl e
-  where
-    go : (b : Bool) → eqb w 0 ≡ b → then_some (not b) w ≡ P.None → w ≡ 0
-    go true k e = eqb-true w 0 k
-    go false k e = absurd (cc)
-
 -- ---- the partner in a record
 
 module _ (x : Name) (l : Label) (cs : Forest) where
@@ -69,18 +48,16 @@ module _ (x : Name) (l : Label) (cs : Forest) where
   unfolding key_in
   key_is h = rw (eq-eqb l.kind 50 h)
 
-pub pair_empty : (z : Name) {f : Forest} → f ≡ none → pair_in z f ≡ O.none
+pub few_pair : (z : Name) (f : Forest) → Few f → pair_in z f ≡ O.none
 unfolding pair_in
-pair_empty z e = rw e
+few_pair z none h = refl
+few_pair z (node l cs none) h = refl
+few_pair z (node l cs (node m ds ns)) h = absurd h
 
-pub pair_one : (z : Name) {f : Forest} {s : List ℕ} {b x : ℕ} (u : Turn f s b x) → u.after ≡ none → pair_in z f ≡ O.none
+pub two_pair : {t a b : Subtree} (z : Name) → Two t a b
+    → pair_in z (tree_of t).below ≡ pair_of z (column_of (tree_of a).label) (column_of (tree_of b).label) O.none
 unfolding pair_in
-pair_one z u e = rw (u.is, e)
-
-pub pair_two : (z : Name) {f : Forest} {s : List ℕ} {b x y : ℕ} (u : Turn f s b x) (v : Turn u.after s b y)
-    → pair_in z f ≡ pair_of z (column_of u.child.label) (column_of v.child.label) O.none
-unfolding pair_in
-pair_two z u v = rw (u.is, v.is)
+two_pair z w = rw w.is
 
 -- ---- along the children of a record
 
@@ -100,16 +77,3 @@ module _ (c : P.Option ColumnReference) (x : Name) (l : Label) (cs ns : Forest) 
       rest : (c : P.Option ColumnReference) (o : Option Name) → name_of c ≡ o → is_some c ≡ false → or_else o (partner_in x ns) ≡ partner_in x ns
       rest P.None o e k = rw (← e)
       rest (P.Some y) o e k = cc
-
--- ---- the first two children of a record
-
-pub few_pair : (z : Name) (f : Forest) → Few f → pair_in z f ≡ O.none
-unfolding pair_in
-few_pair z none h = refl
-few_pair z (node l cs none) h = refl
-few_pair z (node l cs (node m ds ns)) h = absurd h
-
-pub two_pair : {t a b : Subtree} (z : Name) → Two t a b
-    → pair_in z (tree_of t).below ≡ pair_of z (column_of (tree_of a).label) (column_of (tree_of b).label) O.none
-unfolding pair_in
-two_pair z w = rw w.is

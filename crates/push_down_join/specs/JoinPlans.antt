@@ -14,8 +14,8 @@ use Rattle.plan.specs.Lists.{when}
 use Rattle.rewrite.specs.Utils.{with_filters, conjunction}
 use Rattle.rewrite.specs.PushDownFilter.{left_push, right_push, keep_predicates, join_conditions, on_filter_join_conditions, nothing_moves}
 use Rattle.conjuncts.specs.Items.{Conjuncts, Lists}
-use Rattle.conjuncts.specs.Standing.{Standing, StandingP, Stretch}
-use Rattle.writing.specs.Maps.{Maps, MapsTo}
+use Rattle.conjuncts.specs.Standing.{Standing, StandingP}
+use Rattle.writing.specs.Maps.{MapsTo}
 use Rattle.push_down_base.specs.Arms.{Placed, Rests}
 use Rattle.push_down_base.specs.Predicates.{Predicate}
 use Rattle.push_down_base.specs.Plain.{Plain}
@@ -35,16 +35,10 @@ pub record JoinHere (s : List ℕ) (x : ℕ) : Type 0 where
   pub condition : Option Expr
   pub placed : Placed s x (join kind lhs rhs keys condition)
 
--- .. and `part` is the stretch of that image that begins there
-pub record JoinPart (part : List ℕ) (x : ℕ) : Type 0 where
-  pub image : List ℕ
-  pub stretch : Stretch image x part
-  pub here : JoinHere image x
-
--- the filter of a join stands at this record, or it has none
-pub data FilterOf (s : List ℕ) : P.Option ℕ → Option Expr → Type 0 where
-  has_none : FilterOf s P.None O.none
-  has_one : {n : ℕ} {e : Expr} → Standing s n e → 0 < n → FilterOf s (P.Some n) (some e)
+-- the filter of a join is this tree of the image, or it has none
+pub data FilterOf_xx (s : List ℕ) : P.Option Subtree → Option Expr → Type 0 where
+  has_none_xx : FilterOf_xx s P.None O.none
+  has_one_xx : {t : Subtree} {e : Expr} → t.image.now ≡ s → Standing s t.number e → 0 < t.number → FilterOf_xx s (P.Some t) (some e)
 
 -- a join stands at record x, and the conjuncts c are over its inputs
 pub record JoinUnder (s : List ℕ) (x : ℕ) (c : Conjuncts) : Type 0 where
@@ -111,38 +105,6 @@ join_over k l r on P G =
     let t = schema r in
     join k (with_filters (left_push k s t on P G) l) (with_filters (right_push k s t on P G) r) on
     (conjunction (join_conditions k s t on P G ++ on_filter_join_conditions k s t on P G))
-
--- the join stands at record x, its right input at record z; sc is its scope, the map at m swaps its keys, and v are its lists, all whole
-pub record Carries (s m : List ℕ) (x z : ℕ) (sc : Scope) (v : Moves) (k : Kind)
-    (l r : Plan) (on : List Pair) (f : Option Expr) (P G : List Expr) (σ : Name → Expr) : Type 0 where
-  pub short : length s ≤ work_bytes
-  pub standing : StandingP s x (join k l r on f)
-  pub first : StandingP s (x + 1) l
-  pub second : StandingP s z r
-  pub after : x ≤ z
-  pub maps : Maps m 0 3 σ
-  pub scopes : Scopes sc (schema l) (schema r) on
-  pub moved : Moved s σ v k (schema l) (schema r) on P G
-  pub left_most : v.left.len ≤ max_list
-  pub right_most : v.right.len ≤ max_list
-  pub conditions_most : v.conditions.len ≤ max_list
-
--- some join does
-pub record Carried (s m : List ℕ) (x z : ℕ) (sc : Scope) (v : Moves) : Type 0 where
-  pub kind : Kind
-  pub lhs : Plan
-  pub rhs : Plan
-  pub keys : List Pair
-  pub condition : Option Expr
-  pub above : List Expr
-  pub own : List Expr
-  pub mapping : Name → Expr
-  pub carries : Carries s m x z sc v kind lhs rhs keys condition above own mapping
-
--- the filter of a join is this tree of the image, or it has none
-pub data FilterOf_xx (s : List ℕ) : P.Option Subtree → Option Expr → Type 0 where
-  has_none_xx : FilterOf_xx s P.None O.none
-  has_one_xx : {t : Subtree} {e : Expr} → t.image.now ≡ s → Standing s t.number e → 0 < t.number → FilterOf_xx s (P.Some t) (some e)
 
 -- plan is the join; sc is its scope, the map swaps its keys, and v are its lists, all whole
 pub record Carries_xx (plan map : Subtree) (sc : Scope) (v : Moves) (k : Kind)

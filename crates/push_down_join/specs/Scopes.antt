@@ -1,13 +1,10 @@
 -- The fields of a join's inputs, and lists of conjuncts over them.
-use Rattle.std.specs.Prelude.{◌≡◌, Bool, true, not, List, ◌++◌, map, ℕ, ◌+◌, ◌≤◌}
+use Rattle.std.specs.Prelude.{◌≡◌, Bool, true, not, List, ◌++◌, map, ℕ, ◌≤◌}
 use Rattle.image.specs.Limits.{max_fields}
 use Rattle.plan.specs.Columns.{on_cols}
 use Rattle.plan.specs.Lists.{keep}
 use Rattle.plan.specs.Schema.{has}
-use Rattle.plan.specs.Syntax.{Name, Expr, Pair, Kind, Plan, join}
-use Rattle.std.proofs.Math.Option.{Option}
-use Rattle.acceptance.specs.NamesRule.{ok}
-use Rattle.conjuncts.specs.Standing.{StandingP, Stretch}
+use Rattle.plan.specs.Syntax.{Name, Expr, Pair}
 use Rattle.rewrite.specs.PushDownFilter.{partner, no_partner, if_list, swap_keys}
 use Rattle.conjuncts.specs.Items.{Conjuncts}
 use Rattle.utils.specs.Fields.{Names}
@@ -60,23 +57,3 @@ keyed_right b l r on es =
 -- σ puts a key's partner in its place, in what reads ns
 abbrev pub Swapper : (Name → Expr) → List Name → List Pair → Type 0
 Swapper σ ns on = (x : Name) → has ns x ≡ true → σ x ≡ swap_keys on x
-
--- `part` is the stretch of an image that begins at record x, where the join stands and keeps the name rules; its right input stands at
--- record z
-pub record JoinAt (part : List ℕ) (x z : ℕ) (k : Kind) (l r : Plan) (on : List Pair) (f : Option Expr) : Type 0 where
-  pub image : List ℕ
-  pub stretch : Stretch image x part
-  pub standing : StandingP image x (join k l r on f)
-  pub first : StandingP image (x + 1) l
-  pub second : StandingP image z r
-  pub after : x ≤ z
-  pub rules : ok (join k l r on f) ≡ true
-
--- some join does
-pub record SomeJoin (part : List ℕ) (x z : ℕ) : Type 0 where
-  pub kind : Kind
-  pub lhs : Plan
-  pub rhs : Plan
-  pub keys : List Pair
-  pub condition : Option Expr
-  pub join_at : JoinAt part x z kind lhs rhs keys condition

@@ -10,7 +10,7 @@ use Rattle.push_down_join.specs.Clauses.{or_clause}
 use Rattle.utils.specs.Fields.{Fields, Names}
 use Rattle.utils.specs.Masks.{Masks}
 use Rattle.image.specs.declared.trees.Subtree.{Subtree}
-use Rattle.writing.specs.Maps.{Maps, MapsTo}
+use Rattle.writing.specs.Maps.{MapsTo}
 use Rattle.writing.specs.Pushed.{Pushed, Each}
 
 -- e is the clause of the item n, which reads ns, for the side whose columns pass t
@@ -54,12 +54,6 @@ pub record SomeSided (s : List ℕ) (c : Conjuncts) : Type 0 where
   pub exprs : List Expr
   pub sides : Sides s mapping names test c exprs
   pub most : c.len ≤ max_list
-
--- the map at m is σ, and `side` has those of the names ns, which `fields` holds, that pass t
-pub record Side (m : List ℕ) (fields : Fields) (side : ℕ) (σ : Name → Expr) (ns : List Name) (t : Name → Bool) : Type 0 where
-  pub maps : Maps m 0 3 σ
-  pub names : Names fields ns
-  pub masks : Masks side ns t
 
 -- the map is σ, and `side` has those of the names ns, which `fields` holds, that pass t
 pub record Side_xx (map : Subtree) (fields : Fields) (side : ℕ) (σ : Name → Expr) (ns : List Name) (t : Name → Bool) : Type 0 where

@@ -13,14 +13,12 @@ ghost use Rattle.push_down_base.specs.Arms.{Placed};
 ghost use Rattle.push_down_base.specs.Inputs.{Two};
 ghost use Rattle.push_down_join.specs.JoinPlans.{JoinHere};
 ghost use Rattle.push_down_join.specs.Partners.{Swaps, partner_in};
-ghost use Rattle.push_down_join.specs.Scopes.{JoinAt, Scopes, SomeJoin, swap};
+ghost use Rattle.push_down_join.specs.Scopes.{Scopes, swap};
 
-use crate::infer_join_predicates::{Swapped, places_among, swap_keys, swap_keys_xx};
-use image::limits::MAX_DEPTH;
-use image::records::from_record;
+use crate::infer_join_predicates::{Swapped, places_among, swap_keys_xx};
 use image::trees::Subtree;
 use push_down_base::inputs::first_two;
-use utils::schema_columns::{Fields, no_fields, schema_columns, schema_columns_xx};
+use utils::schema_columns::{Fields, no_fields, schema_columns_xx};
 use utils::sets::FieldSet;
 
 // The fields of both inputs of a join, the left one's first; the same with each key's partner in its place; and sets of them: those of each
@@ -56,19 +54,6 @@ pub fn scope_of(fields: Fields, k: usize, swapped: Swapped) -> Scope
         leftward,
         rightward: leftward.all_but(n),
     }
-}
-
-// The fields of the join at the start of `part`, which begins at record x; its right input stands at record z.
-pub fn join_scope(part: &[u8], x: usize, z: usize) -> Scope
-    requires { SomeJoin part.now x z }
-    ensures { (k : Kind) (l r : Plan) (on : List Pair) (f : Option Expr) → JoinAt part.now x z k l r on f →
-        Scopes result (schema l) (schema r) on }
-{
-    let y = x + 1;
-    let left = schema_columns(from_record(part, x, y), y, MAX_DEPTH, no_fields());
-    let fields = schema_columns(from_record(part, x, z), z, MAX_DEPTH, left);
-    let swapped = swap_keys(part, x, fields);
-    scope_of(fields, left.len, swapped)
 }
 
 // The inputs of a join.

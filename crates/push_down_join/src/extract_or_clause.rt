@@ -1,10 +1,9 @@
 // extract_or_clauses_for_join (313 to 335), extract_or_clause (348 to 398): of an OR, the clause that reads columns of one side only.
 ghost use Rattle.std.specs.Prelude.{◌≡◌, Bool, true, ◌++◌, List, ◌+◌, ◌<◌, ◌≤◌, length};
 ghost use Rattle.std.proofs.Math.Option.{some};
-ghost use Rattle.image.specs.Limits.{Shallow, max_fields, max_level, work_bytes};
+ghost use Rattle.image.specs.Limits.{Shallow, max_fields};
 ghost use Rattle.image.specs.Room.{Low, Wrote};
 ghost use Rattle.image.specs.Subtrees.{tree_of};
-ghost use Rattle.image.specs.Tree.{At, label_at};
 ghost use Rattle.plan.specs.Columns.{on_cols};
 ghost use Rattle.plan.specs.Lists.{All};
 ghost use Rattle.plan.specs.Schema.{has};
@@ -12,7 +11,7 @@ ghost use Rattle.plan.specs.Syntax.{Expr, Name};
 ghost use Rattle.plan.specs.Trees.{expr_tree};
 ghost use Rattle.rewrite.specs.PushDownFilter.{extract_or_clause, extract_or_clauses_for_join, listed};
 ghost use Rattle.conjuncts.specs.Items.{Item, Known, Lists, Present};
-ghost use Rattle.conjuncts.specs.Standing.{ReadableE, Standing, There};
+ghost use Rattle.conjuncts.specs.Standing.{Standing, There};
 ghost use Rattle.utils.specs.Fields.{Names};
 ghost use Rattle.utils.specs.Masks.{Masks};
 ghost use Rattle.push_down_join.specs.Clauses.{Operands, kept, operator_of, or_clause, yields};
@@ -20,15 +19,13 @@ ghost use Rattle.push_down_join.specs.Sides.{Sides};
 
 use conjuncts::items::{CLAUSE, item_tree};
 use conjuncts::lists::{Conjuncts, add};
-use image::copying::{Writer, copy_tree, put_label};
-use image::limits::{MAX_DEPTH, MAX_RECORDS, NO_ROOM};
-use image::records::{FIRST_LINK, KIND, NEXT_LINK, P, from_record, record_at};
+use image::copying::Writer;
+use image::limits::{MAX_RECORDS, NO_ROOM};
 use image::trees::Subtree;
-use image::words::word_at;
 use plan::kinds::BINARY_EXPR;
 use plan::words::{AND, OR};
 use push_down_base::inputs::first_two;
-use utils::has_all_column_refs::{has_all_column_refs, has_all_column_refs_xx};
+use utils::has_all_column_refs::has_all_column_refs_xx;
 use utils::schema_columns::Fields;
 use utils::sets::FieldSet;
 
@@ -73,148 +70,6 @@ pub fn extract_or_clauses_for_join(
 pub enum Connective {
     And,
     Or,
-}
-
-// The operator of the expression at the start of `part`, if it is And or Or.
-#[tactic(auto, unfolding(crate::specs::Clauses::operator_of))]
-pub fn operator(part: &[u8]) -> Option<Connective>
-    requires { 32 ≤ length part.now }
-    ensures { result ≡ operator_of (label_at part.now) }
-{
-    if word_at(part, KIND) != BINARY_EXPR {
-        return None;
-    }
-    match word_at(part, P) {
-        AND => Some(Connective::And),
-        OR => Some(Connective::Or),
-        _ => None,
-    }
-}
-
-// Whether the expression at the start of `part` yields a clause that reads fields of the side only; `copy_clause` writes it.
-// An AND keeps each operand that yields, an OR yields only if both its operands do.
-pub fn extract_or_clause(part: &[u8], base: usize, depth: usize, f: Fields, side: FieldSet) -> bool
-    requires readable_e { ReadableE depth part.now base }
-    requires len_le_max_fields { f.len ≤ max_fields }
-    ensures { (e : Expr) (ns : List Name) (c : Name → Bool) → At (expr_tree e) part.now base → Names f ns
-        → on_cols (has ns) e ≡ true → Masks side ns c → result ≡ yields (extract_or_clause c e) }
-{
-    let Some(op) = operator(part) else {
-        return has_all_column_refs(part, base, depth, f, side);
-    };
-    let x = word_at(part, FIRST_LINK);
-    let left = from_record(part, base, x);
-    let y = word_at(left, NEXT_LINK);
-    let right = from_record(part, base, y);
-    match op {
-        Connective::And => {
-            extract_or_clause(left, x, depth - 1, f, side)
-                || extract_or_clause(right, y, depth - 1, f, side)
-        }
-        Connective::Or => {
-            extract_or_clause(left, x, depth - 1, f, side)
-                && extract_or_clause(right, y, depth - 1, f, side)
-        }
-    }
-}
-
-// Whether an operand is part of the clause of an AND or OR that yields one: of an OR each is, of an AND each that yields.
-fn is_kept(
-    op: Connective,
-    part: &[u8],
-    base: usize,
-    depth: usize,
-    f: Fields,
-    side: FieldSet,
-) -> bool
-    requires readable_e { ReadableE depth part.now base }
-    requires len_le_max_fields { f.len ≤ max_fields }
-    ensures { (e : Expr) (ns : List Name) (c : Name → Bool) → At (expr_tree e) part.now base → Names f ns
-        → on_cols (has ns) e ≡ true → Masks side ns c → result ≡ kept op (extract_or_clause c e) }
-{
-    match op {
-        Connective::And => extract_or_clause(part, base, depth, f, side),
-        Connective::Or => true,
-    }
-}
-
-// Writes that clause flat, from record `at` on, and returns the record after it. There must be one.
-pub fn copy_clause(
-    part: &[u8],
-    base: usize,
-    depth: usize,
-    f: Fields,
-    side: FieldSet,
-    out: &mut [u8],
-    at: usize,
-    level: usize,
-) -> usize
-    requires readable_e { ReadableE depth part.now base }
-    requires len_le_max_fields { f.len ≤ max_fields }
-    requires depth_bound { level + depth < max_level }
-    requires out_len { length out.old ≡ work_bytes }
-    ensures { (e clause : Expr) (ns : List Name) (c : Name → Bool) → At (expr_tree e) part.now base → Names f ns
-        → on_cols (has ns) e ≡ true → Masks side ns c → extract_or_clause c e ≡ some clause
-        → Wrote out.old out.new at level result (expr_tree clause) }
-{
-    // Past the buffer's end nothing is written, and no record need be looked at.
-    if MAX_RECORDS <= at {
-        return NO_ROOM;
-    }
-    let Some(op) = operator(part) else {
-        return copy_tree(part, base, depth, out, at, level);
-    };
-    let x = word_at(part, FIRST_LINK);
-    let left = from_record(part, base, x);
-    let y = word_at(left, NEXT_LINK);
-    let right = from_record(part, base, y);
-    if !is_kept(op, left, x, depth - 1, f, side) {
-        return copy_clause(right, y, depth - 1, f, side, out, at, level);
-    }
-    if !is_kept(op, right, y, depth - 1, f, side) {
-        return copy_clause(left, x, depth - 1, f, side, out, at, level);
-    }
-    let next = put_label(part, out, at, level);
-    let to = copy_clause(left, x, depth - 1, f, side, out, next, level + 1);
-    copy_clause(right, y, depth - 1, f, side, out, to, level + 1)
-}
-
-// Whether the item n, if it is an OR at its top, yields one.
-pub fn or_clause_at(s: &[u8], n: usize, f: Fields, side: FieldSet) -> bool
-    requires present { Present s.now n }
-    requires len_le_max_fields { f.len ≤ max_fields }
-    ensures { (e : Expr) (ns : List Name) (c : Name → Bool) → Item s.now n e → Names f ns
-        → on_cols (has ns) e ≡ true → Masks side ns c → result ≡ yields (or_clause c e) }
-{
-    let Some(tree) = item_tree(s, n) else {
-        return false;
-    };
-    match operator_xx(tree) {
-        Some(Connective::Or) => extract_or_clause_xx(tree, f, side),
-        _ => false,
-    }
-}
-
-// Writes that clause flat, from record `at` on, and returns the record after it. There must be one.
-pub fn copy_or_clause(
-    s: &[u8],
-    n: usize,
-    f: Fields,
-    side: FieldSet,
-    out: &mut [u8],
-    at: usize,
-    level: usize,
-) -> usize
-    requires there { There s.now n }
-    requires s_len_bound { length s.now ≤ work_bytes }
-    requires len_le_max_fields { f.len ≤ max_fields }
-    requires shallow { Shallow 1 level }
-    requires out_len { length out.old ≡ work_bytes }
-    ensures { (e clause : Expr) (ns : List Name) (c : Name → Bool) → Standing s.now n e → Names f ns
-        → on_cols (has ns) e ≡ true → Masks side ns c → or_clause c e ≡ some clause
-        → Wrote out.old out.new at level result (expr_tree clause) }
-{
-    copy_clause(record_at(s, n), n, MAX_DEPTH, f, side, out, at, level)
 }
 
 // The operator of an expression, if it is And or Or.
@@ -303,6 +158,22 @@ pub fn copy_clause_xx(tree: Subtree, f: Fields, side: FieldSet, out: &mut Writer
     out.put(tree.label(), level);
     copy_clause_xx(left, f, side, out, level + 1);
     copy_clause_xx(right, f, side, out, level + 1);
+}
+
+// Whether the item n, if it is an OR at its top, yields one.
+pub fn or_clause_at(s: &[u8], n: usize, f: Fields, side: FieldSet) -> bool
+    requires present { Present s.now n }
+    requires len_le_max_fields { f.len ≤ max_fields }
+    ensures { (e : Expr) (ns : List Name) (c : Name → Bool) → Item s.now n e → Names f ns
+        → on_cols (has ns) e ≡ true → Masks side ns c → result ≡ yields (or_clause c e) }
+{
+    let Some(tree) = item_tree(s, n) else {
+        return false;
+    };
+    match operator_xx(tree) {
+        Some(Connective::Or) => extract_or_clause_xx(tree, f, side),
+        _ => false,
+    }
 }
 
 // Writes the clause of the conjunct at record n. There must be one.

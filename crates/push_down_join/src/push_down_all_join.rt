@@ -9,38 +9,35 @@ ghost use Rattle.rewrite.specs.PushDownFilter.{extract_or_clauses_for_join, if_l
 ghost use Rattle.rewrite.specs.PushDownFilter.{rewrite_filter};
 ghost use Rattle.rewrite.specs.Utils.{replace_cols, split_conjunction?};
 ghost use Rattle.conjuncts.specs.Items.{Holds, clause_by};
-ghost use Rattle.conjuncts.specs.Standing.{StandingP, Stretch};
 ghost use Rattle.utils.specs.Fields.{Names};
 ghost use Rattle.utils.specs.Masks.{Masks};
-ghost use Rattle.push_down_base.specs.Arms.{Answers, ArmOver, ArmOver_xx, Placed, Rests};
+ghost use Rattle.push_down_base.specs.Arms.{Answers, ArmOver_xx, Placed, Rests};
 ghost use Rattle.push_down_base.specs.Parting.{Reads};
 ghost use Rattle.push_down_base.specs.Plain.{Plain};
-ghost use Rattle.push_down_join.specs.JoinPlans.{FilterOf, FilterOf_xx, JoinBetween, JoinHere, JoinPart, JoinUnder, Moved, OverJoin};
+ghost use Rattle.push_down_join.specs.JoinPlans.{FilterOf_xx, JoinBetween, JoinHere, JoinUnder, Moved, OverJoin};
 ghost use Rattle.push_down_join.specs.Parts.{Parted, PartsOf, Wholes};
 ghost use Rattle.push_down_join.specs.Scopes.{Asked, Scopes, Swapper};
 ghost use Rattle.push_down_join.specs.Sides.{Sides, Smalls};
 
-use crate::column_checker::{Scope, join_scope, join_scope_xx};
+use crate::column_checker::{Scope, join_scope_xx};
 use crate::extract_or_clause::extract_or_clauses_for_join;
 use crate::infer_join_predicates::infer_join_predicates;
 use crate::lr_is_preserved::{Preserved, is_inner, lr_is_preserved, on_lr_is_preserved};
-use crate::write_sides::{Moves, write_kept, write_kept_xx};
+use crate::write_sides::{Moves, write_kept_xx};
 use conjuncts::items::REPLACED;
 use conjuncts::lists::{Conjuncts, add, empty};
-use conjuncts::split_conjunction::{split_at, split_conjunction_xx};
+use conjuncts::split_conjunction::split_conjunction_xx;
 use image::copying::Writer;
 use image::limits::{MAX_LIST, NO_ROOM};
-use image::records::{KIND, NEXT_LINK, P, from_record};
 use image::trees::Subtree;
-use image::words::word_at;
 use plan::kinds::FIRST_PLAN;
 use plan::words::JoinKind;
-use push_down_base::inputs::{last_child, last_child_xx};
+use push_down_base::inputs::last_child_xx;
 use push_down_base::parting::{push_to, select_side};
-use push_down_base::predicates::{Predicate, Written};
+use push_down_base::predicates::Predicate;
 use utils::schema_columns::Fields;
 use utils::sets::FieldSet;
-use writing::renames::{write_renames, write_renames_xx};
+use writing::renames::write_renames_xx;
 
 // Appends the items of c, each with so much more.
 pub fn append(to: Conjuncts, c: Conjuncts, more: usize) -> Conjuncts
@@ -156,129 +153,6 @@ fn fits(v: Moves) -> bool
     let right = v.right;
     let conditions = v.conditions;
     (left.len <= MAX_LIST) & (right.len <= MAX_LIST) & (conditions.len <= MAX_LIST)
-}
-
-// The record of the right input of the join at the start of `part`, which begins at record x; the left one is the record after the join's.
-pub fn right_input(part: &[u8], x: usize) -> usize
-    requires { JoinPart part.now x }
-    ensures { (s : List ℕ) (k : Kind) (l r : Plan) (on : List Pair) (f : Option Expr) → Stretch s x part.now →
-        Placed s x (join k l r on f) → StandingP s result r × (x ≤ result) }
-{
-    word_at(from_record(part, x, x + 1), NEXT_LINK)
-}
-
-// Its kind.
-pub fn join_kind(part: &[u8], x: usize) -> JoinKind
-    requires { JoinPart part.now x }
-    ensures { (s : List ℕ) (k : Kind) (l r : Plan) (on : List Pair) (f : Option Expr) → Stretch s x part.now →
-        Placed s x (join k l r on f) → join_of result ≡ k }
-{
-    JoinKind::of(word_at(part, P))
-}
-
-// The record of its filter, if it has one: it is the last child, and the only one that is an expression.
-pub fn filter_of(part: &[u8], x: usize) -> Option<usize>
-    requires { JoinPart part.now x }
-    ensures { (s : List ℕ) (k : Kind) (l r : Plan) (on : List Pair) (f : Option Expr) → Stretch s x part.now →
-        Placed s x (join k l r on f) → FilterOf s result f }
-{
-    let y = last_child(part, x);
-    (word_at(from_record(part, x, y), KIND) < FIRST_PLAN).then_some(y)
-}
-
-// The conjuncts of that filter; `part` is the stretch of the image s that begins at record x.
-pub fn own_filter(s: &[u8], part: &[u8], x: usize) -> Conjuncts
-    requires stretch { Stretch s.now x part.now }
-    requires join_here { JoinHere s.now x }
-    ensures { (k : Kind) (l r : Plan) (on : List Pair) (f : Option Expr) → Placed s.now x (join k l r on f) →
-        Reads s.now (schema l ++ schema r) result (split_conjunction? f) }
-{
-    match filter_of(part, x) {
-        Some(y) => split_at(s, y, empty()),
-        None => empty(),
-    }
-}
-
-// push_down_all_join: c is the predicates above the join at the start of `part`, record x of the image s, g those of its own filter.
-fn push_down_all_join(
-    s: &[u8],
-    part: &[u8],
-    x: usize,
-    c: Conjuncts,
-    g: Conjuncts,
-    m: &mut [u8],
-    out: &mut [u8],
-    at: usize,
-    level: usize,
-) -> Written
-    requires stretch { Stretch s.now x part.now }
-    requires join_between { JoinBetween s.now x c g }
-    requires arm_over { ArmOver m.old out.old at level }
-    ensures { (k : Kind) (l r : Plan) (on : List Pair) (f : Option Expr) (P G : List Expr) →
-        Placed s.now x (join k l r on f) → Reads s.now (schema l ++ schema r) c P →
-        Reads s.now (schema l ++ schema r) g G → Plain P → Plain G →
-        Answers out.old out.new at level result (push_down_all_join k l r on P G) }
-{
-    let z = right_input(part, x);
-    let sc = join_scope(part, x, z);
-    let kind = join_kind(part, x);
-    let v = moves_of(s, c, g, &sc, kind);
-    // A list that is too long is written nowhere.
-    if !fits(v) {
-        return Written {
-            next: NO_ROOM,
-            flag: v.flag,
-        };
-    }
-    let fields = sc.fields;
-    let to = sc.to;
-    write_renames(fields, to, m);
-    let next = write_kept(s, part, m, x, z, v, &sc, out, at, level);
-    Written { next, flag: v.flag }
-}
-
-// push_down_join: c is the predicates above the join at the start of `part`, record x of the image s, none for the Join node itself.
-pub fn push_down_join(
-    s: &[u8],
-    part: &[u8],
-    x: usize,
-    c: Conjuncts,
-    m: &mut [u8],
-    out: &mut [u8],
-    at: usize,
-    level: usize,
-) -> Written
-    requires stretch { Stretch s.now x part.now }
-    requires join_under { JoinUnder s.now x c }
-    requires arm_over { ArmOver m.old out.old at level }
-    ensures { (k : Kind) (l q : Plan) (on : List Pair) (f : Option Expr) (P : List Expr) →
-        Placed s.now x (join k l q on f) → Reads s.now (schema l ++ schema q) c P → Plain P →
-        Answers out.old out.new at level result (push_down_join k l q on f P) }
-{
-    let g = own_filter(s, part, x);
-    push_down_all_join(s, part, x, c, g, m, out, at, level)
-}
-
-// Filter over Join: the predicate's conjuncts are the predicates above it.
-pub fn rewrite_join(
-    s: &[u8],
-    part: &[u8],
-    x: usize,
-    p: Predicate,
-    m: &mut [u8],
-    out: &mut [u8],
-    at: usize,
-    level: usize,
-) -> Written
-    requires stretch { Stretch s.now x part.now }
-    requires over_join { OverJoin s.now x p }
-    requires arm_over { ArmOver m.old out.old at level }
-    ensures { (e : Expr) (k : Kind) (l q : Plan) (on : List Pair) (f : Option Expr) →
-        Rests s.now x p e (join k l q on f) →
-        Answers out.old out.new at level result (rewrite_filter e (join k l q on f)) }
-{
-    let list = p.list;
-    push_down_join(s, part, x, list, m, out, at, level)
 }
 
 // The kind of a join.

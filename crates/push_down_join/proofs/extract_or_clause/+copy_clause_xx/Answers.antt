@@ -2,7 +2,7 @@ use mathlib.Core.Path.{refl, sym, ap, ◌∙◌}
 use Rattle.image.specs.Tree.{Tree}
 use Rattle.image.proofs.Room.{wrote_past, wrote_two}
 use Rattle.plan.specs.Trees.{expr_tree}
-use Rattle.push_down_join.proofs.Apart.{only_last, only_first, both_of}
+use Rattle.push_down_join.proofs.Extracting.{only_last, only_first, both_of}
 use Rattle.push_down_join.proofs.Extracting.{other_whole, wrote_clause}
 use Rattle.push_down_join.proofs.extract_or_clause.+copy_clause_xx.Goals as goal
 

@@ -3,7 +3,7 @@ use mathlib.Core.Bool.{◌&&◌, ◌||◌}
 use Rattle.plan.specs.Schema.{has}
 use Rattle.rewrite.specs.PushDownFilter.{extract_or_clause}
 use Rattle.push_down_join.specs.Clauses.{yields}
-use Rattle.push_down_join.proofs.Apart.{sides_and, sides_or, held_left, held_right, and_yields, or_yields}
+use Rattle.push_down_join.proofs.Extracting.{sides_and, sides_or, held_left, held_right, and_yields, or_yields}
 use Rattle.push_down_join.proofs.Extracting.{other_yields}
 use Rattle.push_down_join.proofs.extract_or_clause.+extract_or_clause_xx.Goals as goal
 

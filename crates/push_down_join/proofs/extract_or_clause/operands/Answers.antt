@@ -1,4 +1,4 @@
-use Rattle.push_down_join.proofs.Apart.{few_whole}
+use Rattle.push_down_join.proofs.Extracting.{few_whole}
 use Rattle.push_down_join.proofs.extract_or_clause.operands.Goals as goal
 
 pub returns-in_err-left : goal.returns-in_err-left
