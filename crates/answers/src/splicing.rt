@@ -5,9 +5,8 @@
 ghost use Rattle.std.specs.Prelude.{◌≡◌, ◌+◌, ◌*◌, ◌-◌, ◌≤◌, length};
 ghost use Rattle.std.proofs.Math.Option.{some};
 ghost use Rattle.std.proofs.Math.Seq.{slice};
-ghost use Rattle.image.specs.Buffers.{Scratch};
 ghost use Rattle.image.specs.Flat.{flat, size_t};
-ghost use Rattle.image.specs.Limits.{max_records, no_room, work_bytes};
+ghost use Rattle.image.specs.Limits.{max_records};
 ghost use Rattle.image.specs.Room.{cap};
 ghost use Rattle.image.specs.Tree.{At, Tree};
 ghost use Rattle.plan.specs.Syntax.{Plan};
@@ -17,7 +16,7 @@ ghost use Rattle.writing.specs.Plans.{ThereP};
 ghost use Rattle.answers.specs.Splicing.{Before, Levels, Ran, Sized};
 
 use crate::levels::note_levels;
-use image::copying::{Writer, put_label};
+use image::copying::Writer;
 use image::ends::tree_end;
 use image::records::{label_at, record_at};
 use image::words::wide;
@@ -28,45 +27,6 @@ pub struct Spot {
     pub level: usize,
     pub end: usize,
     pub records: usize,
-}
-
-// Writes the records from `from` up to n, with their depths.
-pub fn write_records(
-    s: &[u8],
-    levels: &[u32],
-    from: usize,
-    n: usize,
-    out: &mut [u8],
-    at: usize,
-) -> usize
-    requires n_le_max_records { (n ≤ max_records) × (32 * n ≤ length s.now) × (length levels.now ≡ max_records) }
-    requires from_le_n { (from ≤ n) × (at ≤ no_room) × (length out.old ≡ work_bytes) }
-    ensures { (t : Tree) → At t s.now 0 → size_t t ≤ max_records → n ≤ size_t t → Levels levels.now t →
-        Ran out.old out.new at (n - from) result (slice (32 * from) (32 * n) (flat 1 t)) }
-{
-    let mut to = at;
-    for i in from..n {
-        to = put_label(record_at(s, i), out, to, wide(levels[i]));
-    }
-    to
-}
-
-// Writes what stands before the record `node`; the new tree goes there, at the depth that is returned.
-pub fn write_before(s: &[u8], node: usize, out: &mut [u8], levels: &mut [u32]) -> Spot
-    requires sized { Sized s.now }
-    requires there_p { ThereP s.now node }
-    requires scratch { Scratch out.old levels.old }
-    ensures { (p : Plan) (c : Focus) → StandingP s.now 0 p → focus node p ≡ some c →
-        StandingP s.now node c.plan →
-        Before out.new levels.new p node c.plan result }
-{
-    let records = note_levels(s, levels);
-    write_records(s, levels, 0, node, out, 0);
-    Spot {
-        level: wide(levels[node]),
-        end: tree_end(record_at(s, node), node),
-        records,
-    }
 }
 
 // Writes the records from `from` up to n, with their depths.

@@ -4,4 +4,3 @@ pub mod Written
 pub mod Pushing
 pub mod Renaming
 pub mod Focused
-pub mod Stretches

@@ -2,23 +2,21 @@
 --     replaced_expr       an expression of which each column is replaced so
 --     entries_map         entries in front of trees that are none
 --     plan_map            those of a plan: of a Projection, and the group entries of an Aggregate
---     maps, plan_maps     the same of bytes
---     maps_to, ..         the same of a tree as a value, and how deep it is
+--     maps_to, ..         the same of a tree as the code has it, and how deep a writer may begin over it
 -- Assumes nothing.
 use mathlib.Core.Path.{◌≡◌, refl, sym, ap, subst, ◌∙◌}
 use mathlib.Core.Bool.{Bool, true, false, ◌&&◌, cond}
 use mathlib.Core.List.{List, [], ◌∷◌}
 use mathlib.Core.Option as O
 use mathlib.Core.Option.{Option, some}
-use Prim.Native.Nat.{ℕ, suc, ◌+◌, ◌-◌, ◌*◌, ◌≤◌, ◌<◌}
+use Prim.Native.Nat.{ℕ, suc, ◌+◌, ◌-◌, ◌*◌, ◌≤◌}
 use native.Mathlib.Omega.{arith}
-use lib.ListN.{drop}
 use lib.Dec.{eqb}
 use Rattle.image.specs.Limits.{max_below, max_depth, Shallow}
 use Rattle.image.specs.Places.{Stood}
 use Rattle.image.specs.Room.{Low}
 use Rattle.image.specs.Subtrees.{tree_of}
-use Rattle.image.specs.Tree.{Label, Forest, none, node, Tree, At, Deep, Readable}
+use Rattle.image.specs.Tree.{Label, Forest, none, node, Tree, Deep, Readable}
 use Rattle.image.specs.declared.trees.Subtree.{Subtree}
 use Rattle.image.proofs.Subtrees.{tree_is}
 use Rattle.plan.specs.Lists.{◌&◌}
@@ -35,7 +33,7 @@ use Rattle.conjuncts.specs.Items.{Found}
 use Rattle.conjuncts.specs.Standing.{Standing, StandingP}
 use Rattle.conjuncts.proofs.Standing.{tree_found}
 use Rattle.writing.specs.Replaced.{LowOver, is_entry, either, lookup, first_or, plant, replaced_any, replaced}
-use Rattle.writing.specs.Maps.{Maps, MapsTo, Over, map_of}
+use Rattle.writing.specs.Maps.{MapsTo, Over, map_of}
 
 -- the entries of m give each column what σ does
 abbrev pub Gives : Tree → (Name → Expr) → Type 0
@@ -193,25 +191,11 @@ plan_map (repartition p) = no_map (plan_tree (repartition p)) (plan_none p, tt)
 plan_map (limit n k p) = no_map (plan_tree (limit n k p)) (plan_none p, tt)
 plan_map (window ws p) = no_map (plan_tree (window ws p)) (parts_none win_label win_kids ws _ (λ w. refl) (plan_none p, tt))
 
--- ---- bytes
+-- ---- trees as the code has them
 
--- a tree that stands there is a map
-pub maps : {t : Tree} {m : List ℕ} {of room : ℕ} {σ : Name → Expr}
-    → Gives t σ → At t m of → 0 < room → Deep t.below (room - 1) → Maps m of room σ
-maps {t} {σ = σ} g h pos deep = record { tree = t; at = h; some = pos; deep = deep; is = replaced_expr t σ g }
-
--- a plan that stands in an image is a map
-pub plan_maps : {s : List ℕ} {n : ℕ} {p : Plan} → StandingP s n p → Maps (drop (32 * n) s) n max_depth (map_of p)
-plan_maps {p = p} h = maps (plan_map p) h.here (omega arith) h.deep
-
--- ---- trees as values
-
--- an expression and a plan that stand at a record, as the tree there
+-- an expression that stands at a record, as the tree there
 pub stood_expr : {s : List ℕ} {n : ℕ} {e : Expr} → Standing s n e → Stood s n
 stood_expr {e = e} h = record { tree = expr_tree e; at = h.here }
-
-pub stood_plan : {s : List ℕ} {n : ℕ} {p : Plan} → StandingP s n p → Stood s n
-stood_plan {p = p} h = record { tree = plan_tree p; at = h.here }
 
 pub expr_is : (x : Subtree) {e : Expr} → Standing x.image.now x.number e → tree_of x ≡ expr_tree e
 expr_is x {e} h = tree_is x (expr_tree e) refl refl h.here
@@ -240,17 +224,6 @@ maps_to map {t} {σ} e g = record { is = subst (λ (u : Tree). (x : Expr) → re
 -- a plan is
 pub plan_maps_to : {map : Subtree} {p : Plan} → StandingP map.image.now map.number p → MapsTo map (map_of p)
 plan_maps_to {map} {p} h = maps_to map (plan_is map h) (plan_map p)
-
--- bytes that are a map, as a tree, and back
-pub bytes_map_to : (map : Subtree) {s : List ℕ} {of room : ℕ} {σ : Name → Expr} → map.image.now ≡ s → map.number ≡ of
-    → Maps (drop (32 * of) s) of room σ → MapsTo map σ
-bytes_map_to map {σ = σ} e n h = record {
-  is = subst (λ (u : Tree). (x : Expr) → replaced u (expr_tree x) ≡ expr_tree (replace_cols σ x)) (sym (tree_is map h.tree e n h.at)) h.is;
-}
-
-pub map_bytes_of : {map : Subtree} {σ : Name → Expr} {k level : ℕ} → MapsTo map σ → (o : Over k level map)
-    → Maps (drop (32 * map.number) map.image.now) map.number o.room σ
-map_bytes_of {map} h o = record { tree = tree_of map; at = map.stood.at; some = o.some; deep = o.deep; is = h.is }
 
 -- ---- how deep a writer may begin over a map
 

@@ -6,34 +6,16 @@
 -- Assumes nothing.
 use mathlib.Core.Path.{◌≡◌, refl, sym, ap, subst, ◌∙◌}
 use mathlib.Core.List.{List, [], ◌∷◌, ◌++◌}
-use Prim.Native.Nat.{ℕ, zero, suc, ◌+◌, ◌-◌, ◌*◌, ◌≤◌, ◌<◌}
+use Prim.Native.Nat.{ℕ, zero, suc, ◌+◌, ◌-◌, ◌≤◌, ◌<◌}
 use native.Mathlib.Omega.{arith}
-use lib.ListN.{length, get_or, take, drop}
+use lib.ListN.{length, get_or, take}
 use lib.Seq.{take-suc}
-use Rattle.image.specs.Limits.{max_depth, max_list}
-use Rattle.image.specs.Tree.{Readable}
+use Rattle.image.specs.Limits.{max_list}
 use Rattle.plan.specs.Syntax.{Name, Expr, bin, and, Plan}
-use Rattle.plan.specs.Trees.{expr_tree, plan_tree}
 use Rattle.rewrite.specs.Utils.{replace_cols, conjoin, with_filters}
-use Rattle.conjuncts.specs.Standing.{Standing, StandingP}
 use Rattle.conjuncts.specs.Items.{Conjuncts, FALSE, most, listed, Holds, Item, Items, inil, icons, Lists, replaced_by}
 use Rattle.conjuncts.proofs.Listed.{count_is, whole}
-use Rattle.writing.specs.Maps.{Maps}
 use Rattle.writing.specs.Pushed.{Pushed, Each, nil, cons, Pushes, One, Some}
-
--- ---- what is read
-
--- a map can be read
-pub maps_readable : {m : List ℕ} {of room : ℕ} {σ : Name → Expr} → Maps m of room σ → Readable room m of
-maps_readable h = record { tree = h.tree; at = h.at; some = h.some; deep = h.deep }
-
--- an expression that stands at a record can be read from there
-pub standing_readable : {s : List ℕ} {n : ℕ} {e : Expr} → Standing s n e → Readable max_depth (drop (32 * n) s) n
-standing_readable {e = e} h = record { tree = expr_tree e; at = h.here; some = omega arith; deep = h.deep }
-
--- a plan that stands at a record can be read from there
-pub plan_readable : {s : List ℕ} {n : ℕ} {p : Plan} → StandingP s n p → Readable max_depth (drop (32 * n) s) n
-plan_readable {p = p} h = record { tree = plan_tree p; at = h.here; some = omega arith; deep = h.deep }
 
 -- FALSE has no columns
 pub false_stays : (σ : Name → Expr) → replace_cols σ FALSE ≡ FALSE

@@ -15,6 +15,8 @@ use lib.Seq.{sets, sets-eq, length-sets}
 use Rattle.image.specs.Limits.{max_fields, record_bytes}
 use Rattle.image.specs.Tree.{Label, Forest, none, node, size, link, At, Stands, Deep, Small}
 use Rattle.image.specs.Flat.{bytes_of, enc_any}
+use Rattle.image.specs.declared.trees.Subtree.{Subtree}
+use Rattle.image.proofs.Subtrees.{tree_is}
 use Rattle.image.proofs.Writing.{sets_after, bytes_of_length}
 use Rattle.image.proofs.RoundTrip.{enc_length, stands_enc}
 use Rattle.plan.specs.Schema.{same}
@@ -24,9 +26,9 @@ use Rattle.rewrite.specs.PushDownFilter.{pick, ren}
 use Rattle.utils.specs.Masks.{name_at}
 use Rattle.utils.specs.Fields.{Fields, field_at, Names}
 use Rattle.utils.proofs.Named.{names_at, names_count}
-use Rattle.writing.specs.Maps.{Maps}
+use Rattle.writing.specs.Maps.{MapsTo}
 use Rattle.writing.specs.Renames.{SmallName, link_to, rename_bytes, renames_from, renames_tree}
-use Rattle.writing.proofs.Maps.{entries_map, maps}
+use Rattle.writing.proofs.Maps.{entries_map, maps_to}
 
 -- ---- one rename
 
@@ -181,12 +183,11 @@ pick_ren (y ∷ s) (z ∷ t) f g i x e h k =
 
 -- the renames are a map
 pub renames_map : {f g : Fields} {m : List ℕ} → At (renames_tree f g f.len) m 0 → f.len ≤ max_fields → (s t : List Name) → Names f s → Names g t
-    → length s ≡ length t → Maps m 0 3 (λ x. col (ren s t x))
-renames_map {f} {g} {m} h le s t a b e =
+    → length s ≡ length t → (map : Subtree) → map.image.now ≡ m → map.number ≡ 0 → MapsTo map (λ x. col (ren s t x))
+renames_map {f} {g} {m} h le s t a b e map i z =
     let n : length s ≡ f.len = names_count a le in
     let fs : (j : ℕ) → j < length s → field_at f (0 + j) ≡ name_at s j = λ j lt. rw zero-add (names_at a j (omega arith) lt) in
     let gs : (j : ℕ) → j < length t → field_at g (0 + j) ≡ name_at t j = λ j lt. rw zero-add (names_at b j (omega arith) lt) in
-    maps
+    maps_to map (tree_is map (renames_tree f g f.len) i z h)
     (λ x. entries_map (renames_from f g 0 f.len) none x tt
     ∙ ap expr_tree (ap (λ (k : ℕ). pick (renames_from f g 0 k) x) (sym n) ∙ pick_ren s t f g 0 x e fs gs))
-    h (omega arith) (renames_deep f g 0 f.len)

@@ -1,15 +1,11 @@
 -- Columns of a tree replaced by the expressions that entries name. The entries are children of one tree: a Projection, an Aggregate, or
 -- renames.
-use Rattle.std.specs.Prelude.{◌≡◌, Bool, true, false, ◌&&◌, ℕ, ◌+◌, ◌<◌, eqb, List, Option, None, Some}
+use Rattle.std.specs.Prelude.{◌≡◌, Bool, true, false, ◌&&◌, ℕ, ◌+◌, ◌<◌, eqb, Option, None, Some}
 use Rattle.image.specs.Limits.{max_level}
 use Rattle.image.specs.Subtrees.{tree_of}
-use Rattle.image.specs.Tree.{Deep, Label, Forest, none, node, Tree, Linked}
+use Rattle.image.specs.Tree.{Deep, Label, Forest, none, node, Tree}
 use Rattle.image.specs.declared.trees.Subtree.{Subtree}
 use Rattle.plan.specs.Kinds.{number_e, number_q, Column, EntryPart}
-
--- f is linked at x: a record around `Linked`, by which f is found
-pub record Leads (f : Forest) (s : List ℕ) (b x : ℕ) : Type 0 where
-  pub linked : Linked f s b x
 
 -- the label is that of an entry of this name
 abbrev pub is_entry : Label → ℕ → ℕ → Bool

@@ -9,7 +9,7 @@ ghost use Rattle.image.specs.declared.trees.Subtree.{Subtree};
 ghost use Rattle.plan.specs.Syntax.{Name, col};
 ghost use Rattle.rewrite.specs.PushDownFilter.{ren};
 ghost use Rattle.utils.specs.Fields.{Names, named};
-ghost use Rattle.writing.specs.Maps.{Maps, MapsTo};
+ghost use Rattle.writing.specs.Maps.{MapsTo};
 ghost use Rattle.writing.specs.Renames.{SmallName, link_to, named_label, rename_bytes};
 
 use image::records::{Label, put_record};
@@ -52,28 +52,6 @@ fn put_rename(from: ColumnReference, to: ColumnReference, m: &mut [u8], at: usiz
 {
     put_named(m, at, ENTRY, from, at + 1, next);
     put_named(m, at + 1, COLUMN, to, 0, 0);
-}
-
-// Writes the renames of the fields of `from` to those of `to`, by place.
-pub fn write_renames(from: Fields, to: Fields, m: &mut [u8])
-    requires { (from.len ≤ max_fields) × (32 * (1 + 2 * from.len) ≤ length m.old) }
-    ensures { (s t : List Name) → Names from s → Names to t → length s ≡ length t →
-        Maps m.new 0 3 (λ x. col (ren s t x)) }
-{
-    let n = from.len;
-    let top = Label {
-        kind: PROJECTION,
-        p: 0,
-        q: 0,
-        r: 0,
-        lo: 0,
-        hi: 0,
-    };
-    put_record(m, 0, top, link_to(1, n), 0);
-    for i in 0..n {
-        let next = link_to(2 * i + 3, n - i - 1);
-        put_rename(from.at[i], to.at[i], m, 2 * i + 1, next);
-    }
 }
 
 // Writes the renames of the fields of `from` to those of `to`, by place.

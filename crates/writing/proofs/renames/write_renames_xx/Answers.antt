@@ -1,6 +1,5 @@
 use native.Mathlib.Omega.{arith}
 use Rattle.writing.specs.Renames.{renames_tree}
-use Rattle.writing.proofs.Maps.{bytes_map_to}
 use Rattle.writing.proofs.Renaming.{renames_next, renames_end, written, renames_map, renames_deep}
 use Rattle.writing.proofs.renames.write_renames_xx.Goals as goal
 
@@ -23,4 +22,4 @@ returns-clause-maps c =
     let k = c.loop-i.invariant in
     let h = written c.args.from c.args.to _ _ _ _ _ p.0 p.1 c.link_to.ensures
     c.put_record.ensures (renames_end k (omega arith)) (λ j lt. k.small j (omega arith)) in
-    bytes_map_to map i n (renames_map h p.0 s t a b e)
+    renames_map h p.0 s t a b e map i n
