@@ -10,6 +10,8 @@ use lib.ListN.{length, drop, length-drop, length-append}
 use borrow.Author.Tests.{leb-true, eqb-true}
 use Rattle.image.specs.Lowest.{alone}
 use Rattle.image.specs.Tree.{Label, Forest, none, node, Tree, size, Stands, Linked}
+use Rattle.image.specs.Subtrees.{forest}
+use Rattle.image.specs.declared.trees.Siblings.{Siblings}
 use Rattle.plan.specs.Kinds as K
 use Rattle.plan.specs.Kinds.{What, expr, plan, part, unknown, what, plan_w, is_plan}
 use Rattle.plan.specs.FieldSources.{role, role_p, creates, renames, extends, gives_both, own}
@@ -255,21 +257,13 @@ size_le none s b h = omega arith
 size_le (node l cs ns) s b h =
     omega (arith, h.head.room, size_le ns (drop (32 * suc (size cs)) s) (b + 1 + size cs) h.after, length-drop (32 * suc (size cs)) s)
 
-pub linked_size : (f : Forest) (s : List ℕ) (b at : ℕ) → Linked f s b at → 32 * size f ≤ length s
+linked_size : (f : Forest) (s : List ℕ) (b at : ℕ) → Linked f s b at → 32 * size f ≤ length s
 linked_size none s b at h = omega arith
 linked_size (node l cs ns) s b at h =
     omega (arith, size_le (node l cs ns) (drop (32 * (at - b)) s) at h.1, length-drop (32 * (at - b)) s)
 
--- a count is small
-pub few_made : (h : Name → Bool) {r : ℕ} (f : Forest) (c : Schema) (s : List ℕ) (b at : ℕ) → Linked f s b at → r ≡ counted h (made c f)
-    → 32 * r ≤ length s
-few_made h {r} f c s b at k e = omega (arith, counted_le h (made c f), enough f c, linked_size f s b at k)
-
--- the same for a plan's fields
-pub few_held : (h : Name → Bool) {r : ℕ} (i : ℕ) (f : Forest) (s : List ℕ) (b at : ℕ) → Linked f s b at
-    → r ≡ counted h (input i (inputs f)) → 32 * r ≤ length s
-few_held h {r} i f s b at k e =
-    omega (arith, counted_le h (input i (inputs f)), total_input i (inputs f), enough f [], linked_size f s b at k)
+pub trees_size : (x : Siblings) → 32 * size (forest x) ≤ length x.image.now
+trees_size x = linked_size (forest x) _ _ _ x.chained.linked
 
 -- the question for every field counts them all
 pub counted_all : (s : Schema) → counted (hits Every) s ≡ length s

@@ -2,13 +2,15 @@
 -- Assumes nothing.
 use mathlib.Core.Path.{◌≡◌, refl, sym, ap, ◌∙◌}
 use mathlib.Core.Bool.{Bool, true, false, cond, ◌&&◌}
-use mathlib.Core.List.{List, [], ◌∷◌, ◌++◌, append-nil}
+use mathlib.Core.List.{[], ◌∷◌, ◌++◌, append-nil}
 use Prim.Native.Nat.{ℕ, suc, ◌+◌, ◌*◌, ◌≤◌}
 use native.Mathlib.Omega.{arith}
 use lib.Dec.{eqb}
 use borrow.Author.Tests.{ne_eqb}
 use lib.ListN.{length, length-append}
-use Rattle.image.specs.Tree.{Label, Forest, Linked}
+use Rattle.image.specs.Tree.{Label, Forest}
+use Rattle.image.specs.Subtrees.{forest}
+use Rattle.image.specs.declared.trees.Siblings.{Siblings}
 use Rattle.plan.specs.Lists.{◌&◌}
 use Rattle.plan.specs.Schema.{same}
 use Rattle.plan.specs.Kinds as K
@@ -27,7 +29,7 @@ use Rattle.check_fields.specs.Seek.{Sought, seek, told, type_found, passed_of, a
 use Rattle.check_fields.specs.declared.fields.FieldType.{FieldType}
 use Rattle.check_fields.specs.declared.fields.FieldType.TheVariants.{Named}
 use Rattle.check_fields.proofs.Seeking.{onward, seek-++, seek_name, seek_passed}
-use Rattle.check_fields.proofs.Counting.{counted_le, enough, linked_size, total, total_input, total_two}
+use Rattle.check_fields.proofs.Counting.{counted_le, enough, trees_size, total, total_input, total_two}
 use Rattle.check_fields.specs.Scopes.{scope_of, view_p, view_w, left_of, right_of, first_view, rest_view}
 
 -- ---- counting
@@ -133,10 +135,6 @@ module _ (l : Label) (cs : Forest) where
 
 -- ---- what is found in a scope
 
--- of one schema
-pub seek_one : (h : Name → Bool) (k : ℕ) (s : Schema) → seek h k s ≡ seek h k (s ++ [])
-seek_one h k s = ap (seek h k) (sym (append-nil s))
-
 -- of two: the first has it
 pub seek_left : (h : Name → Bool) (k : ℕ) (s t : Schema) (x : Sought) → x ≡ seek h k s → ((g : ℕ → Sought) → onward x g ≡ x)
     → x ≡ seek h k (s ++ t)
@@ -152,8 +150,8 @@ pub type_named : (d : Schema) {t : ℕ} {x : FieldType} {q n : ℕ} → x ≡ Na
 type_named d {t} {x} {q} {n} e g = seek_name q n d ∙ sym (ap (told d) e) ∙ g
 
 -- a scope has no more fields than there are records
-few_seen : (h : Name → Bool) (v : View) (f : Forest) (s : List ℕ) (b at : ℕ) → Linked f s b at → 32 * counted h (seen (scope_of v f)) ≤ length s
-few_seen h v f s b at k = omega (arith, counted_le h (seen (scope_of v f)), enough f [], linked_size f s b at k, go v)
+seen_le : (v : View) (f : Forest) → length (seen (scope_of v f)) ≤ total (inputs f) + length (made [] f)
+seen_le v f = go v
   where
     alone : (t : Schema) → length (t ++ []) ≡ length t
     alone t = ap length (append-nil t)
@@ -166,7 +164,10 @@ few_seen h v f s b at k = omega (arith, counted_le h (seen (scope_of v f)), enou
     go Parts = omega (arith, alone (made [] f))
     go FirstInputAndParts = omega (arith, length-append (input 0 (inputs f)) (made [] f), total_input 0 (inputs f))
 
+few_seen : (h : Name → Bool) (v : View) (x : Siblings) → 32 * counted h (seen (scope_of v (forest x))) ≤ length x.image.now
+few_seen h v x = omega (arith, counted_le h (seen (scope_of v (forest x))), enough (forest x) [], trees_size x, seen_le v (forest x))
+
 -- how many it has
-pub passed_seen : (h : Name → Bool) (n : View) (f : Forest) (s : List ℕ) (b at : ℕ) (x : Sought) → Linked f s b at → length s ≤ all_places
-    → x ≡ seek h all_places (seen (scope_of n f)) → passed_of x ≡ counted h (seen (scope_of n f))
-passed_seen h n f s b at x k l e = seek_passed h (seen (scope_of n f)) (omega (arith, few_seen h n f s b at k)) e
+pub passed_seen : (h : Name → Bool) (v : View) (x : Siblings) (n : Sought) → length x.image.now ≤ all_places
+    → n ≡ seek h all_places (seen (scope_of v (forest x))) → passed_of n ≡ counted h (seen (scope_of v (forest x)))
+passed_seen h v x n l e = seek_passed h (seen (scope_of v (forest x))) (omega (arith, few_seen h v x)) e

@@ -10,9 +10,9 @@ use mathlib.Core.List.{List, [], ◌∷◌, ◌++◌, map}
 use Prim.Native.Nat.{ℕ, zero, suc, ◌+◌, ◌-◌, ◌≤◌}
 use native.Mathlib.Omega.{arith}
 use lib.Dec.{eqb}
-use lib.ListN.{length, drop}
+use lib.ListN.{drop}
 use borrow.Author.Tests.{eq-eqb, ne_eqb}
-use Rattle.image.specs.Tree.{Label, Forest, none, node, Tree, size, Linked}
+use Rattle.image.specs.Tree.{Label, Forest, none, node, Tree, size}
 use Rattle.image.specs.Subtrees.{tree_of}
 use Rattle.image.specs.declared.trees.Subtree.{Subtree}
 use Rattle.std.specs.declared.ops.ControlFlow.{ControlFlow}
@@ -37,7 +37,7 @@ use Rattle.check_fields.specs.Typed.{part_type}
 use Rattle.check_fields.specs.Seek.{Sought, seek, told, told_in, type_found, all_places, passed_of, Makes, Fieldless}
 use Rattle.check_fields.specs.declared.fields.FieldType.{FieldType}
 use Rattle.check_fields.specs.declared.fields.FieldType.TheVariants.{Named}
-use Rattle.check_fields.proofs.Counting.{renamed_one, inputs_from, inputs_none, fields_here, behind, by_parts, by_input, few_made, few_held}
+use Rattle.check_fields.proofs.Counting.{renamed_one, inputs_from, inputs_none, fields_here, behind, by_parts, by_input}
 
 -- where the first search has it not, the second goes on
 abbrev pub onward : Sought → (ℕ → Sought) → Sought
@@ -99,13 +99,6 @@ seek_name q n (f ∷ s) = step f.name (seek_name q n s)
     step : (x : Name) → type_found (seek (hits (Exact q n)) 0 s) ≡ type_in s (nm q n)
         → type_found (seek (hits (Exact q n)) 0 (record { name = x; ty = f.ty } ∷ s)) ≡ cond (same x (nm q n)) f.ty (type_in s (nm q n))
     step (nm r m) e = go (eqb r q) (eqb m n) (type_in s (nm q n)) e
-
--- over any schema as many were passed
-pub passed_told : (d : Schema) {x : ControlFlow FieldType ℕ} {y : FieldType} → x ≡ Break y → passed_of (told_in d x) ≡ 0
-passed_told d e = ap (λ (z : ControlFlow FieldType ℕ). passed_of (told_in d z)) e
-
-pub passed_left : (d : Schema) {x : ControlFlow FieldType ℕ} {j : ℕ} → x ≡ Continue j → passed_of (told_in d x) ≡ all_places - j
-passed_left d e = ap (λ (z : ControlFlow FieldType ℕ). passed_of (told_in d z)) e
 
 -- an alias changes the question
 seek_renamed : (asks : Question) (p k : ℕ) (s : Schema) → seek (hits asks) k (map (requalify p) s) ≡ seek (hits (under_alias p asks)) k s
@@ -188,17 +181,6 @@ missing f i e = input_drop i (inputs f) ∙ ap (input 0) (inputs_none f i e)
 
 pub plan_missing : (asks : Question) (f : Forest) (i : ℕ) → drop i (plans_in f) ≡ [] → Fieldless f i asks
 plan_missing asks f i e k = sym (seek_none (hits asks) k _ (missing f i e))
-
--- ---- all were passed
-
-module _ (h : Name → Bool) (f : Forest) (s : List ℕ) (b at : ℕ) (k : Linked f s b at) (l : length s ≤ all_places) where
-  -- what the parts make
-  pub passed_made : (d : Schema) {x : Sought} → x ≡ seek h all_places (made d f) → passed_of x ≡ counted h (made d f)
-  passed_made d e = seek_passed h (made d f) (omega (arith, few_made h f d s b at k refl)) e
-
-  -- what a plan has
-  pub passed_held : (i : ℕ) {x : Sought} → x ≡ seek h all_places (input i (inputs f)) → passed_of x ≡ counted h (input i (inputs f))
-  passed_held i e = seek_passed h (input i (inputs f)) (omega (arith, few_held h i f s b at k refl)) e
 
 -- ---- a name that was found, told over a schema
 

@@ -231,20 +231,3 @@ pub fn passed(x: Sought) -> usize
         Continue(left) => ALL - left,
     }
 }
-
-// How many fields that the question asks for are made by the parts.
-pub fn made_count(parts: Siblings, asks: Question) -> usize
-    ensures { (c : Schema) → result ≡ counted (hits asks) (made c (forest parts.entry)) }
-{
-    match seek_made(parts, asks, ALL) {
-        Break(_) => 0,
-        Continue(left) => ALL - left,
-    }
-}
-
-// How many fields that the question asks for has the plan with the place `skip`.
-pub fn holders(trees: Siblings, skip: usize, asks: Question) -> usize
-    ensures { result ≡ counted (hits asks) (input skip (inputs (forest trees.entry))) }
-{
-    passed(seek_field(trees, skip, asks, ALL))
-}

@@ -17,9 +17,6 @@ pub record Passed (n : ℕ) (s : List ℕ) (i : ℕ) : Type 0 where
   pub within : i ≤ n
   pub same : bad_words n s 0 ≡ bad_words (n - i) (drop (32 * i) s) i
 
-pub passed_none : (n : ℕ) (s : List ℕ) → Passed n s 0
-passed_none n s = let e : n - 0 ≡ n = omega arith in record { within = omega arith; same = rw e }
-
 module _ (n : ℕ) (s : List ℕ) (i : ℕ) (h : Passed n s i) where
   words_next : i < n → bad_words n s 0
       ≡ or_else (unless (words_ok (label_at (drop (32 * i) s))) i) (bad_words (n - (i + 1)) (drop (32 * (i + 1)) s) (i + 1))

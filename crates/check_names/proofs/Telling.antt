@@ -2,7 +2,7 @@
 -- Assumes nothing.
 use mathlib.Core.Path.{◌≡◌, refl, sym, ap, ◌∙◌}
 use mathlib.Core.Bool.{Bool, true, false, cond}
-use mathlib.Core.List.{List, [], ◌++◌, append-nil}
+use mathlib.Core.List.{List, [], ◌++◌}
 use Prim.Native.Nat.{ℕ, ◌≤◌, ◌<◌}
 use native.Mathlib.Omega.{arith}
 use lib.ListN.{length}
@@ -143,10 +143,6 @@ module _ (h : Name → Bool) (s t : Schema) where
   pub first_passes : all_of h s ≡ true → all_of h t ≡ all_of h (s ++ t)
   unfolding ◌&◌
   first_passes e = sym (all_of-++ h s t ∙ rw e refl)
-
--- of one
-pub one_schema : (h : Name → Bool) (s : Schema) → all_of h s ≡ all_of h (s ++ [])
-one_schema h s = ap (all_of h) (sym (append-nil s))
 
 -- the schemas of two parts
 module _ (w : Whole) where

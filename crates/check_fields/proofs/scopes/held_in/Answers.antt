@@ -6,5 +6,4 @@ use Rattle.check_fields.proofs.scopes.held_in.Goals as goal
 
 pub returns : goal.returns
 returns c =
-    c.passed.ensures
-    ∙ passed_seen _ c.args.here.view _ _ _ _ _ c.args.here.trees.chained.linked (omega arith) c.seek_seen.ensures
+    c.passed.ensures ∙ passed_seen _ c.args.here.view c.args.here.trees _ (omega arith) c.seek_seen.ensures
