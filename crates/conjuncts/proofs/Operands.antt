@@ -1,5 +1,4 @@
--- Expressions that stand in an image, and where the operands of a binary one stand.
---     operands        where the operands of a binary expression stand, in bytes that begin at it
+-- The operands of an And that stands in an image.
 --     and_below, and_of, and_there    the operands of an And, as the code has them
 -- Assumes nothing.
 use mathlib.Core.Path.{◌≡◌, refl, sym, ap, subst, ◌∙◌}
@@ -7,20 +6,19 @@ use mathlib.Core.Bool.{true, false}
 use mathlib.Core.List.{List, [], ◌∷◌}
 use Prim.Native.Nat.{ℕ, ◌+◌, ◌-◌, ◌*◌, ◌≤◌, ◌<◌}
 use native.Mathlib.Omega.{arith}
-use lib.ListN.{length, drop, length-drop}
+use lib.ListN.{length, drop}
 use lib.Seq.{drop-drop}
 use Rattle.image.specs.Limits.{work_bytes, max_depth}
-use Rattle.image.specs.Word.{word}
 use Rattle.image.specs.Subtrees.{Below, Split, forest, tree_of}
 use Rattle.image.specs.declared.trees.Siblings.{Siblings}
 use Rattle.image.specs.declared.trees.Subtree.{Subtree}
-use Rattle.image.specs.Tree.{Label, Forest, none, node, Tree, At, Deep, size, link}
-use Rattle.image.proofs.Walking.{Turn, turn, linked_first}
+use Rattle.image.specs.Tree.{Label, Forest, none, node, Tree, Deep, size, link}
+use Rattle.plan.proofs.Bools.{no_yes}
 use Rattle.plan.specs.Syntax.{Op, and, or, cmp, eq, ne, lt, le, gt, ge, Expr, col, num, bool, nul, bin, neg, test, between, inlist, fn}
 use Rattle.plan.specs.Trees.{label_e, kids_e, expr_tree}
 use Rattle.rewrite.specs.Utils.{split_conjunction}
-use Rattle.conjuncts.specs.Operands.{Operands as Two}
-use Rattle.conjuncts.specs.Standing.{Standing, ReadableE, There}
+use Rattle.conjuncts.specs.Operands.{Operands}
+use Rattle.conjuncts.specs.Standing.{Standing, There}
 use Rattle.conjuncts.specs.Items.{Item}
 use Rattle.conjuncts.specs.Labels.{is_and}
 use Rattle.conjuncts.proofs.Standing.{tree_standing, standing_tree}
@@ -29,38 +27,6 @@ use Rattle.conjuncts.proofs.Standing.{tree_standing, standing_tree}
 deeper : (f : Forest) (d : ℕ) → Deep f (d - 1) → Deep f d
 deeper none d h = tt
 deeper (node l cs ns) d h = (omega (arith, h.0), deeper cs (d - 1) h.1, deeper ns d h.2)
-
--- where the operands a and b stand, in bytes that begin at the binary expression, record `base`
-pub record Operands (part : List ℕ) (base : ℕ) (a b : Expr) : Type 0 where
-  pub past : base < word part 24
-  pub fits : 32 * (word part 24 - base) + 32 ≤ length part
-  pub left : At (expr_tree a) (drop (32 * (word part 24 - base)) part) (word part 24)
-  pub past₂ : base < word (drop (32 * (word part 24 - base)) part) 28
-  pub fits₂ : 32 * (word (drop (32 * (word part 24 - base)) part) 28 - base) + 32 ≤ length part
-  pub right : At (expr_tree b) (drop (32 * (word (drop (32 * (word part 24 - base)) part) 28 - base)) part)
-      (word (drop (32 * (word part 24 - base)) part) 28)
-
-pub operands : {part : List ℕ} {base : ℕ} (o : Op) {a b : Expr} → At (expr_tree (bin o a b)) part base → Operands part base a b
-unfolding label_e kids_e
-operands {part} {base} o {a} {b} h =
-    let l : Turn (node (label_e a) (kids_e a) (node (label_e b) (kids_e b) none)) part base (word part 24) =
-    turn (kids_e (bin o a b)) (linked_first (expr_tree (bin o a b)) part base h) (λ z. absurd (omega (arith, h.head.first))) in
-    let la : l.child ≡ expr_tree a = ap (λ (x : Label × Forest). record { label = x.0; below = x.1 }) (cc l.is) in
-    let af : l.after ≡ node (label_e b) (kids_e b) none = cc l.is in
-    let n2 : word (drop (32 * (word part 24 - base)) part) 28 ≡ word part 24 + 1 + size l.child.below =
-    l.number ∙ ap (link (word part 24 + 1 + size l.child.below)) af in
-    let r : Turn l.after part base (word (drop (32 * (word part 24 - base)) part) 28) = turn l.after l.next
-    (λ z. absurd (omega (arith, n2))) in
-    let lb : r.child ≡ expr_tree b = ap (λ (x : Label × Forest). record { label = x.0; below = x.1 }) (cc (r.is, af)) in
-    record {
-      past = l.past;
-      fits = l.fits;
-      left = subst (λ (t : Tree). At t (drop (32 * (word part 24 - base)) part) (word part 24)) la l.here;
-      past₂ = r.past;
-      fits₂ = r.fits;
-      right = subst (λ (t : Tree). At t (drop (32 * (word (drop (32 * (word part 24 - base)) part) 28 - base)) part)
-          (word (drop (32 * (word part 24 - base)) part) 28)) lb r.here;
-    }
 
 -- the part that begins at a later record is a part of the image
 pub part_of : (s part : List ℕ) (base x : ℕ) → part ≡ drop (32 * base) s → base ≤ x → drop (32 * (x - base)) part ≡ drop (32 * x) s
@@ -73,36 +39,7 @@ deep_parts : (d : ℕ) (o : Op) (a b : Expr) → Deep (kids_e (bin o a b)) d →
 unfolding kids_e
 deep_parts d o a b deep = deep
 
--- the operands of a binary expression that can be read can be
-module _ {part : List ℕ} {base : ℕ} (d : ℕ) (o : Op) (a b : Expr) (h : At (expr_tree (bin o a b)) part base)
-    (deep : Deep (kids_e (bin o a b)) (d - 1)) (room : 32 * base + length part ≤ work_bytes) where
-  pub readable_left : ReadableE (d - 1) (drop (32 * (word part 24 - base)) part) (word part 24)
-  readable_left = let u = operands o h in
-      let k = deep_parts (d - 1) o a b deep in
-      record {
-        expr = a;
-        at = u.left;
-        some = k.0;
-        deep = k.1;
-        room = rw length-drop (omega (arith, u.past, u.fits));
-      }
-
-  pub readable_right : ReadableE (d - 1) (drop (32 * (word (drop (32 * (word part 24 - base)) part) 28 - base)) part)
-      (word (drop (32 * (word part 24 - base)) part) 28)
-  readable_right = let u = operands o h in
-      let k = deep_parts (d - 1) o a b deep in
-      record {
-        expr = b;
-        at = u.right;
-        some = k.0;
-        deep = k.2.1;
-        room = rw length-drop (omega (arith, u.past₂, u.fits₂));
-      }
-
 -- ---- And
-
-no : {A : Type 0} → false ≡ true → A
-no h = let z : ◌≡◌ {A = ℕ} 0 1 = cc in absurd (omega arith)
 
 pub record Both (e : Expr) : Type 0 where
   pub lhs : Expr
@@ -112,22 +49,22 @@ pub record Both (e : Expr) : Type 0 where
 pub and_label : (e : Expr) → is_and (label_e e) ≡ true → Both e
 unfolding label_e
 and_label (bin and a b) h = record { lhs = a; rhs = b; is = refl }
-and_label (bin or a b) h = no h
-and_label (bin (cmp eq) a b) h = no h
-and_label (bin (cmp ne) a b) h = no h
-and_label (bin (cmp lt) a b) h = no h
-and_label (bin (cmp le) a b) h = no h
-and_label (bin (cmp gt) a b) h = no h
-and_label (bin (cmp ge) a b) h = no h
-and_label (col x) h = no h
-and_label (num z) h = no h
-and_label (bool b) h = no h
-and_label (nul t) h = no h
-and_label (neg a) h = no h
-and_label (test t a) h = no h
-and_label (between n a l u) h = no h
-and_label (inlist n a xs) h = no h
-and_label (fn p q r xs) h = no h
+and_label (bin or a b) h = no_yes h
+and_label (bin (cmp eq) a b) h = no_yes h
+and_label (bin (cmp ne) a b) h = no_yes h
+and_label (bin (cmp lt) a b) h = no_yes h
+and_label (bin (cmp le) a b) h = no_yes h
+and_label (bin (cmp gt) a b) h = no_yes h
+and_label (bin (cmp ge) a b) h = no_yes h
+and_label (col x) h = no_yes h
+and_label (num z) h = no_yes h
+and_label (bool b) h = no_yes h
+and_label (nul t) h = no_yes h
+and_label (neg a) h = no_yes h
+and_label (test t a) h = no_yes h
+and_label (between n a l u) h = no_yes h
+and_label (inlist n a xs) h = no_yes h
+and_label (fn p q r xs) h = no_yes h
 
 pub single : (e : Expr) → is_and (label_e e) ≡ false → split_conjunction e ≡ e ∷ []
 unfolding label_e split_conjunction
@@ -143,16 +80,6 @@ single (test t a) h = refl
 single (between n a l u) h = refl
 single (inlist n a xs) h = refl
 single (fn p q r xs) h = refl
-
--- the operands of an And that can be read
-pub record AndParts (d : ℕ) (part : List ℕ) (base : ℕ) : Type 0 where
-  pub past : base < word part 24
-  pub fits : 32 * (word part 24 - base) + 32 ≤ length part
-  pub left : ReadableE (d - 1) (drop (32 * (word part 24 - base)) part) (word part 24)
-  pub past₂ : base < word (drop (32 * (word part 24 - base)) part) 28
-  pub fits₂ : 32 * (word (drop (32 * (word part 24 - base)) part) 28 - base) + 32 ≤ length part
-  pub right : ReadableE (d - 1) (drop (32 * (word (drop (32 * (word part 24 - base)) part) 28 - base)) part)
-      (word (drop (32 * (word part 24 - base)) part) 28)
 
 -- an expression that stands, but not at the root, is an item
 pub item_of : {s : List ℕ} {n : ℕ} {e : Expr} → Standing s n e → 0 < n → Item s n e
@@ -174,7 +101,7 @@ and_below t h y =
     record { left = expr_tree b.lhs; right = expr_tree b.rhs; is = ap (λ (u : Tree). u.below) is ∙ ap kids_e b.is }
 
 -- the first two trees below it are its operands
-pub two_of : {t l r : Subtree} {x y z : Siblings} → Pair (tree_of t).below → Below t x → Split x l y → Split y r z → Two t l r
+pub two_of : {t l r : Subtree} {x y z : Siblings} → Pair (tree_of t).below → Below t x → Split x l y → Split y r z → Operands t l r
 two_of {t} {l} {r} {x} {y} {z} p b u w =
     let below : (tree_of t).below ≡ node (tree_of l).label (tree_of l).below (forest y) = sym b.is ∙ u.is in
     let rest : forest y ≡ node p.right.label p.right.below none = cc (p.is, below) in
@@ -196,7 +123,7 @@ pub record AndOf (s : List ℕ) (l r : ℕ) (e : Expr) : Type 0 where
   pub left : Standing s l lhs
   pub right : Standing s r rhs
 
-module _ {t l r : Subtree} (y : is_and (tree_of t).label ≡ true) (w : Two t l r) (short : length t.image.now ≤ work_bytes) where
+module _ {t l r : Subtree} (y : is_and (tree_of t).label ≡ true) (w : Operands t l r) (short : length t.image.now ≤ work_bytes) where
   pub and_of : {e : Expr} → Standing t.image.now t.number e → AndOf t.image.now l.number r.number e
   unfolding kids_e
   and_of {e} h =

@@ -1,6 +1,6 @@
 -- Where expressions and plans stand in the bytes of an image. Record numbers are counted from the image's start.
-use Rattle.std.specs.Prelude.{◌≡◌, List, ℕ, ◌+◌, ◌-◌, ◌*◌, ◌≤◌, ◌<◌, length, drop}
-use Rattle.image.specs.Limits.{max_below, max_records, work_bytes}
+use Rattle.std.specs.Prelude.{◌≡◌, List, ℕ, ◌*◌, ◌≤◌, ◌<◌, length, drop}
+use Rattle.image.specs.Limits.{max_below, max_records}
 use Rattle.image.specs.Tree.{At, Deep}
 use Rattle.plan.specs.Syntax.{Expr, Plan}
 use Rattle.plan.specs.Integers.{FitsE, FitsP}
@@ -30,11 +30,3 @@ pub record StandingP (s : List ℕ) (n : ℕ) (p : Plan) : Type 0 where
 pub record There (s : List ℕ) (n : ℕ) : Type 0 where
   pub expr : Expr
   pub standing : Standing s n expr
-
--- some expression stands at the start of `part`, which begins at record `base` of an image, no deeper than d
-pub record ReadableE (d : ℕ) (part : List ℕ) (base : ℕ) : Type 0 where
-  pub expr : Expr
-  pub at : At (expr_tree expr) part base
-  pub some : 0 < d
-  pub deep : Deep (kids_e expr) (d - 1)
-  pub room : 32 * base + length part ≤ work_bytes

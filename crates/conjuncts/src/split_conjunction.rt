@@ -68,20 +68,3 @@ pub fn is_left_deep_xx(tree: Subtree) -> bool
         None => true,
     }
 }
-
-// Appends the conjuncts of the expression at record n of the image.
-pub fn split_at(s: &[u8], n: usize, c: Conjuncts) -> Conjuncts
-    requires there { There s.now n }
-    requires n_nonzero { 0 < n }
-    requires s_len_bound { length s.now ≤ work_bytes }
-    ensures { (e : Expr) (es : List Expr) → Standing s.now n e → Lists s.now c es →
-        Lists s.now result (es ++ split_conjunction e) }
-{
-    split_conjunction_xx(
-        Subtree {
-            image: s,
-            number: n,
-        },
-        c,
-    )
-}

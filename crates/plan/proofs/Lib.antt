@@ -13,5 +13,4 @@ pub mod PlanOf
 pub mod FieldSources
 pub mod Planning
 pub mod Turns
-pub mod Inputting
 pub mod Nth

@@ -1,7 +1,6 @@
 -- The plans among the children of a record: its inputs.
 use Rattle.std.specs.Prelude.{◌≡◌, true, List, [], ℕ, ◌≤◌, drop, Option, None, Some}
-use Rattle.image.specs.Tree.{Forest, none, node, Tree, Linked, size}
-use Rattle.image.specs.Places.{left}
+use Rattle.image.specs.Tree.{Forest, none, node, Tree, size}
 use Rattle.image.specs.Subtrees.{tree_of}
 use Rattle.image.specs.declared.trees.Subtree.{Subtree}
 use Rattle.plan.specs.Lists.{put}
@@ -25,16 +24,3 @@ pub record PlanAt (f : Forest) (skip : ℕ) (t : Tree) : Type 0 where
 abbrev pub PlansAt : Forest → ℕ → Option Subtree → Type 0
 PlansAt f skip None = drop skip (plans_in f) ≡ []
 PlansAt f skip (Some t) = PlanAt f skip (tree_of t)
-
--- the forest begins with a plan, or is none
-abbrev pub Begins : Forest → Type 0
-Begins none = Unit {0}
-Begins (node l cs ns) = is_plan l ≡ true
-
--- the trees of f from its plan with the place `skip` on are linked at r, which is 0 where there is none
-pub record Planned (f : Forest) (s : List ℕ) (b at skip r : ℕ) : Type 0 where
-  pub forest : Forest
-  pub linked : Linked forest s b r
-  pub begins : Begins forest
-  pub plans : drop skip (plans_in f) ≡ plans_in forest
-  pub less : left s b r ≤ left s b at

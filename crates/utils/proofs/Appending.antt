@@ -1,5 +1,4 @@
 -- Laws of the fields of a plan, appended to others.
---     input_of        the input whose fields come first, where it stands
 --     called_again    an alias below an alias, or below none
 --     ends-…          what a call has appended as it returns
 --     first_input, second_input, ..   the inputs, as the code has them
@@ -8,14 +7,11 @@ use mathlib.Core.Path.{◌≡◌, refl, sym, ap, ◌∙◌}
 use mathlib.Core.Bool.{Bool, true, false}
 use Rattle.std.specs.Prelude.{Option, Some, None}
 use mathlib.Core.List.{List, [], ◌∷◌, ◌++◌, map, append_assoc, map-map}
-use Prim.Native.Nat.{ℕ, ◌+◌, ◌-◌, ◌*◌, ◌≤◌, ◌<◌}
+use Prim.Native.Nat.{ℕ, ◌+◌, ◌-◌, ◌≤◌, ◌<◌}
 use native.Mathlib.Omega.{arith}
 use lib.ListN.{length, get_or, drop, length-drop}
 use lib.Seq.{get_or-drop}
-use Rattle.image.specs.Tree.{Label, Forest, Tree, Linked, At, Deep, Readable, size}
-use Rattle.image.specs.Word.{word}
-use Rattle.image.proofs.Walking.{linked_first}
-use Rattle.image.specs.Limits.{max_depth}
+use Rattle.image.specs.Tree.{Label, Forest, Tree, size}
 use Rattle.plan.specs.Schema.{schema, requalify}
 use Rattle.plan.specs.Syntax.{Name, nm, Plan}
 use Rattle.plan.specs.Trees.{label_p, kids_p, plan_tree}
@@ -24,69 +20,13 @@ use Rattle.plan.specs.FieldSources.{role, creates, renames, extends, gives_both,
 use Rattle.plan.specs.declared.field_sources.Role.{Role}
 use Rattle.plan.specs.Inputs.{plans_in, PlanAt}
 use Rattle.plan.specs.Lists.{put}
-use Rattle.conjuncts.specs.Standing.{StandingP}
 use Rattle.utils.specs.Fields.{Fields, Names}
-use Rattle.utils.specs.Inputs.{below, called, made, PlanHere}
-use Rattle.utils.proofs.Inputting.{Below, no_tree, Input}
+use Rattle.utils.specs.Inputs.{below, called, made}
 use Rattle.utils.proofs.Making.{called_append}
-use Rattle.utils.proofs.Shapes.{role_of, Rest, nothing_more, parts, second, Shape, own_parts, no_input, over, shape, deep_plan}
-
-pub readable_plan : {s : List ℕ} {b d : ℕ} → PlanHere s b d → Readable d s b
-readable_plan h = record { tree = plan_tree h.plan; at = h.at; some = h.some; deep = h.deep }
-
--- the children of a record, by the link to the first
-pub children : {s : List ℕ} {b at : ℕ} {t : Tree} → at ≡ word s 24 → At t s b → Linked t.below s b at
-children {t = t} e h = rw e (linked_first t _ _ h)
-
--- a plan that stands in an image
-pub standing_plan : {s : List ℕ} {n : ℕ} {p : Plan} → StandingP s n p → PlanHere (drop (32 * n) s) n max_depth
-standing_plan {p = p} h = record { plan = p; at = h.here; some = omega arith; deep = h.deep }
+use Rattle.utils.proofs.Shapes.{no_tree, role_of, Rest, nothing_more, parts, second, Shape, own_parts, no_input, over, shape}
 
 never : {A : Type 0} {b : Bool} → b ≡ true → b ≡ false → A
 never h k = let z : ◌≡◌ {A = ℕ} 0 1 = cc in absurd (omega arith)
-
--- an input, where it stands, and no deeper than the plan
-pub record Found (p : Plan) (s : List ℕ) (b n d : ℕ) (Q : Plan → Type 0) : Type 0 where
-  pub input : Plan
-  pub stands : Below s b n (plan_tree input)
-  pub deep : Deep (kids_p p) d → (0 < d) × Deep (kids_p input) (d - 1)
-  pub rest : Q input
-
-module _ (p : Plan) {s : List ℕ} {b n : ℕ} (d : ℕ) where
-  found : (place : ℕ) (i : Plan) → Input s b (kids_p p) place n → place < length (plans_in (kids_p p))
-      → get_or (plans_in (kids_p p)) place no_tree ≡ plan_tree i → (Q : Plan → Type 0) → Q i → Found p s b n d Q
-  found place i h l e Q q = record {
-    input = i;
-    stands = rw e at (h.found l);
-    deep = λ g. rw e at (deep_plan (kids_p p) place d l g);
-    rest = q;
-  }
-
-  module _ (l : Label) (e : l ≡ label_p p) {r : Role} (R : r ≡ role (what l)) where
-    -- the input whose fields come first
-    pub input_of : creates r ≡ false → {place : ℕ} → place ≡ own r l.p → Input s b (kids_p p) place n → (n ≡ 0 → ⊥) → Found p s b n d (Rest p)
-    input_of m is h nz = go (rw (R, e) at m) (rw (is, R, e) at h) (shape p)
-      where
-        go : creates (role_of p) ≡ false → Input s b (kids_p p) (own (role_of p) (label_p p).p) n → Shape p → Found p s b n d (Rest p)
-        go m h (own_parts k is) = never k m
-        go m h (no_input k le is) = absurd (nz (h.absent le))
-        go m h (over k i le is r) = found (own (role_of p) (label_p p).p) i h le is (Rest p) r
-
-    -- the second input of a join that gives the fields of both
-    pub second_of : (i : Plan) → Rest p i → gives_both r l.p ≡ true → Input s b (kids_p p) 1 n
-        → Found p s b n d (λ j. (renames (role_of p) ≡ false) × (schema p ≡ schema i ++ schema j))
-    second_of i r both h = go (rw (R, e) at both) r
-      where
-        go : gives_both (role_of p) (label_p p).p ≡ true → Rest p i
-            → Found p s b n d (λ j. (renames (role_of p) ≡ false) × (schema p ≡ schema i ++ schema j))
-        go both (nothing_more x y is) = never both y
-        go both (parts x y z is) = never both y
-        go both (second x y z j le at is) = found 1 j h le at (λ j. (renames (role_of p) ≡ false) × (schema p ≡ schema i ++ schema j)) (z, is)
-
--- what `add_schema` asks of an input
-pub plan_below : {s : List ℕ} {b n d : ℕ} {Q : Plan → Type 0} (h : PlanHere s b d) → Found h.plan s b n (d - 1) Q
-    → PlanHere (drop (32 * (n - b)) s) n (d - 1)
-plan_below h f = let g = f.deep h.deep in record { plan = f.input; at = f.stands.here; some = g.0; deep = g.1 }
 
 -- ---- qualifiers
 
@@ -112,16 +52,6 @@ module _ (p : Plan) (l : Label) (e : l ≡ label_p p) {r : Role} (R : r ≡ role
       go m (own_parts k is) = is
       go m (no_input k le is) = never m k
       go m (over k i le is r) = never m k
-
-  -- a plan without an input
-  pub schema_none : {s : List ℕ} {b n : ℕ} → creates r ≡ false → {place : ℕ} → place ≡ own r l.p → Input s b (kids_p p) place n
-      → n ≡ 0 → schema p ≡ []
-  schema_none {s} {b} {n} m is h z = go (rw (R, e) at m) (rw (is, R, e) at h) (shape p)
-    where
-      go : creates (role_of p) ≡ false → Input s b (kids_p p) (own (role_of p) (label_p p).p) n → Shape p → schema p ≡ []
-      go m h (own_parts k is) = never k m
-      go m h (no_input k le is) = is
-      go m h (over k i le is r) = absurd (omega (arith, (h.found le).past))
 
   module _ (o : Option ℕ) {f : Fields} (ns : List Name) (i : Plan)
       (first : Names f (ns ++ called (below (renames r) l.p o) (schema i))) where

@@ -2,7 +2,6 @@
 pub mod Members
 pub mod Marking
 pub mod Named
-pub mod Inputting
 pub mod Making
 pub mod Shapes
 pub mod Appending

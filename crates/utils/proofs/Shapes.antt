@@ -1,16 +1,15 @@
 -- What the schema of a plan is, by the kind of its record, the fields that its parts make, and its inputs.
 --     shape           its parts alone, no input, or an input with what comes behind its fields
---     deep-input      an input is one level less deep
 -- Assumes nothing.
 use mathlib.Core.Path.{◌≡◌, refl, sym, ap, ◌∙◌}
-use mathlib.Core.Bool.{Bool, true, false}
+use mathlib.Core.Bool.{true, false}
 use mathlib.Core.List.{List, [], ◌∷◌, ◌++◌, map, append-nil}
 use mathlib.Core.Option as O
 use mathlib.Core.Option.{Option, some}
-use Prim.Native.Nat.{ℕ, zero, suc, ◌-◌, ◌≤◌, ◌<◌}
+use Prim.Native.Nat.{◌≤◌, ◌<◌}
 use native.Mathlib.Omega.{arith}
 use lib.ListN.{length, get_or}
-use Rattle.image.specs.Tree.{Label, Forest, none, node, Tree, Deep}
+use Rattle.image.specs.Tree.{Label, Forest, none, node, Tree}
 use Rattle.plan.specs.Lists.{put}
 use Rattle.plan.specs.Schema.{schema, schema_first}
 use Rattle.plan.specs.Syntax.{Name, nm, Expr, col, num, bool, nul, bin, neg, test, between, inlist, fn, Field, Entry, Pair, AggEntry}
@@ -25,7 +24,10 @@ use Rattle.plan.specs.Inputs.{plans_in}
 use Rattle.plan.proofs.Written.{name_back}
 use Rattle.std.specs.Prelude.{None}
 use Rattle.utils.specs.Inputs.{below, called, made}
-use Rattle.utils.proofs.Inputting.{no_tree}
+
+-- no tree
+abbrev pub no_tree : Tree
+no_tree = record { label = record { kind = 0; p = 0; q = 0; r = 0; lo = 0; hi = 0 }; below = none }
 
 -- ---- expressions and parts are no inputs, and only parts make fields
 
@@ -193,18 +195,3 @@ shape (window ws p) =
     (parts refl refl refl (ap (schema p ++◌) (sym (made_each win_label win_kids (λ (w : WinEntry). w.name) (λ x. refl)
     (λ x. name_back x.name) ws _
     ∙ (ap (map (λ (w : WinEntry). w.name) ws ++◌) (made_plan p) ∙ append-nil _)))))
-
--- ---- depth
-
--- a plan among the trees of a forest is one level less deep
-pub deep_plan : (f : Forest) (i d : ℕ) → i < length (plans_in f) → Deep f d → (0 < d) × Deep (get_or (plans_in f) i no_tree).below (d - 1)
-unfolding plans_in put
-deep_plan none i d l h = absurd (omega arith)
-deep_plan (node m cs ns) i d l h = go (is_plan m) i l (λ j k. deep_plan ns j d k h.2)
-  where
-    go : (b : Bool) (i : ℕ) → i < length (put b (record { label = m; below = cs }) (plans_in ns))
-        → ((j : ℕ) → j < length (plans_in ns) → (0 < d) × Deep (get_or (plans_in ns) j no_tree).below (d - 1))
-        → (0 < d) × Deep (get_or (put b (record { label = m; below = cs }) (plans_in ns)) i no_tree).below (d - 1)
-    go true zero l rest = (h.0, h.1)
-    go true (suc i) l rest = rest i (omega arith)
-    go false i l rest = rest i l

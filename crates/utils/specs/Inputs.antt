@@ -1,12 +1,12 @@
 -- The fields of a plan, read off its records.
-use Rattle.std.specs.Prelude.{◌≡◌, Bool, cond, Option, Some, None, List, [], map, ℕ, ◌-◌, ◌<◌}
-use Rattle.image.specs.Tree.{Label, Forest, none, node, Tree, At, Deep}
+use Rattle.std.specs.Prelude.{◌≡◌, Bool, cond, Option, Some, None, List, [], map, ℕ}
+use Rattle.image.specs.Tree.{Label, Forest, none, node, Tree}
 use Rattle.plan.specs.FieldSources.{makes}
 use Rattle.plan.specs.Kinds.{what}
 use Rattle.plan.specs.Lists.{put}
 use Rattle.plan.specs.Schema.{requalify}
 use Rattle.plan.specs.Syntax.{Name, nm, Plan}
-use Rattle.plan.specs.Trees.{plan_tree, kids_p}
+use Rattle.plan.specs.Trees.{plan_tree}
 
 -- the qualifier that the fields of an input get, if they get one: of two aliases the upper one's
 abbrev pub below : Bool → ℕ → Option ℕ → Option ℕ
@@ -26,13 +26,6 @@ called_label l = put (makes (what l)) (nm l.p l.q) []
 unfoldable pub made : Forest → List Name
 made none = []
 made (node l cs ns) = put (makes (what l)) (nm l.p l.q) (made ns)
-
--- some plan stands at the start of s, no deeper than d
-pub record PlanHere (s : List ℕ) (b d : ℕ) : Type 0 where
-  pub plan : Plan
-  pub at : At (plan_tree plan) s b
-  pub some : 0 < d
-  pub deep : Deep (kids_p plan) (d - 1)
 
 -- the tree is some plan's
 pub record IsPlan (t : Tree) : Type 0 where

@@ -2,7 +2,6 @@
 ghost use Rattle.std.specs.Prelude.{◌≡◌, ◌||◌, Bool, true, List, map, ◌≤◌, ℕ, eqb, length};
 ghost use Rattle.image.specs.Limits.{max_fields};
 ghost use Rattle.image.specs.Subtrees.{tree_of};
-ghost use Rattle.image.specs.Tree.{At, Readable, Tree};
 ghost use Rattle.plan.specs.Columns.{on_cols};
 ghost use Rattle.plan.specs.Schema.{has};
 ghost use Rattle.plan.specs.Syntax.{Expr, Name, nm};
@@ -13,63 +12,11 @@ ghost use Rattle.utils.specs.Masks.{Answers, Masks, Refers};
 ghost use Rattle.utils.specs.Referring.{on_tree};
 ghost use Rattle.utils.specs.Sets.{member};
 
-use crate::schema_columns::{ColumnReference, Fields, place_in, place_of};
+use crate::schema_columns::{ColumnReference, Fields, place_of};
 use crate::sets::FieldSet;
 use conjuncts::items::item_tree;
-use image::limits::MAX_FIELDS;
-use image::records::{FIRST_LINK, KIND, NEXT_LINK, P, Q, from_record};
 use image::trees::Subtree;
-use image::words::word_at;
 use plan::kinds::COLUMN;
-
-// The set with the place of this name besides.
-pub fn add_column(set: FieldSet, f: Fields, q: usize, n: usize) -> FieldSet
-    requires { f.len ≤ max_fields }
-    ensures { (ns : List Name) → Names f ns → has ns (nm q n) ≡ true
-        → (j : ℕ) → member result j ≡ (eqb (place_in ns (nm q n)) j || member set j) }
-{
-    let i = place_in(f, q, n);
-    if i < MAX_FIELDS {
-        return set.with(i);
-    }
-    set
-}
-
-// The set of the fields that the tree at the start of `part` refers to.
-pub fn columns(part: &[u8], base: usize, depth: usize, f: Fields) -> FieldSet
-    requires readable { Readable depth part.now base }
-    requires len_le_max_fields { f.len ≤ max_fields }
-    ensures { (t : Tree) (ns : List Name) → At t part.now base → Names f ns → on_tree (has ns) t ≡ true
-        → Answers result ns (λ c. on_tree c t) }
-{
-    if word_at(part, KIND) == COLUMN {
-        return add_column(FieldSet::empty(), f, word_at(part, P), word_at(part, Q));
-    }
-    let mut set = FieldSet::empty();
-    let mut at = word_at(part, FIRST_LINK);
-    while at != 0 {
-        let child = from_record(part, base, at);
-        set = set.union(columns(child, at, depth - 1, f));
-        at = word_at(child, NEXT_LINK);
-    }
-    set
-}
-
-// Whether all columns of the expression at the start of `part` are fields of the side: those that are, counted, are all of them.
-pub fn has_all_column_refs(
-    part: &[u8],
-    base: usize,
-    depth: usize,
-    f: Fields,
-    side: FieldSet,
-) -> bool
-    requires readable { Readable depth part.now base }
-    requires len_le_max_fields { f.len ≤ max_fields }
-    ensures { (e : Expr) (ns : List Name) (c : Name → Bool) → At (expr_tree e) part.now base → Names f ns
-        → on_cols (has ns) e ≡ true → Masks side ns c → result ≡ on_cols c e }
-{
-    columns(part, base, depth, f).is_within(side)
-}
 
 // The set of the field with this name.
 fn column(fields: &[ColumnReference], q: usize, n: usize) -> FieldSet

@@ -1,21 +1,18 @@
 // schema_columns (utils.rs 144 to 155): the fields of a plan's schema, by their names, in order.
-ghost use Rattle.std.specs.Prelude.{◌≡◌, ◌==◌, ◌&&◌, ◌++◌, ◌∷◌, List, [], ◌<◌, ◌≤◌, ℕ, length, position};
+ghost use Rattle.std.specs.Prelude.{◌≡◌, ◌==◌, ◌&&◌, ◌++◌, List, [], ◌<◌, ◌≤◌, position};
 ghost use Rattle.image.specs.Limits.{max_fields};
 ghost use Rattle.image.specs.Subtrees.{tree_of};
-ghost use Rattle.image.specs.Tree.{At, Readable, Tree, label_at};
 ghost use Rattle.plan.specs.Schema.{schema};
 ghost use Rattle.plan.specs.Syntax.{Name, Plan, nm};
 ghost use Rattle.plan.specs.Trees.{plan_tree};
 ghost use Rattle.utils.specs.Fields.{Names, place_in};
-ghost use Rattle.utils.specs.Inputs.{IsPlan, PlanHere, below, called, called_label, made};
+ghost use Rattle.utils.specs.Inputs.{IsPlan, below, called, called_label, made};
 
 use bounded::Bounded;
 use image::limits::MAX_FIELDS;
-use image::records::{FIRST_LINK, NEXT_LINK, from_record, label_at};
 use image::trees::Subtree;
-use image::words::{wide, word_at};
 use plan::field_sources::{creates, extends, gives_both, makes_field, own_input, renames, role_of};
-use plan::inputs::{nth_plan, plan_at};
+use plan::inputs::nth_plan;
 
 // ColumnReference (utils.rs 125): the qualifier and the name of a field.
 #[derive(Clone, Copy, Debug, Default, PartialEq, Eq, PartialOrd, Ord, Hash)]
@@ -31,19 +28,6 @@ pub fn no_fields() -> Fields
     ensures { Names result [] }
 {
     Bounded::new()
-}
-
-// Appends a field, where there is room; past the end the schema is counted as too long.
-pub fn add_field(f: Fields, q: usize, n: usize) -> Fields
-    requires { (q < 4294967296) × (n < 4294967296) }
-    ensures { (ns : List Name) → Names f ns → Names result (ns ++ (nm q n ∷ [])) }
-{
-    let mut r = f;
-    r.push(ColumnReference {
-        q: q as u32,
-        n: n as u32,
-    });
-    r
 }
 
 // The first of some fields with this name.
@@ -71,81 +55,6 @@ fn below_alias(renamed: bool, p: u32, alias: Option<u32>) -> Option<u32>
         return Some(p);
     }
     alias
-}
-
-// Appends the field that the part at the start of s makes, with the alias for its qualifier if there is one.
-fn add_part(s: &[u8], into: Fields, alias: Option<u32>) -> Fields
-    requires { 32 ≤ length s.now }
-    ensures { (ns : List Name) → Names into ns → Names result (ns ++ called alias (called_label (label_at s.now))) }
-{
-    let l = label_at(s);
-    if !makes_field(l.kind) {
-        return into;
-    }
-    match alias {
-        Some(q) => add_field(into, wide(q), l.q),
-        None => add_field(into, l.p, l.q),
-    }
-}
-
-// Appends the fields that the children of the record at the start of `part` make.
-fn add_parts(part: &[u8], base: usize, into: Fields, alias: Option<u32>) -> Fields
-    requires { (d : ℕ) × Readable d part.now base }
-    ensures { (t : Tree) (ns : List Name) → At t part.now base → Names into ns
-        → Names result (ns ++ called alias (made t.below)) }
-{
-    let mut r = into;
-    let mut at = word_at(part, FIRST_LINK);
-    while at != 0 {
-        let child = from_record(part, base, at);
-        r = add_part(child, r, alias);
-        at = word_at(child, NEXT_LINK);
-    }
-    r
-}
-
-// Appends the fields of the plan at the start of `part`, all with the alias for their qualifier if there is one.
-pub fn add_schema(
-    part: &[u8],
-    base: usize,
-    depth: usize,
-    into: Fields,
-    alias: Option<u32>,
-) -> Fields
-    requires { PlanHere part.now base depth }
-    ensures { (p : Plan) (ns : List Name) → At (plan_tree p) part.now base → Names into ns
-        → Names result (ns ++ called alias (schema p)) }
-{
-    let l = label_at(part);
-    let role = role_of(l.kind);
-    if creates(role) {
-        return add_parts(part, base, into, alias);
-    }
-    let first = word_at(part, FIRST_LINK);
-    let n = plan_at(part, base, first, own_input(role, l.p));
-    if n == 0 {
-        return into;
-    }
-    let input = from_record(part, base, n);
-    let lower = below_alias(renames(role), l.p as u32, alias);
-    let r = add_schema(input, n, depth - 1, into, lower);
-    if extends(role) {
-        return add_parts(part, base, r, alias);
-    }
-    if gives_both(role, l.p) {
-        let m = plan_at(part, base, first, 1);
-        let right = from_record(part, base, m);
-        return add_schema(right, m, depth - 1, r, alias);
-    }
-    r
-}
-
-// Appends the fields of the plan at the start of `part`.
-pub fn schema_columns(part: &[u8], base: usize, depth: usize, into: Fields) -> Fields
-    requires { PlanHere part.now base depth }
-    ensures { (p : Plan) (ns : List Name) → At (plan_tree p) part.now base → Names into ns → Names result (ns ++ schema p) }
-{
-    add_schema(part, base, depth, into, None)
 }
 
 // Appends the field that a part makes, with the alias for its qualifier if there is one.
