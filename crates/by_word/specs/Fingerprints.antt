@@ -1,5 +1,5 @@
--- A fingerprint: a number below 2 ^ 32 for each expression, made of the labels and the shape of its records, parents first. Equal expressions
--- have the same; that expressions which differ mostly have others makes the code fast, and no proof needs it.
+-- A fingerprint: a number below 2 ^ 32 for each expression, made of the labels and the shape of its records, parents first. Equal
+-- expressions have the same; that expressions which differ mostly have others makes the code fast, and no proof needs it.
 use Rattle.std.specs.Prelude.{◌≡◌, cond, List, ℕ, ◌+◌, ◌*◌, ◌%◌, ◌<◌, eqb, length, get_or}
 use Rattle.image.specs.Limits.{max_list}
 use Rattle.image.specs.Tree.{Label, Forest, none, node, link}
