@@ -4,10 +4,9 @@
 use mathlib.Core.Path.{◌≡◌, refl, sym, ap, subst, ◌∙◌}
 use mathlib.Core.Bool.{true, false}
 use mathlib.Core.List.{List, [], ◌∷◌}
-use Prim.Native.Nat.{ℕ, ◌+◌, ◌-◌, ◌*◌, ◌≤◌, ◌<◌}
+use Prim.Native.Nat.{ℕ, ◌+◌, ◌-◌, ◌≤◌, ◌<◌}
 use native.Mathlib.Omega.{arith}
-use lib.ListN.{length, drop}
-use lib.Seq.{drop-drop}
+use lib.ListN.{length}
 use Rattle.image.specs.Limits.{work_bytes, max_depth}
 use Rattle.image.specs.Subtrees.{Below, Split, forest, tree_of}
 use Rattle.image.specs.declared.trees.Siblings.{Siblings}
@@ -27,12 +26,6 @@ use Rattle.conjuncts.proofs.Standing.{tree_standing, standing_tree}
 deeper : (f : Forest) (d : ℕ) → Deep f (d - 1) → Deep f d
 deeper none d h = tt
 deeper (node l cs ns) d h = (omega (arith, h.0), deeper cs (d - 1) h.1, deeper ns d h.2)
-
--- the part that begins at a later record is a part of the image
-pub part_of : (s part : List ℕ) (base x : ℕ) → part ≡ drop (32 * base) s → base ≤ x → drop (32 * (x - base)) part ≡ drop (32 * x) s
-part_of s part base x e h =
-    let n : 32 * base + 32 * (x - base) ≡ 32 * x = omega arith in
-    rw (e, drop-drop, n)
 
 -- the operands of a binary expression, and no deeper than what is below it
 deep_parts : (d : ℕ) (o : Op) (a b : Expr) → Deep (kids_e (bin o a b)) d → Deep (node (label_e a) (kids_e a) (node (label_e b) (kids_e b) none)) d

@@ -1,14 +1,10 @@
 -- Where expressions and plans stand in the bytes of an image. Record numbers are counted from the image's start.
-use Rattle.std.specs.Prelude.{◌≡◌, List, ℕ, ◌*◌, ◌≤◌, ◌<◌, length, drop}
+use Rattle.std.specs.Prelude.{List, ℕ, ◌*◌, ◌≤◌, ◌<◌, length, drop}
 use Rattle.image.specs.Limits.{max_below, max_records}
 use Rattle.image.specs.Tree.{At, Deep}
 use Rattle.plan.specs.Syntax.{Expr, Plan}
 use Rattle.plan.specs.Integers.{FitsE, FitsP}
 use Rattle.plan.specs.Trees.{expr_tree, kids_e, plan_tree, kids_p}
-
--- `part` is the stretch of the image s that begins at record n
-abbrev pub Stretch : List ℕ → ℕ → List ℕ → Type 0
-Stretch s n part = part ≡ drop (32 * n) s
 
 -- e stands at record n of the image s
 pub record Standing (s : List ℕ) (n : ℕ) (e : Expr) : Type 0 where
