@@ -99,13 +99,13 @@ fn operands(tree: Subtree) -> Option<(Connective, Subtree, Subtree)>
 
 // Whether an expression yields a clause that reads fields of the side only; `copy_clause` writes it.
 // An AND keeps each operand that yields, an OR yields only if both its operands do.
-pub fn extract_or_clause_xx(tree: Subtree, f: Fields, side: FieldSet) -> bool
-    requires { f.len ≤ max_fields }
-    ensures { (e : Expr) (ns : List Name) (c : Name → Bool) → tree_of tree.entry ≡ expr_tree e → Names f ns
+pub fn extract_or_clause_xx(tree: Subtree, f: &Fields, side: FieldSet) -> bool
+    requires { f.now.len ≤ max_fields }
+    ensures { (e : Expr) (ns : List Name) (c : Name → Bool) → tree_of tree.entry ≡ expr_tree e → Names f.now ns
         → on_cols (has ns) e ≡ true → Masks side ns c → result ≡ yields (extract_or_clause c e) }
 {
     let Some((op, left, right)) = operands(tree) else {
-        return has_all_column_refs_xx(tree, f, side);
+        return has_all_column_refs_xx(tree, *f, side);
     };
     match op {
         Connective::And => {
@@ -118,9 +118,9 @@ pub fn extract_or_clause_xx(tree: Subtree, f: Fields, side: FieldSet) -> bool
 }
 
 // Whether an operand is part of the clause of an AND or OR that yields one: of an OR each is, of an AND each that yields.
-fn is_kept_xx(op: Connective, tree: Subtree, f: Fields, side: FieldSet) -> bool
-    requires { f.len ≤ max_fields }
-    ensures { (e : Expr) (ns : List Name) (c : Name → Bool) → tree_of tree.entry ≡ expr_tree e → Names f ns
+fn is_kept_xx(op: Connective, tree: Subtree, f: &Fields, side: FieldSet) -> bool
+    requires { f.now.len ≤ max_fields }
+    ensures { (e : Expr) (ns : List Name) (c : Name → Bool) → tree_of tree.entry ≡ expr_tree e → Names f.now ns
         → on_cols (has ns) e ≡ true → Masks side ns c → result ≡ kept op (extract_or_clause c e) }
 {
     match op {
@@ -130,11 +130,11 @@ fn is_kept_xx(op: Connective, tree: Subtree, f: Fields, side: FieldSet) -> bool
 }
 
 // Writes that clause. There must be one.
-pub fn copy_clause_xx(tree: Subtree, f: Fields, side: FieldSet, out: &mut Writer, level: usize)
-    requires len_le_max_fields { f.len ≤ max_fields }
+pub fn copy_clause_xx(tree: Subtree, f: &Fields, side: FieldSet, out: &mut Writer, level: usize)
+    requires len_le_max_fields { f.now.len ≤ max_fields }
     requires low { Low (level + 1) (tree_of tree).below }
     ensures same { out.new.bytes.ghost_name ≡ out.old.bytes.ghost_name }
-    ensures wrote { (e clause : Expr) (ns : List Name) (c : Name → Bool) → tree_of tree.entry ≡ expr_tree e → Names f ns
+    ensures wrote { (e clause : Expr) (ns : List Name) (c : Name → Bool) → tree_of tree.entry ≡ expr_tree e → Names f.now ns
         → on_cols (has ns) e ≡ true → Masks side ns c → extract_or_clause c e ≡ some clause
         → Wrote out.old.bytes.now out.new.bytes.now out.old.next level out.new.next (expr_tree clause) }
 {
@@ -171,7 +171,7 @@ pub fn or_clause_at(s: &[u8], n: usize, f: Fields, side: FieldSet) -> bool
         return false;
     };
     match operator_xx(tree) {
-        Some(Connective::Or) => extract_or_clause_xx(tree, f, side),
+        Some(Connective::Or) => extract_or_clause_xx(tree, &f, side),
         _ => false,
     }
 }
@@ -180,16 +180,16 @@ pub fn or_clause_at(s: &[u8], n: usize, f: Fields, side: FieldSet) -> bool
 pub fn copy_or_clause_xx(
     s: &[u8],
     n: usize,
-    f: Fields,
+    f: &Fields,
     side: FieldSet,
     out: &mut Writer,
     level: usize,
 )
     requires there { There s.now n }
-    requires len_le_max_fields { f.len ≤ max_fields }
+    requires len_le_max_fields { f.now.len ≤ max_fields }
     requires shallow { Shallow 1 level }
     ensures same { out.new.bytes.ghost_name ≡ out.old.bytes.ghost_name }
-    ensures wrote { (e clause : Expr) (ns : List Name) (c : Name → Bool) → Standing s.now n e → Names f ns
+    ensures wrote { (e clause : Expr) (ns : List Name) (c : Name → Bool) → Standing s.now n e → Names f.now ns
         → on_cols (has ns) e ≡ true → Masks side ns c → or_clause c e ≡ some clause
         → Wrote out.old.bytes.now out.new.bytes.now out.old.next level out.new.next (expr_tree clause) }
 {

@@ -1,7 +1,7 @@
 // push_down_all_join (401 to 525), push_down_join (527 to 563): a join over what moves to its inputs, and what stays above it.
 ghost use Rattle.std.specs.Prelude.{◌≡◌, ◌&&◌, Bool, ◌++◌, List, map, ◌+◌, ◌≤◌, ℕ, leb, length};
 ghost use Rattle.std.proofs.Math.Option.{Option};
-ghost use Rattle.image.specs.Limits.{max_fields, max_list, work_bytes};
+ghost use Rattle.image.specs.Limits.{Shallow, map_bytes, max_fields, max_list};
 ghost use Rattle.plan.specs.Schema.{schema};
 ghost use Rattle.plan.specs.Syntax.{Expr, Kind, Name, Pair, Plan, join};
 ghost use Rattle.plan.specs.WordValues.{join_of};
@@ -11,7 +11,7 @@ ghost use Rattle.rewrite.specs.Utils.{replace_cols, split_conjunction?};
 ghost use Rattle.conjuncts.specs.Items.{Holds, clause_by};
 ghost use Rattle.utils.specs.Fields.{Names};
 ghost use Rattle.utils.specs.Masks.{Masks};
-ghost use Rattle.push_down_base.specs.Arms.{Answers, ArmOver_xx, Placed, Rests};
+ghost use Rattle.push_down_base.specs.Arms.{Answers, Placed, Rests};
 ghost use Rattle.push_down_base.specs.Parting.{Reads};
 ghost use Rattle.push_down_base.specs.Plain.{Plain};
 ghost use Rattle.push_down_join.specs.JoinPlans.{FilterOf_xx, JoinBetween, JoinHere, JoinUnder, Moved, OverJoin};
@@ -123,8 +123,7 @@ fn parts_of(s: &[u8], c: Conjuncts, sc: &Scope, sides: Preserved, kind: JoinKind
 // The lists of a join of this kind, of the predicates p above it and those of its own filter, g. What moves to no input becomes a condition
 // of an Inner join, and stays above any other.
 pub fn moves_of(s: &[u8], p: Conjuncts, g: Conjuncts, sc: &Scope, kind: JoinKind) -> Moves
-    requires asked { Asked s.now sc.now p × Asked s.now sc.now g }
-    requires s_len_bound { length s.now ≤ work_bytes }
+    requires { Asked s.now sc.now p × Asked s.now sc.now g }
     ensures { (k : Kind) (l r : List Name) (on : List Pair) (P G : List Expr) (σ : Name → Expr) → join_of kind ≡ k →
         Scopes sc.now l r on → Reads s.now (l ++ r) p P → Reads s.now (l ++ r) g G → Swapper σ (l ++ r) on →
         Moved s.now σ result k l r on P G }
@@ -196,7 +195,8 @@ fn push_down_all_join_xx(
     level: usize,
 ) -> bool
     requires join_between { JoinBetween plan.image.now plan.number c g }
-    requires arm_over { ArmOver_xx m.old level }
+    requires arm { Shallow 6 level }
+    requires map_room { map_bytes ≤ length m.old }
     ensures same { out.new.bytes.ghost_name ≡ out.old.bytes.ghost_name }
     ensures answers { (k : Kind) (l r : Plan) (on : List Pair) (f : Option Expr) (P G : List Expr) →
         Placed plan.entry.image.now plan.entry.number (join k l r on f) →
@@ -231,7 +231,8 @@ pub fn push_down_join_xx(
     level: usize,
 ) -> bool
     requires join_under { JoinUnder plan.image.now plan.number c }
-    requires arm_over { ArmOver_xx m.old level }
+    requires arm { Shallow 6 level }
+    requires map_room { map_bytes ≤ length m.old }
     ensures same { out.new.bytes.ghost_name ≡ out.old.bytes.ghost_name }
     ensures answers { (k : Kind) (l q : Plan) (on : List Pair) (f : Option Expr) (P : List Expr) →
         Placed plan.entry.image.now plan.entry.number (join k l q on f) →
@@ -251,7 +252,8 @@ pub fn rewrite_join_xx(
     level: usize,
 ) -> bool
     requires over_join { OverJoin plan.image.now plan.number p }
-    requires arm_over { ArmOver_xx m.old level }
+    requires arm { Shallow 6 level }
+    requires map_room { map_bytes ≤ length m.old }
     ensures same { out.new.bytes.ghost_name ≡ out.old.bytes.ghost_name }
     ensures answers { (e : Expr) (k : Kind) (l q : Plan) (on : List Pair) (f : Option Expr) →
         Rests plan.entry.image.now plan.entry.number p e (join k l q on f) →

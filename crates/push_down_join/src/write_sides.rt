@@ -48,16 +48,16 @@ pub fn copy_sided_xx(
     s: &[u8],
     map: Subtree,
     n: usize,
-    fields: Fields,
+    fields: &Fields,
     side: FieldSet,
     out: &mut Writer,
     level: usize,
 )
     requires one_sided { OneSided s.now n }
-    requires len_le_max_fields { fields.len ≤ max_fields }
+    requires len_le_max_fields { fields.now.len ≤ max_fields }
     requires over { Over 1 level map }
     ensures same { out.new.bytes.ghost_name ≡ out.old.bytes.ghost_name }
-    ensures wrote { (σ : Name → Expr) → MapsTo map.entry σ → (ns : List Name) (t : Name → Bool) → Names fields ns →
+    ensures wrote { (σ : Name → Expr) → MapsTo map.entry σ → (ns : List Name) (t : Name → Bool) → Names fields.now ns →
         Masks side ns t → (e : Expr) → Sided s.now σ ns t n e →
         Wrote out.old.bytes.now out.new.bytes.now out.old.next level out.new.next (expr_tree e) }
 {
@@ -72,24 +72,24 @@ pub fn copy_sided_xx(
 fn copy_sided_first_xx(
     s: &[u8],
     map: Subtree,
-    c: Conjuncts,
+    c: &Conjuncts,
     k: usize,
-    fields: Fields,
+    fields: &Fields,
     side: FieldSet,
     out: &mut Writer,
     level: usize,
 )
-    requires some_sided { SomeSided s.now c }
-    requires len_le_max_fields { fields.len ≤ max_fields }
-    requires k_nonzero { (0 < k) × (k ≤ c.len) }
+    requires some_sided { SomeSided s.now c.now }
+    requires len_le_max_fields { fields.now.len ≤ max_fields }
+    requires k_nonzero { (0 < k) × (k ≤ c.now.len) }
     requires over { Over 1 (level + k) map }
     ensures same { out.new.bytes.ghost_name ≡ out.old.bytes.ghost_name }
-    ensures wrote { (σ : Name → Expr) (ns : List Name) (t : Name → Bool) → Side_xx map.entry fields side σ ns t →
-        (e : Expr) (es : List Expr) → Sides s.now σ ns t c (e ∷ es) →
+    ensures wrote { (σ : Name → Expr) (ns : List Name) (t : Name → Bool) → Side_xx map.entry fields.now side σ ns t →
+        (e : Expr) (es : List Expr) → Sides s.now σ ns t c.now (e ∷ es) →
         Wrote out.old.bytes.now out.new.bytes.now out.old.next level out.new.next (expr_tree (conjoin e (take (k - 1) es))) }
 {
     let last = k - 1;
-    let item = item_at(c, last);
+    let item = item_at(*c, last);
     if last == 0 {
         copy_sided_xx(s, map, item, fields, side, out, level);
         return;
@@ -103,19 +103,19 @@ fn copy_sided_first_xx(
 fn copy_sided_joined_xx(
     s: &[u8],
     map: Subtree,
-    c: Conjuncts,
-    fields: Fields,
+    c: &Conjuncts,
+    fields: &Fields,
     side: FieldSet,
     out: &mut Writer,
     level: usize,
 )
-    requires some_sided { SomeSided s.now c }
-    requires len_le_max_fields { fields.len ≤ max_fields }
-    requires len_nonzero { 0 < c.len }
+    requires some_sided { SomeSided s.now c.now }
+    requires len_le_max_fields { fields.now.len ≤ max_fields }
+    requires len_nonzero { 0 < c.now.len }
     requires over { Over 2 level map }
     ensures same { out.new.bytes.ghost_name ≡ out.old.bytes.ghost_name }
-    ensures wrote { (σ : Name → Expr) (ns : List Name) (t : Name → Bool) → Side_xx map.entry fields side σ ns t →
-        (e : Expr) (es : List Expr) → Sides s.now σ ns t c (e ∷ es) →
+    ensures wrote { (σ : Name → Expr) (ns : List Name) (t : Name → Bool) → Side_xx map.entry fields.now side σ ns t →
+        (e : Expr) (es : List Expr) → Sides s.now σ ns t c.now (e ∷ es) →
         Wrote out.old.bytes.now out.new.bytes.now out.old.next level out.new.next (expr_tree (conjoin e es)) }
 {
     copy_sided_first_xx(s, map, c, c.len, fields, side, out, level);
@@ -126,17 +126,17 @@ pub fn copy_sided_filtered_xx(
     input: Subtree,
     map: Subtree,
     c: Conjuncts,
-    fields: Fields,
+    fields: &Fields,
     side: FieldSet,
     out: &mut Writer,
     level: usize,
 )
     requires some_sided { SomeSided input.image.now c }
-    requires len_le_max_fields { fields.len ≤ max_fields }
+    requires len_le_max_fields { fields.now.len ≤ max_fields }
     requires low { Low (level + 2) (tree_of input).below }
     requires over { Over 3 level map }
     ensures same { out.new.bytes.ghost_name ≡ out.old.bytes.ghost_name }
-    ensures wrote { (σ : Name → Expr) (ns : List Name) (t : Name → Bool) → Side_xx map.entry fields side σ ns t →
+    ensures wrote { (σ : Name → Expr) (ns : List Name) (t : Name → Bool) → Side_xx map.entry fields.now side σ ns t →
         (es : List Expr) → Sides input.entry.image.now σ ns t c es → (p : Plan) → tree_of input.entry ≡ plan_tree p →
         Wrote out.old.bytes.now out.new.bytes.now out.old.next level out.new.next (plan_tree (with_filters es p)) }
 {
@@ -145,7 +145,7 @@ pub fn copy_sided_filtered_xx(
         return;
     }
     out.put_kind(FILTER, 0, level);
-    copy_sided_joined_xx(input.image, map, c, fields, side, out, level + 1);
+    copy_sided_joined_xx(input.image, map, &c, fields, side, out, level + 1);
     out.copy_tree(input, level + 1);
 }
 
@@ -195,7 +195,7 @@ fn write_join_xx(plan: Subtree, map: Subtree, v: Moves, sc: &Scope, out: &mut Wr
         Wrote out.old.bytes.now out.new.bytes.now out.old.next level out.new.next (plan_tree (join_over k l r on P G)) }
 {
     let (left, right) = inputs(plan);
-    let fields = sc.fields;
+    let fields = &sc.fields;
     let below = level + 1;
     out.put(plan.label(), level);
     copy_sided_filtered_xx(left, map, v.left, fields, sc.left, out, below);

@@ -12,23 +12,23 @@ use Rattle.push_down_join.proofs.push_down_all_join.moves_of.Goals as goal
 
 pub side_push-left_push-requires-clause-wholes : goal.side_push-left_push-requires-clause-wholes
 side_push-left_push-requires-clause-wholes c =
-    let p = c.requires.asked.0 in
-    let g = c.requires.asked.1 in (
+    let p = c.requires.0 in
+    let g = c.requires.1 in (
       wholes (c.parts_of-above.ensures p.lefts p.rights p.keys p.exprs p.scopes p.reads).left,
       wholes (c.parts_of-own.ensures g.lefts g.rights g.keys g.exprs g.scopes g.reads).left,
     )
 
 pub side_push-right_push-requires-clause-wholes : goal.side_push-right_push-requires-clause-wholes
 side_push-right_push-requires-clause-wholes c =
-    let p = c.requires.asked.0 in
-    let g = c.requires.asked.1 in (
+    let p = c.requires.0 in
+    let g = c.requires.1 in (
       wholes (c.parts_of-above.ensures p.lefts p.rights p.keys p.exprs p.scopes p.reads).right,
       wholes (c.parts_of-own.ensures g.lefts g.rights g.keys g.exprs g.scopes g.reads).right,
     )
 
 pub append-requires : goal.append-requires
 append-requires c =
-    let g = c.requires.asked.1 in (
+    let g = c.requires.1 in (
       smalls_of (known_reads (c.parts_of-own.ensures g.lefts g.rights g.keys g.exprs
           g.scopes g.reads).rest),
       omega arith,

@@ -14,9 +14,9 @@ use Rattle.push_down_join.proofs.JoinWritten.{asked, carries_xx}
 use Rattle.push_down_join.proofs.SideLists.{renames_swap}
 use Rattle.push_down_join.proofs.push_down_all_join.push_down_all_join_xx.Goals as goal
 
-pub moves_of-v-requires-clause-asked : goal.moves_of-v-requires-clause-asked
+pub moves_of-v-requires : goal.moves_of-v-requires
 unfolding push_down_all_join
-moves_of-v-requires-clause-asked c =
+moves_of-v-requires c =
     let q = c.requires.join_between in
     let sc = c.join_scope_xx-sc.ensures q.kind q.lhs q.rhs q.keys q.condition q.placed in
     (asked sc q.reads, asked sc q.reads_own)
@@ -40,7 +40,7 @@ unfolding push_down_all_join
 write_renames_xx-requires c =
     let q = c.requires.join_between in
     let sc = c.join_scope_xx-sc.ensures q.kind q.lhs q.rhs q.keys q.condition q.placed in
-    (sc.most, omega (arith, sc.most, c.requires.arm_over.0))
+    (sc.most, omega (arith, sc.most, c.requires.map_room))
 
 pub write_kept_xx-requires-clause-carried : goal.write_kept_xx-requires-clause-carried
 unfolding push_down_all_join
@@ -68,7 +68,7 @@ write_kept_xx-requires-clause-carried c =
     }
 
 pub write_kept_xx-requires-clause-over : goal.write_kept_xx-requires-clause-over
-write_kept_xx-requires-clause-over c = read_over _ refl refl c.write_renames_xx.ensures.stood (omega (arith, c.requires.arm_over.1))
+write_kept_xx-requires-clause-over c = read_over _ refl refl c.write_renames_xx.ensures.stood (omega (arith, c.requires.arm))
 
 pub returns-clause-answers : goal.returns-clause-answers
 unfolding push_down_all_join

@@ -6,8 +6,12 @@ use Rattle.rewrite.specs.Utils.{conjoin}
 use Rattle.conjuncts.specs.Items.{FALSE}
 use Rattle.writing.proofs.Written.{wrote_and}
 use Rattle.writing.proofs.Pushing.{conjoin_one, conjoin_more}
-use Rattle.push_down_join.proofs.SideItems.{sides_length, sides_at, one_sided_of}
+use Rattle.push_down_join.proofs.SideItems.{sides_length, sides_room, sides_at, one_sided_of}
 use Rattle.push_down_join.proofs.write_sides.+copy_sided_first_xx.Goals as goal
+
+pub item_at-item-requires : goal.item_at-item-requires
+item_at-item-requires t c =
+    let p = c.requires.some_sided in omega (arith, sides_room p.sides p.most, c.requires.k_nonzero)
 
 pub copy_sided_xx-requires-clause-one_sided : goal.copy_sided_xx-requires-clause-one_sided
 copy_sided_xx-requires-clause-one_sided t c =

@@ -7,6 +7,6 @@ use Rattle.push_down_join.proofs.write_sides.copy_sided_joined_xx.Goals as goal
 
 pub returns-clause-wrote : goal.returns-clause-wrote
 returns-clause-wrote c =
-    λ σ ns d g e es h. let k = c.args.c.len - 1 in
+    λ σ ns d g e es h. let k = c.args.c.now.len - 1 in
     let long = sides_length h c.requires.some_sided.most in
     rw (take_all k es (omega (arith, long))) at (c.copy_sided_first_xx.ensures.wrote σ ns d g e es h)
