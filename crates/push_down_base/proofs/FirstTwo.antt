@@ -2,7 +2,6 @@
 --     two_are       which trees they are
 --     size_first, size_second   they are smaller
 --     low_first, low_second     where they may be written
---     low_up        what may be written at a depth may be written above it
 -- Assumes nothing.
 use mathlib.Core.Path.{◌≡◌, sym, ap, ◌∙◌}
 use Prim.Native.Nat.{ℕ, ◌+◌, ◌-◌, ◌<◌}
@@ -13,9 +12,6 @@ use Rattle.image.specs.Subtrees.{tree_of}
 use Rattle.image.specs.declared.trees.Subtree.{Subtree}
 use Rattle.image.proofs.Room.{low_below, low_after}
 use Rattle.push_down_base.specs.Inputs.{Two}
-
-pub low_up : {level : ℕ} {f : Forest} → Low (level + 1) f → Low level f
-low_up h = record { depth = h.depth; deep = h.deep; low = omega (arith, h.low) }
 
 module _ {t a b : Subtree} (w : Two t a b) where
   pub two_are : {u v : Tree} {ns : Forest} → (tree_of t).below ≡ node u.label u.below (node v.label v.below ns)

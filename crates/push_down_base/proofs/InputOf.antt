@@ -1,6 +1,6 @@
 -- The last child of a plan that a predicate goes below is the plan's input.
 -- Assumes nothing.
-use mathlib.Core.Path.{◌≡◌, refl, sym, ap, subst, ◌∙◌}
+use mathlib.Core.Path.{◌≡◌, refl, ap, ◌∙◌}
 use Prim.Native.Nat.{ℕ, ◌+◌}
 use native.Mathlib.Omega.{arith}
 use Rattle.image.specs.Tree.{Forest, none, node}
@@ -24,10 +24,6 @@ module _ {t u : Subtree} {f : Plan → Plan} {q : Plan} (w : Last t u) (h : Stan
   input_number =
       w.number ∙ ap (λ v. last_of t.number (t.number + 1) v.below) (plan_standing t refl refl h)
       ∙ last_or t.number k.own (t.number + 1) (kids_p (f q)) k.last
-
-  -- it stands there
-  pub input_standing : StandingP t.image.now u.number q
-  input_standing = subst (λ n. StandingP t.image.now n q) (sym input_number) k.input
 
   pub input_tree : tree_of u ≡ plan_tree q
   input_tree = plan_standing u w.image input_number k.input

@@ -14,14 +14,9 @@ use Rattle.plan.specs.Trees.{label_p, kids_p, each, entry_label, entry_kids, key
 use Rattle.push_down_base.specs.Inputs.{last_of}
 
 -- the number of a forest is that of the link to it
-pub last_link : (d m : ℕ) (f : Forest) → last_of d (link m f) f ≡ last_of d m f
+last_link : (d m : ℕ) (f : Forest) → last_of d (link m f) f ≡ last_of d m f
 last_link d m none = refl
 last_link d m (node l cs ns) = refl
-
--- one more was met
-pub last_more : {next v : ℕ} (at : ℕ) (cs ns : Forest) → next ≡ link (at + 1 + size cs) ns
-    → last_of at (at + 1 + size cs) ns ≡ v → last_of at next ns ≡ v
-last_more at cs ns e h = ap (λ i. last_of at i ns) e ∙ last_link at (at + 1 + size cs) ns ∙ h
 
 -- behind a run of parts
 last_run : {A : Type 0} (l : A → Label) (k : A → Forest) (xs : List A) (d b : ℕ) (top : Label) (cs : Forest)

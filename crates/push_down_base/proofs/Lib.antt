@@ -8,7 +8,6 @@ pub mod Selecting
 pub mod Masking
 pub mod Answering
 pub mod LastChild
-pub mod FirstChild
 pub mod Scoping
 pub mod FirstTwo
 pub mod InputOf

@@ -1,8 +1,7 @@
 -- What the code of a rewrite is asked and answers: a predicate that rests on a plan of the image, and the plan that is written for both.
 use Rattle.std.specs.Prelude.{◌≡◌, true, Some, None, List, ℕ, ◌+◌, ◌≤◌, ◌<◌, length}
 use Rattle.std.proofs.Math.Option.{some}
-use Rattle.image.specs.Limits.{Shallow, map_bytes, max_list, no_room, work_bytes}
-use Rattle.image.specs.Buffers.{BufferAt}
+use Rattle.image.specs.Limits.{max_list, no_room, work_bytes}
 use Rattle.image.specs.Room.{Wrote}
 use Rattle.plan.specs.Syntax.{Expr, Plan, Plans, alias, union}
 use Rattle.plan.specs.Schema.{schema}
@@ -75,22 +74,6 @@ pub record Taken (s : List ℕ) (x : ℕ) (p : Predicate) : Type 0 where
   pub above : Plan → Plan
   pub rests : Rests s x p expr (above plan)
   pub takes : Takes s x above plan
-
--- what an arm is lent: a work buffer in which it writes from record `at` on, its top at depth `level`; no arm's writers are higher than 6
-abbrev pub Arm : List ℕ → ℕ → ℕ → Type 0
-Arm out at level = BufferAt 6 level out at
-
--- the same, and room for a map of names
-abbrev pub ArmOver : List ℕ → List ℕ → ℕ → ℕ → Type 0
-ArmOver m out at level = (map_bytes ≤ length m) × Shallow 6 level × (length out ≡ work_bytes) × (at ≤ no_room)
-
--- an arm writes with its top at depth `level`; no arm's writers are higher than 6
-abbrev pub Arm_xx : ℕ → Type 0
-Arm_xx level = Shallow 6 level
-
--- the same, and m has room for a map of names
-abbrev pub ArmOver_xx : List ℕ → ℕ → Type 0
-ArmOver_xx m level = (map_bytes ≤ length m) × Shallow 6 level
 
 -- some predicate rests on a SubqueryAlias
 pub record OverAlias (s : List ℕ) (x : ℕ) (p : Predicate) : Type 0 where

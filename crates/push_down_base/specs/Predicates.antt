@@ -5,7 +5,7 @@ use Rattle.image.specs.Limits.{max_list}
 use Rattle.plan.specs.Syntax.{Name, Expr}
 use Rattle.conjuncts.specs.Items.{Conjuncts, Known}
 use Rattle.image.specs.declared.trees.Subtree.{Subtree}
-use Rattle.writing.specs.Maps.{Maps, MapsTo}
+use Rattle.writing.specs.Maps.{MapsTo}
 use Rattle.writing.specs.Pushed as W
 use Rattle.push_down_base.specs.declared.predicates.Predicate as declared
 
@@ -18,15 +18,7 @@ pub data Perhaps (s : List ℕ) (σ : Name → Expr) (p : Predicate) : Option Ex
   gone : p.written ≡ None → p.list.len ≡ 0 → Perhaps s σ p none
   left : {e : Expr} → W.Predicate s σ p.written p.list e → (p.written ≡ None → 0 < p.list.len) → Perhaps s σ p (some e)
 
--- something or nothing is written for a predicate by way of the map at m, and its list is whole
-pub record Writable (s m : List ℕ) (of room : ℕ) (p : Predicate) : Type 0 where
-  pub mapping : Name → Expr
-  pub maps : Maps m of room mapping
-  pub expr : Option Expr
-  pub perhaps : Perhaps s mapping p expr
-  pub most : p.list.len ≤ max_list
-
--- the same by way of a map as a tree
+-- something or nothing is written for a predicate by way of the map, and its list is whole
 pub record Writable_xx (s : List ℕ) (map : Subtree) (p : Predicate) : Type 0 where
   pub mapping : Name → Expr
   pub maps : MapsTo map mapping

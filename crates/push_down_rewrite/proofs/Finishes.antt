@@ -1,5 +1,5 @@
 -- The whole, with the answer in the place of what was found: its records, its lists and its depth.
-use Prim.Native.Nat.{ℕ, ◌-◌, ◌*◌, ◌≤◌, ◌<◌}
+use Prim.Native.Nat.{ℕ, ◌-◌, ◌*◌, ◌≤◌}
 use native.Mathlib.Omega.{arith}
 use Rattle.std.specs.Prelude.{Err}
 use mathlib.Core.Path.{◌≡◌, refl, sym, ◌∙◌}
@@ -7,14 +7,13 @@ use mathlib.Core.Bool.{Bool, true, false}
 use mathlib.Core.List.{List, []}
 use lib.Dec.{leb}
 use lib.Seq.{slice}
-use borrow.Author.Tests.{leb-true, leb-false, le-leb}
-use Rattle.image.specs.Limits.{max_depth, max_list, max_records, no_room}
+use borrow.Author.Tests.{leb-true, leb-false}
+use Rattle.image.specs.Limits.{max_list}
 use Rattle.image.specs.Flat.{flat}
 use Rattle.image.specs.Room.{cap}
 use Rattle.plan.specs.Lists.{◌&◌, all}
 use Rattle.plan.specs.Syntax.{Plan}
 use Rattle.plan.specs.Trees.{plan_tree}
-use Rattle.plan.specs.Measure.{depth_t}
 use Rattle.rewrite.specs.Limits.{list_p, within_limits}
 use Rattle.rewrite.specs.PushDownFilter.{Transformed}
 use Rattle.rewrite.specs.RewriteAt.{Focus}

@@ -20,12 +20,12 @@ pub push_down_join_xx-flag-requires-clause-join_under : goal.push_down_join_xx-f
 push_down_join_xx-flag-requires-clause-join_under c =
     none_under (placed_inside c.requires.inside c.requires.is) c.empty.ensures
 
-pub push_down_join_xx-flag-requires-clause-arm_over : goal.push_down_join_xx-flag-requires-clause-arm_over
-push_down_join_xx-flag-requires-clause-arm_over c =
+pub push_down_join_xx-flag-requires-clause-arm : goal.push_down_join_xx-flag-requires-clause-arm
+push_down_join_xx-flag-requires-clause-arm c =
     let j = c.requires in
     let i = j.inside in
     let b = c.write_before_xx-spot.ensures.before j.whole j.spot i.root i.there (stands_inside i) in
-    (c.args.scratch.now.m_long, omega (arith, level_small i b.level))
+    omega (arith, level_small i b.level)
 
 pub finish-requires-clause-replaced : goal.finish-requires-clause-replaced
 finish-requires-clause-replaced c =

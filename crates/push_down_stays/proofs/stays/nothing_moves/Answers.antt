@@ -16,8 +16,8 @@ join_scope_xx-sc-requires c =
     let q = c.requires in
     record { kind = q.kind; lhs = q.lhs; rhs = q.rhs; keys = q.keys; condition = q.condition; placed = q.placed }
 
-pub moves_of-v-requires-clause-asked : goal.moves_of-v-requires-clause-asked
-moves_of-v-requires-clause-asked c =
+pub moves_of-v-requires : goal.moves_of-v-requires
+moves_of-v-requires c =
     let q = c.requires in
     let sc = c.join_scope_xx-sc.ensures q.kind q.lhs q.rhs q.keys q.condition q.placed in
     (asked sc q.reads, asked sc q.reads_own)
