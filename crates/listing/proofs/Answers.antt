@@ -6,12 +6,15 @@ use mathlib.Core.Bool.{Bool, true, false}
 use mathlib.Core.List.{List, ◌++◌}
 use lib.ListN.{length}
 use borrow.Author.Tests.{eqb-true}
-use Rattle.image.specs.Limits.{work_bytes, max_records, max_depth}
+use Rattle.image.specs.Limits.{work_bytes, max_below, max_records}
 use Rattle.std.specs.Prelude.{None, Some}
 use Rattle.image.specs.Lowest.{Found, unless, alone}
 use Rattle.image.specs.Word.{Bytes}
-use Rattle.image.specs.Tree.{Tree, At, Readable, SmallT}
-use Rattle.image.specs.Room.{Wrote}
+use Rattle.image.specs.Subtrees.{tree_of}
+use Rattle.image.specs.Tree.{Tree, At, SmallT}
+use Rattle.image.specs.Room.{Low, Wrote}
+use Rattle.image.specs.declared.trees.Subtree.{Subtree}
+use Rattle.image.proofs.Subtrees.{tree_is}
 use Rattle.image.proofs.Bytes.{image_bytes}
 use Rattle.image.proofs.RoundTrip.{at_enc, small_at}
 use Rattle.plan.specs.Form.{bad_form}
@@ -33,6 +36,7 @@ use Rattle.preservation.proofs.Images.{stands}
 use Rattle.push_down_merge.proofs.Root.{standing_root}
 use Rattle.answers.proofs.Whole.{begun_size, begun}
 use Rattle.text.specs.Lines.{lines, counts, refusal}
+use Rattle.conjuncts.specs.Standing.{StandingP}
 use Rattle.listing.specs.Listing.{told, listing}
 use Rattle.text.specs.Written.{flat_lines}
 use Rattle.text.proofs.Records.{lines_tree}
@@ -117,18 +121,31 @@ module _ (q : Plan) (w : WellFormed q) where
   unfolding filled
   standing e = rw e (at_enc t 0 _ small (omega (arith, w.records)))
 
-  pub readable : {out : List ℕ} → out ≡ filled work_bytes (image_of q) → Readable max_depth out 0
-  readable e = record {
-    tree = t;
-    at = standing e;
-    some = omega arith;
+  standing_plan : {out : List ℕ} → out ≡ filled work_bytes (image_of q) → StandingP out 0 q
+  standing_plan e = record {
+    within = omega arith;
+    here = standing e;
     deep = (standing_root (image_of q) q (record { image = refl; well = w })).deep;
+    fits = w.integers;
+    small = omega arith;
   }
+
+-- a tree that a plan stands in is its tree, and may be written
+module _ (x : Subtree) {q : Plan} (h : StandingP x.image.now x.number q) where
+  pub tree_there : tree_of x ≡ plan_tree q
+  tree_there = tree_is x (plan_tree q) refl refl h.here
+
+  pub low : Low 2 (tree_of x).below
+  low = record { depth = max_below; deep = rw tree_there h.deep; low = omega arith }
+
+-- what was written is known otherwise
+pub wrote_as : {before a b : List ℕ} {from level r : ℕ} {u : Tree} → Wrote before a from level r u → b ≡ a → Wrote before b from level r u
+wrote_as h e = rw e h
 
 -- it is written flat, and the text is its lines and the counts
 module _ {r : Passed} {text : List ℕ} (g : Leaves r text) where
-  pub here : At (plan_tree g.plan) r.output 0
-  here = standing g.plan g.well g.output
+  pub here : StandingP r.output 0 g.plan
+  here = standing_plan g.plan g.well g.output
 
   module _ {flat₀ flat : List ℕ} {n : ℕ} (w : Wrote flat₀ flat 0 1 n (plan_tree g.plan)) where
     pub few : n ≤ max_records
