@@ -28,12 +28,15 @@ count "  constants that number kinds, words, sorts or letters" "$(hits '^(pub )?
 count "  numbers that stand for none or no room: 0, NO_ROOM, NO_TYPE, ALL compared or returned" \
     "$(hits '(return|Known\(|==|!=) ?\(?(NO_ROOM|NO_TYPE|NEVER|UNKNOWN)|(at|here|first|x|y|n|from|value|link|written|v\.first|p\.written)\)? (==|!=) 0 ')"
 echo "2: twins"
-count "  pairs of places of six lines or more that duplicates finds (- where that tool is not)" \
-    "$(if command -v duplicates >/dev/null; then
+twins() {
+    if command -v duplicates >/dev/null; then
         plain=$(mktemp -d); src | xargs tar -c | tar -x -C "$plain"
-        find "$plain" -name '*.rt' -exec sh -c 'mv "$1" "${1%.rt}.rs"' - {} \;
+        find "$plain" -name '*.rt' -exec sh -c 'sed -E "$2" "$1" > "${1%.rt}.rs"; rm "$1"' - {} "$1" \;
         duplicates --repo "$plain" --most 200 --seconds 60 | sed -n '1s/ .*//p'; rm -r "$plain"
-    else echo -; fi)"
+    else echo -; fi
+}
+count "  pairs of places of six lines or more that duplicates finds (- where that tool is not)" "$(twins '')"
+count "    of them with imports and parameter lists left out" "$(twins '/^ *(pub |ghost )?use /d; /^    [a-z_]+: [^ ].*,$/d; /^\)/d; /^ *(pub )?fn .*\($/d')"
 echo "3: loops that count an index or follow a link by hand"
 count "  while loops" "$(hits '^ *while ')"
 count "    of them from record to record, until a link is 0" "$(hits '^ *while (at|from|here|y) != 0 ')"

@@ -72,7 +72,7 @@ pub fn push_down_filter_rewrite(image: &[u8], node: u32, out: &mut [u8]) -> Rewr
         Ok(answer) => Rewritten {
             number: GRANTED,
             record: 0,
-            flag: answer.flag as u32,
+            flag: u32::from(answer.flag),
             records: answer.records as u32,
         },
         Err(no_rewrite) => Rewritten {
@@ -107,7 +107,7 @@ pub fn push_down_filter_pass(image: &[u8], budget: u64, out: &mut [u8]) -> Passe
             record: 0,
             visits: walk.visits,
             changed: walk.changed,
-            finished: walk.finished as u32,
+            finished: u32::from(walk.finished),
             records: walk.records as u32,
         },
         Err(no_pass) => Passed {

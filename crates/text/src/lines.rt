@@ -41,7 +41,7 @@ impl Text<'_> {
     {
         self.put_name_and_number(b"visits", visits);
         self.put_name_and_number(b" changed", changed);
-        self.put_name_and_number(b" finished", finished as u64);
+        self.put_name_and_number(b" finished", u64::from(finished));
         self.put(b"\n");
     }
 
@@ -51,8 +51,8 @@ impl Text<'_> {
         ensures text { Puts self.old self.new (refusal number place) }
         ensures short { self.new.at ≤ self.old.at + 87 }
     {
-        self.put_name_and_number(b"refused", number as u64);
-        self.put_name_and_number(b" at", place as u64);
+        self.put_name_and_number(b"refused", u64::from(number));
+        self.put_name_and_number(b" at", u64::from(place));
         self.put(b"\n");
     }
 }
