@@ -6,8 +6,15 @@
 --     Goes, goes, gone                     a loop over siblings: what the first tree of some siblings is, and that none is left
 -- Assumes nothing.
 use mathlib.Core.Path.{◌≡◌, refl, sym, ap, subst, ◌∙◌}
-use mathlib.Core.List.{List, [], ◌∷◌}
-use Prim.Native.Nat.{ℕ, ◌+◌, ◌-◌, ◌*◌}
+use mathlib.Core.List.{List, [], ◌∷◌, map}
+use Prim.Native.Nat.{ℕ, ◌+◌, ◌-◌, ◌*◌, ◌<◌}
+use Rattle.std.specs.Prelude.{Option, None, Some}
+use Rattle.std.specs.List.{last_or}
+use Rattle.std.specs.Iterator.{Drains, YieldsFirstBy}
+use Rattle.std.proofs.lemmas.Iterator.{items_from_drains}
+use Rattle.std.proofs.lemmas.Iterator.Consumers.{YieldsList-from_first}
+use Rattle.std.proofs.lemmas.Option.{none-some}
+use Rattle.image.specs.Flat.{size_t}
 use native.Mathlib.Omega.{arith}
 use lib.ListN.{length, drop}
 use lib.Seq.{drop-drop}
@@ -123,17 +130,21 @@ unfolding places_from trees_of
 trees_back s none n = refl
 trees_back s (node l cs ns) n = ap (node l cs) (trees_back s ns (n + 1 + size cs))
 
+head_or : Place → List Place → Place
+head_or d [] = d
+head_or d (q ∷ qs) = q
+
+tail : List Place → List Place
+tail [] = []
+tail (q ∷ qs) = qs
+
 -- the first of them
 first_place : (s : List ℕ) (n : ℕ) (f : Forest) {p : Place} {ps : List Place} → places_from s n f ≡ p ∷ ps → (p.image ≡ s) × (p.number ≡ n)
-unfolding places_from
+unfolding places_from head_or
 first_place s n none e = absurd (omega (arith, ap length e))
 first_place s n (node l cs ns) {p} e =
     let same = ap (head_or p) e in
     (sym (ap (λ (q : Place). q.image) same), sym (ap (λ (q : Place). q.number) same))
-  where
-    head_or : Place → List Place → Place
-    head_or d [] = d
-    head_or d (q ∷ qs) = q
 
 pub goes : (x y : Siblings) (t : Subtree) → places x ≡ place t ∷ places y → Goes x t y
 unfolding trees_of
@@ -148,3 +159,71 @@ goes x y t e =
 pub gone : (x : Siblings) → places x ≡ [] → forest x ≡ none
 unfolding trees_of
 gone x e = sym (trees_back _ (forest x) _) ∙ ap trees_of e
+
+-- ---- the last of some siblings
+
+-- u is the last of the trees f, the first of which has the number n
+pub record Last (f : Forest) (n : ℕ) (u : Subtree) : Type 0 where
+  pub end : u.number + size_t (tree_of u) ≡ n + size f
+  pub fewer : size (tree_of u).below < size f
+
+or_else : Subtree → Option Subtree → Subtree
+or_else d None = d
+or_else d (Some u) = u
+
+some_is : {x u : Subtree} → Some x ≡ Some u → x ≡ u
+unfolding or_else
+some_is {x} e = ap (or_else x) e
+
+-- the items of a list, first and others
+first_is : {p q : Place} {ps qs : List Place} → p ∷ ps ≡ q ∷ qs → p ≡ q
+unfolding head_or
+first_is {p} e = ap (head_or p) e
+
+others_are : {p q : Place} {ps qs : List Place} → p ∷ ps ≡ q ∷ qs → ps ≡ qs
+unfolding tail
+others_are e = ap tail e
+
+-- the items are the trees f, the first of which has the number n
+lasts : (s : List ℕ) (f : Forest) (n : ℕ) (xs : List Subtree) (o : Option Subtree) {u : Subtree}
+    → (f ≡ none → ⊥) → map place xs ≡ places_from s n f → last_or o xs ≡ Some u → Last f n u
+unfolding places_from
+lasts s none n xs o some e z = absurd (some refl)
+lasts s (node l cs ns) n [] o some e z = absurd (omega (arith, ap length e))
+lasts s (node l cs none) n (x ∷ y ∷ ys) o some e z = absurd (omega (arith, ap length e))
+lasts s (node l cs none) n (x ∷ []) o {u} some e z =
+    let same : place x ≡ record { image = s; number = n; tree = record { label = l; below = cs } } = first_is e in
+    let is : x ≡ u = some_is z in
+    let number : u.number ≡ n = subst (λ (v : Subtree). v.number ≡ n) is (ap (λ (p : Place). p.number) same) in
+    let below : size (tree_of u).below ≡ size cs =
+    subst (λ (v : Subtree). size (tree_of v).below ≡ size cs) is (ap (λ (p : Place). size p.tree.below) same) in
+    record { end = omega arith; fewer = omega arith }
+lasts s (node l cs (node m ds os)) n (x ∷ xs) o some e z =
+    let w = lasts s (node m ds os) (n + 1 + size cs) xs (Some x) (λ (q : node m ds os ≡ none). absurd (omega (arith, ap size q))) (others_are e) z in
+    record { end = omega (arith, w.end); fewer = omega (arith, w.fewer) }
+
+pub last_some : (x : Siblings) {u : Subtree} (xs : List Subtree) → map place xs ≡ places x → last_or None xs ≡ Some u → Last (forest x) x.first u
+last_some x {u} xs e z = lasts _ (forest x) _ xs None (λ (q : forest x ≡ none). nothing xs (e ∙ places_end x q) z) e z
+  where
+    nothing : (ys : List Subtree) → map place ys ≡ [] → last_or None ys ≡ Some u → ⊥
+    nothing [] k h = none-some _ h
+    nothing (y ∷ ys) k h = absurd (omega (arith, ap length k))
+
+pub last_none : (x : Siblings) (xs : List Subtree) → map place xs ≡ places x → last_or None xs ≡ None → forest x ≡ none
+last_none x [] e z = gone x (sym e)
+last_none x (y ∷ ys) e z = absurd (some y ys z)
+  where
+    some : (u : Subtree) (us : List Subtree) → last_or (Some u) us ≡ None → ⊥
+    some u [] h = none-some _ (sym h)
+    some u (v ∷ vs) h = some v vs h
+
+-- the link to trees that there are
+pub link_of : (m : ℕ) (f : Forest) → 0 < size f → link m f ≡ m
+link_of m none h = absurd (omega arith)
+link_of m (node l cs ns) h = refl
+
+-- all the items that come are the trees
+pub all_items : (x : Siblings) (xs : List Subtree) → Drains (YieldsFirstBy place places) x xs → map place xs ≡ places x
+all_items x xs d =
+    items_from_drains {steps = YieldsFirstBy place places} {s = x} xs (d.1.0, d.1.1, λ w. (d.0, d.1.2))
+    (YieldsList-from_first place places (places x) refl)

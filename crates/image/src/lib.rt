@@ -2,7 +2,6 @@
 #![tactic(auto)]
 
 pub mod copying;
-pub mod ends;
 pub mod kinds;
 pub mod limits;
 pub mod links;

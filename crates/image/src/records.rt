@@ -1,8 +1,8 @@
 // Records: eight words, of which six are the label and two are links.
-ghost use Rattle.std.specs.Prelude.{◌≡◌, ◌*◌, ◌+◌, ◌-◌, ◌≤◌, drop, length};
+ghost use Rattle.std.specs.Prelude.{◌≡◌, ◌*◌, ◌+◌, ◌≤◌, drop, length};
 ghost use Rattle.std.proofs.lemmas.List.Edits.{sets};
 ghost use Rattle.image.specs.Flat.{bytes_of};
-ghost use Rattle.image.specs.Tree.{Fits32, label_at, node_of};
+ghost use Rattle.image.specs.Tree.{Fits32, label_at};
 
 use crate::limits::RECORD_BYTES;
 use crate::words::{put_four, word_at};
@@ -12,7 +12,7 @@ pub fn record_at(s: &[u8], n: usize) -> &[u8]
     requires { 32 * n ≤ length s.now }
     ensures { result.now ≡ drop (32 * n) s.now }
 {
-    from_record(s, 0, n)
+    &s[RECORD_BYTES * n..]
 }
 
 // The bytes of a record at which its words stand: the six of its label, then the links to its first child and to its next sibling.
@@ -56,41 +56,6 @@ pub fn label_at(s: &[u8]) -> Label
         lo: word_at(s, LO),
         hi: word_at(s, HI),
     }
-}
-
-// What a walk looks at in a record: its kind, its first words and its links.
-#[derive(Clone, Copy)]
-pub struct Node {
-    pub kind: usize,
-    pub p: usize,
-    pub q: usize,
-    pub r: usize,
-    pub first: usize,
-    pub next: usize,
-}
-
-// The record at the start of s, as a walk looks at it.
-pub fn look(s: &[u8]) -> Node
-    requires { 32 ≤ length s.now }
-    ensures { result ≡ node_of s.now }
-{
-    Node {
-        kind: word_at(s, KIND),
-        p: word_at(s, P),
-        q: word_at(s, Q),
-        r: word_at(s, R),
-        first: word_at(s, FIRST_LINK),
-        next: word_at(s, NEXT_LINK),
-    }
-}
-
-// The part of s that begins at record `at`, where s begins at record `base`.
-pub fn from_record(s: &[u8], base: usize, at: usize) -> &[u8]
-    requires { (base ≤ at) × (32 * (at - base) ≤ length s.now) }
-    ensures { result.now ≡ drop (32 * (at - base)) s.now }
-{
-    let a = RECORD_BYTES * (at - base);
-    &s[a..]
 }
 
 // Stores record `at`: a label, the link to its first child and the link to its next sibling.

@@ -54,6 +54,22 @@ impl<'a> Subtree<'a> {
     }
 }
 
+impl Subtree<'_> {
+    ghost use Rattle.std.specs.Prelude.{◌≡◌, ◌+◌};
+    ghost use Rattle.image.specs.Flat.{size_t};
+    ghost use Rattle.image.specs.Subtrees.{tree_of};
+
+    // The record behind the tree's last one, which is in its last child.
+    pub fn end(self) -> usize
+        ensures { result ≡ self.entry.number + size_t (tree_of self.entry) }
+    {
+        match self.children().last() {
+            Some(child) => child.end(),
+            None => self.number + 1,
+        }
+    }
+}
+
 impl<'a> Siblings<'a> {
     ghost use Rattle.image.specs.Subtrees.{Splits};
 

@@ -1,0 +1,31 @@
+use mathlib.Core.Path.{◌≡◌, sym, ap, ◌∙◌}
+use native.Mathlib.Omega.{arith}
+use Prim.Native.Nat.{◌+◌}
+use Rattle.image.specs.Tree.{size}
+use Rattle.image.proofs.Subtrees.{all_items, last_none, last_some, link_of}
+use Rattle.image.proofs.trees.Subtree.+end.Goals as goal
+
+pub end-requires : goal.end-requires
+end-requires t c =
+    let x = c.children.result in
+    let ran = c.in-Some.ensures.ran in
+    let all = all_items x ran.0 ran.1 in
+    let last = last_some x ran.0 all (sym ran.2) in
+    (omega (arith, last.fewer, ap size c.children.ensures.is, c.decreases), tt)
+
+pub returns-in-Some : goal.returns-in-Some
+returns-in-Some t c =
+    let x = c.children.result in
+    let ran = c.in-Some.ensures.ran in
+    let all = all_items x ran.0 ran.1 in
+    let last = last_some x ran.0 all (sym ran.2) in
+    let first : x.first ≡ c.args.self.number + 1 = c.children.ensures.first ∙ link_of _ c.args.self.stood.tree.below (omega (arith, last.fewer, ap size c.children.ensures.is)) in
+    omega (arith, c.end.ensures, last.end, ap size c.children.ensures.is)
+
+pub returns-in-None : goal.returns-in-None
+returns-in-None t c =
+    let x = c.children.result in
+    let ran = c.in-None.ensures.ran in
+    let all = all_items x ran.0 ran.1 in
+    let none = last_none x ran.0 all (sym ran.2) in
+    omega (arith, ap size (sym c.children.ensures.is ∙ none))
