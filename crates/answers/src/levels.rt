@@ -5,9 +5,9 @@ ghost use Rattle.image.specs.Limits.{max_records};
 ghost use Rattle.image.specs.Tree.{At, Tree};
 ghost use Rattle.answers.specs.Splicing.{Levels, Sized};
 
-use image::ends::tree_end;
 use image::limits::RECORD_BYTES;
 use image::records::{FIRST_LINK, NEXT_LINK};
+use image::trees::Subtree;
 use image::words::word_at;
 
 // The depth of each record: a first child is one deeper than its parent, a sibling is as deep. Returns how many records there are.
@@ -16,7 +16,7 @@ pub fn note_levels(s: &[u8], levels: &mut [u32]) -> usize
     requires levels_len { length levels.old ≡ max_records }
     ensures { (t : Tree) → At t s.now 0 → (result ≡ size_t t) × Levels levels.new t }
 {
-    let n = tree_end(s, 0);
+    let n = Subtree::at(s, 0).end();
     levels[1] = 2;
     for i in 1..n {
         let level = levels[i];

@@ -17,8 +17,8 @@ ghost use Rattle.answers.specs.Splicing.{Before, Levels, Ran, Sized};
 
 use crate::levels::note_levels;
 use image::copying::Writer;
-use image::ends::tree_end;
 use image::records::{label_at, record_at};
+use image::trees::Subtree;
 use image::words::wide;
 
 // Where a new tree goes: at what depth, and what record stands behind the old one; and how many records there are.
@@ -58,7 +58,7 @@ pub fn write_before_xx(s: &[u8], node: usize, out: &mut Writer, levels: &mut [u3
     write_records_xx(s, levels, 0, node, out);
     Spot {
         level: wide(levels[node]),
-        end: tree_end(record_at(s, node), node),
+        end: Subtree::at(s, node).end(),
         records,
     }
 }

@@ -6,7 +6,6 @@ ghost use Rattle.image.specs.Subtrees.{tree_of};
 ghost use Rattle.conjuncts.specs.Equality.{same};
 ghost use Rattle.by_word.specs.Equality.{alike, counted, same_link};
 
-use image::ends::tree_end;
 use image::records::{FIRST_LINK, NEXT_LINK, label_at, record_at};
 use image::trees::Subtree;
 use image::words::word_at;
@@ -16,7 +15,7 @@ pub fn record_count(tree: Subtree) -> usize
     requires { length tree.image.now ≤ work_bytes }
     ensures { result ≡ size_t (tree_of tree.entry) }
 {
-    tree_end(record_at(tree.image, tree.number), tree.number) - tree.number
+    tree.end() - tree.number
 }
 
 // A link counted from the top of its predicate: 0 if it is 0, since every other leads behind the top.

@@ -4,7 +4,7 @@ ghost use Rattle.plan.specs.Words.{in_range, row_fits, words_ok};
 ghost use Rattle.acceptance.specs.Check.{bad_words};
 
 use image::ranges::{Range, WordRow};
-use image::records::{Label, from_record, label_at};
+use image::records::{Label, label_at, record_at};
 use plan::kinds::{What, what_of};
 use plan::word_ranges::{row_e, row_p, row_q};
 
@@ -42,7 +42,7 @@ pub fn bad_words(s: &[u8], n: usize) -> Option<usize>
     ensures { result ≡ bad_words n s.now 0 }
 {
     for i in 0..n {
-        if !words_ok(label_at(from_record(s, 0, i))) {
+        if !words_ok(label_at(record_at(s, i))) {
             return Some(i);
         }
     }

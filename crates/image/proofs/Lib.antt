@@ -1,7 +1,4 @@
 pub mod Walking
-pub mod Stepping
-pub mod Along
-pub mod Ending
 pub mod Lowest
 pub mod Finding
 pub mod Writing

@@ -2,7 +2,6 @@
 use Rattle.std.specs.Prelude.{◌≡◌, ℕ, suc, ◌+◌, ◌-◌, ◌*◌, ◌≤◌, ◌<◌, List, length, drop}
 use Rattle.image.specs.Word.{word}
 use Rattle.image.specs.declared.records.Label as declared
-use Rattle.image.specs.declared.records.Node as declared-node
 
 -- ---- trees
 
@@ -40,14 +39,6 @@ link b (node l cs ns) = b
 -- the label of the record at the start of s
 abbrev pub label_at : List ℕ → Label
 label_at s = record { kind = word s 0; p = word s 4; q = word s 8; r = word s 12; lo = word s 16; hi = word s 20 }
-
--- what a walk looks at in a record: the struct of the code
-abbrev pub Node : Type 0
-Node = declared-node.Node
-
--- the record at the start of s, as a walk looks at it
-abbrev pub node_of : List ℕ → Node
-node_of s = record { kind = word s 0; p = word s 4; q = word s 8; r = word s 12; first = word s 24; next = word s 28 }
 
 -- ---- where a tree stands
 

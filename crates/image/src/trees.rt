@@ -27,6 +27,16 @@ impl<'a> Subtree<'a> {
     ghost use Rattle.image.specs.Subtrees.{Below, tree_of};
     ghost use Rattle.image.specs.Tree.{Fits32};
 
+    // The tree whose top is this record.
+    #[inline]
+    pub fn at(image: &'a [u8], number: usize) -> Self
+        requires { Stood image.now number }
+        ensures same_image { result.image.now ≡ image.now }
+        ensures same_number { result.number ≡ number }
+    {
+        Subtree { image, number }
+    }
+
     // What its top says of itself.
     #[inline]
     pub fn label(self) -> Label
