@@ -1,4 +1,3 @@
-pub mod Walking
 pub mod Lowest
 pub mod Finding
 pub mod Writing

@@ -2,7 +2,7 @@
 -- THE LAWS
 --     at_enc          a tree of 32-bit words is read back from its image
 --     reads_back      and no other tree is
---     only            one tree only stands somewhere (of `Walking`, by which `reads_back` goes)
+--     only            one tree only stands somewhere (of specs/Chains, by which `reads_back` goes)
 --     image_of_lem        bytes at which a tree stands are its image
 --     small_at        what stands in bytes is of 32-bit words
 -- Assumes nothing.
@@ -16,11 +16,15 @@ use Rattle.image.specs.Word.{Bytes, word, le}
 use Rattle.image.specs.Tree.{Label, Forest, none, node, Tree, size, link, label_at, Here, Stands, At, SmallT}
 pub use Rattle.image.specs.Tree.{Fits32, Small}
 use Rattle.image.specs.Flat.{size_t, bytes_of, enc_any, enc}
-use Rattle.image.proofs.Walking.{link_le}
-pub use Rattle.image.proofs.Walking.{only}
+pub use Rattle.image.specs.Chains.{only}
 use Rattle.image.proofs.Writing.{bytes_of_length}
 use Rattle.image.proofs.Standing.{word_drop}
 use Rattle.image.proofs.Relinking.{bytes_of_lem}
+
+-- a link is no more than the first number
+link_le : (m : ℕ) (f : Forest) → link m f ≤ m
+link_le m none = omega arith
+link_le m (node l cs ns) = omega arith
 
 -- ---- a record is read back
 

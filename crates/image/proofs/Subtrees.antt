@@ -7,7 +7,7 @@
 -- Assumes nothing.
 use mathlib.Core.Path.{◌≡◌, refl, sym, ap, subst, ◌∙◌}
 use mathlib.Core.List.{List, [], ◌∷◌, map}
-use Prim.Native.Nat.{ℕ, ◌+◌, ◌-◌, ◌*◌, ◌<◌}
+use Prim.Native.Nat.{ℕ, suc, ◌+◌, ◌-◌, ◌*◌, ◌<◌}
 use Rattle.std.specs.Prelude.{Option, None, Some}
 use Rattle.std.specs.List.{last_or}
 use Rattle.std.specs.Iterator.{Drains, YieldsFirstBy}
@@ -24,7 +24,11 @@ use Rattle.image.specs.Chains.{only, one_chain}
 use Rattle.image.specs.Subtrees.{Place, Below, Split, forest, tree_of, place, places, places_from}
 use Rattle.image.specs.declared.trees.Siblings.{Siblings}
 use Rattle.image.specs.declared.trees.Subtree.{Subtree}
-use Rattle.image.proofs.Walking.{linked, turn}
+
+-- a forest that stands at record m is linked by the link to it
+linked : (f : Forest) (s : List ℕ) (b m : ℕ) → b < m → Stands f (drop (32 * (m - b)) s) m → Linked f s b (link m f)
+linked none s b m h k = refl
+linked (node l cs ns) s b m h k = (h, k)
 
 -- the trees below record n are linked in the image by its first link
 pub below_linked : (t : Tree) (s : List ℕ) (n : ℕ) → At t (drop (32 * n) s) n → Linked t.below s 0 (word (drop (32 * n) s) 24)
@@ -43,10 +47,24 @@ pub record First (f : Forest) (s : List ℕ) (at : ℕ) : Type 0 where
   pub number : word (drop (32 * at) s) 28 ≡ link (at + 1 + size child.below) after
 
 pub first : (f : Forest) {s : List ℕ} {at : ℕ} → Linked f s 0 at → (at ≡ 0 → ⊥) → First f s at
-first f {s} {at} h nz =
-    let u = turn f h nz in
-    let e : at - 0 ≡ at = omega arith in
-    record { child = u.child; after = u.after; is = u.is; here = rw e at u.here; next = rw e at u.next; number = rw e at u.number }
+first none h nz = absurd (nz h)
+first (node l cs ns) {s} {at} h nz =
+    let here : at - 0 ≡ at = omega arith in
+    let k : Stands (node l cs ns) (drop (32 * at) s) at = rw here at h.1 in
+    let e : 32 * at + 32 * suc (size cs) ≡ 32 * (at + 1 + size cs - 0) = omega arith in
+    record {
+      child = record { label = l; below = cs };
+      after = ns;
+      is = refl;
+      here = record { head = k.head; below = k.below };
+      next = rw k.next (linked ns s 0 (at + 1 + size cs) (omega arith) (rw (drop-drop, e) at k.after));
+      number = k.next;
+    }
+
+-- nothing is linked at 0
+pub ended : (f : Forest) (s : List ℕ) (at : ℕ) → Linked f s 0 at → at ≡ 0 → f ≡ none
+ended none s at h z = refl
+ended (node l cs ns) s at h z = absurd (omega arith)
 
 -- the tree that stands at record n is the one that is named by it
 pub tree_is : (x : Subtree) (t : Tree) {s : List ℕ} {n : ℕ} → x.image.now ≡ s → x.number ≡ n → At t (drop (32 * n) s) n → tree_of x ≡ t

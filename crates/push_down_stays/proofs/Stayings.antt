@@ -11,7 +11,7 @@ use lib.ListN.{length}
 use borrow.Author.Tests.{eqb-true, eqb-false}
 use Rattle.std.specs.Prelude as P
 use Rattle.image.specs.declared.trees.Subtree.{Subtree}
-use Rattle.image.proofs.Walking.{only}
+use Rattle.image.specs.Chains.{only}
 use Rattle.plan.specs.Columns.{on_cols}
 use Rattle.plan.specs.Schema.{schema}
 use Rattle.plan.specs.Kinds as K

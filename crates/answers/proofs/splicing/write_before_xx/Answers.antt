@@ -7,7 +7,7 @@ use Rattle.image.specs.Room.{cap}
 use Rattle.image.specs.Tree.{Tree}
 use Rattle.image.specs.Flat.{size_t}
 use Rattle.image.proofs.Room.{cap_is}
-use Rattle.image.proofs.Walking.{only}
+use Rattle.image.specs.Chains.{only}
 use Rattle.plan.specs.Trees.{plan_tree}
 use Rattle.answers.proofs.Splice.{before_of, node_small}
 use Rattle.answers.proofs.splicing.write_before_xx.Goals as goal

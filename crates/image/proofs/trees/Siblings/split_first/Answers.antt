@@ -1,12 +1,11 @@
 -- `trees::split_first` meets its contract.
 use mathlib.Core.Path.{refl}
 use Rattle.image.specs.Subtrees.{forest}
-use Rattle.image.proofs.Walking.{ended}
-use Rattle.image.proofs.Subtrees.{first, split_of}
+use Rattle.image.proofs.Subtrees.{ended, first, split_of}
 use Rattle.image.proofs.trees.Siblings.split_first.Goals as goal
 
 pub returns-then-self-eq0 : goal.returns-then-self-eq0
-returns-then-self-eq0 c = let x = c.args.self in ended (forest x) _ _ _ x.chained.linked c.if-self-eq0.true
+returns-then-self-eq0 c = let x = c.args.self in ended (forest x) _ _ x.chained.linked c.if-self-eq0.true
 
 pub invariant_of-tree : goal.invariant_of-tree
 invariant_of-tree c =
