@@ -5,3 +5,4 @@ pub mod Whole
 pub mod Noting
 pub mod Splice
 pub mod Fitting
+pub mod Roots

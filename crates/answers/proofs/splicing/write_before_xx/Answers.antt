@@ -10,6 +10,7 @@ use Rattle.image.proofs.Room.{cap_is}
 use Rattle.image.specs.Chains.{only}
 use Rattle.plan.specs.Trees.{plan_tree}
 use Rattle.answers.proofs.Splice.{before_of, node_small}
+use Rattle.answers.proofs.Roots.{end_of}
 use Rattle.answers.proofs.splicing.write_before_xx.Goals as goal
 
 pub returns-clause-next : goal.returns-clause-next
@@ -24,4 +25,4 @@ returns-clause-before c =
     let w = c.write_records_xx.ensures.ran (plan_tree p) h.here few
     (omega (arith, node_small p _ f e)) n.1 in
     before_of p _ f e few c.args.out.now.long (rw c.requires.start.0 at w) n.1 c.wide.ensures.0
-    (c.tree_end.ensures (plan_tree f.plan) (rw c.record_at.ensures k.here)) n.0
+    (end_of c.at.result (plan_tree f.plan) k.here c.at.ensures.same_image c.at.ensures.same_number c.end.ensures) n.0
