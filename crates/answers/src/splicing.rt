@@ -30,7 +30,7 @@ pub struct Spot {
 }
 
 // Writes the records from `from` up to n, with their depths.
-pub fn write_records_xx(s: &[u8], levels: &[u32], from: usize, n: usize, out: &mut Writer)
+pub fn write_records(s: &[u8], levels: &[u32], from: usize, n: usize, out: &mut Writer)
     requires n_le_max_records { (n ≤ max_records) × (32 * n ≤ length s.now) × (length levels.now ≡ max_records) }
     requires from_le_n { from ≤ n }
     ensures same { out.new.bytes.ghost_name ≡ out.old.bytes.ghost_name }
@@ -44,7 +44,7 @@ pub fn write_records_xx(s: &[u8], levels: &[u32], from: usize, n: usize, out: &m
 }
 
 // Writes what stands before the record `node`; the new tree goes there, at the depth that is returned.
-pub fn write_before_xx(s: &[u8], node: usize, out: &mut Writer, levels: &mut [u32]) -> Spot
+pub fn write_before(s: &[u8], node: usize, out: &mut Writer, levels: &mut [u32]) -> Spot
     requires sized { Sized s.now }
     requires there_p { ThereP s.now node }
     requires start { (out.old.next ≡ 0) × (length levels.old ≡ max_records) }
@@ -55,7 +55,7 @@ pub fn write_before_xx(s: &[u8], node: usize, out: &mut Writer, levels: &mut [u3
         Before out.new.bytes.now levels.new p node c.plan result }
 {
     let records = note_levels(s, levels);
-    write_records_xx(s, levels, 0, node, out);
+    write_records(s, levels, 0, node, out);
     Spot {
         level: wide(levels[node]),
         end: Subtree::at(s, node).end(),

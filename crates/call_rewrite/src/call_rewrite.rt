@@ -20,8 +20,8 @@ use image::words::word_at;
 use plan::kinds::is_plan;
 use push_down_merge::filter::TooLarge;
 use push_down_merge::scratch::Scratch;
-use push_down_rewrite::node::{Rewritten, rewrite_anew_xx};
-use push_down_stays::stays::stays_xx;
+use push_down_rewrite::node::{Rewritten, rewrite_anew};
+use push_down_stays::stays::stays;
 
 // Whether the rewrite says that it changed the plan, and how many records the answer has.
 #[derive(Clone, Copy, Debug, PartialEq, Eq, Hash)]
@@ -61,7 +61,7 @@ fn rewrite_apart(plan: Subtree, scratch: &mut Scratch, out: &mut [u8]) -> Result
     ensures { outcome_of (length out.old) result out.new
         ≡ rewritten (length out.old) (rewrite_call plan.entry.number (length out.old) (plan_in plan.entry.image.now)) }
 {
-    match rewrite_anew_xx(plan, scratch) {
+    match rewrite_anew(plan, scratch) {
         Err(_) => Err(Refusal::TooLarge(plan.number)),
         Ok(r) => match r.image {
             Some(records) => hand_over(scratch.work, records, r.flag, out),
@@ -103,7 +103,7 @@ fn rewrite_into(
     ensures { (w : Plan) (c : Focus) → Inside plan.entry.image.now plan.entry.number w c → Outcomes work.new result w c }
 {
     let mut scratch = Scratch { m, work, levels };
-    rewrite_anew_xx(plan, &mut scratch)
+    rewrite_anew(plan, &mut scratch)
 }
 
 // The same rewrite, written anew into the output itself, which has room for any image.
@@ -158,7 +158,7 @@ fn rewrite_at(image: &[u8], node: usize, out: &mut [u8]) -> Result<Answer, Refus
         number: node,
     };
     // A plan that stays as it is needs no work space.
-    if stays_xx(plan) {
+    if stays(plan) {
         return hand_over(image, image.len() / RECORD_BYTES, false, out);
     }
     rewrite_here(plan, out)

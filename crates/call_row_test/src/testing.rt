@@ -17,9 +17,9 @@ ghost use Rattle.plan.specs.Types as Types;
 
 use crate::schemas::field_types;
 use check_image::check;
-use conjuncts::volatility::{Functions, has_function_xx};
+use conjuncts::volatility::{Functions, has_function};
 use evaluate::cells::{NamedRow, Row};
-use evaluate::expressions::evaluate_xx;
+use evaluate::expressions::evaluate;
 use evaluate::logic::Truth;
 use image::limits::RECORD_BYTES;
 use image::records::{KIND, record_at};
@@ -27,7 +27,7 @@ use image::refusals::Refusal;
 use image::trees::Subtree;
 use image::words::word_at;
 use plan::kinds::FILTER;
-use utils::schema_columns::{Fields, no_fields, schema_columns_xx};
+use utils::schema_columns::{Fields, no_fields, schema_columns};
 
 // The predicate of the Filter at this record, on a row over the fields with these names and types.
 fn test_predicate(
@@ -50,11 +50,11 @@ fn test_predicate(
     if !row.is_ok() {
         return Err(Refusal::Row);
     }
-    if has_function_xx(predicate, Functions::All) {
+    if has_function(predicate, Functions::All) {
         return Err(Refusal::Function(node));
     }
     let named = NamedRow { row, fields };
-    Ok(Truth::of(evaluate_xx(predicate, &named)))
+    Ok(Truth::of(evaluate(predicate, &named)))
 }
 
 // The predicate of a Filter, and its input.
@@ -75,7 +75,7 @@ fn test_filter(filter: Subtree, values: &[i64], marks: &[u8]) -> Result<Truth, R
     let Some((predicate, input)) = parts_of(filter) else {
         return Err(Refusal::Absent(filter.number));
     };
-    let fields = schema_columns_xx(input, no_fields());
+    let fields = schema_columns(input, no_fields());
     let types = field_types(filter.children(), fields.len);
     let n = fields.len;
     test_predicate(predicate, filter.number, fields, &types[..n], values, marks)

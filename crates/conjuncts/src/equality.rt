@@ -14,7 +14,7 @@ use plan::kinds::BOOLEAN_LITERAL;
 use plan::words::TRUE;
 
 // Whether two trees are the same, wherever they stand.
-pub fn same_tree_xx(a: Subtree, b: Subtree) -> bool
+pub fn same_tree(a: Subtree, b: Subtree) -> bool
     ensures { result ≡ same (tree_of a.entry) (tree_of b.entry) }
 {
     if a.label() != b.label() {
@@ -25,7 +25,7 @@ pub fn same_tree_xx(a: Subtree, b: Subtree) -> bool
         let Some(right) = others.next() else {
             return false;
         };
-        if !same_tree_xx(left, right) {
+        if !same_tree(left, right) {
             return false;
         }
     }
@@ -56,7 +56,7 @@ pub fn same_item(s: &[u8], n: usize, m: usize) -> bool
         return is_false_item(s, m);
     };
     match item_tree(s, m) {
-        Some(b) => same_tree_xx(a, b),
+        Some(b) => same_tree(a, b),
         None => is_false_item(s, n),
     }
 }

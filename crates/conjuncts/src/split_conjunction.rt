@@ -45,7 +45,7 @@ fn add_conjuncts(tree: Subtree, list: &mut Conjuncts)
 }
 
 // A list with the conjuncts of an expression, which is not at the root, behind its own.
-pub fn split_conjunction_xx(tree: Subtree, c: Conjuncts) -> Conjuncts
+pub fn split_conjunction(tree: Subtree, c: Conjuncts) -> Conjuncts
     requires there { There tree.image.now tree.number }
     requires number_nonzero { 0 < tree.number }
     requires image_bound { length tree.image.now ≤ work_bytes }
@@ -58,13 +58,13 @@ pub fn split_conjunction_xx(tree: Subtree, c: Conjuncts) -> Conjuncts
 }
 
 // Whether an expression is joined left-deep: no right operand of an And is one.
-pub fn is_left_deep_xx(tree: Subtree) -> bool
+pub fn is_left_deep(tree: Subtree) -> bool
     requires there { There tree.image.now tree.number }
     requires image_bound { length tree.image.now ≤ work_bytes }
     ensures { (e : Expr) → Standing tree.entry.image.now tree.entry.number e → Says result (LeftDeep e) }
 {
     match and_operands(tree) {
-        Some((left, right)) => and_operands(right).is_none() && is_left_deep_xx(left),
+        Some((left, right)) => and_operands(right).is_none() && is_left_deep(left),
         None => true,
     }
 }

@@ -40,14 +40,14 @@ fn is_function(label: Label, asked: Functions) -> bool
 }
 
 // Whether the tree holds such a function.
-pub fn has_function_xx(tree: Subtree, asked: Functions) -> bool
+pub fn has_function(tree: Subtree, asked: Functions) -> bool
     ensures { result ≡ fn_in (marked asked) (tree_of tree.entry) }
 {
     if is_function(tree.label(), asked) {
         return true;
     }
     for child in tree.children() {
-        if has_function_xx(child, asked) {
+        if has_function(child, asked) {
             return true;
         }
     }
@@ -61,7 +61,7 @@ pub fn function_at(s: &[u8], c: Conjuncts, i: usize, asked: Functions) -> bool
     ensures { (es : List Expr) → Lists s.now c es → result ≡ any_fn (marked asked) (get_or es i FALSE) }
 {
     match item_tree(s, item_at(c, i)) {
-        Some(tree) => has_function_xx(tree, asked),
+        Some(tree) => has_function(tree, asked),
         None => false,
     }
 }
@@ -72,7 +72,7 @@ pub fn is_volatile(s: &[u8], n: usize) -> bool
     ensures { (e : Expr) → Item s.now n e → result ≡ is_volatile_expr e }
 {
     match item_tree(s, n) {
-        Some(tree) => has_function_xx(tree, Functions::Volatile),
+        Some(tree) => has_function(tree, Functions::Volatile),
         None => false,
     }
 }

@@ -17,7 +17,7 @@ use plan::kinds::COLUMN;
 use plan::values::{Value, literal_of};
 
 // The value of an expression on a row.
-pub fn evaluate_xx(tree: Subtree, row: &NamedRow) -> Value
+pub fn evaluate(tree: Subtree, row: &NamedRow) -> Value
     ensures right { Right result }
     ensures is { (ns : List Name) → Names row.now.fields ns → length row.now.row.types.now ≤ length ns
         → Valued result (type_of_expr (look_d no_type ns row.now.row.types.now) (expr_in (tree_of tree.entry)))
@@ -33,7 +33,7 @@ pub fn evaluate_xx(tree: Subtree, row: &NamedRow) -> Value
     }
     let mut seen = Seen::nothing();
     for child in tree.children() {
-        seen = seen.with(evaluate_xx(child, row));
+        seen = seen.with(evaluate(child, row));
     }
     operate(l, seen)
 }

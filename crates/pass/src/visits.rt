@@ -20,7 +20,7 @@ use image::trees::Subtree;
 use image::words::word_at;
 use plan::kinds::is_plan;
 use push_down_merge::scratch::Scratch;
-use push_down_rewrite::node::{Rewritten, rewrite_xx};
+use push_down_rewrite::node::{Rewritten, rewrite};
 
 // Where a pass stands: how many records the image has now, and the one to visit next, if it is one of them; what is left of the budget; the
 // visits and the flags raised so far.
@@ -102,7 +102,7 @@ fn visit(w: Walk, image: &mut [u8], scratch: &mut Scratch) -> Result<Walk, Refus
         image: &image[..end],
         number: w.next,
     };
-    match rewrite_xx(plan, scratch) {
+    match rewrite(plan, scratch) {
         Ok(r) => Ok(take_over(w, r, scratch.work, image)),
         Err(_) => Err(Refusal::TooLarge(w.next)),
     }

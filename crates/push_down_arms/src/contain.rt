@@ -8,17 +8,17 @@ ghost use Rattle.utils.specs.Fields.{Names, named};
 ghost use Rattle.utils.specs.Masks.{Masks};
 ghost use Rattle.push_down_arms.specs.Movable.{fixed, is_named, leaf_here, lets, lets_all, may_move, partition_in};
 
-use conjuncts::volatility::{Functions, has_function_xx};
+use conjuncts::volatility::{Functions, has_function};
 use image::trees::Subtree;
 use image::words::wide;
 use plan::kinds::{AGGREGATE, FUNCTION, WINDOW_ENTRY};
 use plan::words::{LEAFWARD, VOLATILE_LEAFWARD};
 use utils::schema_columns::{ColumnReference, Fields};
 use utils::sets::FieldSet;
-use writing::replace_cols_by_name::{find_xx, is_entry_xx};
+use writing::replace_cols_by_name::{find, is_entry};
 
 // Whether this is a function that moves towards the leaves.
-fn is_leafward_xx(tree: Subtree) -> bool
+fn is_leafward(tree: Subtree) -> bool
     ensures { result ≡ leaf_here (tree_of tree.entry).label }
 {
     let label = tree.label();
@@ -26,20 +26,20 @@ fn is_leafward_xx(tree: Subtree) -> bool
 }
 
 // Whether the entry's expression is volatile or leafward.
-fn is_fixed_xx(part: Subtree) -> bool
+fn is_fixed(part: Subtree) -> bool
     ensures { result ≡ fixed (tree_of part.entry) }
 {
-    if has_function_xx(part, Functions::Volatile) {
+    if has_function(part, Functions::Volatile) {
         return true;
     }
     match part.children().split_first() {
-        Some((expr, _)) => is_leafward_xx(expr),
+        Some((expr, _)) => is_leafward(expr),
         None => false,
     }
 }
 
 // Whether the column has this name.
-fn is_named_xx(tree: Subtree, c: ColumnReference) -> bool
+fn is_named(tree: Subtree, c: ColumnReference) -> bool
     ensures { result ≡ is_named (named c) (tree_of tree.entry).label }
 {
     let label = tree.label();
@@ -47,53 +47,53 @@ fn is_named_xx(tree: Subtree, c: ColumnReference) -> bool
 }
 
 // Whether the entry of a Window is partitioned by the column: they stand behind its expression.
-fn has_partition_xx(part: Subtree, c: ColumnReference) -> bool
+fn has_partition(part: Subtree, c: ColumnReference) -> bool
     ensures { result ≡ partition_in (named c) (tree_of part.entry).below }
 {
     match part.children().split_first() {
-        Some((_, mut columns)) => columns.any(|x| is_named_xx(x, c)),
+        Some((_, mut columns)) => columns.any(|x| is_named(x, c)),
         None => false,
     }
 }
 
 // Whether the part of a plan lets a conjunct pass that reads the field.
-fn lets_pass_xx(part: Subtree, c: ColumnReference) -> bool
+fn lets_pass(part: Subtree, c: ColumnReference) -> bool
     ensures { result ≡ lets (named c) (tree_of part.entry) }
 {
     if part.kind() == WINDOW_ENTRY {
-        return has_partition_xx(part, c);
+        return has_partition(part, c);
     }
-    if is_entry_xx(part, wide(c.q), wide(c.n)) {
-        return !is_fixed_xx(part);
+    if is_entry(part, wide(c.q), wide(c.n)) {
+        return !is_fixed(part);
     }
     true
 }
 
 // Whether each part of the plan does.
-fn all_let_pass_xx(plan: Subtree, c: ColumnReference) -> bool
+fn all_let_pass(plan: Subtree, c: ColumnReference) -> bool
     ensures { result ≡ lets_all (named c) (tree_of plan.entry).below }
 {
-    plan.children().all(|part| lets_pass_xx(part, c))
+    plan.children().all(|part| lets_pass(part, c))
 }
 
 // Whether a conjunct that reads the field may move below the plan.
-fn may_move_xx(plan: Subtree, c: ColumnReference) -> bool
+fn may_move(plan: Subtree, c: ColumnReference) -> bool
     ensures { result ≡ may_move (tree_of plan.entry) (named c) }
 {
     if plan.kind() == AGGREGATE {
-        return find_xx(plan, wide(c.q), wide(c.n)).is_some();
+        return find(plan, wide(c.q), wide(c.n)).is_some();
     }
-    all_let_pass_xx(plan, c)
+    all_let_pass(plan, c)
 }
 
 // The set of the fields with which a conjunct may move below the plan.
-pub fn movable_xx(plan: Subtree, fields: Fields) -> FieldSet
+pub fn movable(plan: Subtree, fields: Fields) -> FieldSet
     requires { fields.len ≤ max_fields }
     ensures { (ns : List Name) → Names fields ns → Masks result ns (may_move (tree_of plan.entry)) }
 {
     let mut set = FieldSet::empty();
     for (i, c) in fields.items().iter().enumerate() {
-        set = set.mark(i, may_move_xx(plan, *c));
+        set = set.mark(i, may_move(plan, *c));
     }
     set
 }

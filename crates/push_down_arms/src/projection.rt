@@ -6,14 +6,14 @@ ghost use Rattle.rewrite.specs.PushDownFilter.{rewrite_filter};
 ghost use Rattle.push_down_base.specs.Arms.{Answers, Rests};
 ghost use Rattle.push_down_arms.specs.Divided.{OverProjection};
 
-use crate::push_some::{divide_xx, push_some_xx};
-use crate::through::keep_filter_xx;
+use crate::push_some::{divide, push_some};
+use crate::through::keep_filter;
 use image::copying::Writer;
 use image::trees::Subtree;
 use push_down_base::predicates::Predicate;
 
 // Filter over Projection: what reads no volatile or leafward entry moves; if nothing does, the Filter stays as it is.
-pub fn rewrite_projection_xx(plan: Subtree, p: Predicate, out: &mut Writer, level: usize) -> bool
+pub fn rewrite_projection(plan: Subtree, p: Predicate, out: &mut Writer, level: usize) -> bool
     requires over_projection { OverProjection plan.image.now plan.number p }
     requires arm { Shallow 6 level }
     ensures same { out.new.bytes.ghost_name ≡ out.old.bytes.ghost_name }
@@ -21,10 +21,10 @@ pub fn rewrite_projection_xx(plan: Subtree, p: Predicate, out: &mut Writer, leve
         Answers out.old.bytes.now out.new.bytes.now out.old.next level (record { next = out.new.next; flag = result })
         (rewrite_filter e (project es q)) }
 {
-    let d = divide_xx(plan, p);
+    let d = divide(plan, p);
     let moved = d.moved;
     if moved.len == 0 {
-        return keep_filter_xx(plan, p, out, level);
+        return keep_filter(plan, p, out, level);
     }
-    push_some_xx(plan, d, out, level)
+    push_some(plan, d, out, level)
 }

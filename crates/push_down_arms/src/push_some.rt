@@ -14,20 +14,20 @@ ghost use Rattle.push_down_base.specs.Arms.{Answers, Placed, Resting, Rests, Tak
 ghost use Rattle.push_down_arms.specs.Divided.{Counts, Divides, Dividing, Singles, parts, pushed};
 ghost use Rattle.push_down_arms.specs.Movable.{may_move};
 
-use crate::contain::movable_xx;
+use crate::contain::movable;
 use crate::replaced::changed;
-use crate::with_filters::write_over_xx;
+use crate::with_filters::write_over;
 use conjuncts::items::item_tree;
 use conjuncts::lists::{Conjuncts, add, empty};
-use conjuncts::split_conjunction::split_conjunction_xx;
+use conjuncts::split_conjunction::split_conjunction;
 use image::copying::Writer;
 use image::limits::NO_ROOM;
 use image::trees::Subtree;
-use push_down_base::inputs::last_child_xx;
+use push_down_base::inputs::last_child;
 use push_down_base::parting::select_side;
 use push_down_base::predicates::Predicate;
-use utils::schema_columns::{no_fields, schema_columns_xx};
-use writing::replace_cols_by_name::value_for_xx;
+use utils::schema_columns::{no_fields, schema_columns};
+use writing::replace_cols_by_name::value_for;
 
 // The conjuncts of a Filter that stay above the plan under it, and those that move below it.
 #[derive(Clone, Copy)]
@@ -37,7 +37,7 @@ pub struct Divided {
 }
 
 // Appends as many items as the conjunct n has once the entries of the plan replace its columns: a column may become an And.
-fn add_replaced_xx(plan: Subtree, n: usize, c: Conjuncts) -> Conjuncts
+fn add_replaced(plan: Subtree, n: usize, c: Conjuncts) -> Conjuncts
     requires present { Present plan.image.now n × ThereP plan.image.now plan.number }
     requires image_bound { length plan.image.now ≤ work_bytes }
     ensures { (e : Expr) (p : Plan) (k : ℕ) → Item plan.entry.image.now n e → split_conjunction e ≡ e ∷ [] →
@@ -47,14 +47,14 @@ fn add_replaced_xx(plan: Subtree, n: usize, c: Conjuncts) -> Conjuncts
     let Some(conjunct) = item_tree(plan.image, n) else {
         return add(c, n);
     };
-    match value_for_xx(conjunct, plan) {
-        Some(value) => split_conjunction_xx(value, c),
+    match value_for(conjunct, plan) {
+        Some(value) => split_conjunction(value, c),
         None => add(c, n),
     }
 }
 
 // Whether the conjuncts c are too many for a list once the entries of the plan replace their columns.
-fn is_over_xx(plan: Subtree, c: Conjuncts) -> bool
+fn is_over(plan: Subtree, c: Conjuncts) -> bool
     requires known { Known plan.image.now c × ThereP plan.image.now plan.number }
     requires image_bound { length plan.image.now ≤ work_bytes }
     ensures { (es : List Expr) (p : Plan) → Lists plan.entry.image.now c es → Singles es →
@@ -62,28 +62,28 @@ fn is_over_xx(plan: Subtree, c: Conjuncts) -> bool
 {
     let mut r = empty();
     for n in c.items() {
-        r = add_replaced_xx(plan, usize::from(*n), r);
+        r = add_replaced(plan, usize::from(*n), r);
     }
     r.is_too_long()
 }
 
 // Parts the conjuncts of the predicate over the plan by whether they may move below it.
-pub fn divide_xx(plan: Subtree, p: Predicate) -> Divided
+pub fn divide(plan: Subtree, p: Predicate) -> Divided
     requires { Resting plan.image.now plan.number p }
     ensures { (e : Expr) (q : Plan) → Rests plan.entry.image.now plan.entry.number p e q →
         Divides plan.entry.image.now result (stay (on_cols (may_move (plan_tree q))) e)
         (move (on_cols (may_move (plan_tree q))) e) }
 {
     let list = p.list;
-    let fields = schema_columns_xx(plan, no_fields());
-    let side = movable_xx(plan, fields);
+    let fields = schema_columns(plan, no_fields());
+    let side = movable(plan, fields);
     let (moved, kept) = select_side(plan.image, list, fields, side);
     Divided { kept, moved }
 }
 
 // A Filter over a plan with one input: what moves goes below, over the expressions that the plan's entries name, and what stays is joined
 // anew.
-pub fn push_some_xx(plan: Subtree, d: Divided, out: &mut Writer, level: usize) -> bool
+pub fn push_some(plan: Subtree, d: Divided, out: &mut Writer, level: usize) -> bool
     requires dividing { Dividing plan.image.now plan.number d }
     requires arm { Shallow 6 level }
     ensures same { out.new.bytes.ghost_name ≡ out.old.bytes.ghost_name }
@@ -96,12 +96,12 @@ pub fn push_some_xx(plan: Subtree, d: Divided, out: &mut Writer, level: usize) -
     let moved = d.moved;
     let flag = moved.len != 0;
     // A list that is too long is refused, and nothing is written for it.
-    if is_over_xx(plan, moved) {
+    if is_over(plan, moved) {
         out.next = NO_ROOM;
         return flag;
     }
     let above = Predicate::joined(kept);
     let below = Predicate::joined(changed(moved));
-    write_over_xx(plan, above, below, last_child_xx(plan), out, level);
+    write_over(plan, above, below, last_child(plan), out, level);
     flag
 }

@@ -12,14 +12,14 @@ ghost use Rattle.push_down_arms.specs.Renaming.{Renamed, Renaming};
 use crate::replaced::changed_predicate;
 use image::copying::Writer;
 use image::trees::Subtree;
-use push_down_base::inputs::last_child_xx;
+use push_down_base::inputs::last_child;
 use push_down_base::predicates::Predicate;
-use utils::schema_columns::{Fields, no_fields, schema_columns_xx};
-use writing::make_filter::make_filter_xx;
-use writing::renames::write_renames_xx;
+use utils::schema_columns::{Fields, no_fields, schema_columns};
+use writing::make_filter::make_filter;
+use writing::renames::write_renames;
 
 // Writes the input of a plan under a Filter, whose columns get the names of the input's own fields in the places of those of `from`.
-pub fn copy_renamed_xx(
+pub fn copy_renamed(
     from: Fields,
     p: Predicate,
     input: Subtree,
@@ -34,18 +34,18 @@ pub fn copy_renamed_xx(
     ensures wrote { (e : Expr) (q : Plan) (ns : List Name) → Renamed input.entry.image.now from p input.entry.number e q ns →
         Wrote out.old.bytes.now out.new.bytes.now out.old.next level out.new.next (plan_tree (filter (renamed ns (schema q) e) q)) }
 {
-    let to = schema_columns_xx(input, no_fields());
-    write_renames_xx(from, to, m);
+    let to = schema_columns(input, no_fields());
+    write_renames(from, to, m);
     let map = Subtree {
         image: m,
         number: 0,
     };
     let list = p.list;
-    make_filter_xx(input.image, map, p.written, list, input, out, level);
+    make_filter(input.image, map, p.written, list, input, out, level);
 }
 
 // Filter over SubqueryAlias: the predicate goes below, with the names of the alias's input.
-pub fn rewrite_subquery_alias_xx(
+pub fn rewrite_subquery_alias(
     plan: Subtree,
     p: Predicate,
     m: &mut [u8],
@@ -60,9 +60,9 @@ pub fn rewrite_subquery_alias_xx(
         Answers out.old.bytes.now out.new.bytes.now out.old.next level (record { next = out.new.next; flag = result })
         (rewrite_filter e (alias i q)) }
 {
-    let from = schema_columns_xx(plan, no_fields());
+    let from = schema_columns(plan, no_fields());
     let below = changed_predicate(p);
     out.put(plan.label(), level);
-    copy_renamed_xx(from, below, last_child_xx(plan), m, out, level + 1);
+    copy_renamed(from, below, last_child(plan), m, out, level + 1);
     true
 }

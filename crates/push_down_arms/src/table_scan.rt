@@ -21,8 +21,8 @@ ghost use Rattle.push_down_base.specs.Around.{WroteAll};
 ghost use Rattle.push_down_base.specs.Predicates.{Listing};
 ghost use Rattle.push_down_arms.specs.Scans.{Adds, OverScan, Shares, SomeScan, supports};
 
-use crate::through::keep_filter_xx;
-use crate::with_filters::copy_some_xx;
+use crate::through::keep_filter;
+use crate::with_filters::copy_some;
 use conjuncts::lists::{Conjuncts, add, empty};
 use conjuncts::unique::unique;
 use conjuncts::volatility::is_volatile;
@@ -34,9 +34,9 @@ use plan::words::MARKED;
 use push_down_base::parting::partition;
 use push_down_base::predicates::Predicate;
 use utils::has_all_column_refs::columns_at;
-use utils::schema_columns::{Fields, no_fields, schema_columns_xx};
+use utils::schema_columns::{Fields, no_fields, schema_columns};
 use utils::sets::FieldSet;
-use writing::conjunction::{copy_item_xx, copy_joined_xx};
+use writing::conjunction::{copy_item, copy_joined};
 
 // The scan's answer to the conjunct n: it takes one that has a column if all its columns are marked.
 pub fn supports_filters_pushdown(s: &[u8], n: usize, fields: Fields, marked: FieldSet) -> bool
@@ -91,7 +91,7 @@ fn extend(into: Conjuncts, c: Conjuncts) -> Conjuncts
 }
 
 // The marked fields of the scan, which has k: they come first.
-fn marked_fields_xx(plan: Subtree, k: usize) -> FieldSet
+fn marked_fields(plan: Subtree, k: usize) -> FieldSet
     requires { SomeScan plan.image.now plan.number k }
     ensures { (t : ℕ) (fs : List Field) (es : List Expr) → Placed plan.entry.image.now plan.entry.number (scan t fs es) →
         k ≡ length fs → Masks result (schema (scan t fs es)) (marked fs) }
@@ -116,16 +116,16 @@ pub struct Share {
 }
 
 // The share of the scan in the predicate p: of what is left the volatile conjuncts come last.
-pub fn share_of_xx(plan: Subtree, p: Predicate) -> Share
+pub fn share_of(plan: Subtree, p: Predicate) -> Share
     requires { OverScan plan.image.now plan.number p }
     ensures { (e : Expr) (t : ℕ) (fs : List Field) (es : List Expr) →
         Rests plan.entry.image.now plan.entry.number p e (scan t fs es) →
         Shares plan.entry.image.now result.fields result.taken result.left fs e }
 {
     let list = p.list;
-    let fields = schema_columns_xx(plan, no_fields());
+    let fields = schema_columns(plan, no_fields());
     let k = fields.len;
-    let marked = marked_fields_xx(plan, k);
+    let marked = marked_fields(plan, k);
     let (volatile, lasting) = part_volatile(plan.image, list);
     let (taken, rest) = part_supported(plan.image, lasting, fields, marked);
     Share {
@@ -136,7 +136,7 @@ pub fn share_of_xx(plan: Subtree, p: Predicate) -> Share
 }
 
 // Appends a child of the scan, unless it is a field.
-fn add_filter_xx(c: Conjuncts, child: Subtree) -> Conjuncts
+fn add_filter(c: Conjuncts, child: Subtree) -> Conjuncts
     requires { child.number < max_records }
     ensures { (s : List ℕ) (ds : List Expr) → Lists s c ds → Adds s (tree_of child.entry).label child.entry.number result ds }
 {
@@ -147,20 +147,20 @@ fn add_filter_xx(c: Conjuncts, child: Subtree) -> Conjuncts
 }
 
 // The filters of the scan: its children that are no fields.
-fn scan_filters_xx(plan: Subtree) -> Conjuncts
+fn scan_filters(plan: Subtree) -> Conjuncts
     requires { (k : ℕ) × SomeScan plan.image.now plan.number k }
     ensures { (t : ℕ) (fs : List Field) (es : List Expr) → Placed plan.entry.image.now plan.entry.number (scan t fs es) →
         Lists plan.entry.image.now result es }
 {
     let mut r = empty();
     for child in plan.children() {
-        r = add_filter_xx(r, child);
+        r = add_filter(r, child);
     }
     r
 }
 
 // Writes the items of a list, one after another. None has its columns replaced: the scan serves as the map.
-fn copy_items_xx(plan: Subtree, c: Conjuncts, out: &mut Writer, level: usize)
+fn copy_items(plan: Subtree, c: Conjuncts, out: &mut Writer, level: usize)
     requires known { Known plan.image.now c × ThereP plan.image.now plan.number }
     requires shallow { Shallow 2 level }
     ensures same { out.new.bytes.ghost_name ≡ out.old.bytes.ghost_name }
@@ -168,12 +168,12 @@ fn copy_items_xx(plan: Subtree, c: Conjuncts, out: &mut Writer, level: usize)
         WroteAll out.old.bytes.now out.new.bytes.now out.old.next out.new.next (recs_any level (each label_e kids_e es none)) }
 {
     for n in c.items() {
-        copy_item_xx(plan.image, plan, usize::from(*n), out, level);
+        copy_item(plan.image, plan, usize::from(*n), out, level);
     }
 }
 
 // Writes the scan, which has k fields, with the filters of the list in the place of its own.
-fn write_scan_xx(plan: Subtree, k: usize, filters: Conjuncts, out: &mut Writer, level: usize)
+fn write_scan(plan: Subtree, k: usize, filters: Conjuncts, out: &mut Writer, level: usize)
     requires some_scan { SomeScan plan.image.now plan.number k × Known plan.image.now filters }
     requires shallow { Shallow 3 level }
     ensures same { out.new.bytes.ghost_name ≡ out.old.bytes.ghost_name }
@@ -181,12 +181,12 @@ fn write_scan_xx(plan: Subtree, k: usize, filters: Conjuncts, out: &mut Writer, 
         Placed plan.entry.image.now plan.entry.number (scan t fs es) → k ≡ length fs → Lists plan.entry.image.now filters ys →
         Wrote out.old.bytes.now out.new.bytes.now out.old.next level out.new.next (plan_tree (scan t fs ys)) }
 {
-    copy_some_xx(plan, plan.number + 1 + k, out, level);
-    copy_items_xx(plan, filters, out, level + 1);
+    copy_some(plan, plan.number + 1 + k, out, level);
+    copy_items(plan, filters, out, level + 1);
 }
 
 // The same under a Filter of what stays above, if anything does.
-fn write_filtered_xx(
+fn write_filtered(
     plan: Subtree,
     k: usize,
     above: Conjuncts,
@@ -203,16 +203,16 @@ fn write_filtered_xx(
         Wrote out.old.bytes.now out.new.bytes.now out.old.next level out.new.next (plan_tree (with_filters xs (scan t fs ys))) }
 {
     if above.len == 0 {
-        write_scan_xx(plan, k, filters, out, level);
+        write_scan(plan, k, filters, out, level);
         return;
     }
     out.put_kind(FILTER, 0, level);
-    copy_joined_xx(plan.image, plan, above, out, level + 1);
-    write_scan_xx(plan, k, filters, out, level + 1);
+    copy_joined(plan.image, plan, above, out, level + 1);
+    write_scan(plan, k, filters, out, level + 1);
 }
 
 // Filter over TableScan.
-pub fn rewrite_table_scan_xx(plan: Subtree, p: Predicate, out: &mut Writer, level: usize) -> bool
+pub fn rewrite_table_scan(plan: Subtree, p: Predicate, out: &mut Writer, level: usize) -> bool
     requires over_scan { OverScan plan.image.now plan.number p }
     requires arm { Shallow 6 level }
     ensures same { out.new.bytes.ghost_name ≡ out.old.bytes.ghost_name }
@@ -221,16 +221,16 @@ pub fn rewrite_table_scan_xx(plan: Subtree, p: Predicate, out: &mut Writer, leve
         Answers out.old.bytes.now out.new.bytes.now out.old.next level (record { next = out.new.next; flag = result })
         (rewrite_filter e (scan t fs es)) }
 {
-    let share = share_of_xx(plan, p);
+    let share = share_of(plan, p);
     let taken = share.taken;
     if taken.len == 0 {
-        return keep_filter_xx(plan, p, out, level);
+        return keep_filter(plan, p, out, level);
     }
-    let filters = unique(plan.image, scan_filters_xx(plan), taken);
+    let filters = unique(plan.image, scan_filters(plan), taken);
     if MAX_LIST < filters.len {
         out.next = NO_ROOM;
         return true;
     }
-    write_filtered_xx(plan, share.fields, share.left, filters, out, level);
+    write_filtered(plan, share.fields, share.left, filters, out, level);
     true
 }

@@ -8,18 +8,18 @@ ghost use Rattle.rewrite.specs.PushDownFilter.{transformed_no, transformed_yes, 
 ghost use Rattle.push_down_base.specs.Arms.{Answers, Resting, Rests, Taken, Takes};
 ghost use Rattle.push_down_arms.specs.Through.{OverThrough, takes_none, through};
 
-use crate::with_filters::write_over_xx;
+use crate::with_filters::write_over;
 use conjuncts::lists::empty;
 use image::copying::Writer;
 use image::trees::Subtree;
 use plan::kinds::{LIMIT, SORT};
 use plan::words::FETCHES;
-use push_down_base::inputs::last_child_xx;
+use push_down_base::inputs::last_child;
 use push_down_base::predicates::Predicate;
-use writing::make_filter::make_filter_xx;
+use writing::make_filter::make_filter;
 
 // Filter over a plan that takes nothing: both stay as they are.
-pub fn keep_filter_xx(plan: Subtree, p: Predicate, out: &mut Writer, level: usize) -> bool
+pub fn keep_filter(plan: Subtree, p: Predicate, out: &mut Writer, level: usize) -> bool
     requires resting { Resting plan.image.now plan.number p }
     requires arm { Shallow 6 level }
     ensures same { out.new.bytes.ghost_name ≡ out.old.bytes.ghost_name }
@@ -28,12 +28,12 @@ pub fn keep_filter_xx(plan: Subtree, p: Predicate, out: &mut Writer, level: usiz
         (transformed_no (filter e q)) }
 {
     let list = p.list;
-    make_filter_xx(plan.image, plan, p.written, list, plan, out, level);
+    make_filter(plan.image, plan, p.written, list, plan, out, level);
     false
 }
 
 // Filter over a plan that takes it whole: the predicate goes below, in its shape, over the plan's input.
-pub fn push_filter_xx(plan: Subtree, p: Predicate, out: &mut Writer, level: usize) -> bool
+pub fn push_filter(plan: Subtree, p: Predicate, out: &mut Writer, level: usize) -> bool
     requires taken { Taken plan.image.now plan.number p }
     requires arm { Shallow 6 level }
     ensures same { out.new.bytes.ghost_name ≡ out.old.bytes.ghost_name }
@@ -43,12 +43,12 @@ pub fn push_filter_xx(plan: Subtree, p: Predicate, out: &mut Writer, level: usiz
         (transformed_yes (f (filter e q))) }
 {
     let nothing = Predicate::joined(empty());
-    write_over_xx(plan, nothing, p, last_child_xx(plan), out, level);
+    write_over(plan, nothing, p, last_child(plan), out, level);
     true
 }
 
 // Whether the plan, a Distinct, a Sort, a Repartition or a Limit, takes no Filter: it counts rows.
-pub fn takes_none_xx(plan: Subtree) -> bool
+pub fn takes_none(plan: Subtree) -> bool
     ensures { result ≡ takes_none (tree_of plan.entry).label }
 {
     let label = plan.label();
@@ -56,7 +56,7 @@ pub fn takes_none_xx(plan: Subtree) -> bool
 }
 
 // Filter over Distinct, Sort, Repartition or Limit.
-pub fn rewrite_through_xx(plan: Subtree, p: Predicate, out: &mut Writer, level: usize) -> bool
+pub fn rewrite_through(plan: Subtree, p: Predicate, out: &mut Writer, level: usize) -> bool
     requires over_through { OverThrough plan.image.now plan.number p }
     requires arm { Shallow 6 level }
     ensures same { out.new.bytes.ghost_name ≡ out.old.bytes.ghost_name }
@@ -64,8 +64,8 @@ pub fn rewrite_through_xx(plan: Subtree, p: Predicate, out: &mut Writer, level: 
         Answers out.old.bytes.now out.new.bytes.now out.old.next level (record { next = out.new.next; flag = result })
         (rewrite_filter e q) }
 {
-    if takes_none_xx(plan) {
-        return keep_filter_xx(plan, p, out, level);
+    if takes_none(plan) {
+        return keep_filter(plan, p, out, level);
     }
-    push_filter_xx(plan, p, out, level)
+    push_filter(plan, p, out, level)
 }

@@ -6,14 +6,14 @@ ghost use Rattle.rewrite.specs.PushDownFilter.{rewrite_filter};
 ghost use Rattle.push_down_base.specs.Arms.{Answers, OverUnion, Rests};
 
 use crate::replaced::changed_predicate;
-use crate::subquery_alias::copy_renamed_xx;
+use crate::subquery_alias::copy_renamed;
 use image::copying::Writer;
 use image::trees::Subtree;
 use push_down_base::predicates::Predicate;
-use utils::schema_columns::{no_fields, schema_columns_xx};
+use utils::schema_columns::{no_fields, schema_columns};
 
 // Filter over Union: each input gets the predicate, with the names of its own fields.
-pub fn rewrite_union_xx(
+pub fn rewrite_union(
     plan: Subtree,
     p: Predicate,
     m: &mut [u8],
@@ -28,11 +28,11 @@ pub fn rewrite_union_xx(
         Answers out.old.bytes.now out.new.bytes.now out.old.next level (record { next = out.new.next; flag = result })
         (rewrite_filter e (union ps)) }
 {
-    let from = schema_columns_xx(plan, no_fields());
+    let from = schema_columns(plan, no_fields());
     let below = changed_predicate(p);
     out.put(plan.label(), level);
     for input in plan.children() {
-        copy_renamed_xx(from, below, input, m, out, level + 1);
+        copy_renamed(from, below, input, m, out, level + 1);
     }
     true
 }

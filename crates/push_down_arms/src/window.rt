@@ -6,13 +6,13 @@ ghost use Rattle.rewrite.specs.PushDownFilter.{rewrite_filter};
 ghost use Rattle.push_down_base.specs.Arms.{Answers, Rests};
 ghost use Rattle.push_down_arms.specs.Divided.{OverWindow};
 
-use crate::push_some::{divide_xx, push_some_xx};
+use crate::push_some::{divide, push_some};
 use image::copying::Writer;
 use image::trees::Subtree;
 use push_down_base::predicates::Predicate;
 
 // Filter over Window: what reads partition columns of every entry moves.
-pub fn rewrite_window_xx(plan: Subtree, p: Predicate, out: &mut Writer, level: usize) -> bool
+pub fn rewrite_window(plan: Subtree, p: Predicate, out: &mut Writer, level: usize) -> bool
     requires over_window { OverWindow plan.image.now plan.number p }
     requires arm { Shallow 6 level }
     ensures same { out.new.bytes.ghost_name ≡ out.old.bytes.ghost_name }
@@ -21,5 +21,5 @@ pub fn rewrite_window_xx(plan: Subtree, p: Predicate, out: &mut Writer, level: u
         Answers out.old.bytes.now out.new.bytes.now out.old.next level (record { next = out.new.next; flag = result })
         (rewrite_filter e (window ws q)) }
 {
-    push_some_xx(plan, divide_xx(plan, p), out, level)
+    push_some(plan, divide(plan, p), out, level)
 }

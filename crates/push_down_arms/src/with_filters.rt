@@ -12,18 +12,18 @@ ghost use Rattle.plan.specs.Trees.{plan_tree};
 ghost use Rattle.writing.specs.Maps.{MapsTo, Over};
 ghost use Rattle.push_down_base.specs.Around.{WroteAll};
 ghost use Rattle.push_down_base.specs.Frames.{Frame};
-ghost use Rattle.push_down_base.specs.Predicates.{Perhaps, Writable_xx};
+ghost use Rattle.push_down_base.specs.Predicates.{Perhaps, Writable};
 ghost use Rattle.push_down_arms.specs.Over.{under};
 
 use image::copying::Writer;
 use image::trees::Subtree;
 use plan::kinds::FILTER;
 use push_down_base::predicates::Predicate;
-use writing::conjunction::copy_predicate_xx;
-use writing::make_filter::make_filter_xx;
+use writing::conjunction::copy_predicate;
+use writing::make_filter::make_filter;
 
 // Writes flat those records of the tree that have a number before `end`.
-pub fn copy_some_xx(tree: Subtree, end: usize, out: &mut Writer, level: usize)
+pub fn copy_some(tree: Subtree, end: usize, out: &mut Writer, level: usize)
     requires { Low (level + 1) (tree_of tree).below }
     ensures same { out.new.bytes.ghost_name ≡ out.old.bytes.ghost_name }
     ensures wrote { WroteAll out.old.bytes.now out.new.bytes.now out.old.next out.new.next
@@ -35,13 +35,13 @@ pub fn copy_some_xx(tree: Subtree, end: usize, out: &mut Writer, level: usize)
     }
     out.put(tree.label(), level);
     for child in tree.children() {
-        copy_some_xx(child, end, out, level + 1);
+        copy_some(child, end, out, level + 1);
     }
 }
 
 // Writes the input of the plan under a Filter, if there is a predicate.
-fn with_filters_xx(plan: Subtree, p: Predicate, input: Subtree, out: &mut Writer, level: usize)
-    requires writable { Writable_xx plan.image.now plan p }
+fn with_filters(plan: Subtree, p: Predicate, input: Subtree, out: &mut Writer, level: usize)
+    requires writable { Writable plan.image.now plan p }
     requires over { Over 3 level plan }
     requires deep { Deep (tree_of input).below max_below }
     ensures same { out.new.bytes.ghost_name ≡ out.old.bytes.ghost_name }
@@ -54,13 +54,13 @@ fn with_filters_xx(plan: Subtree, p: Predicate, input: Subtree, out: &mut Writer
         return;
     }
     let list = p.list;
-    make_filter_xx(plan.image, plan, p.written, list, input, out, level);
+    make_filter(plan.image, plan, p.written, list, input, out, level);
 }
 
 // Writes the plan with its input under a Filter, if there is a predicate.
 // The input is the plan's last child: what stands before it is the plan's own.
-fn write_below_xx(plan: Subtree, p: Predicate, input: Subtree, out: &mut Writer, level: usize)
-    requires writable { Writable_xx plan.image.now plan p }
+fn write_below(plan: Subtree, p: Predicate, input: Subtree, out: &mut Writer, level: usize)
+    requires writable { Writable plan.image.now plan p }
     requires over { Over 4 level plan }
     requires deep { Deep (tree_of input).below max_below }
     ensures same { out.new.bytes.ghost_name ≡ out.old.bytes.ghost_name }
@@ -69,12 +69,12 @@ fn write_below_xx(plan: Subtree, p: Predicate, input: Subtree, out: &mut Writer,
         tree_of plan.entry ≡ plan_tree (f q) → tree_of input.entry ≡ plan_tree q →
         Wrote out.old.bytes.now out.new.bytes.now out.old.next level out.new.next (plan_tree (f (under o q))) }
 {
-    copy_some_xx(plan, input.number, out, level);
-    with_filters_xx(plan, p, input, out, level + 1);
+    copy_some(plan, input.number, out, level);
+    with_filters(plan, p, input, out, level + 1);
 }
 
 // The same under a Filter of what stays above, if anything does.
-pub fn write_over_xx(
+pub fn write_over(
     plan: Subtree,
     above: Predicate,
     below: Predicate,
@@ -82,7 +82,7 @@ pub fn write_over_xx(
     out: &mut Writer,
     level: usize,
 )
-    requires writable { Writable_xx plan.image.now plan above × Writable_xx plan.image.now plan below }
+    requires writable { Writable plan.image.now plan above × Writable plan.image.now plan below }
     requires over { Over 5 level plan }
     requires deep { Deep (tree_of input).below max_below }
     ensures same { out.new.bytes.ghost_name ≡ out.old.bytes.ghost_name }
@@ -93,11 +93,11 @@ pub fn write_over_xx(
         Wrote out.old.bytes.now out.new.bytes.now out.old.next level out.new.next (plan_tree (under a (f (under b q)))) }
 {
     if above.is_gone() {
-        write_below_xx(plan, below, input, out, level);
+        write_below(plan, below, input, out, level);
         return;
     }
     let list = above.list;
     out.put_kind(FILTER, 0, level);
-    copy_predicate_xx(plan.image, plan, above.written, list, out, level + 1);
-    write_below_xx(plan, below, input, out, level + 1);
+    copy_predicate(plan.image, plan, above.written, list, out, level + 1);
+    write_below(plan, below, input, out, level + 1);
 }

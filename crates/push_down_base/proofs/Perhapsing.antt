@@ -12,7 +12,7 @@ use borrow.Author.Tests.{eqb-true}
 use Rattle.plan.specs.Syntax.{Name, Expr}
 use Rattle.writing.specs.Pushed as W
 use Rattle.image.specs.declared.trees.Subtree.{Subtree}
-use Rattle.push_down_base.specs.Predicates.{Predicate, Perhaps, gone, left, Writable_xx}
+use Rattle.push_down_base.specs.Predicates.{Predicate, Perhaps, gone, left, Writable}
 
 abbrev pub is_gone : Predicate → Bool
 is_gone p = is_none p.written && eqb p.list.len 0
@@ -52,5 +52,5 @@ module _ {s : List ℕ} {σ : Name → Expr} {p : Predicate} where
       no e = let z : ◌≡◌ {A = ℕ} 0 1 = cc in absurd (omega arith)
   some_left (left {e = e} x f) h = record { expr = e; is = refl; predicate = x }
 
-pub predicated_xx : {s : List ℕ} {map : Subtree} {p : Predicate} → Writable_xx s map p → is_gone p ≡ false → W.Predicated s p.written p.list
-predicated_xx h n = let l = some_left h.perhaps n in record { mapping = h.mapping; expr = l.expr; predicate = l.predicate; most = h.most }
+pub predicated : {s : List ℕ} {map : Subtree} {p : Predicate} → Writable s map p → is_gone p ≡ false → W.Predicated s p.written p.list
+predicated h n = let l = some_left h.perhaps n in record { mapping = h.mapping; expr = l.expr; predicate = l.predicate; most = h.most }

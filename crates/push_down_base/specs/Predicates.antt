@@ -19,7 +19,7 @@ pub data Perhaps (s : List ℕ) (σ : Name → Expr) (p : Predicate) : Option Ex
   left : {e : Expr} → W.Predicate s σ p.written p.list e → (p.written ≡ None → 0 < p.list.len) → Perhaps s σ p (some e)
 
 -- something or nothing is written for a predicate by way of the map, and its list is whole
-pub record Writable_xx (s : List ℕ) (map : Subtree) (p : Predicate) : Type 0 where
+pub record Writable (s : List ℕ) (map : Subtree) (p : Predicate) : Type 0 where
   pub mapping : Name → Expr
   pub maps : MapsTo map mapping
   pub expr : Option Expr

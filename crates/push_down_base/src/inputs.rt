@@ -4,7 +4,7 @@ ghost use Rattle.push_down_base.specs.Inputs.{Firsts, Last};
 use image::trees::Subtree;
 
 // The last child of a plan, or the plan itself: each caller's has a child, and would only unwrap an Option.
-pub fn last_child_xx(plan: Subtree) -> Subtree
+pub fn last_child(plan: Subtree) -> Subtree
     ensures { Last plan.entry result }
 {
     let mut last = plan;

@@ -45,7 +45,7 @@ use Rattle.push_down_base.specs.Around.{WroteAll}
 use Rattle.push_down_base.specs.Arms.{Placed}
 use Rattle.push_down_base.specs.Inputs as L
 use Rattle.push_down_base.specs.Inputs.{last_of}
-use Rattle.push_down_join.specs.JoinPlans.{pair_recs, FilterOf_xx, has_none_xx, has_one_xx}
+use Rattle.push_down_join.specs.JoinPlans.{pair_recs, FilterOf, has_none, has_one}
 use Rattle.push_down_base.specs.Parting.{Reads}
 use Rattle.push_down_base.proofs.Steps.{On, rest_trees, children, expr_first}
 use Rattle.push_down_base.proofs.WrittenRuns.{wrote_none, wrote_then, wrote_tree}
@@ -116,9 +116,9 @@ module _ {s : List ℕ} (short : length s ≤ work_bytes) where
 -- the last child of a join, as `last_child` finds it
 module _ {t u : Subtree} {k : Kind} {l r : Plan} {on : List Pair} {f : Option Expr} (w : L.Last t u)
     (h : Placed t.image.now t.number (join k l r on f)) where
-  pub last_filter_xx : {n : ℕ} → n ≡ (tree_of u).label.kind → FilterOf_xx t.image.now (then_some (ltb n 32) u) f
+  pub last_filter : {n : ℕ} → n ≡ (tree_of u).label.kind → FilterOf t.image.now (then_some (ltb n 32) u) f
   unfolding kids_p
-  last_filter_xx {n} e = go f (subst (λ i. Last t.image.now i f) (sym number) (last_is h.short k l r on f h.standing))
+  last_filter {n} e = go f (subst (λ i. Last t.image.now i f) (sym number) (last_is h.short k l r on f h.standing))
     where
       number : u.number ≡ last_of 0 (t.number + 1) (kids_p (join k l r on f))
       number = w.number ∙ ap (λ (v : Tree). last_of t.number (t.number + 1) v.below) (plan_standing t refl refl h.standing)
@@ -127,22 +127,22 @@ module _ {t u : Subtree} {k : Kind} {l r : Plan} {on : List Pair} {f : Option Ex
       kind =
           e ∙ sym (ap (λ z. word (drop (32 * u.number) z) 0) (sym w.image) ∙ ap (λ (a : Label). a.kind) u.stood.at.head.label)
 
-      go : (f : Option Expr) → Last t.image.now u.number f → FilterOf_xx t.image.now (then_some (ltb n 32) u) f
-      go O.none (no_filter room k) = rw (kind, le-ltb (word (drop (32 * u.number) t.image.now) 0) 32 k) has_none_xx
-      go (some e) (a_filter s pos k) = rw (kind, lt-ltb (word (drop (32 * u.number) t.image.now) 0) 32 k) (has_one_xx w.image s pos)
+      go : (f : Option Expr) → Last t.image.now u.number f → FilterOf t.image.now (then_some (ltb n 32) u) f
+      go O.none (no_filter room k) = rw (kind, le-ltb (word (drop (32 * u.number) t.image.now) 0) 32 k) has_none
+      go (some e) (a_filter s pos k) = rw (kind, lt-ltb (word (drop (32 * u.number) t.image.now) 0) 32 k) (has_one w.image s pos)
 
-pub own_there_xx : {s : List ℕ} {u : Subtree} {f : Option Expr} → FilterOf_xx s (P.Some u) f → length s ≤ work_bytes
+pub own_there : {s : List ℕ} {u : Subtree} {f : Option Expr} → FilterOf s (P.Some u) f → length s ≤ work_bytes
     → There u.image.now u.number × (0 < u.number) × (length u.image.now ≤ work_bytes)
-own_there_xx {u = u} (has_one_xx {e = e} here h pos) short =
+own_there {u = u} (has_one {e = e} here h pos) short =
     (record { expr = e; standing = subst (λ z. Standing z u.number e) (sym here) h }, pos, rw here short)
 
 -- what is split at the filter
-pub own_reads_xx : {s : List ℕ} {x : ℕ} {u : Subtree} {k : Kind} {l r : Plan} {on : List Pair} {f : Option Expr} {z : Conjuncts}
+pub own_reads : {s : List ℕ} {x : ℕ} {u : Subtree} {k : Kind} {l r : Plan} {on : List Pair} {f : Option Expr} {z : Conjuncts}
     → Placed s x (join k l r on f)
-    → FilterOf_xx s (P.Some u) f → ((e : Expr) → Standing u.image.now u.number e → Lists u.image.now z (split_conjunction e))
+    → FilterOf s (P.Some u) f → ((e : Expr) → Standing u.image.now u.number e → Lists u.image.now z (split_conjunction e))
     → Reads s (schema l ++ schema r) z (split_conjunction? f)
 unfolding split_conjunction? rule list_p
-own_reads_xx {s} {u = u} {l = l} {r} {z = z} p (has_one_xx {e = e} here h pos) g =
+own_reads {s} {u = u} {l = l} {r} {z = z} p (has_one {e = e} here h pos) g =
     let listed : Lists s z (split_conjunction e) =
     subst (λ b. Lists b z (split_conjunction e)) here (g e (subst (λ b. Standing b u.number e) (sym here) h)) in
     record {
@@ -152,10 +152,10 @@ own_reads_xx {s} {u = u} {l = l} {r} {z = z} p (has_one_xx {e = e} here h pos) g
     }
 
 -- where there is none
-pub own_none_xx : {s : List ℕ} {f : Option Expr} {ns : List Name} {z : Conjuncts} → FilterOf_xx s P.None f → Reads s ns z []
+pub own_none : {s : List ℕ} {f : Option Expr} {ns : List Name} {z : Conjuncts} → FilterOf s P.None f → Reads s ns z []
     → Reads s ns z (split_conjunction? f)
 unfolding split_conjunction?
-own_none_xx has_none_xx h = h
+own_none has_none h = h
 
 -- ---- the keys
 

@@ -26,30 +26,30 @@ use Rattle.writing.proofs.Maps.{plan_deep}
 use Rattle.writing.proofs.Pushing.{pushes_of}
 use Rattle.push_down_base.specs.Around.{WroteAll}
 use Rattle.push_down_base.specs.Arms.{Placed}
-use Rattle.push_down_join.specs.JoinPlans.{Moves, Moved, pair_recs, Carries_xx}
+use Rattle.push_down_join.specs.JoinPlans.{Moves, Moved, pair_recs, Carries}
 use Rattle.push_down_join.specs.Scopes.{Scope, Scopes, Asked}
 use Rattle.push_down_base.specs.Parting.{Reads}
-use Rattle.push_down_join.specs.Sides.{SomeSided, Side_xx}
+use Rattle.push_down_join.specs.Sides.{SomeSided, Side}
 use Rattle.push_down_join.proofs.JoinParts.{pairs_join}
 use Rattle.push_down_base.proofs.Runs.{run_recs}
 use Rattle.push_down_base.proofs.WrittenRuns.{wrote_one, wrote_then, wrote_tree, tree_wrote}
 
 module _ {plan map : Subtree} {sc : Scope} {v : Moves} {k : Kind} {l r : Plan} {on : List Pair} {f : Option Expr} {P G : List Expr}
-    {σ : Name → Expr} (h : Carries_xx plan map sc v k l r on f P G σ) where
-  pub left_side_xx : Side_xx map sc.fields sc.left σ (schema l ++ schema r) (has (schema l))
-  left_side_xx = record { maps = h.maps; names = h.scopes.names; masks = h.scopes.left }
+    {σ : Name → Expr} (h : Carries plan map sc v k l r on f P G σ) where
+  pub left_side : Side map sc.fields sc.left σ (schema l ++ schema r) (has (schema l))
+  left_side = record { maps = h.maps; names = h.scopes.names; masks = h.scopes.left }
 
-  pub right_side_xx : Side_xx map sc.fields sc.right σ (schema l ++ schema r) (has (schema r))
-  right_side_xx = record { maps = h.maps; names = h.scopes.names; masks = h.scopes.right }
+  pub right_side : Side map sc.fields sc.right σ (schema l ++ schema r) (has (schema r))
+  right_side = record { maps = h.maps; names = h.scopes.names; masks = h.scopes.right }
 
-  pub left_some_xx : SomeSided plan.image.now v.left
-  left_some_xx = record { mapping = σ; names = schema l ++ schema r; test = has (schema l); exprs = _; sides = h.moved.left; most = h.left_most }
+  pub left_some : SomeSided plan.image.now v.left
+  left_some = record { mapping = σ; names = schema l ++ schema r; test = has (schema l); exprs = _; sides = h.moved.left; most = h.left_most }
 
-  pub right_some_xx : SomeSided plan.image.now v.right
-  right_some_xx = record { mapping = σ; names = schema l ++ schema r; test = has (schema r); exprs = _; sides = h.moved.right; most = h.right_most }
+  pub right_some : SomeSided plan.image.now v.right
+  right_some = record { mapping = σ; names = schema l ++ schema r; test = has (schema r); exprs = _; sides = h.moved.right; most = h.right_most }
 
-  pub kept_some_xx : Some plan.image.now v.kept
-  kept_some_xx = record { mapping = σ; exprs = _; pushes = pushes_of h.moved.kept.lists; most = h.moved.kept.most }
+  pub kept_some : Some plan.image.now v.kept
+  kept_some = record { mapping = σ; exprs = _; pushes = pushes_of h.moved.kept.lists; most = h.moved.kept.most }
 
   -- its parts may be written where there is room below
   pub carried_low : (level : ℕ) → level + max_below < max_level → Low level (tree_of plan).below
@@ -101,12 +101,12 @@ pub kind_of : (t : Subtree) {k : Kind} {l r : Plan} {on : List Pair} {f : Option
 unfolding label_p
 kind_of t h = ap (λ (u : Tree). u.label.p) (plan_standing t refl refl h)
 
-pub carries_xx : {plan map : Subtree} {sc : Scope} {v : Moves} {k : Kind} {l r : Plan} {on : List Pair} {f : Option Expr} {P G : List Expr}
+pub carries : {plan map : Subtree} {sc : Scope} {v : Moves} {k : Kind} {l r : Plan} {on : List Pair} {f : Option Expr} {P G : List Expr}
     {σ : Name → Expr} → Placed plan.image.now plan.number (join k l r on f) → MapsTo map σ → Scopes sc (schema l) (schema r) on
     → Moved plan.image.now σ v k (schema l) (schema r) on P G
     → (v.left.len ≤ max_list) × (v.right.len ≤ max_list) × (v.conditions.len ≤ max_list)
-    → Carries_xx plan map sc v k l r on f P G σ
-carries_xx h m sc v few = record {
+    → Carries plan map sc v k l r on f P G σ
+carries h m sc v few = record {
   short = h.short;
   standing = h.standing;
   maps = m;

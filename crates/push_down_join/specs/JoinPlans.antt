@@ -36,9 +36,9 @@ pub record JoinHere (s : List ℕ) (x : ℕ) : Type 0 where
   pub placed : Placed s x (join kind lhs rhs keys condition)
 
 -- the filter of a join is this tree of the image, or it has none
-pub data FilterOf_xx (s : List ℕ) : P.Option Subtree → Option Expr → Type 0 where
-  has_none_xx : FilterOf_xx s P.None O.none
-  has_one_xx : {t : Subtree} {e : Expr} → t.image.now ≡ s → Standing s t.number e → 0 < t.number → FilterOf_xx s (P.Some t) (some e)
+pub data FilterOf (s : List ℕ) : P.Option Subtree → Option Expr → Type 0 where
+  has_none : FilterOf s P.None O.none
+  has_one : {t : Subtree} {e : Expr} → t.image.now ≡ s → Standing s t.number e → 0 < t.number → FilterOf s (P.Some t) (some e)
 
 -- a join stands at record x, and the conjuncts c are over its inputs
 pub record JoinUnder (s : List ℕ) (x : ℕ) (c : Conjuncts) : Type 0 where
@@ -107,7 +107,7 @@ join_over k l r on P G =
     (conjunction (join_conditions k s t on P G ++ on_filter_join_conditions k s t on P G))
 
 -- plan is the join; sc is its scope, the map swaps its keys, and v are its lists, all whole
-pub record Carries_xx (plan map : Subtree) (sc : Scope) (v : Moves) (k : Kind)
+pub record Carries (plan map : Subtree) (sc : Scope) (v : Moves) (k : Kind)
     (l r : Plan) (on : List Pair) (f : Option Expr) (P G : List Expr) (σ : Name → Expr) : Type 0 where
   pub short : length plan.image.now ≤ work_bytes
   pub standing : StandingP plan.image.now plan.number (join k l r on f)
@@ -119,7 +119,7 @@ pub record Carries_xx (plan map : Subtree) (sc : Scope) (v : Moves) (k : Kind)
   pub conditions_most : v.conditions.len ≤ max_list
 
 -- some join does
-pub record Carried_xx (plan map : Subtree) (sc : Scope) (v : Moves) : Type 0 where
+pub record Carried (plan map : Subtree) (sc : Scope) (v : Moves) : Type 0 where
   pub kind : Kind
   pub lhs : Plan
   pub rhs : Plan
@@ -128,4 +128,4 @@ pub record Carried_xx (plan map : Subtree) (sc : Scope) (v : Moves) : Type 0 whe
   pub above : List Expr
   pub own : List Expr
   pub mapping : Name → Expr
-  pub carries : Carries_xx plan map sc v kind lhs rhs keys condition above own mapping
+  pub carries : Carries plan map sc v kind lhs rhs keys condition above own mapping

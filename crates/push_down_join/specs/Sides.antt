@@ -56,7 +56,7 @@ pub record SomeSided (s : List ℕ) (c : Conjuncts) : Type 0 where
   pub most : c.len ≤ max_list
 
 -- the map is σ, and `side` has those of the names ns, which `fields` holds, that pass t
-pub record Side_xx (map : Subtree) (fields : Fields) (side : ℕ) (σ : Name → Expr) (ns : List Name) (t : Name → Bool) : Type 0 where
+pub record Side (map : Subtree) (fields : Fields) (side : ℕ) (σ : Name → Expr) (ns : List Name) (t : Name → Bool) : Type 0 where
   pub maps : MapsTo map σ
   pub names : Names fields ns
   pub masks : Masks side ns t

@@ -15,10 +15,10 @@ ghost use Rattle.push_down_join.specs.JoinPlans.{JoinHere};
 ghost use Rattle.push_down_join.specs.Partners.{Swaps, partner_in};
 ghost use Rattle.push_down_join.specs.Scopes.{Scopes, swap};
 
-use crate::infer_join_predicates::{Swapped, places_among, swap_keys_xx};
+use crate::infer_join_predicates::{Swapped, places_among, swap_keys};
 use image::trees::Subtree;
 use push_down_base::inputs::first_two;
-use utils::schema_columns::{Fields, no_fields, schema_columns_xx};
+use utils::schema_columns::{Fields, no_fields, schema_columns};
 use utils::sets::FieldSet;
 
 // The fields of both inputs of a join, the left one's first; the same with each key's partner in its place; and sets of them: those of each
@@ -69,14 +69,14 @@ pub fn inputs(plan: Subtree) -> (Subtree, Subtree)
 }
 
 // The fields of a join.
-pub fn join_scope_xx(plan: Subtree) -> Scope
+pub fn join_scope(plan: Subtree) -> Scope
     requires { JoinHere plan.image.now plan.number }
     ensures { (k : Kind) (l r : Plan) (on : List Pair) (f : Option Expr) →
         Placed plan.entry.image.now plan.entry.number (join k l r on f) → Scopes result (schema l) (schema r) on }
 {
     let (lhs, rhs) = inputs(plan);
-    let left = schema_columns_xx(lhs, no_fields());
-    let fields = schema_columns_xx(rhs, left);
-    let swapped = swap_keys_xx(plan, fields);
+    let left = schema_columns(lhs, no_fields());
+    let fields = schema_columns(rhs, left);
+    let swapped = swap_keys(plan, fields);
     scope_of(fields, left.len, swapped)
 }

@@ -25,7 +25,7 @@ use image::trees::Subtree;
 use plan::kinds::BINARY_EXPR;
 use plan::words::{AND, OR};
 use push_down_base::inputs::first_two;
-use utils::has_all_column_refs::has_all_column_refs_xx;
+use utils::has_all_column_refs::has_all_column_refs;
 use utils::schema_columns::Fields;
 use utils::sets::FieldSet;
 
@@ -74,7 +74,7 @@ pub enum Connective {
 
 // The operator of an expression, if it is And or Or.
 #[tactic(auto, unfolding(crate::specs::Clauses::operator_of))]
-pub fn operator_xx(tree: Subtree) -> Option<Connective>
+pub fn operator(tree: Subtree) -> Option<Connective>
     ensures { result ≡ operator_of (tree_of tree.entry).label }
 {
     let l = tree.label();
@@ -92,45 +92,41 @@ pub fn operator_xx(tree: Subtree) -> Option<Connective>
 fn operands(tree: Subtree) -> Option<(Connective, Subtree, Subtree)>
     ensures { Operands tree.entry result }
 {
-    let op = operator_xx(tree)?;
+    let op = operator(tree)?;
     let (left, right) = first_two(tree)?;
     Some((op, left, right))
 }
 
 // Whether an expression yields a clause that reads fields of the side only; `copy_clause` writes it.
 // An AND keeps each operand that yields, an OR yields only if both its operands do.
-pub fn extract_or_clause_xx(tree: Subtree, f: &Fields, side: FieldSet) -> bool
+pub fn extract_or_clause(tree: Subtree, f: &Fields, side: FieldSet) -> bool
     requires { f.now.len ≤ max_fields }
     ensures { (e : Expr) (ns : List Name) (c : Name → Bool) → tree_of tree.entry ≡ expr_tree e → Names f.now ns
         → on_cols (has ns) e ≡ true → Masks side ns c → result ≡ yields (extract_or_clause c e) }
 {
     let Some((op, left, right)) = operands(tree) else {
-        return has_all_column_refs_xx(tree, *f, side);
+        return has_all_column_refs(tree, *f, side);
     };
     match op {
-        Connective::And => {
-            extract_or_clause_xx(left, f, side) || extract_or_clause_xx(right, f, side)
-        }
-        Connective::Or => {
-            extract_or_clause_xx(left, f, side) && extract_or_clause_xx(right, f, side)
-        }
+        Connective::And => { extract_or_clause(left, f, side) || extract_or_clause(right, f, side) }
+        Connective::Or => { extract_or_clause(left, f, side) && extract_or_clause(right, f, side) }
     }
 }
 
 // Whether an operand is part of the clause of an AND or OR that yields one: of an OR each is, of an AND each that yields.
-fn is_kept_xx(op: Connective, tree: Subtree, f: &Fields, side: FieldSet) -> bool
+fn is_kept(op: Connective, tree: Subtree, f: &Fields, side: FieldSet) -> bool
     requires { f.now.len ≤ max_fields }
     ensures { (e : Expr) (ns : List Name) (c : Name → Bool) → tree_of tree.entry ≡ expr_tree e → Names f.now ns
         → on_cols (has ns) e ≡ true → Masks side ns c → result ≡ kept op (extract_or_clause c e) }
 {
     match op {
-        Connective::And => extract_or_clause_xx(tree, f, side),
+        Connective::And => extract_or_clause(tree, f, side),
         Connective::Or => true,
     }
 }
 
 // Writes that clause. There must be one.
-pub fn copy_clause_xx(tree: Subtree, f: &Fields, side: FieldSet, out: &mut Writer, level: usize)
+pub fn copy_clause(tree: Subtree, f: &Fields, side: FieldSet, out: &mut Writer, level: usize)
     requires len_le_max_fields { f.now.len ≤ max_fields }
     requires low { Low (level + 1) (tree_of tree).below }
     ensures same { out.new.bytes.ghost_name ≡ out.old.bytes.ghost_name }
@@ -147,17 +143,17 @@ pub fn copy_clause_xx(tree: Subtree, f: &Fields, side: FieldSet, out: &mut Write
         out.copy_tree(tree, level);
         return;
     };
-    if !is_kept_xx(op, left, f, side) {
-        copy_clause_xx(right, f, side, out, level);
+    if !is_kept(op, left, f, side) {
+        copy_clause(right, f, side, out, level);
         return;
     }
-    if !is_kept_xx(op, right, f, side) {
-        copy_clause_xx(left, f, side, out, level);
+    if !is_kept(op, right, f, side) {
+        copy_clause(left, f, side, out, level);
         return;
     }
     out.put(tree.label(), level);
-    copy_clause_xx(left, f, side, out, level + 1);
-    copy_clause_xx(right, f, side, out, level + 1);
+    copy_clause(left, f, side, out, level + 1);
+    copy_clause(right, f, side, out, level + 1);
 }
 
 // Whether the item n, if it is an OR at its top, yields one.
@@ -170,14 +166,14 @@ pub fn or_clause_at(s: &[u8], n: usize, f: Fields, side: FieldSet) -> bool
     let Some(tree) = item_tree(s, n) else {
         return false;
     };
-    match operator_xx(tree) {
-        Some(Connective::Or) => extract_or_clause_xx(tree, &f, side),
+    match operator(tree) {
+        Some(Connective::Or) => extract_or_clause(tree, &f, side),
         _ => false,
     }
 }
 
 // Writes the clause of the conjunct at record n. There must be one.
-pub fn copy_or_clause_xx(
+pub fn copy_or_clause(
     s: &[u8],
     n: usize,
     f: &Fields,
@@ -197,5 +193,5 @@ pub fn copy_or_clause_xx(
         image: s,
         number: n,
     };
-    copy_clause_xx(tree, f, side, out, level);
+    copy_clause(tree, f, side, out, level);
 }

@@ -38,7 +38,7 @@ pub fn infer_join_predicates(s: &[u8], c: Conjuncts, sc: &Scope, kind: JoinKind)
 }
 
 // The name of an expression, if it is a column.
-fn as_column_xx(tree: Subtree) -> Option<ColumnReference>
+fn as_column(tree: Subtree) -> Option<ColumnReference>
     ensures { name_of result ≡ column_of (tree_of tree.entry).label }
 {
     let l = tree.label();
@@ -67,22 +67,22 @@ fn pair_of(
 }
 
 // The partner of the column x in a part of a join, if that is a pair of keys.
-fn partner_in_xx(part: Subtree, x: ColumnReference) -> Option<ColumnReference>
+fn partner_in(part: Subtree, x: ColumnReference) -> Option<ColumnReference>
     ensures { name_of result ≡ key_in (named x) (tree_of part.entry).label (tree_of part.entry).below }
 {
     if part.kind() != PAIR {
         return None;
     }
     let (left, right) = first_two(part)?;
-    pair_of(as_column_xx(left), as_column_xx(right), x)
+    pair_of(as_column(left), as_column(right), x)
 }
 
 // The partner of the column x in the first pair of keys of a join that holds it.
-fn partner_xx(plan: Subtree, x: ColumnReference) -> Option<ColumnReference>
+fn partner(plan: Subtree, x: ColumnReference) -> Option<ColumnReference>
     ensures { name_of result ≡ partner_in (named x) (tree_of plan.entry).below }
 {
     for child in plan.children() {
-        let found = partner_in_xx(child, x);
+        let found = partner_in(child, x);
         if found.is_some() {
             return found;
         }
@@ -98,14 +98,14 @@ pub struct Swapped {
 }
 
 // The partners of the fields by the keys of a join.
-pub fn swap_keys_xx(plan: Subtree, fields: Fields) -> Swapped
+pub fn swap_keys(plan: Subtree, fields: Fields) -> Swapped
     requires { fields.len ≤ max_fields }
     ensures { (ns : List Name) → Names fields ns → Swaps result (tree_of plan.entry).below ns }
 {
     let mut to = no_fields();
     let mut alone = FieldSet::empty();
     for (i, x) in fields.items().iter().enumerate() {
-        let found = partner_xx(plan, *x);
+        let found = partner(plan, *x);
         to.push(found.unwrap_or(*x));
         alone = alone.mark(i, found.is_none());
     }

@@ -14,30 +14,30 @@ ghost use Rattle.utils.specs.Masks.{Masks};
 ghost use Rattle.push_down_base.specs.Arms.{Answers, Placed, Rests};
 ghost use Rattle.push_down_base.specs.Parting.{Reads};
 ghost use Rattle.push_down_base.specs.Plain.{Plain};
-ghost use Rattle.push_down_join.specs.JoinPlans.{FilterOf_xx, JoinBetween, JoinHere, JoinUnder, Moved, OverJoin};
+ghost use Rattle.push_down_join.specs.JoinPlans.{FilterOf, JoinBetween, JoinHere, JoinUnder, Moved, OverJoin};
 ghost use Rattle.push_down_join.specs.Parts.{Parted, PartsOf, Wholes};
 ghost use Rattle.push_down_join.specs.Scopes.{Asked, Scopes, Swapper};
 ghost use Rattle.push_down_join.specs.Sides.{Sides, Smalls};
 
-use crate::column_checker::{Scope, join_scope_xx};
+use crate::column_checker::{Scope, join_scope};
 use crate::extract_or_clause::extract_or_clauses_for_join;
 use crate::infer_join_predicates::infer_join_predicates;
 use crate::lr_is_preserved::{Preserved, is_inner, lr_is_preserved, on_lr_is_preserved};
-use crate::write_sides::{Moves, write_kept_xx};
+use crate::write_sides::{Moves, write_kept};
 use conjuncts::items::REPLACED;
 use conjuncts::lists::{Conjuncts, add, empty};
-use conjuncts::split_conjunction::split_conjunction_xx;
+use conjuncts::split_conjunction::split_conjunction;
 use image::copying::Writer;
 use image::limits::{MAX_LIST, NO_ROOM};
 use image::trees::Subtree;
 use plan::kinds::FIRST_PLAN;
 use plan::words::JoinKind;
-use push_down_base::inputs::last_child_xx;
+use push_down_base::inputs::last_child;
 use push_down_base::parting::{push_to, select_side};
 use push_down_base::predicates::Predicate;
 use utils::schema_columns::Fields;
 use utils::sets::FieldSet;
-use writing::renames::write_renames_xx;
+use writing::renames::write_renames;
 
 // Appends the items of c, each with so much more.
 pub fn append(to: Conjuncts, c: Conjuncts, more: usize) -> Conjuncts
@@ -155,7 +155,7 @@ fn fits(v: Moves) -> bool
 }
 
 // The kind of a join.
-pub fn join_kind_xx(plan: Subtree) -> JoinKind
+pub fn join_kind(plan: Subtree) -> JoinKind
     ensures { (k : Kind) (l r : Plan) (on : List Pair) (f : Option Expr) →
         Placed plan.entry.image.now plan.entry.number (join k l r on f) → join_of result ≡ k }
 {
@@ -163,30 +163,30 @@ pub fn join_kind_xx(plan: Subtree) -> JoinKind
 }
 
 // Its filter, if it has one: it is the last child, and the only one that is an expression.
-pub fn filter_of_xx(plan: Subtree) -> Option<Subtree>
+pub fn filter_of(plan: Subtree) -> Option<Subtree>
     requires { JoinHere plan.image.now plan.number }
     ensures { (k : Kind) (l r : Plan) (on : List Pair) (f : Option Expr) →
-        Placed plan.entry.image.now plan.entry.number (join k l r on f) → FilterOf_xx plan.entry.image.now result f }
+        Placed plan.entry.image.now plan.entry.number (join k l r on f) → FilterOf plan.entry.image.now result f }
 {
-    let last = last_child_xx(plan);
+    let last = last_child(plan);
     (last.kind() < FIRST_PLAN).then_some(last)
 }
 
 // The conjuncts of that filter.
-pub fn own_filter_xx(plan: Subtree) -> Conjuncts
+pub fn own_filter(plan: Subtree) -> Conjuncts
     requires { JoinHere plan.image.now plan.number }
     ensures { (k : Kind) (l r : Plan) (on : List Pair) (f : Option Expr) →
         Placed plan.entry.image.now plan.entry.number (join k l r on f) →
         Reads plan.entry.image.now (schema l ++ schema r) result (split_conjunction? f) }
 {
-    match filter_of_xx(plan) {
-        Some(filter) => split_conjunction_xx(filter, empty()),
+    match filter_of(plan) {
+        Some(filter) => split_conjunction(filter, empty()),
         None => empty(),
     }
 }
 
 // push_down_all_join: c is the predicates above a join, g those of its own filter.
-fn push_down_all_join_xx(
+fn push_down_all_join(
     plan: Subtree,
     c: Conjuncts,
     g: Conjuncts,
@@ -205,25 +205,25 @@ fn push_down_all_join_xx(
         Answers out.old.bytes.now out.new.bytes.now out.old.next level (record { next = out.new.next; flag = result })
         (push_down_all_join k l r on P G) }
 {
-    let sc = join_scope_xx(plan);
-    let kind = join_kind_xx(plan);
+    let sc = join_scope(plan);
+    let kind = join_kind(plan);
     let v = moves_of(plan.image, c, g, &sc, kind);
     // A list that is too long is written nowhere.
     if !fits(v) {
         out.next = NO_ROOM;
         return v.flag;
     }
-    write_renames_xx(sc.fields, sc.to, m);
+    write_renames(sc.fields, sc.to, m);
     let map = Subtree {
         image: m,
         number: 0,
     };
-    write_kept_xx(plan, map, v, &sc, out, level);
+    write_kept(plan, map, v, &sc, out, level);
     v.flag
 }
 
 // push_down_join: c is the predicates above a join, none for the Join node itself.
-pub fn push_down_join_xx(
+pub fn push_down_join(
     plan: Subtree,
     c: Conjuncts,
     m: &mut [u8],
@@ -240,11 +240,11 @@ pub fn push_down_join_xx(
         Answers out.old.bytes.now out.new.bytes.now out.old.next level (record { next = out.new.next; flag = result })
         (push_down_join k l q on f P) }
 {
-    push_down_all_join_xx(plan, c, own_filter_xx(plan), m, out, level)
+    push_down_all_join(plan, c, own_filter(plan), m, out, level)
 }
 
 // Filter over Join: the predicate's conjuncts are the predicates above it.
-pub fn rewrite_join_xx(
+pub fn rewrite_join(
     plan: Subtree,
     p: Predicate,
     m: &mut [u8],
@@ -260,5 +260,5 @@ pub fn rewrite_join_xx(
         Answers out.old.bytes.now out.new.bytes.now out.old.next level (record { next = out.new.next; flag = result })
         (rewrite_filter e (join k l q on f)) }
 {
-    push_down_join_xx(plan, p.list, m, out, level)
+    push_down_join(plan, p.list, m, out, level)
 }

@@ -17,11 +17,11 @@ ghost use Rattle.utils.specs.Fields.{Names};
 ghost use Rattle.utils.specs.Masks.{Masks};
 ghost use Rattle.writing.specs.Maps.{MapsTo, Over};
 ghost use Rattle.push_down_base.specs.Around.{WroteAll};
-ghost use Rattle.push_down_join.specs.JoinPlans.{Carried_xx, Carries_xx, join_over, pair_recs};
-ghost use Rattle.push_down_join.specs.Sides.{OneSided, Side_xx, Sided, Sides, SomeSided};
+ghost use Rattle.push_down_join.specs.JoinPlans.{Carried, Carries, join_over, pair_recs};
+ghost use Rattle.push_down_join.specs.Sides.{OneSided, Side, Sided, Sides, SomeSided};
 
 use crate::column_checker::{Scope, inputs};
-use crate::extract_or_clause::copy_or_clause_xx;
+use crate::extract_or_clause::copy_or_clause;
 use conjuncts::items::CLAUSE;
 use conjuncts::lists::{Conjuncts, item_at};
 use image::copying::Writer;
@@ -30,7 +30,7 @@ use plan::kinds::{BINARY_EXPR, FILTER, PAIR};
 use plan::words::AND;
 use utils::schema_columns::Fields;
 use utils::sets::FieldSet;
-use writing::conjunction::{copy_item_xx, copy_joined_xx};
+use writing::conjunction::{copy_item, copy_joined};
 
 // The lists of a join: what moves to each input, what becomes its filter, and what stays above it; and whether anything moves, which the
 // lists do not tell: what its own filter keeps is among the conditions.
@@ -44,7 +44,7 @@ pub struct Moves {
 }
 
 // Writes what the item n of a side's list stands for.
-pub fn copy_sided_xx(
+pub fn copy_sided(
     s: &[u8],
     map: Subtree,
     n: usize,
@@ -62,14 +62,14 @@ pub fn copy_sided_xx(
         Wrote out.old.bytes.now out.new.bytes.now out.old.next level out.new.next (expr_tree e) }
 {
     if n < CLAUSE {
-        copy_item_xx(s, map, n, out, level);
+        copy_item(s, map, n, out, level);
     } else {
-        copy_or_clause_xx(s, n - CLAUSE, fields, side, out, level);
+        copy_or_clause(s, n - CLAUSE, fields, side, out, level);
     }
 }
 
 // Writes the first k items of a side's list, joined left-deep.
-fn copy_sided_first_xx(
+fn copy_sided_first(
     s: &[u8],
     map: Subtree,
     c: &Conjuncts,
@@ -84,23 +84,23 @@ fn copy_sided_first_xx(
     requires k_nonzero { (0 < k) × (k ≤ c.now.len) }
     requires over { Over 1 (level + k) map }
     ensures same { out.new.bytes.ghost_name ≡ out.old.bytes.ghost_name }
-    ensures wrote { (σ : Name → Expr) (ns : List Name) (t : Name → Bool) → Side_xx map.entry fields.now side σ ns t →
+    ensures wrote { (σ : Name → Expr) (ns : List Name) (t : Name → Bool) → Side map.entry fields.now side σ ns t →
         (e : Expr) (es : List Expr) → Sides s.now σ ns t c.now (e ∷ es) →
         Wrote out.old.bytes.now out.new.bytes.now out.old.next level out.new.next (expr_tree (conjoin e (take (k - 1) es))) }
 {
     let last = k - 1;
     let item = item_at(*c, last);
     if last == 0 {
-        copy_sided_xx(s, map, item, fields, side, out, level);
+        copy_sided(s, map, item, fields, side, out, level);
         return;
     }
     out.put_kind(BINARY_EXPR, AND, level);
-    copy_sided_first_xx(s, map, c, last, fields, side, out, level + 1);
-    copy_sided_xx(s, map, item, fields, side, out, level + 1);
+    copy_sided_first(s, map, c, last, fields, side, out, level + 1);
+    copy_sided(s, map, item, fields, side, out, level + 1);
 }
 
 // Writes the items of a side's list, joined left-deep.
-fn copy_sided_joined_xx(
+fn copy_sided_joined(
     s: &[u8],
     map: Subtree,
     c: &Conjuncts,
@@ -114,15 +114,15 @@ fn copy_sided_joined_xx(
     requires len_nonzero { 0 < c.now.len }
     requires over { Over 2 level map }
     ensures same { out.new.bytes.ghost_name ≡ out.old.bytes.ghost_name }
-    ensures wrote { (σ : Name → Expr) (ns : List Name) (t : Name → Bool) → Side_xx map.entry fields.now side σ ns t →
+    ensures wrote { (σ : Name → Expr) (ns : List Name) (t : Name → Bool) → Side map.entry fields.now side σ ns t →
         (e : Expr) (es : List Expr) → Sides s.now σ ns t c.now (e ∷ es) →
         Wrote out.old.bytes.now out.new.bytes.now out.old.next level out.new.next (expr_tree (conjoin e es)) }
 {
-    copy_sided_first_xx(s, map, c, c.len, fields, side, out, level);
+    copy_sided_first(s, map, c, c.len, fields, side, out, level);
 }
 
 // Writes a plan under a Filter of a side's list, if it has any items.
-pub fn copy_sided_filtered_xx(
+pub fn copy_sided_filtered(
     input: Subtree,
     map: Subtree,
     c: Conjuncts,
@@ -136,7 +136,7 @@ pub fn copy_sided_filtered_xx(
     requires low { Low (level + 2) (tree_of input).below }
     requires over { Over 3 level map }
     ensures same { out.new.bytes.ghost_name ≡ out.old.bytes.ghost_name }
-    ensures wrote { (σ : Name → Expr) (ns : List Name) (t : Name → Bool) → Side_xx map.entry fields.now side σ ns t →
+    ensures wrote { (σ : Name → Expr) (ns : List Name) (t : Name → Bool) → Side map.entry fields.now side σ ns t →
         (es : List Expr) → Sides input.entry.image.now σ ns t c es → (p : Plan) → tree_of input.entry ≡ plan_tree p →
         Wrote out.old.bytes.now out.new.bytes.now out.old.next level out.new.next (plan_tree (with_filters es p)) }
 {
@@ -145,12 +145,12 @@ pub fn copy_sided_filtered_xx(
         return;
     }
     out.put_kind(FILTER, 0, level);
-    copy_sided_joined_xx(input.image, map, &c, fields, side, out, level + 1);
+    copy_sided_joined(input.image, map, &c, fields, side, out, level + 1);
     out.copy_tree(input, level + 1);
 }
 
 // Writes a part of a join, if it is a pair of keys.
-fn copy_pair_xx(part: Subtree, out: &mut Writer, level: usize)
+fn copy_pair(part: Subtree, out: &mut Writer, level: usize)
     requires { Low (level + 1) (tree_of part).below }
     ensures same { out.new.bytes.ghost_name ≡ out.old.bytes.ghost_name }
     ensures wrote { WroteAll out.old.bytes.now out.new.bytes.now out.old.next out.new.next
@@ -162,18 +162,18 @@ fn copy_pair_xx(part: Subtree, out: &mut Writer, level: usize)
 }
 
 // Writes the pairs of keys of a join.
-fn copy_pairs_xx(plan: Subtree, out: &mut Writer, level: usize)
+fn copy_pairs(plan: Subtree, out: &mut Writer, level: usize)
     requires { Low level (tree_of plan).below }
     ensures same { out.new.bytes.ghost_name ≡ out.old.bytes.ghost_name }
     ensures wrote { WroteAll out.old.bytes.now out.new.bytes.now out.old.next out.new.next (pair_recs level (tree_of plan.entry).below) }
 {
     for child in plan.children() {
-        copy_pair_xx(child, out, level);
+        copy_pair(child, out, level);
     }
 }
 
 // Writes the conjuncts c, joined left-deep, as a join's filter, if there are any.
-fn copy_conditions_xx(s: &[u8], map: Subtree, c: Conjuncts, out: &mut Writer, level: usize)
+fn copy_conditions(s: &[u8], map: Subtree, c: Conjuncts, out: &mut Writer, level: usize)
     requires known { Known s.now c }
     requires over { Over 2 level map }
     ensures same { out.new.bytes.ghost_name ≡ out.old.bytes.ghost_name }
@@ -181,51 +181,44 @@ fn copy_conditions_xx(s: &[u8], map: Subtree, c: Conjuncts, out: &mut Writer, le
         WroteAll out.old.bytes.now out.new.bytes.now out.old.next out.new.next (recs_any level (filter_kids (conjunction es))) }
 {
     if c.len != 0 {
-        copy_joined_xx(s, map, c, out, level);
+        copy_joined(s, map, c, out, level);
     }
 }
 
 // Writes a join over what moves to its inputs.
-fn write_join_xx(plan: Subtree, map: Subtree, v: Moves, sc: &Scope, out: &mut Writer, level: usize)
-    requires carried { Carried_xx plan map sc.now v }
+fn write_join(plan: Subtree, map: Subtree, v: Moves, sc: &Scope, out: &mut Writer, level: usize)
+    requires carried { Carried plan map sc.now v }
     requires over { Over 4 level map }
     ensures same { out.new.bytes.ghost_name ≡ out.old.bytes.ghost_name }
     ensures wrote { (k : Kind) (l r : Plan) (on : List Pair) (f : Option Expr) (P G : List Expr) (σ : Name → Expr) →
-        Carries_xx plan.entry map.entry sc.now v k l r on f P G σ →
+        Carries plan.entry map.entry sc.now v k l r on f P G σ →
         Wrote out.old.bytes.now out.new.bytes.now out.old.next level out.new.next (plan_tree (join_over k l r on P G)) }
 {
     let (left, right) = inputs(plan);
     let fields = &sc.fields;
     let below = level + 1;
     out.put(plan.label(), level);
-    copy_sided_filtered_xx(left, map, v.left, fields, sc.left, out, below);
-    copy_sided_filtered_xx(right, map, v.right, fields, sc.right, out, below);
-    copy_pairs_xx(plan, out, below);
-    copy_conditions_xx(plan.image, map, v.conditions, out, below);
+    copy_sided_filtered(left, map, v.left, fields, sc.left, out, below);
+    copy_sided_filtered(right, map, v.right, fields, sc.right, out, below);
+    copy_pairs(plan, out, below);
+    copy_conditions(plan.image, map, v.conditions, out, below);
 }
 
 // The same under a Filter of what stays above it, if anything does.
-pub fn write_kept_xx(
-    plan: Subtree,
-    map: Subtree,
-    v: Moves,
-    sc: &Scope,
-    out: &mut Writer,
-    level: usize,
-)
-    requires carried { Carried_xx plan map sc.now v }
+pub fn write_kept(plan: Subtree, map: Subtree, v: Moves, sc: &Scope, out: &mut Writer, level: usize)
+    requires carried { Carried plan map sc.now v }
     requires over { Over 5 level map }
     ensures same { out.new.bytes.ghost_name ≡ out.old.bytes.ghost_name }
     ensures wrote { (k : Kind) (l r : Plan) (on : List Pair) (f : Option Expr) (P G : List Expr) (σ : Name → Expr) →
-        Carries_xx plan.entry map.entry sc.now v k l r on f P G σ →
+        Carries plan.entry map.entry sc.now v k l r on f P G σ →
         Wrote out.old.bytes.now out.new.bytes.now out.old.next level out.new.next
         (plan_tree (with_filters (keep_predicates k (schema l) (schema r) on P G) (join_over k l r on P G))) }
 {
     if v.kept.len == 0 {
-        write_join_xx(plan, map, v, sc, out, level);
+        write_join(plan, map, v, sc, out, level);
         return;
     }
     out.put_kind(FILTER, 0, level);
-    copy_joined_xx(plan.image, map, v.kept, out, level + 1);
-    write_join_xx(plan, map, v, sc, out, level + 1);
+    copy_joined(plan.image, map, v.kept, out, level + 1);
+    write_join(plan, map, v, sc, out, level + 1);
 }

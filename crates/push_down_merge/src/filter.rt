@@ -16,9 +16,9 @@ ghost use Rattle.push_down_merge.specs.Merging.{FilterAt, FilterInput, Fitting, 
 
 use crate::scratch::Scratch;
 use answers::handing_out::is_shallow;
-use answers::splicing::{write_before_xx, write_records_xx};
+use answers::splicing::{write_before, write_records};
 use conjuncts::lists::{Conjuncts, empty};
-use conjuncts::split_conjunction::split_conjunction_xx;
+use conjuncts::split_conjunction::split_conjunction;
 use conjuncts::unique::unique;
 use image::copying::Writer;
 use image::limits::{MAX_LIST, MAX_RECORDS};
@@ -30,7 +30,7 @@ use simplify_expressions::reorder_predicates::reorder_predicates;
 use simplify_expressions::simplify_predicates::simplify_predicates;
 use std::error::Error;
 use std::fmt;
-use writing::make_filter::make_filter_xx;
+use writing::make_filter::make_filter;
 
 // Test 11: an answer, or a plan on the way to it, is too large for an image.
 #[derive(Clone, Copy, Debug, PartialEq, Eq, Hash)]
@@ -45,7 +45,7 @@ impl fmt::Display for TooLarge {
 impl Error for TooLarge {}
 
 // The predicate of the Filter `plan` as it is written, with its conjuncts.
-pub fn predicate_at_xx(plan: Subtree) -> Predicate
+pub fn predicate_at(plan: Subtree) -> Predicate
     requires here { FilterAt plan.image.now plan.number }
     requires short { length plan.image.now ≤ work_bytes }
     ensures { (e : Expr) (q : Plan) → StandingP plan.entry.image.now plan.entry.number (filter e q) →
@@ -57,7 +57,7 @@ pub fn predicate_at_xx(plan: Subtree) -> Predicate
     };
     Predicate {
         written: Some(predicate.number),
-        list: split_conjunction_xx(predicate, empty()),
+        list: split_conjunction(predicate, empty()),
     }
 }
 
@@ -90,7 +90,7 @@ pub fn merge(s: &[u8], upper: Predicate, lower: Conjuncts) -> Predicate
 }
 
 // The input of the Filter `plan`: what follows its predicate, which is right behind it.
-pub fn filter_input_xx(plan: Subtree) -> Subtree
+pub fn filter_input(plan: Subtree) -> Subtree
     requires here { FilterAt plan.image.now plan.number }
     requires short { length plan.image.now ≤ work_bytes }
     ensures same { result.image.now ≡ plan.entry.image.now }
@@ -116,7 +116,7 @@ pub fn fits(out: &Writer) -> bool
 }
 
 // Test 11 on the plan after a merge: the whole, with the Filter p over `input` in the place of `plan`.
-pub fn merge_fits_xx(
+pub fn merge_fits(
     plan: Subtree,
     p: Predicate,
     input: Subtree,
@@ -140,10 +140,10 @@ pub fn merge_fits_xx(
         bytes: work,
         next: 0,
     };
-    let spot = write_before_xx(s, plan.number, &mut out, levels);
+    let spot = write_before(s, plan.number, &mut out, levels);
     // No item of a merged list has its columns replaced: any plan of the image serves as the map.
-    make_filter_xx(s, input, p.written, list, input, &mut out, spot.level);
-    write_records_xx(s, levels, spot.end, spot.records, &mut out);
+    make_filter(s, input, p.written, list, input, &mut out, spot.level);
+    write_records(s, levels, spot.end, spot.records, &mut out);
     if !fits(&out) {
         return Err(TooLarge);
     }

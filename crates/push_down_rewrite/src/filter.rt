@@ -12,13 +12,13 @@ ghost use Rattle.push_down_rewrite.specs.Outcomes.{Finishes};
 
 use crate::input::resume;
 use crate::node::{Rewritten, finish};
-use answers::splicing::write_before_xx;
+use answers::splicing::write_before;
 use image::copying::Writer;
 use image::trees::Subtree;
 use plan::kinds::FILTER;
 use push_down_base::predicates::Predicate;
 use push_down_merge::filter::{
-    TooLarge, filter_input_xx, merge, merge_fits_xx, predicate_at_xx, simplify_filter,
+    TooLarge, filter_input, merge, merge_fits, predicate_at, simplify_filter,
 };
 use push_down_merge::scratch::Scratch;
 
@@ -43,7 +43,7 @@ fn resume_in_place(
         bytes: work,
         next: 0,
     };
-    let spot = write_before_xx(plan.image, plan.number, &mut out, levels);
+    let spot = write_before(plan.image, plan.number, &mut out, levels);
     let flag = resume(input, p, m, &mut out, spot.level);
     finish(plan.image, spot, levels, flag, &mut out)
 }
@@ -89,9 +89,9 @@ fn merge_filter(
         Rests plan.entry.image.now child.entry.number p e (filter b q) →
         Finishes scratch.new.work.now result c (merges_under e (filter b q)) (rewrite_filter e (filter b q)) }
 {
-    let input = filter_input_xx(child);
-    let lower = predicate_at_xx(child);
+    let input = filter_input(child);
+    let lower = predicate_at(child);
     let merged = merge(plan.image, p, lower.list);
-    merge_fits_xx(plan, merged, input, scratch)?;
+    merge_fits(plan, merged, input, scratch)?;
     rewrite_filter(plan, merged, input, scratch)
 }

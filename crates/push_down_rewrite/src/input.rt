@@ -12,15 +12,15 @@ ghost use Rattle.push_down_rewrite.specs.Filters.{Left, SomeLeft};
 use image::copying::Writer;
 use image::trees::Subtree;
 use plan::kinds::{PlanKind, What, what_of};
-use push_down_arms::aggregate::rewrite_aggregate_xx;
-use push_down_arms::projection::rewrite_projection_xx;
-use push_down_arms::subquery_alias::rewrite_subquery_alias_xx;
-use push_down_arms::table_scan::rewrite_table_scan_xx;
-use push_down_arms::through::rewrite_through_xx;
-use push_down_arms::union::rewrite_union_xx;
-use push_down_arms::window::rewrite_window_xx;
+use push_down_arms::aggregate::rewrite_aggregate;
+use push_down_arms::projection::rewrite_projection;
+use push_down_arms::subquery_alias::rewrite_subquery_alias;
+use push_down_arms::table_scan::rewrite_table_scan;
+use push_down_arms::through::rewrite_through;
+use push_down_arms::union::rewrite_union;
+use push_down_arms::window::rewrite_window;
 use push_down_base::predicates::Predicate;
-use push_down_join::push_down_all_join::rewrite_join_xx;
+use push_down_join::push_down_all_join::rewrite_join;
 
 // A predicate that rests on `input`, which is no Filter.
 fn rewrite_input(input: Subtree, p: Predicate, m: &mut [u8], out: &mut Writer, level: usize) -> bool
@@ -33,13 +33,13 @@ fn rewrite_input(input: Subtree, p: Predicate, m: &mut [u8], out: &mut Writer, l
         (rewrite_filter e q) }
 {
     match what_of(input.kind()) {
-        What::Plan(PlanKind::TableScan) => rewrite_table_scan_xx(input, p, out, level),
-        What::Plan(PlanKind::Projection) => rewrite_projection_xx(input, p, out, level),
-        What::Plan(PlanKind::Join) => rewrite_join_xx(input, p, m, out, level),
-        What::Plan(PlanKind::SubqueryAlias) => rewrite_subquery_alias_xx(input, p, m, out, level),
-        What::Plan(PlanKind::Union) => rewrite_union_xx(input, p, m, out, level),
-        What::Plan(PlanKind::Aggregate) => rewrite_aggregate_xx(input, p, out, level),
-        What::Plan(PlanKind::Window) => rewrite_window_xx(input, p, out, level),
+        What::Plan(PlanKind::TableScan) => rewrite_table_scan(input, p, out, level),
+        What::Plan(PlanKind::Projection) => rewrite_projection(input, p, out, level),
+        What::Plan(PlanKind::Join) => rewrite_join(input, p, m, out, level),
+        What::Plan(PlanKind::SubqueryAlias) => rewrite_subquery_alias(input, p, m, out, level),
+        What::Plan(PlanKind::Union) => rewrite_union(input, p, m, out, level),
+        What::Plan(PlanKind::Aggregate) => rewrite_aggregate(input, p, out, level),
+        What::Plan(PlanKind::Window) => rewrite_window(input, p, out, level),
         // No Filter comes here.
         What::Plan(
             PlanKind::Distinct
@@ -50,7 +50,7 @@ fn rewrite_input(input: Subtree, p: Predicate, m: &mut [u8], out: &mut Writer, l
         )
         | What::Expr(_)
         | What::Part(_)
-        | What::Unknown => rewrite_through_xx(input, p, out, level),
+        | What::Unknown => rewrite_through(input, p, out, level),
     }
 }
 

@@ -10,16 +10,16 @@ ghost use Rattle.push_down_merge.specs.Merging.{Inside};
 ghost use Rattle.push_down_rewrite.specs.Outcomes.{Finishes, Outcomes, Replaced, Replaces, answer};
 
 use crate::filter::rewrite_filter;
-use answers::splicing::{Spot, write_before_xx, write_records_xx};
+use answers::splicing::{Spot, write_before, write_records};
 use conjuncts::lists::empty;
 use image::copying::Writer;
 use image::relink::relink;
 use image::trees::Subtree;
 use plan::kinds::{FILTER, JOIN};
-use push_down_join::push_down_all_join::push_down_join_xx;
-use push_down_merge::filter::{TooLarge, filter_input_xx, fits, predicate_at_xx};
+use push_down_join::push_down_all_join::push_down_join;
+use push_down_merge::filter::{TooLarge, filter_input, fits, predicate_at};
 use push_down_merge::scratch::Scratch;
-use push_down_stays::stays::stays_xx;
+use push_down_stays::stays::stays;
 
 // A rewrite that is within the limits: its flag, and how many records the new image has that was written; None: the one that was read is the
 // answer.
@@ -50,7 +50,7 @@ pub fn finish(
         Replaces s.now levels.now out.old.bytes.now spot (record { next = out.old.next; flag = flag }) node w c t →
         Finishes out.new.bytes.now result c [] t }
 {
-    write_records_xx(s, levels, spot.end, spot.records, out);
+    write_records(s, levels, spot.end, spot.records, out);
     if !fits(out) {
         return Err(TooLarge);
     }
@@ -76,13 +76,13 @@ fn rewrite_join_node(plan: Subtree, scratch: &mut Scratch) -> Result<Rewritten, 
         bytes: work,
         next: 0,
     };
-    let spot = write_before_xx(plan.image, plan.number, &mut out, levels);
-    let flag = push_down_join_xx(plan, empty(), m, &mut out, spot.level);
+    let spot = write_before(plan.image, plan.number, &mut out, levels);
+    let flag = push_down_join(plan, empty(), m, &mut out, spot.level);
     finish(plan.image, spot, levels, flag, &mut out)
 }
 
 // The plan, written anew if it is a Filter or a Join.
-pub fn rewrite_anew_xx(plan: Subtree, scratch: &mut Scratch) -> Result<Rewritten, TooLarge>
+pub fn rewrite_anew(plan: Subtree, scratch: &mut Scratch) -> Result<Rewritten, TooLarge>
     requires { Found plan.image.now plan.number }
     ensures same { SameSpace scratch.old scratch.new }
     ensures outcomes { (w : Plan) (c : Focus) → Inside plan.entry.image.now plan.entry.number w c →
@@ -91,7 +91,7 @@ pub fn rewrite_anew_xx(plan: Subtree, scratch: &mut Scratch) -> Result<Rewritten
     // Two kinds of twelve: a match is no shorter.
     let kind = plan.kind();
     if kind == FILTER {
-        return rewrite_filter(plan, predicate_at_xx(plan), filter_input_xx(plan), scratch);
+        return rewrite_filter(plan, predicate_at(plan), filter_input(plan), scratch);
     }
     if kind == JOIN {
         return rewrite_join_node(plan, scratch);
@@ -100,7 +100,7 @@ pub fn rewrite_anew_xx(plan: Subtree, scratch: &mut Scratch) -> Result<Rewritten
 }
 
 // The plan. Nothing is written for one that stays as it is: what is written is another plan.
-pub fn rewrite_xx(plan: Subtree, scratch: &mut Scratch) -> Result<Rewritten, TooLarge>
+pub fn rewrite(plan: Subtree, scratch: &mut Scratch) -> Result<Rewritten, TooLarge>
     requires { Found plan.image.now plan.number }
     ensures same { SameSpace scratch.old scratch.new }
     ensures outcomes { (w : Plan) (c : Focus) → Inside plan.entry.image.now plan.entry.number w c →
@@ -108,8 +108,8 @@ pub fn rewrite_xx(plan: Subtree, scratch: &mut Scratch) -> Result<Rewritten, Too
     ensures changes { (w : Plan) (c : Focus) → Inside plan.entry.image.now plan.entry.number w c →
         IfOk result (λ o. IfSome o.image (λ _. answer c ≡ w → ⊥)) }
 {
-    if stays_xx(plan) {
+    if stays(plan) {
         return Ok(UNCHANGED);
     }
-    rewrite_anew_xx(plan, scratch)
+    rewrite_anew(plan, scratch)
 }

@@ -36,7 +36,7 @@ use Rattle.push_down_arms.specs.Movable.{may_move}
 use Rattle.push_down_base.specs.Predicates.{Predicate}
 use Rattle.push_down_arms.specs.Through.{takes_none}
 use Rattle.push_down_arms.proofs.Divisions.{aggregate_pushed, window_pushed, project_kept}
-use Rattle.push_down_join.specs.JoinPlans.{FilterOf_xx, has_none_xx, has_one_xx}
+use Rattle.push_down_join.specs.JoinPlans.{FilterOf, has_none, has_one}
 use Rattle.push_down_merge.proofs.OneMerge.{input_placed, unmerged}
 use Rattle.push_down_base.proofs.Plain.{split_some}
 use Rattle.push_down_arms.proofs.ScanShares.{scan_kept}
@@ -64,15 +64,15 @@ kept_as e h = record { yes = λ y. h.yes (e ∙ y); no = λ n. h.no (e ∙ n) }
 
 module _ {s : List ℕ} where
   -- it is at record n
-  pub own_deep : {t : Subtree} {f : Option Expr} {b : Bool} → FilterOf_xx s (P.Some t) f
+  pub own_deep : {t : Subtree} {f : Option Expr} {b : Bool} → FilterOf s (P.Some t) f
       → ((e : Expr) → Standing t.image.now t.number e → Says b (LeftDeep e)) → Says b (conjunction (split_conjunction? f) ≡ f)
   unfolding split_conjunction?
-  own_deep {t} (has_one_xx {e = e} here h pos) g = g e (subst (λ z. Standing z t.number e) (sym here) h)
+  own_deep {t} (has_one {e = e} here h pos) g = g e (subst (λ z. Standing z t.number e) (sym here) h)
 
   -- there is none
-  pub own_bare : {f : Option Expr} → FilterOf_xx s P.None f → Says true (conjunction (split_conjunction? f) ≡ f)
+  pub own_bare : {f : Option Expr} → FilterOf s P.None f → Says true (conjunction (split_conjunction? f) ≡ f)
   unfolding split_conjunction? conjunction
-  own_bare has_none_xx = says_so refl
+  own_bare has_none = says_so refl
 
 no_conjuncts : (f : Option Expr) → length (split_conjunction? f) ≡ 0 → f ≡ none
 unfolding split_conjunction?

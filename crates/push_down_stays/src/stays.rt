@@ -22,20 +22,20 @@ ghost use Rattle.push_down_stays.specs.Staying.{Kept, Stays, may_stay};
 
 use conjuncts::equality::same_items;
 use conjuncts::lists::{Conjuncts, empty};
-use conjuncts::split_conjunction::is_left_deep_xx;
+use conjuncts::split_conjunction::is_left_deep;
 use image::trees::Subtree;
 use plan::kinds::{
     AGGREGATE, FILTER, JOIN, PROJECTION, PlanKind, TABLE_SCAN, WINDOW, What, what_of,
 };
 use plan::words::INNER;
-use push_down_arms::aggregate::divide_groups_xx;
-use push_down_arms::push_some::divide_xx;
-use push_down_arms::table_scan::share_of_xx;
-use push_down_arms::through::takes_none_xx;
+use push_down_arms::aggregate::divide_groups;
+use push_down_arms::push_some::divide;
+use push_down_arms::table_scan::share_of;
+use push_down_arms::through::takes_none;
 use push_down_base::predicates::Predicate;
-use push_down_join::column_checker::join_scope_xx;
-use push_down_join::push_down_all_join::{filter_of_xx, join_kind_xx, moves_of, own_filter_xx};
-use push_down_merge::filter::{filter_input_xx, predicate_at_xx, simplify_filter};
+use push_down_join::column_checker::join_scope;
+use push_down_join::push_down_all_join::{filter_of, join_kind, moves_of, own_filter};
+use push_down_merge::filter::{filter_input, predicate_at, simplify_filter};
 
 // Whether the filter of the join is joined left-deep, if it has one.
 fn own_left_deep(plan: Subtree) -> bool
@@ -44,8 +44,8 @@ fn own_left_deep(plan: Subtree) -> bool
         Placed plan.entry.image.now plan.entry.number (join k l r on f) →
         Says result (conjunction (split_conjunction? f) ≡ f) }
 {
-    match filter_of_xx(plan) {
-        Some(filter) => is_left_deep_xx(filter),
+    match filter_of(plan) {
+        Some(filter) => is_left_deep(filter),
         None => true,
     }
 }
@@ -58,8 +58,8 @@ fn nothing_moves(plan: Subtree, c: Conjuncts, g: Conjuncts) -> bool
         Reads plan.entry.image.now (schema l ++ schema r) c P →
         Reads plan.entry.image.now (schema l ++ schema r) g G → result ≡ nothing_moves k (schema l) (schema r) on P G }
 {
-    let sc = join_scope_xx(plan);
-    let kind = join_kind_xx(plan);
+    let sc = join_scope(plan);
+    let kind = join_kind(plan);
     let v = moves_of(plan.image, c, g, &sc, kind);
     !v.flag
 }
@@ -71,7 +71,7 @@ fn join_stays(plan: Subtree) -> bool
         Placed plan.entry.image.now plan.entry.number (join k l r on f) →
         Kept result (push_down_join k l r on f []) (join k l r on f) }
 {
-    let g = own_filter_xx(plan);
+    let g = own_filter(plan);
     if g.len == 0 {
         return true;
     }
@@ -82,12 +82,12 @@ fn join_stays(plan: Subtree) -> bool
 }
 
 // Whether the predicate p is joined left-deep: one that is joined anew is.
-fn is_left_deep(image: &[u8], p: Predicate) -> bool
+fn joined_left_deep(image: &[u8], p: Predicate) -> bool
     requires { Formed image.now p × (length image.now ≤ work_bytes) }
     ensures { (e : Expr) → Shaped image.now p e → Says result (LeftDeep e) }
 {
     match p.written {
-        Some(number) => is_left_deep_xx(Subtree { image, number }),
+        Some(number) => is_left_deep(Subtree { image, number }),
         None => true,
     }
 }
@@ -99,12 +99,12 @@ fn over_join_stays(plan: Subtree, p: Predicate) -> bool
         Rests plan.entry.image.now plan.entry.number p e (join k l r on f) →
         Kept result (rewrite_filter e (join k l r on f)) (filter e (join k l r on f)) }
 {
-    if !is_left_deep(plan.image, p) {
+    if !joined_left_deep(plan.image, p) {
         return false;
     }
     if own_left_deep(plan) {
         let list = p.list;
-        return nothing_moves(plan, list, own_filter_xx(plan));
+        return nothing_moves(plan, list, own_filter(plan));
     }
     false
 }
@@ -116,7 +116,7 @@ fn over_scan_stays(plan: Subtree, p: Predicate) -> bool
         Rests plan.entry.image.now plan.entry.number p e (scan t fs es) →
         Kept result (rewrite_filter e (scan t fs es)) (filter e (scan t fs es)) }
 {
-    let share = share_of_xx(plan, p);
+    let share = share_of(plan, p);
     let taken = share.taken;
     taken.len == 0
 }
@@ -127,7 +127,7 @@ fn over_projection_stays(plan: Subtree, p: Predicate) -> bool
     ensures { (e : Expr) (es : List Entry) (q : Plan) → Rests plan.entry.image.now plan.entry.number p e (project es q) →
         Kept result (rewrite_filter e (project es q)) (filter e (project es q)) }
 {
-    let d = divide_xx(plan, p);
+    let d = divide(plan, p);
     let moved = d.moved;
     moved.len == 0
 }
@@ -139,10 +139,10 @@ fn over_aggregate_stays(plan: Subtree, p: Predicate) -> bool
         Rests plan.entry.image.now plan.entry.number p e (aggregate gs ags q) →
         Kept result (rewrite_filter e (aggregate gs ags q)) (filter e (aggregate gs ags q)) }
 {
-    let d = divide_groups_xx(plan, p);
+    let d = divide_groups(plan, p);
     let moved = d.moved;
     if moved.len == 0 {
-        return is_left_deep(plan.image, p);
+        return joined_left_deep(plan.image, p);
     }
     false
 }
@@ -153,10 +153,10 @@ fn over_window_stays(plan: Subtree, p: Predicate) -> bool
     ensures { (e : Expr) (ws : List WinEntry) (q : Plan) → Rests plan.entry.image.now plan.entry.number p e (window ws q) →
         Kept result (rewrite_filter e (window ws q)) (filter e (window ws q)) }
 {
-    let d = divide_xx(plan, p);
+    let d = divide(plan, p);
     let moved = d.moved;
     if moved.len == 0 {
-        return is_left_deep(plan.image, p);
+        return joined_left_deep(plan.image, p);
     }
     false
 }
@@ -185,7 +185,7 @@ fn over_stays(plan: Subtree, p: Predicate) -> bool
         )
         | What::Expr(_)
         | What::Part(_)
-        | What::Unknown => takes_none_xx(plan),
+        | What::Unknown => takes_none(plan),
     }
 }
 
@@ -199,7 +199,7 @@ fn may_stay(plan: Subtree) -> bool
         | (label.kind == PROJECTION)
         | ((label.kind == AGGREGATE) | (label.kind == WINDOW))
         | ((label.kind == JOIN) & (label.p != INNER))
-        | takes_none_xx(plan)
+        | takes_none(plan)
 }
 
 // Whether simplifying leaves the predicate p as it is.
@@ -218,7 +218,7 @@ fn is_simple(image: &[u8], p: Predicate) -> bool
     let list = p.list;
     let new = simple.list;
     if same_items(image, new, list) {
-        return is_left_deep(image, p);
+        return joined_left_deep(image, p);
     }
     false
 }
@@ -228,11 +228,11 @@ fn filter_stays(plan: Subtree) -> bool
     requires { FilterInside plan.image.now plan.number }
     ensures { (w : Plan) (c : Focus) → Inside plan.entry.image.now plan.entry.number w c → Stays result c.plan }
 {
-    let input = filter_input_xx(plan);
+    let input = filter_input(plan);
     if !may_stay(input) {
         return false;
     }
-    let p = predicate_at_xx(plan);
+    let p = predicate_at(plan);
     if over_stays(input, p) {
         return is_simple(plan.image, p);
     }
@@ -240,7 +240,7 @@ fn filter_stays(plan: Subtree) -> bool
 }
 
 // The plan.
-pub fn stays_xx(plan: Subtree) -> bool
+pub fn stays(plan: Subtree) -> bool
     requires { Found plan.image.now plan.number }
     ensures { (w : Plan) (c : Focus) → Inside plan.entry.image.now plan.entry.number w c → Stays result c.plan }
 {

@@ -48,7 +48,7 @@ fn columns_of(tree: Subtree, fields: &[ColumnReference]) -> FieldSet
 }
 
 // The set of the fields that a tree refers to.
-pub fn columns_xx(tree: Subtree, f: Fields) -> FieldSet
+pub fn columns(tree: Subtree, f: Fields) -> FieldSet
     requires { f.len ≤ max_fields }
     ensures { (ns : List Name) → Names f ns → on_tree (has ns) (tree_of tree.entry) ≡ true
         → Answers result ns (λ c. on_tree c (tree_of tree.entry)) }
@@ -57,12 +57,12 @@ pub fn columns_xx(tree: Subtree, f: Fields) -> FieldSet
 }
 
 // Whether all columns of an expression are fields of the side: those that are, counted, are all of them.
-pub fn has_all_column_refs_xx(tree: Subtree, f: Fields, side: FieldSet) -> bool
+pub fn has_all_column_refs(tree: Subtree, f: Fields, side: FieldSet) -> bool
     requires { f.len ≤ max_fields }
     ensures { (e : Expr) (ns : List Name) (c : Name → Bool) → tree_of tree.entry ≡ expr_tree e → Names f ns
         → on_cols (has ns) e ≡ true → Masks side ns c → result ≡ on_cols c e }
 {
-    columns_xx(tree, f).is_within(side)
+    columns(tree, f).is_within(side)
 }
 
 // The set of the fields that the item n refers to.
@@ -72,7 +72,7 @@ pub fn columns_at(s: &[u8], n: usize, f: Fields) -> FieldSet
     ensures { (e : Expr) (ns : List Name) → Item s.now n e → Names f ns → on_cols (has ns) e ≡ true → Refers result ns e }
 {
     match item_tree(s, n) {
-        Some(tree) => columns_xx(tree, f),
+        Some(tree) => columns(tree, f),
         None => FieldSet::empty(),
     }
 }

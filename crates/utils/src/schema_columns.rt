@@ -58,7 +58,7 @@ fn below_alias(renamed: bool, p: u32, alias: Option<u32>) -> Option<u32>
 }
 
 // Appends the field that a part makes, with the alias for its qualifier if there is one.
-fn add_part_xx(part: Subtree, into: &mut Fields, alias: Option<u32>)
+fn add_part(part: Subtree, into: &mut Fields, alias: Option<u32>)
     ensures { (ns : List Name) → Names into.old ns → Names into.new (ns ++ called alias (called_label (tree_of part.entry).label)) }
 {
     let l = part.label();
@@ -71,16 +71,16 @@ fn add_part_xx(part: Subtree, into: &mut Fields, alias: Option<u32>)
 }
 
 // Appends the fields that the parts of a plan make.
-fn add_parts_xx(plan: Subtree, into: &mut Fields, alias: Option<u32>)
+fn add_parts(plan: Subtree, into: &mut Fields, alias: Option<u32>)
     ensures { (ns : List Name) → Names into.old ns → Names into.new (ns ++ called alias (made (tree_of plan.entry).below)) }
 {
     for part in plan.children() {
-        add_part_xx(part, into, alias);
+        add_part(part, into, alias);
     }
 }
 
 // Appends the fields of a plan, all with the alias for their qualifier if there is one.
-fn add_schema_xx(plan: Subtree, into: &mut Fields, alias: Option<u32>)
+fn add_schema(plan: Subtree, into: &mut Fields, alias: Option<u32>)
     requires { IsPlan (tree_of plan) }
     ensures { (p : Plan) (ns : List Name) → tree_of plan.entry ≡ plan_tree p → Names into.old ns
         → Names into.new (ns ++ called alias (schema p)) }
@@ -88,32 +88,32 @@ fn add_schema_xx(plan: Subtree, into: &mut Fields, alias: Option<u32>)
     let l = plan.label();
     let role = role_of(l.kind);
     if creates(role) {
-        add_parts_xx(plan, into, alias);
+        add_parts(plan, into, alias);
         return;
     }
     let Some(first) = nth_plan(plan.children(), own_input(role, l.p)) else {
         return;
     };
     let lower = below_alias(renames(role), l.p as u32, alias);
-    add_schema_xx(first, into, lower);
+    add_schema(first, into, lower);
     if extends(role) {
-        add_parts_xx(plan, into, alias);
+        add_parts(plan, into, alias);
         return;
     }
     if !gives_both(role, l.p) {
         return;
     }
     if let Some(second) = nth_plan(plan.children(), 1) {
-        add_schema_xx(second, into, alias);
+        add_schema(second, into, alias);
     }
 }
 
 // The fields of a plan, behind others.
-pub fn schema_columns_xx(plan: Subtree, into: Fields) -> Fields
+pub fn schema_columns(plan: Subtree, into: Fields) -> Fields
     requires { IsPlan (tree_of plan) }
     ensures { (p : Plan) (ns : List Name) → tree_of plan.entry ≡ plan_tree p → Names into ns → Names result (ns ++ schema p) }
 {
     let mut fields = into;
-    add_schema_xx(plan, &mut fields, None);
+    add_schema(plan, &mut fields, None);
     fields
 }

@@ -10,7 +10,7 @@ ghost use Rattle.conjuncts.specs.Items.{Item, Present};
 ghost use Rattle.writing.specs.Maps.{MapsTo, Over};
 ghost use Rattle.writing.specs.Pushed.{One, Predicate, Predicated, Pushed, Pushes, Some};
 
-use crate::replace_cols_by_name::replace_cols_by_name_xx;
+use crate::replace_cols_by_name::replace_cols_by_name;
 use conjuncts::items::{REPLACED, item_tree};
 use conjuncts::lists::{Conjuncts, item_at};
 use image::copying::Writer;
@@ -19,7 +19,7 @@ use plan::kinds::{BINARY_EXPR, BOOLEAN_LITERAL};
 use plan::words::AND;
 
 // Writes what the item n stands for, which is an expression or FALSE.
-fn copy_plain_xx(s: &[u8], n: usize, out: &mut Writer, level: usize)
+fn copy_plain(s: &[u8], n: usize, out: &mut Writer, level: usize)
     requires present { Present s.now n }
     requires shallow { Shallow 1 level }
     ensures same { out.new.bytes.ghost_name ≡ out.old.bytes.ghost_name }
@@ -33,7 +33,7 @@ fn copy_plain_xx(s: &[u8], n: usize, out: &mut Writer, level: usize)
 }
 
 // The same with the columns replaced.
-fn copy_changed_xx(s: &[u8], map: Subtree, n: usize, out: &mut Writer, level: usize)
+fn copy_changed(s: &[u8], map: Subtree, n: usize, out: &mut Writer, level: usize)
     requires present { Present s.now n }
     requires over { Over 1 level map }
     ensures same { out.new.bytes.ghost_name ≡ out.old.bytes.ghost_name }
@@ -41,13 +41,13 @@ fn copy_changed_xx(s: &[u8], map: Subtree, n: usize, out: &mut Writer, level: us
         Wrote out.old.bytes.now out.new.bytes.now out.old.next level out.new.next (expr_tree (replace_cols σ e)) }
 {
     match item_tree(s, n) {
-        Some(tree) => replace_cols_by_name_xx(tree, map, out, level),
+        Some(tree) => replace_cols_by_name(tree, map, out, level),
         None => out.put_kind(BOOLEAN_LITERAL, 0, level),
     }
 }
 
 // Writes what the item n stands for.
-pub fn copy_item_xx(s: &[u8], map: Subtree, n: usize, out: &mut Writer, level: usize)
+pub fn copy_item(s: &[u8], map: Subtree, n: usize, out: &mut Writer, level: usize)
     requires one { One s.now n }
     requires over { Over 1 level map }
     ensures same { out.new.bytes.ghost_name ≡ out.old.bytes.ghost_name }
@@ -55,14 +55,14 @@ pub fn copy_item_xx(s: &[u8], map: Subtree, n: usize, out: &mut Writer, level: u
         Wrote out.old.bytes.now out.new.bytes.now out.old.next level out.new.next (expr_tree e) }
 {
     if n < REPLACED {
-        copy_plain_xx(s, n, out, level);
+        copy_plain(s, n, out, level);
     } else {
-        copy_changed_xx(s, map, n - REPLACED, out, level);
+        copy_changed(s, map, n - REPLACED, out, level);
     }
 }
 
 // Writes the first k items of a list, joined left-deep.
-fn copy_first_xx(s: &[u8], map: Subtree, c: Conjuncts, k: usize, out: &mut Writer, level: usize)
+fn copy_first(s: &[u8], map: Subtree, c: Conjuncts, k: usize, out: &mut Writer, level: usize)
     requires some { Some s.now c }
     requires k_nonzero { (0 < k) × (k ≤ c.len) }
     requires over { Over 1 (level + k) map }
@@ -74,16 +74,16 @@ fn copy_first_xx(s: &[u8], map: Subtree, c: Conjuncts, k: usize, out: &mut Write
     let last = k - 1;
     let item = item_at(c, last);
     if last == 0 {
-        copy_item_xx(s, map, item, out, level);
+        copy_item(s, map, item, out, level);
         return;
     }
     out.put_kind(BINARY_EXPR, AND, level);
-    copy_first_xx(s, map, c, last, out, level + 1);
-    copy_item_xx(s, map, item, out, level + 1);
+    copy_first(s, map, c, last, out, level + 1);
+    copy_item(s, map, item, out, level + 1);
 }
 
 // Writes the items of a list, joined left-deep.
-pub fn copy_joined_xx(s: &[u8], map: Subtree, c: Conjuncts, out: &mut Writer, level: usize)
+pub fn copy_joined(s: &[u8], map: Subtree, c: Conjuncts, out: &mut Writer, level: usize)
     requires some { Some s.now c }
     requires len_nonzero { 0 < c.len }
     requires over { Over 2 level map }
@@ -93,11 +93,11 @@ pub fn copy_joined_xx(s: &[u8], map: Subtree, c: Conjuncts, out: &mut Writer, le
         Wrote out.old.bytes.now out.new.bytes.now out.old.next level out.new.next (expr_tree (conjoin e es)) }
 {
     let n = c.len;
-    copy_first_xx(s, map, c, n, out, level);
+    copy_first(s, map, c, n, out, level);
 }
 
 // Writes a predicate: the item `written` as it is, or where there is none the items of a list, joined left-deep.
-pub fn copy_predicate_xx(
+pub fn copy_predicate(
     s: &[u8],
     map: Subtree,
     written: Option<usize>,
@@ -112,7 +112,7 @@ pub fn copy_predicate_xx(
         Wrote out.old.bytes.now out.new.bytes.now out.old.next level out.new.next (expr_tree e) }
 {
     match written {
-        Some(n) => copy_item_xx(s, map, n, out, level),
-        None => copy_joined_xx(s, map, c, out, level),
+        Some(n) => copy_item(s, map, n, out, level),
+        None => copy_joined(s, map, c, out, level),
     }
 }

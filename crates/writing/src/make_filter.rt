@@ -9,14 +9,14 @@ ghost use Rattle.plan.specs.Trees.{plan_tree};
 ghost use Rattle.writing.specs.Maps.{MapsTo, Over};
 ghost use Rattle.writing.specs.Pushed.{Predicate, Predicated};
 
-use crate::conjunction::copy_predicate_xx;
+use crate::conjunction::copy_predicate;
 use conjuncts::lists::Conjuncts;
 use image::copying::Writer;
 use image::trees::Subtree;
 use plan::kinds::FILTER;
 
 // Writes the plan under a Filter of a predicate.
-pub fn make_filter_xx(
+pub fn make_filter(
     s: &[u8],
     map: Subtree,
     written: Option<usize>,
@@ -34,6 +34,6 @@ pub fn make_filter_xx(
         Wrote out.old.bytes.now out.new.bytes.now out.old.next level out.new.next (plan_tree (filter e p)) }
 {
     out.put_kind(FILTER, 0, level);
-    copy_predicate_xx(s, map, written, c, out, level + 1);
+    copy_predicate(s, map, written, c, out, level + 1);
     out.copy_tree(input, level + 1);
 }

@@ -55,7 +55,7 @@ fn put_rename(from: ColumnReference, to: ColumnReference, m: &mut [u8], at: usiz
 }
 
 // Writes the renames of the fields of `from` to those of `to`, by place.
-pub fn write_renames_xx(from: Fields, to: Fields, m: &mut [u8])
+pub fn write_renames(from: Fields, to: Fields, m: &mut [u8])
     requires { (from.len ≤ max_fields) × (32 * (1 + 2 * from.len) ≤ length m.old) }
     ensures stood { Readable 3 m.new 0 }
     ensures maps { (s t : List Name) → Names from s → Names to t → length s ≡ length t →

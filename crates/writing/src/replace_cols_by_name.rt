@@ -11,7 +11,7 @@ use image::trees::Subtree;
 use plan::kinds::{COLUMN, ENTRY};
 
 // Whether the tree is an entry of this name.
-pub fn is_entry_xx(tree: Subtree, p: usize, q: usize) -> bool
+pub fn is_entry(tree: Subtree, p: usize, q: usize) -> bool
     ensures { result ≡ is_entry (tree_of tree.entry).label p q }
 {
     let l = tree.label();
@@ -19,11 +19,11 @@ pub fn is_entry_xx(tree: Subtree, p: usize, q: usize) -> bool
 }
 
 // The expression that an entry of the map gives this name.
-pub fn find_xx<'a>(map: Subtree<'a>, p: usize, q: usize) -> Option<Subtree<'a>>
+pub fn find<'a>(map: Subtree<'a>, p: usize, q: usize) -> Option<Subtree<'a>>
     ensures { Finds (lookup (tree_of map.entry).below p q) map.entry result }
 {
     for entry in map.children() {
-        if is_entry_xx(entry, p, q) {
+        if is_entry(entry, p, q) {
             return entry.children().next();
         }
     }
@@ -31,18 +31,18 @@ pub fn find_xx<'a>(map: Subtree<'a>, p: usize, q: usize) -> Option<Subtree<'a>>
 }
 
 // The same for the name of the tree, if it is a column.
-pub fn value_for_xx<'a>(tree: Subtree, map: Subtree<'a>) -> Option<Subtree<'a>>
+pub fn value_for<'a>(tree: Subtree, map: Subtree<'a>) -> Option<Subtree<'a>>
     ensures { Finds (value_for (tree_of map.entry) (tree_of tree.entry).label) map.entry result }
 {
     let l = tree.label();
     if l.kind != COLUMN {
         return None;
     }
-    find_xx(map, l.p, l.q)
+    find(map, l.p, l.q)
 }
 
 // Writes the tree with each column that an entry of the map names replaced by its expression.
-pub fn replace_cols_by_name_xx(tree: Subtree, map: Subtree, out: &mut Writer, level: usize)
+pub fn replace_cols_by_name(tree: Subtree, map: Subtree, out: &mut Writer, level: usize)
     requires { LowOver (level + 1) (tree_of map).below (tree_of tree).below }
     ensures same { out.new.bytes.ghost_name ≡ out.old.bytes.ghost_name }
     ensures wrote { Wrote out.old.bytes.now out.new.bytes.now out.old.next level out.new.next
@@ -53,12 +53,12 @@ pub fn replace_cols_by_name_xx(tree: Subtree, map: Subtree, out: &mut Writer, le
         out.next = NO_ROOM;
         return;
     }
-    if let Some(value) = value_for_xx(tree, map) {
+    if let Some(value) = value_for(tree, map) {
         out.copy_tree(value, level);
         return;
     }
     out.put(tree.label(), level);
     for child in tree.children() {
-        replace_cols_by_name_xx(child, map, out, level + 1);
+        replace_cols_by_name(child, map, out, level + 1);
     }
 }

@@ -22,22 +22,22 @@ invariant_of-plan c =
     c.word_at.ensures.0 c.is_plan.ensures (c.if-not-is_plan.false) in
     record { stood = stood_inside h.inside }
 
-pub stays_xx-requires : goal.stays_xx-requires
-stays_xx-requires c =
+pub stays-requires : goal.stays-requires
+stays-requires c =
     let h = a_plan c.requires c.if-image-node.false
     c.record_at.ensures
     c.word_at.ensures.0 c.is_plan.ensures (c.if-not-is_plan.false) in
     record { whole = _; spot = h.spot; inside = h.inside }
 
-pub returns-then-stays_xx : goal.returns-then-stays_xx
-returns-then-stays_xx c =
+pub returns-then-stays : goal.returns-then-stays
+returns-then-stays c =
     let h = a_plan c.requires
     c.if-image-node.false
     c.record_at.ensures
     c.word_at.ensures.0
     c.is_plan.ensures (c.if-not-is_plan.false) in
     c.hand_over.ensures _ (whole_image h.whole refl)
-    ∙ stayed _ h (c.stays_xx.ensures _ h.spot h.inside) c.if-stays_xx.true
+    ∙ stayed _ h (c.stays.ensures _ h.spot h.inside) c.if-stays.true
 
 pub rewrite_here-requires : goal.rewrite_here-requires
 rewrite_here-requires c =

@@ -5,4 +5,4 @@ use Rattle.call_rewrite.proofs.call_rewrite.rewrite_into.Goals as goal
 
 pub returns : goal.returns
 returns c =
-    λ w f h. let o = c.rewrite_anew_xx.ensures.outcomes w f h in search (rules, outcomes_as)
+    λ w f h. let o = c.rewrite_anew.ensures.outcomes w f h in search (rules, outcomes_as)

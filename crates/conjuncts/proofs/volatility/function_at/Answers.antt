@@ -15,7 +15,7 @@ item_tree-requires c =
 pub returns-in-Some : goal.returns-in-Some
 returns-in-Some c =
     λ es h. let w = lists_at h c.requires.known.most c.args.i _ c.requires.i_lt_len c.item_at.ensures in
-    c.has_function_xx.ensures ∙ rw (tree_found (c.in-Some.ensures (get_or es c.args.i FALSE) w)) (fn_tree _ _)
+    c.has_function.ensures ∙ rw (tree_found (c.in-Some.ensures (get_or es c.args.i FALSE) w)) (fn_tree _ _)
 
 pub returns-in-None : goal.returns-in-None
 unfolding any_fn

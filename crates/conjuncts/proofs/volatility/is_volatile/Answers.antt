@@ -7,7 +7,7 @@ use Rattle.conjuncts.proofs.volatility.is_volatile.Goals as goal
 
 pub returns-in-Some : goal.returns-in-Some
 returns-in-Some c =
-    λ e h. c.has_function_xx.ensures ∙ rw (tree_found (c.in-Some.ensures e h)) (fn_tree _ _)
+    λ e h. c.has_function.ensures ∙ rw (tree_found (c.in-Some.ensures e h)) (fn_tree _ _)
 
 pub returns-in-None : goal.returns-in-None
 unfolding any_fn

@@ -21,8 +21,8 @@ pub invariant_of-plan : goal.invariant_of-plan
 invariant_of-plan c =
     record { stood = stood_inside (found_next c.requires.standing c.requires.next_lt_records.0).inside }
 
-pub rewrite_xx-requires : goal.rewrite_xx-requires
-rewrite_xx-requires c =
+pub rewrite-requires : goal.rewrite-requires
+rewrite-requires c =
     found_next c.requires.standing c.requires.next_lt_records.0
 
 pub take_over-requires-clause-comes : goal.take_over-requires-clause-comes

@@ -8,9 +8,9 @@ use Rattle.push_down_merge.proofs.Tested.{few_records, all_records, end_within, 
 use Rattle.push_down_rewrite.proofs.Finishes.{unfit, at_once, decides, begun}
 use Rattle.push_down_rewrite.proofs.node.finish.Goals as goal
 
-pub write_records_xx-requires : goal.write_records_xx-requires
+pub write_records-requires : goal.write_records-requires
 unfolding size_p
-write_records_xx-requires c =
+write_records-requires c =
     let r = c.requires.replaced.replaces in
     let b = r.begun in
     let i = r.inside in record {
@@ -21,7 +21,7 @@ write_records_xx-requires c =
 pub returns-then-not-fits-clause-finishes : goal.returns-then-not-fits-clause-finishes
 unfolding size_p
 returns-then-not-fits-clause-finishes c =
-    λ node w f t h. let v = c.write_records_xx.ensures.ran (plan_tree w) h.inside.root.here (few_records h.inside)
+    λ node w f t h. let v = c.write_records.ensures.ran (plan_tree w) h.inside.root.here (few_records h.inside)
     (omega (arith, h.begun.records)) h.begun.depths in
     unfit (at_once f t.plan (sym c.if-not-fits.true ∙ decides h v c.fits.ensures))
 
@@ -29,7 +29,7 @@ pub relink-requires : goal.relink-requires
 unfolding size_p
 relink-requires c =
     let h = c.requires.replaced.replaces in
-    let v = c.write_records_xx.ensures.ran _ h.inside.root.here (few_records h.inside)
+    let v = c.write_records.ensures.ran _ h.inside.root.here (few_records h.inside)
     (omega (arith, h.begun.records)) h.begun.depths in
     let y = c.if-not-fits.false in
     let b = begun h v c.fits.ensures y in
@@ -38,7 +38,7 @@ relink-requires c =
 pub returns-clause-finishes : goal.returns-clause-finishes
 unfolding size_p
 returns-clause-finishes c =
-    λ node w f t h. let v = c.write_records_xx.ensures.ran (plan_tree w) h.inside.root.here (few_records h.inside)
+    λ node w f t h. let v = c.write_records.ensures.ran (plan_tree w) h.inside.root.here (few_records h.inside)
     (omega (arith, h.begun.records)) h.begun.depths in
     let y = c.if-not-fits.false in
     let b = begun h v c.fits.ensures y in

@@ -12,19 +12,19 @@ use Rattle.push_down_rewrite.specs.Outcomes.{Outcomes}
 use Rattle.push_down_rewrite.proofs.Outcoming.{join_outcomes, outcomes_as}
 use Rattle.push_down_rewrite.proofs.node.rewrite_join_node.Goals as goal
 
-pub write_before_xx-spot-requires-clause-there_p : goal.write_before_xx-spot-requires-clause-there_p
-write_before_xx-spot-requires-clause-there_p c =
+pub write_before-spot-requires-clause-there_p : goal.write_before-spot-requires-clause-there_p
+write_before-spot-requires-clause-there_p c =
     record { plan = c.requires.spot.plan; standing = stands_inside c.requires.inside }
 
-pub push_down_join_xx-flag-requires-clause-join_under : goal.push_down_join_xx-flag-requires-clause-join_under
-push_down_join_xx-flag-requires-clause-join_under c =
+pub push_down_join-flag-requires-clause-join_under : goal.push_down_join-flag-requires-clause-join_under
+push_down_join-flag-requires-clause-join_under c =
     none_under (placed_inside c.requires.inside c.requires.is) c.empty.ensures
 
-pub push_down_join_xx-flag-requires-clause-arm : goal.push_down_join_xx-flag-requires-clause-arm
-push_down_join_xx-flag-requires-clause-arm c =
+pub push_down_join-flag-requires-clause-arm : goal.push_down_join-flag-requires-clause-arm
+push_down_join-flag-requires-clause-arm c =
     let j = c.requires in
     let i = j.inside in
-    let b = c.write_before_xx-spot.ensures.before j.whole j.spot i.root i.there (stands_inside i) in
+    let b = c.write_before-spot.ensures.before j.whole j.spot i.root i.there (stands_inside i) in
     omega (arith, level_small i b.level)
 
 pub finish-requires-clause-replaced : goal.finish-requires-clause-replaced
@@ -38,9 +38,9 @@ finish-requires-clause-replaced c =
       replaces = record {
         inside = i;
         before = _;
-        long = c.write_before_xx-spot.new.out.long;
-        begun = c.write_before_xx-spot.ensures.before j.whole j.spot i.root i.there (stands_inside i);
-        answers = rw c.write_before_xx-spot.ensures.next at (c.push_down_join_xx-flag.ensures.answers j.kind j.lhs j.rhs j.keys j.condition []
+        long = c.write_before-spot.new.out.long;
+        begun = c.write_before-spot.ensures.before j.whole j.spot i.root i.there (stands_inside i);
+        answers = rw c.write_before-spot.ensures.next at (c.push_down_join-flag.ensures.answers j.kind j.lhs j.rhs j.keys j.condition []
             (placed_inside i j.is) (reads_none c.empty.ensures) anil);
       };
     }
@@ -53,9 +53,9 @@ returns-clause-outcomes c =
     (record {
       inside = h;
       before = _;
-      long = c.write_before_xx-spot.new.out.long;
-      begun = c.write_before_xx-spot.ensures.before w f h.root h.there (stands_inside h);
-      answers = rw c.write_before_xx-spot.ensures.next at (c.push_down_join_xx-flag.ensures.answers a.kind a.lhs a.rhs a.keys a.condition []
+      long = c.write_before-spot.new.out.long;
+      begun = c.write_before-spot.ensures.before w f h.root h.there (stands_inside h);
+      answers = rw c.write_before-spot.ensures.next at (c.push_down_join-flag.ensures.answers a.kind a.lhs a.rhs a.keys a.condition []
           (placed_inside h a.is) (reads_none c.empty.ensures) anil);
     })) in
     search (rules, outcomes_as)

@@ -9,8 +9,8 @@ use Rattle.push_down_stays.proofs.Nodes.{the_filter, placed_inside}
 use Rattle.push_down_stays.proofs.Stayings.{kept_as, may_stay_other, filter_goes, filter_moves, filter_simple, rests_elsewhere, rests_written}
 use Rattle.push_down_stays.proofs.stays.filter_stays.Goals as goal
 
-pub filter_input_xx-input-requires : goal.filter_input_xx-input-requires
-filter_input_xx-input-requires c =
+pub filter_input-input-requires : goal.filter_input-input-requires
+filter_input-input-requires c =
     let p = c.requires in
     record { here = record { expr = p.expr; plan = p.plan; standing = (placed_inside p.inside p.is).standing }; short = p.inside.short }
 
@@ -18,13 +18,13 @@ pub returns-then-not-may_stay : goal.returns-then-not-may_stay
 returns-then-not-may_stay c =
     λ w f h. let a = the_filter c.requires h in
     let at = placed_inside h a.is in
-    let st = c.filter_input_xx-input.ensures.input a.expr a.plan at.standing in
-    let same = c.filter_input_xx-input.ensures.same in
-    let m = c.may_stay.ensures ∙ ap (λ (t : Tree). may_stay t.label) (plan_is c.filter_input_xx-input.result (elsewhere same st.standing)) in
+    let st = c.filter_input-input.ensures.input a.expr a.plan at.standing in
+    let same = c.filter_input-input.ensures.same in
+    let m = c.may_stay.ensures ∙ ap (λ (t : Tree). may_stay t.label) (plan_is c.filter_input-input.result (elsewhere same st.standing)) in
     rw a.is (filter_goes a.expr a.plan (sym m ∙ c.if-not-may_stay.true))
 
-pub predicate_at_xx-p-requires : goal.predicate_at_xx-p-requires
-predicate_at_xx-p-requires c =
+pub predicate_at-p-requires : goal.predicate_at-p-requires
+predicate_at-p-requires c =
     let p = c.requires in
     record { here = record { expr = p.expr; plan = p.plan; standing = (placed_inside p.inside p.is).standing }; short = p.inside.short }
 
@@ -32,10 +32,10 @@ pub over_stays-requires : goal.over_stays-requires
 over_stays-requires c =
     let p = c.requires in
     let at = placed_inside p.inside p.is in
-    let st = c.filter_input_xx-input.ensures.input p.expr p.plan at.standing in
-    let same = c.filter_input_xx-input.ensures.same in
-    let m = c.may_stay.ensures ∙ ap (λ (t : Tree). may_stay t.label) (plan_is c.filter_input_xx-input.result (elsewhere same st.standing)) in
-    let k = c.predicate_at_xx-p.ensures p.expr p.plan at.standing (own_few _ _ at.lists) in record {
+    let st = c.filter_input-input.ensures.input p.expr p.plan at.standing in
+    let same = c.filter_input-input.ensures.same in
+    let m = c.may_stay.ensures ∙ ap (λ (t : Tree). may_stay t.label) (plan_is c.filter_input-input.result (elsewhere same st.standing)) in
+    let k = c.predicate_at-p.ensures p.expr p.plan at.standing (own_few _ _ at.lists) in record {
       expr = p.expr;
       plan = p.plan;
       rests = rests_elsewhere same (rests_written p.expr p.plan at k st.standing);
@@ -46,16 +46,16 @@ pub is_simple-requires : goal.is_simple-requires
 is_simple-requires c =
     let p = c.requires in
     let at = placed_inside p.inside p.is in
-    (record { expr = p.expr; shaped = c.predicate_at_xx-p.ensures p.expr p.plan at.standing (own_few _ _ at.lists) }, p.inside.short)
+    (record { expr = p.expr; shaped = c.predicate_at-p.ensures p.expr p.plan at.standing (own_few _ _ at.lists) }, p.inside.short)
 
 pub returns-then-over_stays : goal.returns-then-over_stays
 returns-then-over_stays c =
     λ w f h. let a = the_filter c.requires h in
     let at = placed_inside h a.is in
-    let st = c.filter_input_xx-input.ensures.input a.expr a.plan at.standing in
-    let same = c.filter_input_xx-input.ensures.same in
-    let m = c.may_stay.ensures ∙ ap (λ (t : Tree). may_stay t.label) (plan_is c.filter_input_xx-input.result (elsewhere same st.standing)) in
-    let k = c.predicate_at_xx-p.ensures a.expr a.plan at.standing (own_few _ _ at.lists) in
+    let st = c.filter_input-input.ensures.input a.expr a.plan at.standing in
+    let same = c.filter_input-input.ensures.same in
+    let m = c.may_stay.ensures ∙ ap (λ (t : Tree). may_stay t.label) (plan_is c.filter_input-input.result (elsewhere same st.standing)) in
+    let k = c.predicate_at-p.ensures a.expr a.plan at.standing (own_few _ _ at.lists) in
     let o = may_stay_other a.plan (sym m ∙ c.if-not-may_stay.false) in
     let r = rests_elsewhere same (rests_written a.expr a.plan at k st.standing) in
     rw a.is (filter_simple a.expr a.plan o (kept_as c.if-over_stays.true (c.over_stays.ensures a.expr a.plan r o))
@@ -65,10 +65,10 @@ pub returns : goal.returns
 returns c =
     λ w f h. let a = the_filter c.requires h in
     let at = placed_inside h a.is in
-    let st = c.filter_input_xx-input.ensures.input a.expr a.plan at.standing in
-    let same = c.filter_input_xx-input.ensures.same in
-    let m = c.may_stay.ensures ∙ ap (λ (t : Tree). may_stay t.label) (plan_is c.filter_input_xx-input.result (elsewhere same st.standing)) in
-    let k = c.predicate_at_xx-p.ensures a.expr a.plan at.standing (own_few _ _ at.lists) in
+    let st = c.filter_input-input.ensures.input a.expr a.plan at.standing in
+    let same = c.filter_input-input.ensures.same in
+    let m = c.may_stay.ensures ∙ ap (λ (t : Tree). may_stay t.label) (plan_is c.filter_input-input.result (elsewhere same st.standing)) in
+    let k = c.predicate_at-p.ensures a.expr a.plan at.standing (own_few _ _ at.lists) in
     let o = may_stay_other a.plan (sym m ∙ c.if-not-may_stay.false) in
     let r = rests_elsewhere same (rests_written a.expr a.plan at k st.standing) in
     rw a.is (filter_moves a.expr a.plan o (kept_as c.if-over_stays.false (c.over_stays.ensures a.expr a.plan r o)))

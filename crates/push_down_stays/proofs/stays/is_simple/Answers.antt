@@ -30,7 +30,7 @@ returns-then-same_items c =
     (sym c.is_gone.ensures ∙ c.if-is_gone.false) in
     let s = c.same_items.ensures (split_conjunction g.expr) (split_conjunction e) g.shaped.listed h.listed in
     simple_joined h g.is g.shaped (sym c.is_some.ensures ∙ c.if-is_some.false) (s.yes c.if-same_items.true)
-    (c.is_left_deep.ensures e h)
+    (c.joined_left_deep.ensures e h)
 
 pub returns : goal.returns
 returns c =

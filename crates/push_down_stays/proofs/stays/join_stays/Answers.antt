@@ -9,7 +9,7 @@ use Rattle.push_down_stays.proofs.stays.join_stays.Goals as goal
 
 pub returns-then-g-eq0 : goal.returns-then-g-eq0
 returns-then-g-eq0 c =
-    λ k l r on f h. let g = c.own_filter_xx-g.ensures k l r on f h in
+    λ k l r on f h. let g = c.own_filter-g.ensures k l r on f h in
     bare_join_kept k l r on f (lists_length g.lists g.most ∙ c.if-g-eq0.true)
 
 pub nothing_moves-requires : goal.nothing_moves-requires
@@ -24,14 +24,14 @@ nothing_moves-requires c =
       above = [];
       reads = reads_none c.empty.ensures;
       own = split_conjunction? p.condition;
-      reads_own = c.own_filter_xx-g.ensures p.kind p.lhs p.rhs p.keys p.condition p.placed;
+      reads_own = c.own_filter-g.ensures p.kind p.lhs p.rhs p.keys p.condition p.placed;
     }
 
 pub returns-then-own_left_deep : goal.returns-then-own_left_deep
 returns-then-own_left_deep c =
     λ k l r on f h. join_kept k l r on f (says_as c.if-own_left_deep.true (c.own_left_deep.ensures k l r on f h))
     (c.nothing_moves.ensures k l r on f [] (split_conjunction? f) h (reads_none c.empty.ensures)
-    (c.own_filter_xx-g.ensures k l r on f h))
+    (c.own_filter-g.ensures k l r on f h))
 
 pub returns : goal.returns
 returns c =

@@ -4,13 +4,13 @@ use Rattle.push_down_join.proofs.JoinsUnder.{over_reads}
 use Rattle.push_down_stays.proofs.Stayings.{says_as, over_join_kept, over_join_shallow, above_join_shallow}
 use Rattle.push_down_stays.proofs.stays.over_join_stays.Goals as goal
 
-pub returns-then-not-is_left_deep : goal.returns-then-not-is_left_deep
-returns-then-not-is_left_deep c =
+pub returns-then-not-joined_left_deep : goal.returns-then-not-joined_left_deep
+returns-then-not-joined_left_deep c =
     λ e k l r on f h. above_join_shallow k l r on f e
-    (says_as (c.if-not-is_left_deep.true) (c.is_left_deep.ensures e h.shaped))
+    (says_as (c.if-not-joined_left_deep.true) (c.joined_left_deep.ensures e h.shaped))
 
-pub is_left_deep-requires : goal.is_left_deep-requires
-is_left_deep-requires c =
+pub joined_left_deep-requires : goal.joined_left_deep-requires
+joined_left_deep-requires c =
     let r = c.requires.rests in (record { expr = _; shaped = r.shaped }, r.placed.short)
 
 pub nothing_moves-requires : goal.nothing_moves-requires
@@ -26,16 +26,16 @@ nothing_moves-requires c =
       above = split_conjunction p.expr;
       reads = over_reads h;
       own = split_conjunction? p.condition;
-      reads_own = c.own_filter_xx.ensures p.kind p.lhs p.rhs p.keys p.condition h.placed;
+      reads_own = c.own_filter.ensures p.kind p.lhs p.rhs p.keys p.condition h.placed;
     }
 
 pub returns-then-own_left_deep : goal.returns-then-own_left_deep
 returns-then-own_left_deep c =
     λ e k l r on f h. over_join_kept k l r on f e (says_as c.if-own_left_deep.true
     (c.own_left_deep.ensures k l r on f h.placed))
-    (says_as (c.if-not-is_left_deep.false) (c.is_left_deep.ensures e h.shaped))
+    (says_as (c.if-not-joined_left_deep.false) (c.joined_left_deep.ensures e h.shaped))
     (c.nothing_moves.ensures k l r on f (split_conjunction e) (split_conjunction? f) h.placed (over_reads h)
-    (c.own_filter_xx.ensures k l r on f h.placed))
+    (c.own_filter.ensures k l r on f h.placed))
 
 pub returns : goal.returns
 returns c =

@@ -7,5 +7,5 @@ use Rattle.push_down_stays.proofs.stays.over_projection_stays.Goals as goal
 
 pub returns : goal.returns
 returns c =
-    λ e es q h. let d = c.divide_xx-d.ensures e (project es q) h in
+    λ e es q h. let d = c.divide-d.ensures e (project es q) h in
     project_kept? e es q (sym (lists_length d.moved d.moved_most))

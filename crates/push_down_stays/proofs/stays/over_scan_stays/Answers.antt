@@ -7,5 +7,5 @@ use Rattle.push_down_stays.proofs.stays.over_scan_stays.Goals as goal
 
 pub returns : goal.returns
 returns c =
-    λ e t fs es h. let z = c.share_of_xx-share.ensures e t fs es h in
+    λ e t fs es h. let z = c.share_of-share.ensures e t fs es h in
     scan_kept? h (sym (lists_length z.takes (known_of z.takes (taken_few h)).most))

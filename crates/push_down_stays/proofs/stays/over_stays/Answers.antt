@@ -76,4 +76,4 @@ returns-in-Plan-SubqueryAlias c =
     λ e q h o. let y = kind_of c.args.plan c.kind.ensures h.placed.standing in
     let t : decided c.what_of.result ≡ true = search rules in
     through_kept e q o y c.what_of.ensures t
-    (c.takes_none_xx.ensures ∙ ap (λ (t : Tree). takes_none t.label) (plan_is c.args.plan h.placed.standing))
+    (c.takes_none.ensures ∙ ap (λ (t : Tree). takes_none t.label) (plan_is c.args.plan h.placed.standing))

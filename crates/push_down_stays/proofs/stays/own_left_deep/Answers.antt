@@ -1,18 +1,18 @@
 -- `stays::own_left_deep` meets its contract.
-use Rattle.push_down_join.proofs.JoinParts.{own_there_xx}
+use Rattle.push_down_join.proofs.JoinParts.{own_there}
 use Rattle.push_down_stays.proofs.Stayings.{own_deep, own_bare}
 use Rattle.push_down_stays.proofs.stays.own_left_deep.Goals as goal
 
 pub returns-in-None : goal.returns-in-None
 returns-in-None c =
-    λ k l r on f h. own_bare (rw c.in-None.is at c.filter_of_xx.ensures k l r on f h)
+    λ k l r on f h. own_bare (rw c.in-None.is at c.filter_of.ensures k l r on f h)
 
-pub is_left_deep_xx-requires : goal.is_left_deep_xx-requires
-is_left_deep_xx-requires c =
+pub is_left_deep-requires : goal.is_left_deep-requires
+is_left_deep-requires c =
     let p = c.requires.placed in
-    let t = own_there_xx (rw c.in-Some.is at c.filter_of_xx.ensures _ _ _ _ _ p) p.short in
+    let t = own_there (rw c.in-Some.is at c.filter_of.ensures _ _ _ _ _ p) p.short in
     record { there = t.0; image_bound = t.2 }
 
 pub returns-in-Some : goal.returns-in-Some
 returns-in-Some c =
-    λ k l r on f h. own_deep (rw c.in-Some.is at c.filter_of_xx.ensures k l r on f h) c.is_left_deep_xx.ensures
+    λ k l r on f h. own_deep (rw c.in-Some.is at c.filter_of.ensures k l r on f h) c.is_left_deep.ensures

@@ -1,7 +1,0 @@
--- `split_conjunction::is_left_deep_xx` meets its contract. The measure is the number of records.
-use Rattle.image.specs.Tree.{size}
-use Rattle.image.specs.Subtrees.{tree_of}
-use Rattle.conjuncts.proofs.split_conjunction.+is_left_deep_xx.Given as goal
-
-abbrev pub decreases-is_left_deep_xx : goal.decreases-is_left_deep_xx
-decreases-is_left_deep_xx l = size (tree_of l.tree).below

@@ -1,0 +1,17 @@
+-- `conjunction::copy_plain` meets its contract.
+use Rattle.conjuncts.proofs.Standing.{tree_found}
+use Rattle.writing.proofs.Maps.{deep_low, found_deep}
+use Rattle.writing.proofs.Written.{wrote_false}
+use Rattle.writing.proofs.conjunction.copy_plain.Goals as goal
+
+pub copy_tree-requires : goal.copy_tree-requires
+copy_tree-requires c =
+    let p = c.requires.present in deep_low _ c.requires.shallow (found_deep (c.in-Some.ensures p.expr p.item))
+
+pub returns-in-Some-clause-wrote : goal.returns-in-Some-clause-wrote
+returns-in-Some-clause-wrote c =
+    λ e h. rw (tree_found (c.in-Some.ensures e h)) at c.copy_tree.ensures.wrote
+
+pub returns-in-None-clause-wrote : goal.returns-in-None-clause-wrote
+returns-in-None-clause-wrote c =
+    λ e h. rw (c.in-None.ensures e h) (wrote_false c.args.out.now.long c.put_kind.ensures.put)

@@ -1,0 +1,43 @@
+use mathlib.Core.Path.{ap, ◌∙◌}
+use native.Mathlib.Omega.{arith}
+use Rattle.image.specs.Tree.{size}
+use Rattle.image.specs.Subtrees.{tree_of}
+use Rattle.image.proofs.Room.{left_next, left_end, wrote_past}
+use Rattle.image.proofs.Subtrees.{goes, gone}
+use Rattle.writing.specs.Replaced.{replaced}
+use Rattle.writing.proofs.Entries.{replaced_found, replaced_below, low_found, over_below, over_after}
+use Rattle.writing.proofs.replace_cols_by_name.+replace_cols_by_name.Goals as goal
+
+pub returns-then-out-ge-MAX_RECORDS-clause-wrote : goal.returns-then-out-ge-MAX_RECORDS-clause-wrote
+returns-then-out-ge-MAX_RECORDS-clause-wrote t c = wrote_past _ _ _ _ c.args.out.now.long c.if-out-ge-MAX_RECORDS.true
+
+pub copy_tree-requires : goal.copy_tree-requires
+copy_tree-requires t c = low_found (tree_of c.args.map) (tree_of c.args.tree).label _ c.requires c.in-Some.ensures
+
+pub returns-in-Some-clause-wrote : goal.returns-in-Some-clause-wrote
+returns-in-Some-clause-wrote t c =
+    rw (replaced_found (tree_of c.args.map) (tree_of c.args.tree) c.in-Some.ensures) at c.copy_tree.ensures.wrote
+
+pub replace_cols_by_name-requires : goal.replace_cols_by_name-requires
+replace_cols_by_name-requires t c =
+    let g = goes c.loop-child.child-iterator c.next.new.self c.in-Some-child.child c.in-Some-child.ensures.steps in
+    let k = c.loop-child.invariant in
+    (omega (arith, ap size g.is, k.3, c.decreases), over_below g.is k.2)
+
+pub loop-child-preserved : goal.loop-child-preserved
+loop-child-preserved t c =
+    let g = goes c.loop-child.child-iterator c.next.new.self c.in-Some-child.child c.in-Some-child.ensures.steps in
+    let k = c.loop-child.invariant in
+    let w = c.replace_cols_by_name.ensures in (
+      w.same ∙ k.0,
+      left_next (replaced (tree_of c.args.map) (tree_of c.in-Some-child.child)) (rw g.is at k.1) w.wrote,
+      over_after g.is k.2,
+      omega (arith, ap size g.is, k.3),
+    )
+
+pub returns-clause-wrote : goal.returns-clause-wrote
+returns-clause-wrote t c =
+    let k = c.loop-child.invariant in
+    let all = rw (gone c.loop-child.child-iterator c.in-None.ensures.steps.0) at k.1 in
+    rw (replaced_below (tree_of c.args.map) (tree_of c.args.tree) c.in_default.ensures)
+    (rw c.label.ensures.label at (left_end c.args.out.now.long c.put.ensures.put all))
