@@ -1,8 +1,8 @@
 -- A tree of entries as a map from names to expressions.
-use Rattle.std.specs.Prelude.{◌≡◌, List, ℕ, ◌+◌, ◌-◌, ◌<◌}
+use Rattle.std.specs.Prelude.{◌≡◌, ℕ, ◌+◌, ◌-◌, ◌<◌}
 use Rattle.image.specs.Limits.{Shallow}
 use Rattle.image.specs.Subtrees.{tree_of}
-use Rattle.image.specs.Tree.{Tree, At, Deep}
+use Rattle.image.specs.Tree.{Deep}
 use Rattle.image.specs.declared.trees.Subtree.{Subtree}
 use Rattle.plan.specs.Syntax.{Name, Expr, col}
 use Rattle.plan.specs.Syntax.{Plan, scan, filter, project, join, alias, union, distinct, sort, repartition, limit, aggregate, window}
@@ -10,14 +10,6 @@ use Rattle.plan.specs.Trees.{expr_tree}
 use Rattle.rewrite.specs.Utils.{replace_cols}
 use Rattle.rewrite.specs.PushDownFilter.{pick}
 use Rattle.writing.specs.Replaced.{replaced}
-
--- at record `of`, with which m begins, there stands a tree no deeper than `room`, and its entries replace columns as σ does
-pub record Maps (m : List ℕ) (of room : ℕ) (σ : Name → Expr) : Type 0 where
-  pub tree : Tree
-  pub at : At tree m of
-  pub some : 0 < room
-  pub deep : Deep tree.below (room - 1)
-  pub is : (e : Expr) → replaced tree (expr_tree e) ≡ expr_tree (replace_cols σ e)
 
 -- the map's entries replace columns as σ does
 pub record MapsTo (map : Subtree) (σ : Name → Expr) : Type 0 where

@@ -62,17 +62,17 @@ pub fn copy_item(s: &[u8], map: Subtree, n: usize, out: &mut Writer, level: usiz
 }
 
 // Writes the first k items of a list, joined left-deep.
-fn copy_first(s: &[u8], map: Subtree, c: Conjuncts, k: usize, out: &mut Writer, level: usize)
-    requires some { Some s.now c }
-    requires k_nonzero { (0 < k) × (k ≤ c.len) }
+fn copy_first(s: &[u8], map: Subtree, c: &Conjuncts, k: usize, out: &mut Writer, level: usize)
+    requires some { Some s.now c.now }
+    requires k_nonzero { (0 < k) × (k ≤ c.now.len) }
     requires over { Over 1 (level + k) map }
     ensures same { out.new.bytes.ghost_name ≡ out.old.bytes.ghost_name }
     ensures wrote { (σ : Name → Expr) → MapsTo map.entry σ → (e : Expr) (es : List Expr) →
-        Pushes s.now σ c (e ∷ es) →
+        Pushes s.now σ c.now (e ∷ es) →
         Wrote out.old.bytes.now out.new.bytes.now out.old.next level out.new.next (expr_tree (conjoin e (take (k - 1) es))) }
 {
     let last = k - 1;
-    let item = item_at(c, last);
+    let item = item_at(*c, last);
     if last == 0 {
         copy_item(s, map, item, out, level);
         return;
@@ -92,8 +92,7 @@ pub fn copy_joined(s: &[u8], map: Subtree, c: Conjuncts, out: &mut Writer, level
         Pushes s.now σ c (e ∷ es) →
         Wrote out.old.bytes.now out.new.bytes.now out.old.next level out.new.next (expr_tree (conjoin e es)) }
 {
-    let n = c.len;
-    copy_first(s, map, c, n, out, level);
+    copy_first(s, map, &c, c.len, out, level);
 }
 
 // Writes a predicate: the item `written` as it is, or where there is none the items of a list, joined left-deep.

@@ -6,8 +6,12 @@ use mathlib.Core.List.{◌∷◌}
 use Rattle.conjuncts.specs.Items.{FALSE}
 use Rattle.writing.proofs.Maps.{over_at}
 use Rattle.writing.proofs.Written.{wrote_and}
-use Rattle.writing.proofs.Pushing.{pushes_length, pushes_at, one_of, conjoin_one, conjoin_more}
+use Rattle.writing.proofs.Pushing.{pushes_length, pushes_room, pushes_at, one_of, conjoin_one, conjoin_more}
 use Rattle.writing.proofs.conjunction.+copy_first.Goals as goal
+
+pub item_at-item-requires : goal.item_at-item-requires
+item_at-item-requires t c =
+    let p = c.requires.some in omega (arith, pushes_room p.pushes p.most, c.requires.k_nonzero)
 
 pub copy_item-requires-clause-one : goal.copy_item-requires-clause-one
 copy_item-requires-clause-one t c =
