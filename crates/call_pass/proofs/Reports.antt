@@ -19,7 +19,7 @@ use Rattle.std.specs.Prelude.{Result, Ok, Err, is_err}
 use Rattle.image.specs.Refusals.{number_of}
 use Rattle.image.specs.declared.refusals.Refusal.{Refusal}
 use Rattle.rewrite.specs.OnBytes.{Passed, plan_in, is_accepted, zeros, filled, no_pass, reported, pass_bytes}
-use Rattle.rewrite.specs.Pass.{PassAnswer, pass_refused, pass, pass_with_room, pass_call}
+use Rattle.rewrite.specs.Pass.{PassAnswer, pass, pass_with_room, pass_call}
 use Rattle.push_down_merge.proofs.Root.{image_short}
 use Rattle.push_down_merge.specs.Found.{Whole}
 use Rattle.push_down_rewrite.specs.Outcomes.{Image}
@@ -58,9 +58,6 @@ module _ {s : List ℕ} {w : Walk} {x : PassAnswer} (h : Left s w x) where
 
   pub left_few : length s ≡ work_bytes → w.records ≤ max_records
   left_few long = omega (arith, left_room)
-
-  pub left_copied : {t : List ℕ} → take (32 * w.records) t ≡ take (32 * w.records) s → Left t w x
-  left_copied e = record { plan = h.plan; image = image_copied e h.image; is = h.is }
 
   pub left_front : (t : List ℕ) → Left (s ++ t) w x
   left_front t = record { plan = h.plan; image = image_front t h.image; is = h.is }

@@ -120,9 +120,6 @@ bit_small true = omega arith
 bit_small false = omega arith
 
 module _ {w : Walk} (k : Counted w) where
-  pub raised_small : (flag : Bool) → w.changed + bit_of flag ≤ 18446744073709551615
-  raised_small flag = omega (arith, bit_small flag)
-
   pub continued : {s : List ℕ} {flag : Bool} {r : Walk} {q : Plan} → WellFormed q → Image s r.records q → Next q (w.next + 1) r.next
       → r.left ≡ w.left - 1 → r.visits ≡ w.visits + 1 → r.changed ≡ w.changed + bit_of flag
       → Continues s w flag r q

@@ -1,5 +1,5 @@
 -- Where a pass stands, in the code's numbers, and what it comes to from there.
-use Rattle.std.specs.Prelude.{◌≡◌, Bool, List, ℕ, suc, ◌+◌, ◌-◌, ◌≤◌, ◌<◌, leb, length, Result, Ok, MatchResult}
+use Rattle.std.specs.Prelude.{◌≡◌, Bool, List, ℕ, suc, ◌+◌, ◌-◌, ◌≤◌, ◌<◌, leb, Result, Ok, MatchResult}
 use Rattle.std.proofs.Math.Option.{Option, none, some}
 use Rattle.image.specs.Limits.{max_records}
 use Rattle.image.specs.declared.refusals.Refusal.{Refusal}

@@ -2,20 +2,15 @@
 use Prim.Native.Nat.{ℕ, ◌*◌, ◌≤◌}
 use mathlib.Core.Path.{◌≡◌, ◌∙◌}
 use mathlib.Core.List.{List, ◌++◌}
-use lib.ListN.{length, take, drop}
-use lib.Seq.{take-append-le, length-take-le, length_front}
+use lib.ListN.{length, take}
+use lib.Seq.{take-append-le, length-take-le}
 use Rattle.plan.specs.Syntax.{Plan}
-use Rattle.rewrite.specs.OnBytes.{zeros}
 use Rattle.push_down_rewrite.specs.Outcomes.{Image}
 use Rattle.push_down_rewrite.proofs.Images.{image_room}
 
 module _ (k : ℕ) (out a : List ℕ) (e : length a ≡ length (take k out)) where
   pub front_long : k ≤ length out → length a ≡ k
   front_long le = e ∙ length-take-le k out le
-
-  -- all of it is cleared
-  pub front_cleared : {last : List ℕ} → last ≡ zeros (length (a ++ drop k out)) → last ≡ zeros (length out)
-  front_cleared h = h ∙ rw (length_front out a k e)
 
 -- an image is one with anything behind it
 pub image_front : {a : List ℕ} (t : List ℕ) {records : ℕ} {q : Plan} → Image a records q → Image (a ++ t) records q

@@ -1,12 +1,10 @@
 -- The match on a Filter's input: which arm is asked, and what it answers.
-use Prim.Native.Nat.{ℕ, ◌*◌}
+use Prim.Native.Nat.{ℕ}
 use mathlib.Core.Path.{◌≡◌, sym, ap, ◌∙◌}
 use mathlib.Core.List.{List}
 use mathlib.Core.Option.{Option}
-use lib.ListN.{drop}
 use Rattle.image.specs.Subtrees.{tree_of}
 use Rattle.image.specs.Tree.{Tree}
-use Rattle.image.specs.Word.{word}
 use Rattle.image.specs.declared.trees.Subtree.{Subtree}
 use Rattle.plan.specs.Kinds.{What, PlanKind, plan, what_of, number_p}
 use Rattle.plan.specs.Syntax.{Expr, Field, Entry, AggEntry, WinEntry, Kind, Pair, Plan, Plans}
@@ -22,13 +20,9 @@ use Rattle.push_down_arms.specs.Scans.{OverScan}
 use Rattle.push_down_join.specs.JoinPlans.{OverJoin}
 use Rattle.push_down_base.specs.Arms.{Rests, Written, Answers, OverAlias, OverUnion}
 use Rattle.push_down_merge.specs.Found.{OnInput}
-use Rattle.push_down_stays.proofs.KindOf.{kind_there, when_scan, when_project, when_join, when_alias, when_union, when_aggregate, when_window}
+use Rattle.push_down_stays.proofs.KindOf.{when_scan, when_project, when_join, when_alias, when_union, when_aggregate, when_window}
 
--- the number that is read at a record
-pub read_kind : {s part : List ℕ} {x k : ℕ} {q : Plan} → part ≡ drop (32 * x) s → k ≡ word part 0 → StandingP s x q → k ≡ (label_p q).kind
-read_kind e f h = f ∙ ap (λ t. word t 0) e ∙ kind_there h
-
--- .. of a tree
+-- the number that is read of a tree
 pub kind_of : (x : Subtree) {k : ℕ} {q : Plan} → k ≡ (tree_of x).label.kind → StandingP x.image.now x.number q → k ≡ (label_p q).kind
 kind_of x e h = e ∙ ap (λ (t : Tree). t.label.kind) (plan_is x h)
 
