@@ -27,9 +27,9 @@ module _ (n : ℕ) (s : List ℕ) (i : ℕ) (h : Passed n s i) where
       h.same ∙ rw (e, drop-drop, d)
 
   -- what was looked at in record i
-  module _ (part : List ℕ) (l : Label) (e : part ≡ drop (32 * (i - 0)) s) (g : l ≡ label_at part) where
+  module _ (part : List ℕ) (l : Label) (e : part ≡ drop (32 * i) s) (g : l ≡ label_at part) where
     words_here : words_ok l ≡ words_ok (label_at (drop (32 * i) s))
-    words_here = let z : i - 0 ≡ i = omega arith in rw (g, e, z)
+    words_here = rw (g, e)
 
     pub bad_here : i < n → words_ok l ≡ false → bad_words n s 0 ≡ Some i
     unfolding or_else unless
