@@ -1,12 +1,11 @@
 -- The first two children of a tree.
---     two_are       which trees they are
---     size_first, size_second   they are smaller
+--     two_are                   which trees they are
 --     low_first, low_second     where they may be written
 -- Assumes nothing.
 use mathlib.Core.Path.{◌≡◌, sym, ap, ◌∙◌}
-use Prim.Native.Nat.{ℕ, ◌+◌, ◌-◌, ◌<◌}
+use Prim.Native.Nat.{ℕ, ◌+◌, ◌-◌}
 use native.Mathlib.Omega.{arith}
-use Rattle.image.specs.Tree.{Label, Forest, node, Tree, size}
+use Rattle.image.specs.Tree.{Label, Forest, node, Tree}
 use Rattle.image.specs.Room.{Low}
 use Rattle.image.specs.Subtrees.{tree_of}
 use Rattle.image.specs.declared.trees.Subtree.{Subtree}
@@ -21,12 +20,6 @@ module _ {t a b : Subtree} (w : Two t a b) where
         ap (λ (x : Label × Forest). record { label = x.0; below = x.1 }) (cc both),
         ap (λ (x : Label × Forest). record { label = x.0; below = x.1 }) (cc both),
       )
-
-  pub size_first : size (tree_of a).below < size (tree_of t).below
-  size_first = omega (arith, ap size w.is)
-
-  pub size_second : size (tree_of b).below < size (tree_of t).below
-  size_second = omega (arith, ap size w.is)
 
   module _ {level : ℕ} (h : Low level (tree_of t).below) where
     pub low_first : Low (level + 1) (tree_of a).below
