@@ -19,19 +19,9 @@ use Rattle.image.specs.Flat.{size_t}
 use Rattle.image.specs.Subtrees.{tree_of}
 use Rattle.image.specs.declared.trees.Subtree.{Subtree}
 use Rattle.conjuncts.specs.Equality.{same, same_label}
-use Rattle.by_word.specs.Equality.{counted, same_link, alike}
+use Rattle.by_word.specs.Equality.{counted, same_link, alike, agreeing, agree}
 use Rattle.conjuncts.proofs.Equals.{and_both, is_same, label_is, label_same, same_is}
 use Rattle.plan.proofs.Bools.{same_truth}
-
--- k records from the start of s and of v on agree in all words
-unfoldable pub agreeing : ℕ → ℕ → List ℕ → ℕ → List ℕ → Bool
-agreeing zero n s m v = true
-agreeing (suc k) n s m v = (alike n s m v && same_link 28 n s m v) && agreeing k n (drop 32 s) m (drop 32 v)
-
--- two predicates agree: that of k records from the start of s on, whose top is record n, and that of j records from the start of v on, whose
--- top is record m; the next of a top, which leads out of its predicate, is not compared
-unfoldable pub agree : ℕ → ℕ → List ℕ → ℕ → ℕ → List ℕ → Bool
-agree k n s j m v = eqb k j && (alike n s m v && agreeing (k - 1) n (drop 32 s) m (drop 32 v))
 
 pub counted_is : (top link : ℕ) → counted top link ≡ link - top
 counted_is top link = go (eqb link 0) refl
@@ -176,7 +166,7 @@ agree_only {t} {u} {s} {v} {n} {m} h k a =
 -- ---- two trees of an image
 
 module _ (a b : Subtree) where
-  same_agree : same (tree_of a) (tree_of b)
+  pub same_agree : same (tree_of a) (tree_of b)
       ≡ agree (size_t (tree_of a)) a.number (drop (32 * a.number) a.image.now) (size_t (tree_of b)) b.number (drop (32 * b.number) b.image.now)
   same_agree =
       same_truth (same (tree_of a) (tree_of b)) _

@@ -4,7 +4,7 @@ ghost use Rattle.image.specs.Flat.{size_t};
 ghost use Rattle.image.specs.Limits.{work_bytes};
 ghost use Rattle.image.specs.Subtrees.{tree_of};
 ghost use Rattle.conjuncts.specs.Equality.{same};
-ghost use Rattle.by_word.specs.Equality.{alike, counted, same_link};
+ghost use Rattle.by_word.specs.Equality.{agree, alike, counted, same_link};
 
 use image::records::{FIRST_LINK, NEXT_LINK, label_at, record_at};
 use image::trees::Subtree;
@@ -56,7 +56,9 @@ fn alike(a: Subtree, b: Subtree, i: usize) -> bool
 pub fn agree(a: Subtree, b: Subtree) -> bool
     requires image_bound { length a.image.now ≤ work_bytes }
     requires image_bound_2 { length b.image.now ≤ work_bytes }
-    ensures { result ≡ same (tree_of a.entry) (tree_of b.entry) }
+    ensures { (result ≡ agree (size_t (tree_of a.entry)) a.entry.number (drop (32 * a.entry.number) a.entry.image.now)
+        (size_t (tree_of b.entry)) b.entry.number (drop (32 * b.entry.number) b.entry.image.now))
+        × (result ≡ same (tree_of a.entry) (tree_of b.entry)) }
 {
     let size = record_count(a);
     if record_count(b) != size {

@@ -1,17 +1,19 @@
 use mathlib.Core.Path.{◌≡◌, sym, ◌∙◌}
 use mathlib.Core.Bool.{true, false, ◌&&◌}
 use native.Mathlib.Omega.{arith}
-use Rattle.by_word.proofs.Agreeing.{agreeing_next, agreeing_end, same_many, same_tops}
+use Rattle.by_word.proofs.Agreeing.{agreeing_next, agreeing_end, same_agree, same_many, same_tops}
 use Rattle.by_word.proofs.equality.agree.Goals as goal
 
 pub returns-then-record_count-size : goal.returns-then-record_count-size
 returns-then-record_count-size c =
-    sym (same_many c.args.a c.args.b (λ e. c.if-record_count-size.true (c.record_count.ensures ∙ sym e ∙ sym c.record_count-size.ensures)))
+    let r = sym (same_many c.args.a c.args.b (λ e. c.if-record_count-size.true (c.record_count.ensures ∙ sym e ∙ sym c.record_count-size.ensures))) in
+    (r ∙ same_agree c.args.a c.args.b, r)
 
 pub returns-then-not-alike : goal.returns-then-not-alike
 returns-then-not-alike c =
     let n = sym c.record_count.ensures ∙ c.if-record_count-size.false ∙ c.record_count-size.ensures in
-    sym (same_tops c.args.a c.args.b n ∙ rw (sym c.alike.ensures ∙ c.if-not-alike.true))
+    let r = sym (same_tops c.args.a c.args.b n ∙ rw (sym c.alike.ensures ∙ c.if-not-alike.true)) in
+    (r ∙ same_agree c.args.a c.args.b, r)
 
 pub loop-i-init : goal.loop-i-init
 loop-i-init c =
@@ -24,7 +26,8 @@ loop-i-init c =
 pub returns-then-not-alike-same_link : goal.returns-then-not-alike-same_link
 returns-then-not-alike-same_link c =
     let no : (c.alike-in-loop-i.result && c.same_link.result) ≡ false = c.if-not-alike-same_link.true in
-    sym (c.loop-i.invariant.2 ∙ (agreeing_next _ _ _ _ _ _ c.loop-i-test.true ∙ rw (← c.alike-in-loop-i.ensures, ← c.same_link.ensures, no)))
+    let r = sym (c.loop-i.invariant.2 ∙ (agreeing_next _ _ _ _ _ _ c.loop-i-test.true ∙ rw (← c.alike-in-loop-i.ensures, ← c.same_link.ensures, no))) in
+    (r ∙ same_agree c.args.a c.args.b, r)
 
 pub loop-i-preserved : goal.loop-i-preserved
 loop-i-preserved c =
@@ -35,4 +38,4 @@ loop-i-preserved c =
     )
 
 pub returns : goal.returns
-returns c = sym (c.loop-i.invariant.2 ∙ agreeing_end _ _ _ _ _ _ c.loop-i-test.false)
+returns c = let r = sym (c.loop-i.invariant.2 ∙ agreeing_end _ _ _ _ _ _ c.loop-i-test.false) in (r ∙ same_agree c.args.a c.args.b, r)

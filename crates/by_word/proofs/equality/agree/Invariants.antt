@@ -2,7 +2,7 @@
 use Rattle.std.proofs.Common.{◌≡◌, ◌+◌, ◌-◌, ◌*◌, ◌≤◌, ◌<◌, drop}
 use Rattle.image.specs.Subtrees.{tree_of}
 use Rattle.conjuncts.specs.Equality.{same}
-use Rattle.by_word.proofs.Agreeing.{agreeing}
+use Rattle.by_word.specs.Equality.{agreeing}
 use Rattle.by_word.proofs.equality.agree.Given as goal
 
 abbrev pub invariant-loop-i : goal.invariant-loop-i
