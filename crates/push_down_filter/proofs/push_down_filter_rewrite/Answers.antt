@@ -59,8 +59,8 @@ module _ (n : ℕ) (l : n < 4294967296) where
 fits : (s : List ℕ) (n room : ℕ) {t : Rewritten} → t ≡ rewrite_bytes s n room → n < 4294967296 → Small t
 fits s n room i l = subst Small (sym i) (small n l s room)
 
-pub overflow_cast-result-in-Ok : goal.overflow_cast-result-in-Ok
-overflow_cast-result-in-Ok c =
+pub overflow_cast-result : goal.overflow_cast-result
+overflow_cast-result c =
     let h = fits _ _ _ c.in-Ok.ensures (search rules) in
     omega (arith, h.1)
 

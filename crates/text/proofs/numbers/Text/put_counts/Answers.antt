@@ -6,5 +6,5 @@ use Rattle.text.proofs.numbers.Text.put_counts.Goals as goal
 pub returns-clause-text : goal.returns-clause-text
 unfolding counts
 returns-clause-text c =
-    put_both c.put_name_and_number.ensures.text
-    (put_both c.put_name_and_number-2.ensures.text (put_both c.put_name_and_number-3.ensures.text c.put.ensures))
+    rw (← c.from.ensures) (put_both c.put_name_and_number.ensures.text
+    (put_both c.put_name_and_number-2.ensures.text (put_both c.put_name_and_number-3.ensures.text c.put.ensures)))

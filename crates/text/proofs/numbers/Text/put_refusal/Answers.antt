@@ -6,4 +6,4 @@ use Rattle.text.proofs.numbers.Text.put_refusal.Goals as goal
 pub returns-clause-text : goal.returns-clause-text
 unfolding refusal
 returns-clause-text c =
-    put_both c.put_name_and_number.ensures.text (put_both c.put_name_and_number-2.ensures.text c.put.ensures)
+    rw (← c.from.ensures, ← c.from-2.ensures) (put_both c.put_name_and_number.ensures.text (put_both c.put_name_and_number-2.ensures.text c.put.ensures))
