@@ -45,6 +45,8 @@ impl fmt::Display for TooLarge {
 impl Error for TooLarge {}
 
 // The predicate of the Filter `plan` as it is written, with its conjuncts.
+// Never inlined, like merge_fits: their lists would stand in the frame of every Filter of a stack.
+#[inline(never)]
 pub fn predicate_at(plan: Subtree) -> Predicate
     requires here { FilterAt plan.image.now plan.number }
     requires short { length plan.image.now ≤ work_bytes }
@@ -79,14 +81,14 @@ pub fn simplify_filter(s: &[u8], p: Predicate) -> Predicate
 }
 
 // The predicate of a Filter over a Filter: the child's conjuncts first, later equal ones dropped.
-pub fn merge(s: &[u8], upper: Predicate, lower: Conjuncts) -> Predicate
-    requires formed { Formed s.now upper }
-    requires known { Known s.now lower }
-    ensures { (e b m : Expr) → Shaped s.now upper e → Lists s.now lower (split_conjunction b) →
+pub fn merge(s: &[u8], upper: &Predicate, lower: &Conjuncts) -> Predicate
+    requires formed { Formed s.now upper.now }
+    requires known { Known s.now lower.now }
+    ensures { (e b m : Expr) → Shaped s.now upper.now e → Lists s.now lower.now (split_conjunction b) →
         conjunction (merged e b) ≡ some m → Made s.now result m }
 {
     let list = upper.list;
-    Predicate::joined(unique(s, lower, list))
+    Predicate::joined(unique(s, *lower, list))
 }
 
 // The input of the Filter `plan`: what follows its predicate, which is right behind it.
@@ -116,17 +118,18 @@ pub fn fits(out: &Writer) -> bool
 }
 
 // Test 11 on the plan after a merge: the whole, with the Filter p over `input` in the place of `plan`.
+#[inline(never)]
 pub fn merge_fits(
     plan: Subtree,
-    p: Predicate,
+    p: &Predicate,
     input: Subtree,
     scratch: &mut Scratch,
 ) -> Result<(), TooLarge>
     requires image { input.image.now ≡ plan.image.now }
-    requires mergeable { Mergeable plan.image.now plan.number p input.number }
+    requires mergeable { Mergeable plan.image.now plan.number p.now input.number }
     ensures same { SameSpace scratch.old scratch.new }
     ensures fits { (w : Plan) (c : Focus) → Inside plan.entry.image.now plan.entry.number w c → (e : Expr) (q : Plan) →
-        Made plan.entry.image.now p e → StandingP plan.entry.image.now input.entry.number q → list_p q ≤ max_list →
+        Made plan.entry.image.now p.now e → StandingP plan.entry.image.now input.entry.number q → list_p q ≤ max_list →
         is_ok result ≡ within_limits (c.back (filter e q)) }
 {
     let list = p.list;

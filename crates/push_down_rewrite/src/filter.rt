@@ -91,7 +91,7 @@ fn merge_filter(
 {
     let input = filter_input(child);
     let lower = predicate_at(child);
-    let merged = merge(plan.image, p, lower.list);
-    merge_fits(plan, merged, input, scratch)?;
+    let merged = merge(plan.image, &p, &lower.list);
+    merge_fits(plan, &merged, input, scratch)?;
     rewrite_filter(plan, merged, input, scratch)
 }
