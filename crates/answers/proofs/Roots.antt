@@ -7,8 +7,7 @@ use native.Mathlib.Omega.{arith}
 use lib.ListN.{drop}
 use Rattle.image.specs.Tree.{Tree, At}
 use Rattle.image.specs.Flat.{size_t}
-use Rattle.image.specs.Subtrees.{tree_of}
-use Rattle.image.specs.declared.trees.Subtree.{Subtree}
+use Rattle.image.specs.Subtrees.{Subtree, tree_of}
 use Rattle.image.proofs.Subtrees.{tree_is}
 
 -- x is the tree t at record n, and r is the record behind it

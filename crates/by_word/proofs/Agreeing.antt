@@ -16,8 +16,7 @@ use borrow.Author.Tests.{eqb-true, eq-eqb, ne_eqb}
 use Rattle.image.specs.Word.{word}
 use Rattle.image.specs.Tree.{Label, Forest, none, node, Tree, size, link, Stands, At}
 use Rattle.image.specs.Flat.{size_t}
-use Rattle.image.specs.Subtrees.{tree_of}
-use Rattle.image.specs.declared.trees.Subtree.{Subtree}
+use Rattle.image.specs.Subtrees.{Subtree, tree_of}
 use Rattle.conjuncts.specs.Equality.{same, same_label}
 use Rattle.by_word.specs.Equality.{counted, same_link, alike, agreeing, agree}
 use Rattle.conjuncts.proofs.Equals.{and_both, is_same, label_is, label_same, same_is}

@@ -17,8 +17,7 @@ use borrow.Author.Tests.{eqb-true, eqb-false, ne_eqb}
 use Rattle.image.specs.Limits.{max_list, too_many}
 use Rattle.image.specs.Tree.{Forest, none, node, size, link, label_at, Stands, At}
 use Rattle.image.specs.Word.{word}
-use Rattle.image.specs.Subtrees.{tree_of}
-use Rattle.image.specs.declared.trees.Subtree.{Subtree}
+use Rattle.image.specs.Subtrees.{Subtree, tree_of}
 use Rattle.image.specs.Flat.{size_t}
 use Rattle.plan.specs.Lists.{put}
 use Rattle.plan.specs.Syntax.{Expr}

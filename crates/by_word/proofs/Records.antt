@@ -4,8 +4,7 @@ use Prim.Native.Nat.{ℕ, ◌+◌, ◌*◌, ◌≤◌, ◌<◌}
 use native.Mathlib.Omega.{arith}
 use lib.ListN.{length, length-drop}
 use Rattle.image.specs.Flat.{size_t}
-use Rattle.image.specs.Subtrees.{tree_of}
-use Rattle.image.specs.declared.trees.Subtree.{Subtree}
+use Rattle.image.specs.Subtrees.{Subtree, tree_of}
 
 pub within : (x : Subtree) (i : ℕ) → i < size_t (tree_of x) → 32 * (x.number + i) + 32 ≤ length x.image.now
 within x i lt = omega (arith, x.stood.at.head.room, length-drop (32 * x.number) x.image.now)

@@ -18,7 +18,7 @@ use Rattle.image.specs.Lowest.{Found, or_else, unless, lowest, alone}
 use Rattle.image.specs.Places.{Stood}
 use Rattle.image.specs.Tree as T
 use Rattle.image.specs.Tree.{Label, Forest, node, Tree, At, Deep, size}
-use Rattle.image.specs.declared.trees.Subtree.{Subtree}
+use Rattle.image.specs.Subtrees.{Subtree}
 use Rattle.image.proofs.Subtrees.{tree_is}
 use Rattle.plan.specs.Integers.{FitsE}
 use Rattle.plan.specs.Kinds.{Filter, number_p, plan_w, what_of, among}

@@ -1,9 +1,8 @@
 -- Plans of an accepted image, and where they stand.
 use Rattle.std.specs.Prelude.{◌≡◌, true, List, ℕ, ◌*◌, length, Option, None, Some}
 use Rattle.image.specs.Limits.{max_below, record_bytes}
-use Rattle.image.specs.Subtrees.{tree_of}
+use Rattle.image.specs.Subtrees.{Subtree, tree_of}
 use Rattle.image.specs.Tree.{At, Deep}
-use Rattle.image.specs.declared.trees.Subtree.{Subtree}
 use Rattle.plan.specs.Integers.{FitsP}
 use Rattle.plan.specs.Measure.{size_p}
 use Rattle.plan.specs.Syntax.{Expr, Plan, filter}

@@ -11,7 +11,7 @@ use borrow.Author.Tests.{leb-true, eqb-true}
 use Rattle.image.specs.Lowest.{alone}
 use Rattle.image.specs.Tree.{Label, Forest, none, node, Tree, size, Stands, Linked}
 use Rattle.image.specs.Subtrees.{forest}
-use Rattle.image.specs.declared.trees.Siblings.{Siblings}
+use Rattle.image.specs.declared.trees.Stretches.{Stretches}
 use Rattle.plan.specs.Kinds as K
 use Rattle.plan.specs.Kinds.{What, expr, plan, part, unknown, what, plan_w, is_plan}
 use Rattle.plan.specs.FieldSources.{role, role_p, creates, renames, extends, gives_both, own}
@@ -262,7 +262,7 @@ linked_size none s b at h = omega arith
 linked_size (node l cs ns) s b at h =
     omega (arith, size_le (node l cs ns) (drop (32 * (at - b)) s) at h.1, length-drop (32 * (at - b)) s)
 
-pub trees_size : (x : Siblings) → 32 * size (forest x) ≤ length x.image.now
+pub trees_size : {N : ℕ} (x : Stretches N) → 32 * size (forest x) ≤ length x.image.now
 trees_size x = linked_size (forest x) _ _ _ x.chained.linked
 
 -- the question for every field counts them all

@@ -10,7 +10,7 @@ use borrow.Author.Tests.{ne_eqb}
 use lib.ListN.{length, length-append}
 use Rattle.image.specs.Tree.{Label, Forest}
 use Rattle.image.specs.Subtrees.{forest}
-use Rattle.image.specs.declared.trees.Siblings.{Siblings}
+use Rattle.image.specs.declared.trees.Stretches.{Stretches}
 use Rattle.plan.specs.Lists.{◌&◌}
 use Rattle.plan.specs.Schema.{same}
 use Rattle.plan.specs.Kinds as K
@@ -164,10 +164,10 @@ seen_le v f = go v
     go Parts = omega (arith, alone (made [] f))
     go FirstInputAndParts = omega (arith, length-append (input 0 (inputs f)) (made [] f), total_input 0 (inputs f))
 
-few_seen : (h : Name → Bool) (v : View) (x : Siblings) → 32 * counted h (seen (scope_of v (forest x))) ≤ length x.image.now
+few_seen : {N : ℕ} (h : Name → Bool) (v : View) (x : Stretches N) → 32 * counted h (seen (scope_of v (forest x))) ≤ length x.image.now
 few_seen h v x = omega (arith, counted_le h (seen (scope_of v (forest x))), enough (forest x) [], trees_size x, seen_le v (forest x))
 
 -- how many it has
-pub passed_seen : (h : Name → Bool) (v : View) (x : Siblings) (n : Sought) → length x.image.now ≤ all_places
+pub passed_seen : {N : ℕ} (h : Name → Bool) (v : View) (x : Stretches N) (n : Sought) → length x.image.now ≤ all_places
     → n ≡ seek h all_places (seen (scope_of v (forest x))) → passed_of n ≡ counted h (seen (scope_of v (forest x)))
 passed_seen h v x n l e = seek_passed h (seen (scope_of v (forest x))) (omega (arith, few_seen h v x)) e

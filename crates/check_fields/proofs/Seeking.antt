@@ -14,7 +14,7 @@ use lib.ListN.{drop}
 use borrow.Author.Tests.{eq-eqb, ne_eqb}
 use Rattle.image.specs.Tree.{Label, Forest, none, node, Tree, size}
 use Rattle.image.specs.Subtrees.{tree_of}
-use Rattle.image.specs.declared.trees.Subtree.{Subtree}
+use Rattle.image.specs.declared.trees.Stretch.{Stretch}
 use Rattle.std.specs.declared.ops.ControlFlow.{ControlFlow}
 use Rattle.std.specs.declared.ops.ControlFlow.TheVariants.{Break, Continue}
 use Rattle.std.specs.Prelude.{Option, None, Some}
@@ -269,17 +269,17 @@ module _ (asks : Question) (k : ℕ) where
 -- ---- the plan that is asked
 
 -- the plan that is sought is asked, or there is none
-abbrev pub Asked : Forest → ℕ → Question → Option Subtree → Question → Type 0
+abbrev pub Asked : {N : ℕ} → Forest → ℕ → Question → Option (Stretch N) → Question → Type 0
 Asked f i asks None m = Fieldless f i asks
 Asked f i asks (Some t) m = Makes f i asks (tree_of t) m
 
 -- the measure: how many trees there are below it
-abbrev pub depth_left : Option Subtree → ℕ
+abbrev pub depth_left : {N : ℕ} → Option (Stretch N) → ℕ
 depth_left None = 0
 depth_left (Some t) = suc (size (tree_of t).below)
 
 -- the plan with the place itself
-pub asked_start : (f : Forest) (i : ℕ) (asks : Question) (x : Option Subtree) → PlansAt f i x → Asked f i asks x asks
+pub asked_start : {N : ℕ} (f : Forest) (i : ℕ) (asks : Question) (x : Option (Stretch N)) → PlansAt f i x → Asked f i asks x asks
 asked_start f i asks None e = plan_missing asks f i e
 asked_start f i asks (Some t) y =
     record {
@@ -297,12 +297,12 @@ module _ {f : Forest} {i : ℕ} {asks m : Question} {t : Tree} (y : Makes f i as
   one_input : (k : ℕ) → seek (hits (below x t.label.p m)) k (input (own x t.label.p) (inputs t.below)) ≡ seek (hits asks) k (input i (inputs f))
   one_input k = of_one m k y.first y.is X c g d ∙ y.same k
 
-  pub asked_next : {o : Question} {u : ℕ} → o ≡ below x t.label.p m → u ≡ own x t.label.p
-      → (z : Option Subtree) → PlansAt t.below u z → Asked f i asks z o
-  asked_next {o} {u} O U None e =
+  pub asked_next : {N : ℕ} {o : Question} {u : ℕ} → o ≡ below x t.label.p m → u ≡ own x t.label.p
+      → (z : Option (Stretch N)) → PlansAt t.below u z → Asked f i asks z o
+  asked_next {N} {o} {u} O U None e =
       λ k. sym (seek_none (hits (below x t.label.p m)) k _ (ap (λ (n : ℕ). input n (inputs t.below)) (sym U) ∙ missing t.below u e))
       ∙ one_input k
-  asked_next {o} {u} O U (Some n) z =
+  asked_next {N} {o} {u} O U (Some n) z =
       record {
         trees = z.trees;
         after = z.after;

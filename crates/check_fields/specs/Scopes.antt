@@ -20,7 +20,7 @@ scope_of Parts f = over (made [] f) []
 scope_of FirstInputAndParts f = over (input 0 (inputs f)) (made [] f)
 
 -- the scope that the code's is
-abbrev pub scope_at : declared.Scope → Scope
+abbrev pub scope_at : {N : ℕ} → declared.Scope N → Scope
 scope_at s = scope_of s.view (forest s.trees)
 
 -- what a plan's children see

@@ -60,6 +60,6 @@ abbrev pub Fieldless : Forest → ℕ → Question → Type 0
 Fieldless f skip asks = (k : ℕ) → Continue k ≡ seek (hits asks) k (input skip (inputs f))
 
 -- there is none to ask, or it is x
-abbrev pub Makers : Forest → ℕ → Question → Option Maker → Type 0
+abbrev pub Makers : {N : ℕ} → Forest → ℕ → Question → Option (Maker N) → Type 0
 Makers f skip asks None = Fieldless f skip asks
 Makers f skip asks (Some x) = Makes f skip asks (tree_of x.plan) x.asks

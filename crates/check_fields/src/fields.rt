@@ -10,7 +10,7 @@ ghost use Rattle.check_fields.specs.Typed.{part_type, plain_type};
 
 use crate::questions::Question;
 use image::records::Label;
-use image::trees::{Siblings, Subtree};
+use image::trees::{Stretch, Stretches};
 use plan::field_sources::{Role, gives_both, makes_field, own_input, role_of};
 use plan::inputs::nth_plan;
 use plan::kinds::{COLUMN, ExprKind, PartKind, TABLE_SCAN, What, what_of};
@@ -99,7 +99,7 @@ pub fn source_of(label: Label) -> FieldType
 }
 
 // The type of the field that a part makes.
-fn made_by(part: Subtree) -> FieldType
+fn made_by<const N: usize>(part: Stretch<'_, N>) -> FieldType
     ensures { let t = tree_of part.entry in (d : Schema) → makes (what t.label) ≡ true
         → told d result ≡ part_type (what t.label) d t.label t.below }
 {
@@ -115,7 +115,7 @@ fn made_by(part: Subtree) -> FieldType
 }
 
 // Of the fields asked for that the parts make, the one with the place k.
-pub fn seek_made(parts: Siblings, asks: Question, k: usize) -> ControlFlow<FieldType, usize>
+pub fn seek_made<const N: usize>(parts: Stretches<'_, N>, asks: Question, k: usize) -> ControlFlow<FieldType, usize>
     ensures { (d : Schema) → told_in d result ≡ seek (hits asks) k (made d (forest parts.entry)) }
 {
     let mut left = k;
@@ -132,7 +132,7 @@ pub fn seek_made(parts: Siblings, asks: Question, k: usize) -> ControlFlow<Field
 }
 
 // The same where the parts stand over no schema, as a scan's.
-pub fn seek_alone(parts: Siblings, asks: Question, k: usize) -> Sought
+pub fn seek_alone<const N: usize>(parts: Stretches<'_, N>, asks: Question, k: usize) -> Sought
     ensures { result ≡ seek (hits asks) k (made [] (forest parts.entry)) }
 {
     match seek_made(parts, asks, k) {
@@ -144,13 +144,13 @@ pub fn seek_alone(parts: Siblings, asks: Question, k: usize) -> Sought
 
 // The plan that is asked for fields, and the question that is put to it.
 #[derive(Clone, Copy)]
-pub struct Maker<'a> {
-    pub plan: Subtree<'a>,
+pub struct Maker<'a, const N: usize> {
+    pub plan: Stretch<'a, N>,
     pub asks: Question,
 }
 
 // Past the plans that have the fields of one input and no others: the plan to ask for those of the one with the place `skip`.
-fn find_maker<'a>(trees: Siblings<'a>, skip: usize, asks: Question) -> Option<Maker<'a>>
+fn find_maker<'a, const N: usize>(trees: Stretches<'a, N>, skip: usize, asks: Question) -> Option<Maker<'a, N>>
     ensures { Makers (forest trees.entry) skip asks result }
 {
     let mut asked = asks;
@@ -181,7 +181,7 @@ pub fn type_found(x: Sought) -> usize
 // Of the fields asked for of the plan with the place `skip`, the one with the place k. No plan is gone into twice: where an input has it
 // not, the search goes on with what is left to pass.
 #[cycle(seek_field_seek_parts)]
-pub fn seek_field(trees: Siblings, skip: usize, asks: Question, k: usize) -> Sought
+pub fn seek_field<const N: usize>(trees: Stretches<'_, N>, skip: usize, asks: Question, k: usize) -> Sought
     ensures { result ≡ seek (hits asks) k (input skip (inputs (forest trees.entry))) }
 {
     let Some(maker) = find_maker(trees, skip, asks) else {
@@ -207,7 +207,7 @@ pub fn seek_field(trees: Siblings, skip: usize, asks: Question, k: usize) -> Sou
 
 // The same of the fields that the parts of a plan of this kind make: they stand over its input.
 #[cycle(seek_field_seek_parts)]
-fn seek_parts(parts: Siblings, kind: usize, asks: Question, k: usize) -> Sought
+fn seek_parts<const N: usize>(parts: Stretches<'_, N>, kind: usize, asks: Question, k: usize) -> Sought
     ensures { result ≡ seek (hits asks) k (made (parts_over kind (inputs (forest parts.entry))) (forest parts.entry)) }
 {
     if kind == TABLE_SCAN {

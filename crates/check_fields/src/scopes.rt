@@ -13,7 +13,7 @@ use crate::fields::{
 };
 use crate::questions::Question;
 use image::records::Label;
-use image::trees::{Siblings, Subtree};
+use image::trees::{Stretch, Stretches};
 use plan::kinds::{PAIR, PlanKind, What, is_plan, what_of};
 use std::ops::ControlFlow::Continue;
 
@@ -32,20 +32,20 @@ pub enum View {
 
 // What an expression stands over: the children of a plan, of whose fields some are seen.
 #[derive(Clone, Copy)]
-pub struct Scope<'a> {
-    pub trees: Siblings<'a>,
+pub struct Scope<'a, const N: usize> {
+    pub trees: Stretches<'a, N>,
     pub view: View,
 }
 
 // What a record hands down: to its first child, and to the others.
 #[derive(Clone, Copy)]
-pub struct Handed<'a> {
-    pub first: Scope<'a>,
-    pub rest: Scope<'a>,
+pub struct Handed<'a, const N: usize> {
+    pub first: Scope<'a, N>,
+    pub rest: Scope<'a, N>,
 }
 
 // Of the fields asked for in the scope, the one with the place k.
-pub fn seek_seen(here: Scope, asks: Question, k: usize) -> Sought
+pub fn seek_seen<const N: usize>(here: Scope<'_, N>, asks: Question, k: usize) -> Sought
     ensures { result ≡ seek (hits asks) k (seen (scope_at here.entry)) }
 {
     let trees = here.trees;
@@ -66,7 +66,7 @@ pub fn seek_seen(here: Scope, asks: Question, k: usize) -> Sought
 }
 
 // How many fields that the question asks for are in the scope.
-pub fn held_in(here: Scope, asks: Question) -> usize
+pub fn held_in<const N: usize>(here: Scope<'_, N>, asks: Question) -> usize
     ensures { result ≡ counted (hits asks) (seen (scope_at here.entry)) }
 {
     passed(seek_seen(here, asks, ALL))
@@ -128,7 +128,7 @@ pub fn rest_view(kind: usize, view: View) -> View
 }
 
 // What the tree, which stands over `here`, hands down to its children.
-pub fn hand<'a>(here: Scope<'a>, tree: Subtree<'a>) -> Handed<'a>
+pub fn hand<'a, const N: usize>(here: Scope<'a, N>, tree: Stretch<'a, N>) -> Handed<'a, N>
     ensures { let t = tree_of tree.entry in
         hand (scope_at here.entry) t.label t.below ≡ (scope_at result.first, scope_at result.rest) }
 {
@@ -157,7 +157,7 @@ pub fn hand<'a>(here: Scope<'a>, tree: Subtree<'a>) -> Handed<'a>
 }
 
 // The type of an expression in the scope.
-pub fn type_of(label: Label, here: Scope) -> usize
+pub fn type_of<const N: usize>(label: Label, here: Scope<'_, N>) -> usize
     ensures { result ≡ type_of (seen (scope_at here.entry)) label }
 {
     match source_of(label) {

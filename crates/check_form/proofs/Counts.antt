@@ -10,7 +10,7 @@ use lib.ListN.{length, drop, length-drop}
 use borrow.Author.Tests.{eqb-true}
 use Rattle.image.specs.Tree.{Label, Forest, none, node, size, Stands, Linked}
 use Rattle.image.specs.Subtrees.{forest}
-use Rattle.image.specs.declared.trees.Siblings.{Siblings}
+use Rattle.image.specs.declared.trees.Stretches.{Stretches}
 use Rattle.image.specs.Limits.{max_list}
 use Rattle.plan.specs.Lists.{◌&◌}
 use Rattle.plan.specs.Kinds as K
@@ -35,7 +35,7 @@ few_linked (node l cs ns) s b at h =
     omega (arith, few (node l cs ns) (drop (32 * (at - b)) s) at h.1, length-drop (32 * (at - b)) s)
 
 -- the trees have no more records than there are bytes for
-few_trees : (x : Siblings) → size (forest x) ≤ length x.image.now
+few_trees : {N : ℕ} (x : Stretches N) → size (forest x) ≤ length x.image.now
 few_trees x = omega (arith, few_linked (forest x) _ _ _ x.chained.linked)
 
 -- ---- what is counted, tree by tree
@@ -51,7 +51,7 @@ pub count_on : {h : Forest → ℕ} {n : ℕ} {f g : Forest} → Counted h n f g
 count_on k x ns e = record { met = omega (arith, k.met, e) }
 
 -- as many as there are bytes for
-pub count_room : {h : Forest → ℕ} {n : ℕ} {g : Forest} (x : Siblings) → Counted h n (forest x) g → h (forest x) ≤ size (forest x)
+pub count_room : {N : ℕ} {h : Forest → ℕ} {n : ℕ} {g : Forest} (x : Stretches N) → Counted h n (forest x) g → h (forest x) ≤ size (forest x)
     → n ≤ length x.image.now
 count_room x k l = omega (arith, k.met, l, few_trees x)
 

@@ -10,7 +10,7 @@ use borrow.Author.Tests.{eq-eqb, ne_eqb}
 use Rattle.std.specs.Prelude.{Option, None, Some, ◌≤◌, ◌<◌, length, take, drop, slice_index_or}
 use Rattle.image.specs.Tree.{Label, Forest, none, node, Linked}
 use Rattle.image.specs.Subtrees.{forest}
-use Rattle.image.specs.declared.trees.Siblings.{Siblings}
+use Rattle.image.specs.declared.trees.Stretches.{Stretches}
 use lib.Seq.{take_all}
 use Rattle.plan.specs.Lists.{◌&◌}
 use Rattle.plan.specs.Form.{end, one, past, perhaps}
@@ -24,7 +24,7 @@ unfolding end
 end_linked none s b n h = eq-eqb n 0 h
 end_linked (node l cs ns) s b n h = ne_eqb n 0 (λ z. omega (arith, h.0))
 
-pub ends : (x : Siblings) → eqb x.first 0 ≡ end (forest x)
+pub ends : {N : ℕ} (x : Stretches N) → eqb x.first 0 ≡ end (forest x)
 ends x = end_linked (forest x) _ _ _ x.chained.linked
 
 -- ---- the first tree, by the sort
@@ -65,13 +65,13 @@ module _ (is : Label → Bool) {f : Forest} where
 
 -- ---- what follows
 
-module _ {m : (Forest → Bool) → Forest → Bool} {f : Forest} {r : Option Siblings} (k : Leads m f r) (rest : Forest → Bool) where
+module _ {N : ℕ} {m : (Forest → Bool) → Forest → Bool} {f : Forest} {r : Option (Stretches N)} (k : Leads m f r) (rest : Forest → Bool) where
   -- it fails
   pub leads_nowhere : r ≡ None → m rest f ≡ false
   leads_nowhere e = (subst (Follows m f) e k.leads) rest
 
   -- or the rest of the pattern is for these trees
-  pub leads_on : {x : Siblings} → r ≡ Some x → m rest f ≡ rest (forest x)
+  pub leads_on : {x : Stretches N} → r ≡ Some x → m rest f ≡ rest (forest x)
   leads_on e = (subst (Follows m f) e k.leads) rest
 
 -- ---- the items of a slice

@@ -10,8 +10,7 @@ use native.Mathlib.Omega.{arith}
 use lib.ListN.{length}
 use Rattle.image.specs.Tree.{Tree}
 use Rattle.image.specs.Flat.{size_t}
-use Rattle.image.specs.Subtrees.{tree_of}
-use Rattle.image.specs.declared.trees.Subtree.{Subtree}
+use Rattle.image.specs.Subtrees.{Subtree, tree_of}
 use Rattle.std.specs.Prelude.{None, Some, Ok, Err}
 use Rattle.image.specs.Lowest.{Found, unless, alone}
 use Rattle.plan.specs.Form.{bad_form}

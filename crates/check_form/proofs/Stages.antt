@@ -11,7 +11,7 @@ use Rattle.image.specs.Lowest.{Found}
 use Rattle.image.specs.Places.{Stood}
 use Rattle.image.specs.Tree as Trees
 use Rattle.image.specs.Tree.{Tree}
-use Rattle.image.specs.declared.trees.Subtree.{Subtree}
+use Rattle.image.specs.Subtrees.{Subtree}
 use Rattle.image.proofs.Subtrees.{tree_is}
 use Rattle.std.specs.Prelude.{None, Some, Ok, Err}
 use Rattle.plan.specs.Form.{bad_form}

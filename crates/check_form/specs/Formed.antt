@@ -2,9 +2,8 @@
 use Rattle.std.specs.Prelude.{◌≡◌, cond, List, ℕ, ◌/◌, length, None, Some, Result, Ok, Err}
 use Rattle.image.specs.Tree.{Tree}
 use Rattle.image.specs.Lowest.{Found}
-use Rattle.image.specs.Subtrees.{tree_of}
+use Rattle.image.specs.Subtrees.{Subtree, tree_of}
 use Rattle.image.specs.Refusals.{number_of, named}
-use Rattle.image.specs.declared.trees.Subtree.{Subtree}
 use Rattle.image.specs.declared.refusals.Refusal.{Refusal}
 use Rattle.image.specs.declared.refusals.Refusal.TheVariants.{Buffer, Record, Link, Depth, Form}
 use Rattle.plan.specs.Form.{bad_form}

@@ -1,8 +1,7 @@
 -- What the links of an image come to, as the code hands it back.
 use Rattle.std.specs.Prelude.{◌≡◌, List, ℕ, Result, Ok, Err}
-use Rattle.image.specs.Subtrees.{tree_of}
+use Rattle.image.specs.Subtrees.{Subtree, tree_of}
 use Rattle.image.specs.declared.links.BadLink.{BadLink}
-use Rattle.image.specs.declared.trees.Subtree.{Subtree}
 use Rattle.acceptance.specs.Check.{tree, broken, linked}
 
 -- x is the tree that the links of the n records of s come to

@@ -2,8 +2,7 @@
 use Rattle.std.specs.Prelude.{◌≡◌, ◌*◌, ◌/◌, length, None}
 use Rattle.image.specs.Flat.{size_t}
 use Rattle.image.specs.Lowest.{alone}
-use Rattle.image.specs.Subtrees.{tree_of}
-use Rattle.image.specs.declared.trees.Subtree.{Subtree}
+use Rattle.image.specs.Subtrees.{Subtree, tree_of}
 use Rattle.plan.specs.Words.{Worded}
 use Rattle.plan.specs.Form.{bad_form}
 use Rattle.acceptance.specs.Check.{Links, linked}

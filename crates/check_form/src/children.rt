@@ -7,7 +7,7 @@ ghost use Rattle.plan.specs.Kinds.{what_of};
 use crate::patterns::{Item, meets};
 use crate::sorts::{Sort, of_sort};
 use image::limits::MAX_LIST;
-use image::trees::{Siblings, Subtree};
+use image::trees::{Stretch, Stretches};
 use plan::kinds::{
     AGGREGATE_ENTRY, BINARY_EXPR, COLUMN, ENTRY, ExprKind, FIELD, PAIR, PartKind, PlanKind,
     SORT_KEY, WINDOW_ENTRY, What, what_of,
@@ -44,7 +44,7 @@ const FILTER: Item = Item::Perhaps(Sort::Expression);
 
 // Whether the trees are the children of an expression of the kind.
 #[tactic(auto, unfolding(crate::specs::Patterns::meets, crate::specs::Sorts::sort_of))]
-pub fn children_e(trees: Siblings, kind: ExprKind) -> bool
+pub fn children_e<const N: usize>(trees: Stretches<'_, N>, kind: ExprKind) -> bool
     ensures { result ≡ children_e kind (forest trees.entry) }
 {
     match kind {
@@ -63,7 +63,7 @@ pub fn children_e(trees: Siblings, kind: ExprKind) -> bool
 
 // .. of a plan; those of an Aggregate are more than its input.
 #[tactic(auto, unfolding(crate::specs::Patterns::meets, crate::specs::Sorts::sort_of))]
-pub fn children_p(trees: Siblings, kind: PlanKind) -> bool
+pub fn children_p<const N: usize>(trees: Stretches<'_, N>, kind: PlanKind) -> bool
     ensures { result ≡ children_p kind (forest trees.entry) }
 {
     match kind {
@@ -86,7 +86,7 @@ pub fn children_p(trees: Siblings, kind: PlanKind) -> bool
 
 // .. of a part.
 #[tactic(auto, unfolding(crate::specs::Patterns::meets, crate::specs::Sorts::sort_of))]
-pub fn children_q(trees: Siblings, kind: PartKind) -> bool
+pub fn children_q<const N: usize>(trees: Stretches<'_, N>, kind: PartKind) -> bool
     ensures { result ≡ children_q kind (forest trees.entry) }
 {
     match kind {
@@ -100,7 +100,7 @@ pub fn children_q(trees: Siblings, kind: PartKind) -> bool
 }
 
 // Whether the trees are the children of such a record.
-pub fn children_ok(trees: Siblings, what: What) -> bool
+pub fn children_ok<const N: usize>(trees: Stretches<'_, N>, what: What) -> bool
     ensures { result ≡ children_by what (forest trees.entry) }
 {
     match what {
@@ -118,7 +118,7 @@ fn one_if(b: bool) -> usize
 }
 
 // How many expressions are among the trees.
-pub fn exprs_in(trees: Siblings) -> usize
+pub fn exprs_in<const N: usize>(trees: Stretches<'_, N>) -> usize
     ensures { result ≡ exprs_in (forest trees.entry) }
 {
     let mut n = 0;
@@ -129,7 +129,7 @@ pub fn exprs_in(trees: Siblings) -> usize
 }
 
 // Whether the tree is an And of two expressions.
-fn splits(tree: Subtree) -> bool
+fn splits<const N: usize>(tree: Stretch<'_, N>) -> bool
     ensures { result ≡ is_and (tree_of tree.entry).label (tree_of tree.entry).below }
 {
     let label = tree.label();
@@ -140,7 +140,7 @@ fn splits(tree: Subtree) -> bool
 }
 
 // How many conjuncts the expressions among the trees have, split at Ands.
-pub fn conjuncts_in(trees: Siblings) -> usize
+pub fn conjuncts_in<const N: usize>(trees: Stretches<'_, N>) -> usize
     ensures { result ≡ conjuncts (forest trees.entry) }
 {
     let mut n = 0;
@@ -155,7 +155,7 @@ pub fn conjuncts_in(trees: Siblings) -> usize
 }
 
 // The length of the list of such a record: the filters of a scan, the conjuncts of a Filter's or a join's one expression.
-pub fn list_len(trees: Siblings, what: What) -> usize
+pub fn list_len<const N: usize>(trees: Stretches<'_, N>, what: What) -> usize
     ensures { result ≡ list_by what (forest trees.entry) }
 {
     match what {
@@ -169,7 +169,7 @@ pub fn list_len(trees: Siblings, what: What) -> usize
 }
 
 // Whether the tree's record has the right form.
-pub fn form_ok(tree: Subtree) -> bool
+pub fn form_ok<const N: usize>(tree: Stretch<'_, N>) -> bool
     ensures { result ≡ form_ok (tree_of tree.entry).label (tree_of tree.entry).below }
 {
     let trees = tree.children();

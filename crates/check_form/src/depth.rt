@@ -6,10 +6,10 @@ ghost use Rattle.acceptance.specs.Check.{too_deep};
 ghost use Rattle.check_form.specs.Deep.{deepest};
 
 use image::limits::MAX_DEPTH;
-use image::trees::{Siblings, Subtree};
+use image::trees::{Stretches, Subtree};
 
 // The lowest record that is too deep, of the trees, which stand at the depth `level`.
-pub fn too_deep(trees: Siblings, level: usize) -> Option<usize>
+pub fn too_deep<const N: usize>(trees: Stretches<'_, N>, level: usize) -> Option<usize>
     requires { level ≤ max_depth + 1 }
     ensures { result ≡ deepest level trees.entry.first (forest trees.entry) }
 {

@@ -6,10 +6,10 @@ ghost use Rattle.check_form.specs.Misformed.{misformed};
 
 use crate::children::form_ok;
 use crate::sorts::{Sort, of_sort};
-use image::trees::{Siblings, Subtree};
+use image::trees::{Stretches, Subtree};
 
 // The lowest record of the wrong form, of the trees.
-pub fn bad_form(trees: Siblings) -> Option<usize>
+pub fn bad_form<const N: usize>(trees: Stretches<'_, N>) -> Option<usize>
     ensures { result ≡ misformed trees.entry.first (forest trees.entry) }
 {
     for tree in trees {

@@ -22,9 +22,6 @@ pub fn read(s: &[u8], n: usize) -> Result<Subtree<'_>, BadLink>
     if end != n {
         return Err(BadLink(end));
     }
-    let root = Subtree {
-        image: s,
-        number: 0,
-    };
+    let root = Subtree::at(s, 0);
     Ok(root)
 }

@@ -6,7 +6,7 @@ ghost use Rattle.check_form.specs.Patterns.{Leads, meets};
 ghost use Rattle.check_form.specs.Sorts.{of_sort};
 
 use crate::sorts::{Sort, of_sort};
-use image::trees::Siblings;
+use image::trees::Stretches;
 
 // What stands next among the children.
 #[derive(Clone, Copy, Debug, PartialEq, Eq, Hash)]
@@ -19,7 +19,7 @@ pub enum Item {
 }
 
 // What is left of the trees after all in front that are of the sort.
-pub fn past_all<'a>(trees: Siblings<'a>, sort: Sort) -> Siblings<'a>
+pub fn past_all<'a, const N: usize>(trees: Stretches<'a, N>, sort: Sort) -> Stretches<'a, N>
     ensures { forest result ≡ past (of_sort sort) (forest trees.entry) }
 {
     let mut left = trees;
@@ -33,7 +33,7 @@ pub fn past_all<'a>(trees: Siblings<'a>, sort: Sort) -> Siblings<'a>
 }
 
 // What is left after one of the sort; nothing if the first is not of it.
-pub fn past_one<'a>(trees: Siblings<'a>, sort: Sort) -> Option<Siblings<'a>>
+pub fn past_one<'a, const N: usize>(trees: Stretches<'a, N>, sort: Sort) -> Option<Stretches<'a, N>>
     ensures { Leads (one (of_sort sort)) (forest trees.entry) result }
 {
     let (tree, others) = trees.split_first()?;
@@ -44,7 +44,7 @@ pub fn past_one<'a>(trees: Siblings<'a>, sort: Sort) -> Option<Siblings<'a>>
 }
 
 // Whether one of the sort or none is left.
-pub fn one_or_none(trees: Siblings, sort: Sort) -> bool
+pub fn one_or_none<const N: usize>(trees: Stretches<'_, N>, sort: Sort) -> bool
     ensures { result ≡ perhaps (of_sort sort) (forest trees.entry) }
 {
     match trees.split_first() {
@@ -54,7 +54,7 @@ pub fn one_or_none(trees: Siblings, sort: Sort) -> bool
 }
 
 // Whether the trees are those of the items.
-pub fn meets(trees: Siblings, items: &[Item]) -> bool
+pub fn meets<const N: usize>(trees: Stretches<'_, N>, items: &[Item]) -> bool
     ensures { result ≡ meets items.now (forest trees.entry) }
 {
     let [item, rest @ ..] = items else {

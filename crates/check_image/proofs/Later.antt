@@ -8,9 +8,8 @@ use Rattle.std.specs.Prelude.{None, Some, Ok, Err}
 use Rattle.image.specs.declared.refusals.Refusal.{Refusal}
 use Rattle.check_image.specs.Answer.{refused}
 use Rattle.image.specs.Lowest.{Found}
-use Rattle.image.specs.Subtrees.{tree_of}
+use Rattle.image.specs.Subtrees.{Subtree, tree_of}
 use Rattle.image.specs.Tree.{Tree}
-use Rattle.image.specs.declared.trees.Subtree.{Subtree}
 use Rattle.plan.specs.Read.{plan_at}
 use Rattle.plan.proofs.PlanOf.{plan_tree_whole}
 use Rattle.acceptance.specs.Names.{bad_name}

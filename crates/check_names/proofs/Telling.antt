@@ -145,7 +145,7 @@ module _ (h : Name → Bool) (s t : Schema) where
   first_passes e = sym (all_of-++ h s t ∙ rw e refl)
 
 -- the schemas of two parts
-module _ (w : Whole) where
+module _ {N : ℕ} (w : Whole N) where
   pub whole_joins : w.role ≡ Joins → input 0 (inputs (forest w.trees)) ++ input 1 (inputs (forest w.trees)) ≡ whole_of w
   whole_joins e = rw e refl
 

@@ -50,7 +50,7 @@ own_view Extends = FirstInputAndParts
 own_view Passes = FirstInput
 
 -- the fields of the schema that is told apart
-abbrev pub whole_of : Whole → Schema
+abbrev pub whole_of : {N : ℕ} → Whole N → Schema
 whole_of w = own_of (own_view w.role) (forest w.trees)
 
 -- the questions for the fields that share a name, and for those that clash with it

@@ -12,13 +12,13 @@ ghost use Rattle.check_names.specs.Singles.{known_inputs};
 use crate::schemas::{is_sound, is_sound_beside};
 use check_fields::questions::Question;
 use check_fields::scopes::{Scope, View, hand, held_in};
-use image::trees::{Siblings, Subtree};
+use image::trees::{Stretch, Stretches, Subtree};
 use plan::field_sources::{Role, gives_both, role_of};
 use plan::kinds::{COLUMN, is_plan};
 
 // Whether the tree's record, which stands over `here`, keeps the rule. A plan that is known to be sound is not tested again, but of a
 // semi or anti join the other input.
-fn name_ok(tree: Subtree, here: Scope, known: bool) -> bool
+fn name_ok<const N: usize>(tree: Stretch<'_, N>, here: Scope<'_, N>, known: bool) -> bool
     ensures { let t = tree_of tree.entry in
         (known ≡ true → sound (names_in (input 0 (inputs (node t.label t.below none)))) ≡ true)
         → result ≡ name_ok (scope_at here.entry) t.label t.below }
@@ -53,10 +53,10 @@ fn known_inputs(role: Role) -> usize
 
 // The lowest record that breaks the rule, of the trees: the first stands over `here`, the others over `after`.
 // `known`: so many of the first plans among them are sound, since their fields are among those of their parent, which is.
-pub fn bad_name<'a>(
-    trees: Siblings<'a>,
-    here: Scope<'a>,
-    after: Scope<'a>,
+pub fn bad_name<'a, const N: usize>(
+    trees: Stretches<'a, N>,
+    here: Scope<'a, N>,
+    after: Scope<'a, N>,
     known: usize,
 ) -> Option<usize>
     ensures { ((i : ℕ) → i < known → sound (names_in (input i (inputs (forest trees.entry)))) ≡ true)
@@ -92,8 +92,9 @@ pub fn bad_names(root: Subtree) -> Option<usize>
     requires { root.number ≡ 0 }
     ensures { result ≡ bad_names (tree_of root.entry) }
 {
-    let none = Siblings {
+    let none = Stretches {
         image: root.image,
+        base: root.base,
         first: 0,
     };
     let nothing = Scope {

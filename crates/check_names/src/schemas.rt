@@ -12,19 +12,19 @@ ghost use Rattle.check_names.specs.Singles.{all_of, lone, own_question, own_view
 use check_fields::questions::Question;
 use check_fields::scopes::{Scope, View, held_in};
 use image::limits::MAX_FIELDS;
-use image::trees::Siblings;
+use image::trees::Stretches;
 use plan::field_sources::{Role, gives_both, makes_field, own_input, role_of};
 use plan::inputs::nth_plan;
 
 // The schema whose fields are told apart: the children of its plan, and the plan's role.
 #[derive(Clone, Copy)]
-pub struct Whole<'a> {
-    pub trees: Siblings<'a>,
+pub struct Whole<'a, const N: usize> {
+    pub trees: Stretches<'a, N>,
     pub role: Role,
 }
 
 // How many fields of the schema the question finds.
-fn held_by(w: Whole, asks: Question) -> usize
+fn held_by<const N: usize>(w: Whole<'_, N>, asks: Question) -> usize
     ensures { result ≡ counted (hits asks) (whole_of w.entry) }
 {
     let seen = Scope {
@@ -35,14 +35,14 @@ fn held_by(w: Whole, asks: Question) -> usize
 }
 
 // Whether the question finds one field.
-fn is_single(w: Whole, q: usize, n: usize) -> bool
+fn is_single<const N: usize>(w: Whole<'_, N>, q: usize, n: usize) -> bool
     ensures { result ≡ single (whole_of w.entry) (own_question w.entry.role) (nm q n) }
 {
     held_by(w, own_question(w.role, q, n)) == 1
 }
 
 // Whether each field that the parts make is told apart; its qualifier is `to` where an alias with that stands above.
-fn all_made(w: Whole, parts: Siblings, to: Option<usize>) -> bool
+fn all_made<const N: usize>(w: Whole<'_, N>, parts: Stretches<'_, N>, to: Option<usize>) -> bool
     ensures { (c : Schema) → result ≡ all_of (lone (whole_of w.entry) (own_question w.entry.role) to) (made c (forest parts.entry)) }
 {
     for part in parts {
@@ -55,7 +55,7 @@ fn all_made(w: Whole, parts: Siblings, to: Option<usize>) -> bool
 }
 
 // Whether each field of the plan with the place `skip` is told apart.
-fn all_held(w: Whole, trees: Siblings, skip: usize, to: Option<usize>) -> bool
+fn all_held<const N: usize>(w: Whole<'_, N>, trees: Stretches<'_, N>, skip: usize, to: Option<usize>) -> bool
     ensures { result ≡ all_of (lone (whole_of w.entry) (own_question w.entry.role) to) (input skip (inputs (forest trees.entry))) }
 {
     let Some(plan) = nth_plan(trees, skip) else {
@@ -84,7 +84,7 @@ fn all_held(w: Whole, trees: Siblings, skip: usize, to: Option<usize>) -> bool
 }
 
 // Whether each field of the schema is told apart.
-fn all_single(w: Whole) -> bool
+fn all_single<const N: usize>(w: Whole<'_, N>) -> bool
     ensures { result ≡ all_of (single (whole_of w.entry) (own_question w.entry.role)) (whole_of w.entry) }
 {
     let trees = w.trees;
@@ -120,7 +120,7 @@ fn own_question(role: Role, q: usize, n: usize) -> Question
 
 // Whether the two inputs of a join of the kind p are sound together, where the one is whose fields a semi or anti join has: those of the
 // other are told apart.
-pub fn is_sound_beside(trees: Siblings, p: usize) -> bool
+pub fn is_sound_beside<const N: usize>(trees: Stretches<'_, N>, p: usize) -> bool
     ensures { (c : Schema) → sound (names_in (input (own Role.Joins p) (inputs (forest trees.entry)))) ≡ true
         → result ≡ sound_by Role.Joins p (made c (forest trees.entry)) (inputs (forest trees.entry)) }
 {
@@ -135,7 +135,7 @@ pub fn is_sound_beside(trees: Siblings, p: usize) -> bool
 }
 
 // Whether the schema of a plan of this role is sound, and for a join both inputs together.
-pub fn is_sound(trees: Siblings, role: Role) -> bool
+pub fn is_sound<const N: usize>(trees: Stretches<'_, N>, role: Role) -> bool
     ensures { (c : Schema) (p : ℕ) → result ≡ sound_by role p (made c (forest trees.entry)) (inputs (forest trees.entry)) }
 {
     let whole = Whole {

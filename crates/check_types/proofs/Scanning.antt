@@ -20,9 +20,7 @@ use Rattle.check_fields.specs.Fields.{Schema, made}
 use Rattle.check_fields.specs.Rules.{types_in, scan_types}
 use Rattle.check_fields.specs.Count.{hits, counted}
 use Rattle.check_fields.proofs.Counting.{counted_all}
-use Rattle.image.specs.Subtrees.{Below, forest, tree_of}
-use Rattle.image.specs.declared.trees.Siblings.{Siblings}
-use Rattle.image.specs.declared.trees.Subtree.{Subtree}
+use Rattle.image.specs.Subtrees.{Siblings, Subtree, Below, forest, tree_of}
 use Rattle.image.proofs.Subtrees.{tree_is}
 
 -- ---- the first scan

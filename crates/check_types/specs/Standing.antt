@@ -1,8 +1,7 @@
 -- A tree that an image holds, and no more.
 use Rattle.std.specs.Prelude.{◌≡◌, suc, ◌*◌, length}
-use Rattle.image.specs.Subtrees.{tree_of}
+use Rattle.image.specs.Subtrees.{Subtree, tree_of}
 use Rattle.image.specs.Tree.{size}
-use Rattle.image.specs.declared.trees.Subtree.{Subtree}
 
 -- the image is the tree's records and no more
 pub record Whole (root : Subtree) : Type 0 where

@@ -10,7 +10,7 @@ ghost use Rattle.check_fields.specs.Scopes.{scope_at};
 ghost use Rattle.check_types.specs.Demands.{demand_of, integer_or, met};
 
 use check_fields::scopes::{Scope, type_of};
-use image::trees::Siblings;
+use image::trees::Stretches;
 use plan::kinds::{ExprKind, PartKind, PlanKind, What, is_expression, what_of};
 use plan::words::{BOOLEAN, COUNT, INTEGER, IS_NOT_NULL, NO_TYPE, OR};
 
@@ -54,7 +54,7 @@ pub fn demand_of(kind: usize, p: usize, r: usize) -> Demand
 }
 
 // The type of the first expression among the trees, of which the first stands over `here` and the others over `after`; no type if none is.
-pub fn first_type<'a>(trees: Siblings<'a>, here: Scope<'a>, after: Scope<'a>) -> usize
+pub fn first_type<'a, const N: usize>(trees: Stretches<'a, N>, here: Scope<'a, N>, after: Scope<'a, N>) -> usize
     ensures { result ≡ first no_type (types_of (scope_at here.entry) (scope_at after.entry) (forest trees.entry)) }
 {
     let mut over = here;
@@ -69,7 +69,7 @@ pub fn first_type<'a>(trees: Siblings<'a>, here: Scope<'a>, after: Scope<'a>) ->
 }
 
 // Whether all expressions among the trees have the type t.
-pub fn all_have<'a>(trees: Siblings<'a>, here: Scope<'a>, after: Scope<'a>, t: usize) -> bool
+pub fn all_have<'a, const N: usize>(trees: Stretches<'a, N>, here: Scope<'a, N>, after: Scope<'a, N>, t: usize) -> bool
     ensures { result ≡ all (eqb t) (types_of (scope_at here.entry) (scope_at after.entry) (forest trees.entry)) }
 {
     let mut over = here;
@@ -84,7 +84,7 @@ pub fn all_have<'a>(trees: Siblings<'a>, here: Scope<'a>, after: Scope<'a>, t: u
 }
 
 // Whether all expressions among the trees have one type: the first is asked for it, and then the others.
-pub fn all_alike<'a>(trees: Siblings<'a>, here: Scope<'a>, after: Scope<'a>) -> bool
+pub fn all_alike<'a, const N: usize>(trees: Stretches<'a, N>, here: Scope<'a, N>, after: Scope<'a, N>) -> bool
     ensures { result ≡ alike (types_of (scope_at here.entry) (scope_at after.entry) (forest trees.entry)) }
 {
     let mut over = here;
@@ -101,7 +101,7 @@ pub fn all_alike<'a>(trees: Siblings<'a>, here: Scope<'a>, after: Scope<'a>) -> 
 }
 
 // Whether the expressions among the trees are as the record above them asks.
-pub fn meets<'a>(d: Demand, trees: Siblings<'a>, here: Scope<'a>, after: Scope<'a>) -> bool
+pub fn meets<'a, const N: usize>(d: Demand, trees: Stretches<'a, N>, here: Scope<'a, N>, after: Scope<'a, N>) -> bool
     ensures { result ≡ met d (types_of (scope_at here.entry) (scope_at after.entry) (forest trees.entry)) }
 {
     match d {

@@ -11,18 +11,18 @@ ghost use Rattle.check_types.specs.ByPlace.{ty_at};
 use check_fields::fields::type_found;
 use check_fields::questions::Question;
 use check_fields::scopes::{Scope, View, held_in, seek_seen};
-use image::trees::Siblings;
+use image::trees::Stretches;
 use plan::kinds::is_plan;
 
 // The type of the field with the place k, or no type.
-pub fn place_type(fields: Scope, k: usize) -> usize
+pub fn place_type<const N: usize>(fields: Scope<'_, N>, k: usize) -> usize
     ensures { result ≡ ty_at k (seen (scope_at fields.entry)) }
 {
     type_found(seek_seen(fields, Question::Every, k))
 }
 
 // Whether two schemas have the same types by place, widths included.
-pub fn same_fields(fields: Scope, others: Scope) -> bool
+pub fn same_fields<const N: usize, const M: usize>(fields: Scope<'_, N>, others: Scope<'_, M>) -> bool
     ensures { result ≡ same_types (types_in (seen (scope_at fields.entry))) (types_in (seen (scope_at others.entry))) }
 {
     let width = held_in(fields, Question::Every);
@@ -38,7 +38,7 @@ pub fn same_fields(fields: Scope, others: Scope) -> bool
 }
 
 // The fields of the first plan among the trees.
-pub fn first_plan<'a>(trees: Siblings<'a>) -> Scope<'a>
+pub fn first_plan<'a, const N: usize>(trees: Stretches<'a, N>) -> Scope<'a, N>
     ensures { seen (scope_at result) ≡ input 0 (inputs (forest trees.entry)) }
 {
     Scope {
@@ -48,7 +48,7 @@ pub fn first_plan<'a>(trees: Siblings<'a>) -> Scope<'a>
 }
 
 // Whether the plans among the trees have the types of the first plan among the others.
-pub fn as_first(trees: Siblings, others: Siblings) -> bool
+pub fn as_first<const N: usize>(trees: Stretches<'_, N>, others: Stretches<'_, N>) -> bool
     ensures { result ≡ all (λ t. same_types (types_in t) (types_in (input 0 (inputs (forest others.entry))))) (inputs (forest trees.entry)) }
 {
     let first = first_plan(others);
@@ -63,7 +63,7 @@ pub fn as_first(trees: Siblings, others: Siblings) -> bool
 }
 
 // Whether the inputs of a Union have the types of the first, which is not compared with itself.
-pub fn united(trees: Siblings) -> bool
+pub fn united<const N: usize>(trees: Stretches<'_, N>) -> bool
     ensures { result ≡ united (inputs (forest trees.entry)) }
 {
     let mut left = trees;

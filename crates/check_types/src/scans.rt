@@ -13,12 +13,12 @@ use check_fields::questions::Question;
 use check_fields::scopes::{Scope, View, held_in};
 use image::limits::RECORD_BYTES;
 use image::records::{KIND, P, record_at};
-use image::trees::{Siblings, Subtree};
+use image::trees::{Stretches, Subtree};
 use image::words::word_at;
 use plan::kinds::TABLE_SCAN;
 
 // The fields that the parts of a scan make.
-fn scanned<'a>(parts: Siblings<'a>) -> Scope<'a>
+fn scanned<'a, const N: usize>(parts: Stretches<'a, N>) -> Scope<'a, N>
     ensures { seen (scope_at result) ≡ made [] (forest parts.entry) }
 {
     Scope {
@@ -29,7 +29,7 @@ fn scanned<'a>(parts: Siblings<'a>) -> Scope<'a>
 
 // Whether the fields that the parts make have the types of the whole image's first scan of the table. Records stand parents first, so that
 // is the lowest.
-pub fn as_scanned(root: Subtree, table: usize, parts: Siblings) -> bool
+pub fn as_scanned<const N: usize>(root: Subtree, table: usize, parts: Stretches<'_, N>) -> bool
     requires { Whole root }
     ensures { result ≡ same_types (types_in (made [] (forest parts.entry))) (scan_types table [] (alone (tree_of root.entry))) }
 {
@@ -37,10 +37,7 @@ pub fn as_scanned(root: Subtree, table: usize, parts: Siblings) -> bool
     for number in 0..root.image.len() / RECORD_BYTES {
         let record = record_at(root.image, number);
         if (word_at(record, KIND) == TABLE_SCAN) & (word_at(record, P) == table) {
-            let scan = Subtree {
-                image: root.image,
-                number,
-            };
+            let scan = Subtree::at(root.image, number);
             return same_fields(fields, scanned(scan.children()));
         }
     }

@@ -11,11 +11,11 @@ use crate::operands::{demand_of, meets};
 use crate::places::united;
 use crate::scans::as_scanned;
 use check_fields::scopes::{Handed, Scope, View, hand};
-use image::trees::{Siblings, Subtree};
+use image::trees::{Stretch, Stretches, Subtree};
 use plan::kinds::{TABLE_SCAN, UNION};
 
 // The rule of the tree's record, which hands this down.
-pub fn type_ok<'a>(tree: Subtree<'a>, handed: Handed<'a>, root: Subtree) -> bool
+pub fn type_ok<'a, const N: usize>(tree: Stretch<'a, N>, handed: Handed<'a, N>, root: Subtree) -> bool
     requires { Whole root }
     ensures { let t = tree_of tree.entry in
         result ≡ type_ok_by (what t.label) (alone (tree_of root.entry)) t.label t.below
@@ -37,10 +37,10 @@ pub fn type_ok<'a>(tree: Subtree<'a>, handed: Handed<'a>, root: Subtree) -> bool
 }
 
 // The lowest record of the trees whose types are wrong: the first stands over `here`, the others over `after`.
-pub fn bad_type<'a>(
-    trees: Siblings<'a>,
-    here: Scope<'a>,
-    after: Scope<'a>,
+pub fn bad_type<'a, const N: usize>(
+    trees: Stretches<'a, N>,
+    here: Scope<'a, N>,
+    after: Scope<'a, N>,
     root: Subtree,
 ) -> Option<usize>
     requires { Whole root }
@@ -67,8 +67,9 @@ pub fn bad_types(root: Subtree) -> Option<usize>
     requires { Whole root }
     ensures { result ≡ bad_types (tree_of root.entry) }
 {
-    let none = Siblings {
+    let none = Stretches {
         image: root.image,
+        base: root.base,
         first: 0,
     };
     let nothing = Scope {

@@ -16,9 +16,7 @@ use Rattle.std.specs.Iterator.{YieldsFirstBy}
 use Rattle.std.specs.Option.{is_some}
 use Rattle.std.specs.Prelude.{Option, Some, None}
 use Rattle.image.specs.Tree.{Label, Forest, none, node, Tree}
-use Rattle.image.specs.Subtrees.{forest, place, places}
-use Rattle.image.specs.declared.trees.Siblings.{Siblings}
-use Rattle.image.specs.declared.trees.Subtree.{Subtree}
+use Rattle.image.specs.Subtrees.{Siblings, Subtree, forest, place, places}
 use Rattle.image.proofs.Subtrees.{goes, gone}
 use Rattle.plan.proofs.Bools.{same_truth}
 use Rattle.plan.specs.Kinds.{what}

@@ -8,8 +8,7 @@ use Rattle.rewrite.specs.Utils.{conjoin, conjunction}
 use Rattle.rewrite.proofs.LeftDeep.{deeper, shallower, right_and}
 use Rattle.std.specs.Option.{is_some}
 use Rattle.std.specs.Prelude.{Option, Some, None}
-use Rattle.image.specs.Subtrees.{tree_of}
-use Rattle.image.specs.declared.trees.Subtree.{Subtree}
+use Rattle.image.specs.Subtrees.{Subtree, tree_of}
 use Rattle.conjuncts.specs.Labels.{is_and}
 use Rattle.conjuncts.specs.Operands.{IsAnd}
 use Rattle.conjuncts.specs.Says.{Says, LeftDeep}

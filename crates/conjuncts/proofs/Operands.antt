@@ -8,9 +8,7 @@ use Prim.Native.Nat.{ℕ, ◌+◌, ◌-◌, ◌≤◌, ◌<◌}
 use native.Mathlib.Omega.{arith}
 use lib.ListN.{length}
 use Rattle.image.specs.Limits.{work_bytes, max_depth}
-use Rattle.image.specs.Subtrees.{Below, Split, forest, tree_of}
-use Rattle.image.specs.declared.trees.Siblings.{Siblings}
-use Rattle.image.specs.declared.trees.Subtree.{Subtree}
+use Rattle.image.specs.Subtrees.{Siblings, Subtree, Below, Split, forest, tree_of}
 use Rattle.image.specs.Tree.{Label, Forest, none, node, Tree, Deep, size, link}
 use Rattle.plan.proofs.Bools.{no_yes}
 use Rattle.plan.specs.Syntax.{Op, and, or, cmp, eq, ne, lt, le, gt, ge, Expr, col, num, bool, nul, bin, neg, test, between, inlist, fn}

@@ -9,9 +9,8 @@ use Prim.Native.Nat.{ℕ, ◌-◌, ◌*◌, ◌≤◌}
 use native.Mathlib.Omega.{arith}
 use lib.ListN.{length, drop, length-drop}
 use Rattle.image.specs.Limits.{work_bytes, max_depth}
-use Rattle.image.specs.Subtrees.{tree_of}
+use Rattle.image.specs.Subtrees.{Subtree, tree_of}
 use Rattle.image.specs.Tree.{Tree, At, Deep}
-use Rattle.image.specs.declared.trees.Subtree.{Subtree}
 use Rattle.image.proofs.Subtrees.{tree_is}
 use Rattle.plan.specs.Integers.{FitsE}
 use Rattle.plan.specs.Syntax.{Expr, Plan}

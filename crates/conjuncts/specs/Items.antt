@@ -1,7 +1,7 @@
 -- A list of conjuncts as a list of expressions: what each item stands for.
 use Rattle.std.specs.Prelude.{◌≡◌, false, List, [], ◌∷◌, ℕ, ◌*◌, ◌≤◌, ◌<◌, Option, None, Some as there}
 use Rattle.image.specs.Limits.{max_list, max_records}
-use Rattle.image.specs.declared.trees.Subtree.{Subtree}
+use Rattle.image.specs.Subtrees.{Subtree}
 use Rattle.plan.specs.Syntax.{Expr, bool}
 use Rattle.conjuncts.specs.Standing.{Standing}
 use Rattle.bounded.specs.declared.Bounded.{Bounded}

@@ -1,8 +1,7 @@
 -- The operands of an And, as the code finds them.
 use Rattle.std.specs.Prelude.{◌≡◌, true, false, Option, None, Some, ◌+◌}
 use Rattle.image.specs.Tree.{none, node, size}
-use Rattle.image.specs.Subtrees.{tree_of}
-use Rattle.image.specs.declared.trees.Subtree.{Subtree}
+use Rattle.image.specs.Subtrees.{Subtree, tree_of}
 use Rattle.conjuncts.specs.Labels.{is_and}
 
 -- l and r are the trees below t

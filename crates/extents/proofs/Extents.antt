@@ -13,9 +13,8 @@ use Rattle.std.proofs.lemmas.List.{get_or-drop, get_or-take, length-take-le}
 use Rattle.std.specs.Ordering.{nat_cmp, ord_max}
 use lib.Seq.{take_all}
 use Rattle.image.specs.Limits.{max_records, work_bytes}
-use Rattle.image.specs.Subtrees.{tree_of}
+use Rattle.image.specs.Subtrees.{Subtree, tree_of}
 use Rattle.image.specs.Tree.{Forest, none, node, Tree, size}
-use Rattle.image.specs.declared.trees.Subtree.{Subtree}
 use Rattle.image.specs.Flat.{size_t}
 use Rattle.plan.specs.Measure.{depth}
 use Rattle.plan.specs.Syntax.{Expr, bin, and}

@@ -1,4 +1,4 @@
--- A tree, and a chain of siblings, stand somewhere in one way: `Stood` and `Chained` have one proof at most. These laws stand in
+-- A tree, and a chain of siblings, stand somewhere in one way: `Placed` and `Chained` have one proof at most. These laws stand in
 -- specs/ since the ghost fields of src/trees.rt name them.
 use mathlib.Core.HLevel.{is_prop→PathP, ×_prop, Unit-prop}
 use native.Mathlib.Bridge.{le_prop}
@@ -9,7 +9,7 @@ use Prim.Native.Nat.{ℕ, suc, ◌+◌, ◌*◌, ◌-◌, ◌<◌}
 use native.Mathlib.Omega.{arith}
 use lib.ListN.{drop}
 use Rattle.image.specs.Tree.{Label, Forest, none, node, Tree, size, link, Stands, Linked, Here, At}
-use Rattle.image.specs.Places.{Chained, Stood}
+use Rattle.image.specs.Places.{Chained, Placed, Stood}
 
 -- one forest only stands somewhere, where the links to it are the same
 pub same : (f g : Forest) (s : List ℕ) (b : ℕ) → 0 < b → link b f ≡ link b g → Stands f s b → Stands g s b → f ≡ g
@@ -78,7 +78,10 @@ Chained-prop s b at x y =
 at_prop : (t : Tree) (s : List ℕ) (b : ℕ) → IsProp (At t s b)
 at_prop t s b x y = λ i. record { head = here_prop _ _ _ _ x.head y.head i; below = stands_prop t.below _ _ x.below y.below i }
 
-pub Stood-prop : (s : List ℕ) (n : ℕ) → IsProp (Stood s n)
-Stood-prop s n x y =
+pub Placed-prop : (s : List ℕ) (p n : ℕ) → IsProp (Placed s p n)
+Placed-prop s p n x y =
     let e : x.tree ≡ y.tree = only x.at y.at in
-    λ i. record { tree = e i; at = is_prop→PathP (λ j. At (e j) (drop (32 * n) s) n) (λ j. at_prop (e j) _ n) x.at y.at i }
+    λ i. record { tree = e i; at = is_prop→PathP (λ j. At (e j) (drop (32 * p) s) n) (λ j. at_prop (e j) _ n) x.at y.at i }
+
+pub Stood-prop : (s : List ℕ) (n : ℕ) → IsProp (Stood s n)
+Stood-prop s n = Placed-prop s n n

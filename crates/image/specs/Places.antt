@@ -1,11 +1,27 @@
 -- A tree, and a chain of siblings, that stand somewhere.
-use Rattle.std.specs.Prelude.{List, ℕ, ◌*◌, drop}
+use Rattle.std.specs.Prelude.{List, [], ◌∷◌, ℕ, suc, zero, ◌*◌, ◌-◌, drop}
 use Rattle.image.specs.Tree.{At, Forest, Linked, Tree}
 
--- some tree stands at record n of the image s
-pub record Stood (s : List ℕ) (n : ℕ) : Type 0 where
+-- Where bytes begin that hold records, as the code is told: the number of their first record. It is 0 if none is told.
+abbrev pub start : ℕ → List ℕ → ℕ
+start zero bs = 0
+start (suc k) [] = 0
+start (suc k) (b ∷ bs) = b
+
+-- the place of record n among the records of the bytes
+abbrev pub pos : ℕ → List ℕ → ℕ → ℕ
+pos zero bs n = n
+pos (suc k) [] n = n
+pos (suc k) (b ∷ bs) n = n - b
+
+-- some tree stands at the p-th record of s, where its number is n
+pub record Placed (s : List ℕ) (p n : ℕ) : Type 0 where
   pub tree : Tree
-  pub at : At tree (drop (32 * n) s) n
+  pub at : At tree (drop (32 * p) s) n
+
+-- some tree stands at record n of the image s
+abbrev pub Stood : List ℕ → ℕ → Type 0
+Stood s n = Placed s n n
 
 -- some forest is linked at `at`, in bytes that begin at record b
 pub record Chained (s : List ℕ) (b at : ℕ) : Type 0 where

@@ -7,7 +7,7 @@ ghost use Rattle.image.specs.Tree.{At, Readable, Tree, label_at};
 
 use crate::limits::{MAX_RECORDS, NO_ROOM};
 use crate::records::{Label, put_record};
-use crate::trees::Subtree;
+use crate::trees::Stretch;
 
 // A work buffer, and the record that is written next. Records past the buffer's end are counted, up to NO_ROOM, and not written.
 #[derive(Drop)]
@@ -33,7 +33,7 @@ impl<'a> Writer<'a> {
     }
 
     // Writes a tree.
-    pub fn copy_tree(&mut self, tree: Subtree, level: usize)
+    pub fn copy_tree<const N: usize>(&mut self, tree: Stretch<'_, N>, level: usize)
         requires { Low (level + 1) (tree_of tree).below }
         ensures same { self.new.bytes.ghost_name ≡ self.old.bytes.ghost_name }
         ensures wrote { Wrote self.old.bytes.now self.new.bytes.now self.old.next level self.new.next (tree_of tree.entry) }

@@ -1,41 +1,69 @@
-// Trees as the records of an image hold them: one, and some side by side.
-ghost use Rattle.image.specs.Places.{Chained, Stood};
-ghost use Rattle.image.specs.Chains.{Chained-prop, Stood-prop};
+// Trees as the records of an image hold them: one, and some side by side; in a whole image, or in bytes that begin at any record of one.
+ghost use Rattle.std.specs.Prelude.{◌≡◌, ◌≤◌};
+ghost use Rattle.image.specs.Places.{Chained, Placed, pos, start};
+ghost use Rattle.image.specs.Chains.{Chained-prop, Placed-prop};
 
 use crate::limits::RECORD_BYTES;
 use crate::records::{FIRST_LINK, KIND, Label, NEXT_LINK, label_at, record_at};
 use crate::words::word_at;
 
-// A tree, whose top is the record with this number.
+// A tree, whose top is the record with this number, in bytes that begin at the record `base`: at record 0 where N is 0.
 #[derive(Clone, Copy)]
-pub struct Subtree<'a> {
+pub struct Stretch<'a, const N: usize> {
     pub image: &'a [u8],
+    pub base: [usize; N],
     pub number: usize,
-    pub ghost stood: { Stood image.now number } by { Stood-prop image.now number },
+    pub ghost past: { start N base ≤ number },
+    pub ghost stood: { Placed image.now (pos N base number) number } by { Placed-prop image.now (pos N base number) number },
 }
 
 // Trees side by side, from record `first` on; none where that is 0.
 #[derive(Clone, Copy)]
-pub struct Siblings<'a> {
+pub struct Stretches<'a, const N: usize> {
     pub image: &'a [u8],
+    pub base: [usize; N],
     pub first: usize,
-    pub ghost chained: { Chained image.now 0 first } by { Chained-prop image.now 0 first },
+    pub ghost chained: { Chained image.now (start N base) first } by { Chained-prop image.now (start N base) first },
 }
 
-impl<'a> Subtree<'a> {
-    ghost use Rattle.std.specs.Prelude.{◌≡◌};
-    ghost use Rattle.image.specs.Subtrees.{Below, tree_of};
-    ghost use Rattle.image.specs.Tree.{Fits32};
+// Those of a whole image.
+pub type Subtree<'a> = Stretch<'a, 0>;
 
-    // The tree whose top is this record.
+pub type Siblings<'a> = Stretches<'a, 0>;
+
+// The place of record `number` among the records of bytes that begin at `base`.
+#[inline]
+fn position<const N: usize>(base: [usize; N], number: usize) -> usize
+    requires { start N base ≤ number }
+    ensures { result ≡ pos N base.entry number }
+{
+    if N == 0 {
+        return number;
+    }
+    number - base[0]
+}
+
+impl<'a> Stretch<'a, 0> {
+    ghost use Rattle.image.specs.Places.{Stood};
+
+    // The tree of a whole image whose top is this record.
     #[inline]
     pub fn at(image: &'a [u8], number: usize) -> Self
         requires { Stood image.now number }
         ensures same_image { result.image.now ≡ image.now }
         ensures same_number { result.number ≡ number }
     {
-        Subtree { image, number }
+        Stretch {
+            image,
+            base: [],
+            number,
+        }
     }
+}
+
+impl<'a, const N: usize> Stretch<'a, N> {
+    ghost use Rattle.image.specs.Subtrees.{Below, tree_of};
+    ghost use Rattle.image.specs.Tree.{Fits32};
 
     // What its top says of itself.
     #[inline]
@@ -43,34 +71,37 @@ impl<'a> Subtree<'a> {
         ensures label { result ≡ (tree_of self.entry).label }
         ensures words { Fits32 result }
     {
-        label_at(record_at(self.image, self.number))
+        label_at(record_at(self.image, position(self.base, self.number)))
     }
 
     #[inline]
     pub fn kind(self) -> usize
         ensures { result ≡ (tree_of self.entry).label.kind }
     {
-        word_at(record_at(self.image, self.number), KIND)
+        word_at(record_at(self.image, position(self.base, self.number)), KIND)
     }
 
     #[inline]
-    pub fn children(self) -> Siblings<'a>
+    pub fn children(self) -> Stretches<'a, N>
         ensures { Below self.entry result }
     {
-        Siblings {
+        let record = record_at(self.image, position(self.base, self.number));
+        Stretches {
             image: self.image,
-            first: word_at(record_at(self.image, self.number), FIRST_LINK),
+            base: self.base,
+            first: word_at(record, FIRST_LINK),
         }
     }
 }
 
-impl Subtree<'_> {
-    ghost use Rattle.std.specs.Prelude.{◌≡◌, ◌+◌};
+impl<const N: usize> Stretch<'_, N> {
+    ghost use Rattle.std.specs.Prelude.{◌+◌, ◌<◌, ◌^◌, length};
     ghost use Rattle.image.specs.Flat.{size_t};
     ghost use Rattle.image.specs.Subtrees.{tree_of};
 
     // The record behind the tree's last one, which is in its last child.
     pub fn end(self) -> usize
+        requires { start N self.base + length self.image.now < 2 ^ 64 }
         ensures { result ≡ self.entry.number + size_t (tree_of self.entry) }
     {
         match self.children().last() {
@@ -80,41 +111,44 @@ impl Subtree<'_> {
     }
 }
 
-impl<'a> Siblings<'a> {
+impl<'a, const N: usize> Stretches<'a, N> {
     ghost use Rattle.image.specs.Subtrees.{Splits};
 
     // The first tree and the others, unless there is none.
     #[inline]
-    pub fn split_first(self) -> Option<(Subtree<'a>, Siblings<'a>)>
+    pub fn split_first(self) -> Option<(Stretch<'a, N>, Stretches<'a, N>)>
         ensures { Splits self.entry result }
     {
         if self.first == 0 {
             return None;
         }
-        let tree = Subtree {
+        let tree = Stretch {
             image: self.image,
+            base: self.base,
             number: self.first,
         };
-        let others = Siblings {
+        let record = record_at(self.image, position(self.base, self.first));
+        let others = Stretches {
             image: self.image,
-            first: word_at(record_at(self.image, self.first), NEXT_LINK),
+            base: self.base,
+            first: word_at(record, NEXT_LINK),
         };
         Some((tree, others))
     }
 }
 
-impl<'a> Iterator for Siblings<'a> {
+impl<'a, const N: usize> Iterator for Stretches<'a, N> {
     ghost use Rattle.std.specs.Iterator.{YieldsFirstBy, item_count};
     ghost use Rattle.image.specs.Subtrees.{place, places};
 
-    type Item = Subtree<'a>;
+    type Item = Stretch<'a, N>;
 
     ghost next_gives = { YieldsFirstBy place places };
 
     ghost remaining = { item_count places };
 
     #[inline]
-    fn next(&mut self) -> Option<Subtree<'a>> {
+    fn next(&mut self) -> Option<Stretch<'a, N>> {
         let (tree, others) = self.split_first()?;
         *self = others;
         Some(tree)

@@ -10,10 +10,9 @@ use Rattle.image.specs.Limits.{work_bytes, max_below, max_records}
 use Rattle.std.specs.Prelude.{None, Some}
 use Rattle.image.specs.Lowest.{Found, unless, alone}
 use Rattle.image.specs.Word.{Bytes}
-use Rattle.image.specs.Subtrees.{tree_of}
+use Rattle.image.specs.Subtrees.{Subtree, tree_of}
 use Rattle.image.specs.Tree.{Tree, At, SmallT}
 use Rattle.image.specs.Room.{Low, Wrote}
-use Rattle.image.specs.declared.trees.Subtree.{Subtree}
 use Rattle.image.proofs.Subtrees.{tree_is}
 use Rattle.image.proofs.Bytes.{image_bytes}
 use Rattle.image.proofs.RoundTrip.{at_enc, small_at}

@@ -2,7 +2,7 @@
 use Rattle.std.specs.Prelude.{◌≡◌, true, List, [], ℕ, ◌≤◌, drop, Option, None, Some}
 use Rattle.image.specs.Tree.{Forest, none, node, Tree, size}
 use Rattle.image.specs.Subtrees.{tree_of}
-use Rattle.image.specs.declared.trees.Subtree.{Subtree}
+use Rattle.image.specs.declared.trees.Stretch.{Stretch}
 use Rattle.plan.specs.Lists.{put}
 use Rattle.plan.specs.Kinds.{is_plan}
 
@@ -21,6 +21,6 @@ pub record PlanAt (f : Forest) (skip : ℕ) (t : Tree) : Type 0 where
   pub fewer : size trees ≤ size f
 
 -- there is none, or it is t
-abbrev pub PlansAt : Forest → ℕ → Option Subtree → Type 0
+abbrev pub PlansAt : {N : ℕ} → Forest → ℕ → Option (Stretch N) → Type 0
 PlansAt f skip None = drop skip (plans_in f) ≡ []
 PlansAt f skip (Some t) = PlanAt f skip (tree_of t)

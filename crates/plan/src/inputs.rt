@@ -3,10 +3,13 @@ ghost use Rattle.image.specs.Subtrees.{forest};
 ghost use Rattle.plan.specs.Inputs.{PlansAt};
 
 use crate::kinds::is_plan;
-use image::trees::{Siblings, Subtree};
+use image::trees::{Stretch, Stretches};
 
 // The plan with the place `skip` among the trees.
-pub fn nth_plan<'a>(trees: Siblings<'a>, skip: usize) -> Option<Subtree<'a>>
+pub fn nth_plan<'a, const N: usize>(
+    trees: Stretches<'a, N>,
+    skip: usize,
+) -> Option<Stretch<'a, N>>
     ensures { PlansAt (forest trees.entry) skip result }
 {
     let mut before = skip;

@@ -15,9 +15,8 @@ use Rattle.std.specs.Prelude.{IsTrue, ◌↔◌}
 use lib.Dec.{ltb}
 use lib.ListN.{length, get_or, drop, length-append}
 use borrow.Author.Tests.{ltb-true, ltb-false}
-use Rattle.image.specs.Subtrees.{tree_of}
+use Rattle.image.specs.Subtrees.{Subtree, tree_of}
 use Rattle.image.specs.Tree.{Forest, none, Tree}
-use Rattle.image.specs.declared.trees.Subtree.{Subtree}
 use Rattle.image.specs.Limits.{work_bytes, max_list, max_below}
 use Rattle.plan.specs.Lists.{flatten}
 use Rattle.plan.specs.Schema.{same}

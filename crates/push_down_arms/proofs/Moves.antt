@@ -13,8 +13,7 @@ use borrow.Author.Tests.{eq-eqb, ne_eqb}
 use Rattle.std.specs.List.{list_any, list_all}
 use Rattle.std.specs.Prelude.{Option, None, Some}
 use Rattle.std.specs.Option.{is_some as found}
-use Rattle.image.specs.declared.trees.Subtree.{Subtree}
-use Rattle.image.specs.Subtrees.{Place, places_from}
+use Rattle.image.specs.Subtrees.{Subtree, Place, places_from}
 use Rattle.image.specs.Tree.{Label, Forest, none, node, Tree, size}
 use Rattle.plan.specs.Lists.{◌&◌, any, all}
 use Rattle.plan.specs.Schema.{same, has}
@@ -158,15 +157,15 @@ pub partition_rest : (x : Name) {l : Label} {f cs ns : Forest} → f ≡ node l 
 unfolding partition_in
 partition_rest x e = rw e
 
-pub any_named : (x : Name) (s : List ℕ) (n : ℕ) (f : Forest) → list_any (λ (p : Place). is_named x p.tree.label) (places_from s n f) ≡ named_in x f
+pub any_named : (x : Name) (s : List ℕ) (b n : ℕ) (f : Forest) → list_any (λ (p : Place). is_named x p.tree.label) (places_from s b n f) ≡ named_in x f
 unfolding named_in places_from
-any_named x s n none = refl
-any_named x s n (node l cs ns) = ap (λ b. is_named x l || b) (any_named x s (n + 1 + size cs) ns)
+any_named x s b n none = refl
+any_named x s b n (node l cs ns) = ap (λ b. is_named x l || b) (any_named x s b (n + 1 + size cs) ns)
 
-pub all_let : (x : Name) (s : List ℕ) (n : ℕ) (f : Forest) → list_all (λ (p : Place). lets x p.tree) (places_from s n f) ≡ lets_all x f
+pub all_let : (x : Name) (s : List ℕ) (b n : ℕ) (f : Forest) → list_all (λ (p : Place). lets x p.tree) (places_from s b n f) ≡ lets_all x f
 unfolding lets_all places_from
-all_let x s n none = refl
-all_let x s n (node l cs ns) = ap (λ b. lets x (record { label = l; below = cs }) && b) (all_let x s (n + 1 + size cs) ns)
+all_let x s b n none = refl
+all_let x s b n (node l cs ns) = ap (λ b. lets x (record { label = l; below = cs }) && b) (all_let x s b (n + 1 + size cs) ns)
 
 -- what is found, is something
 pub some_found : (map : Subtree) (f : Forest) (o : Option Subtree) → Finds f map o → found o ≡ is_some f

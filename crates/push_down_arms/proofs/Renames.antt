@@ -9,7 +9,7 @@ use borrow.Author.Tests.{leb-true}
 use Rattle.image.specs.Limits.{max_list, max_fields}
 use Rattle.plan.specs.Syntax.{Name, Expr, Plan, filter, alias}
 use Rattle.image.specs.Tree.{Tree}
-use Rattle.image.specs.declared.trees.Subtree.{Subtree}
+use Rattle.image.specs.Subtrees.{Subtree}
 use Rattle.plan.specs.Schema.{schema, requalify}
 use Rattle.plan.specs.Trees.{kids_p}
 use Rattle.conjuncts.specs.Standing.{StandingP}

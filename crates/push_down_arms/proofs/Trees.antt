@@ -8,8 +8,7 @@ use lib.ListN.{length, drop, length-drop}
 use Rattle.image.specs.Limits.{max_records, work_bytes}
 use Rattle.image.specs.Room.{Low}
 use Rattle.image.specs.Tree.{At}
-use Rattle.image.specs.Subtrees.{tree_of}
-use Rattle.image.specs.declared.trees.Subtree.{Subtree}
+use Rattle.image.specs.Subtrees.{Subtree, tree_of}
 use Rattle.writing.specs.Maps.{Over}
 
 -- a plan may be written where there is a map of it

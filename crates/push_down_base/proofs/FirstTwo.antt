@@ -7,8 +7,7 @@ use Prim.Native.Nat.{ℕ, ◌+◌, ◌-◌}
 use native.Mathlib.Omega.{arith}
 use Rattle.image.specs.Tree.{Label, Forest, node, Tree}
 use Rattle.image.specs.Room.{Low}
-use Rattle.image.specs.Subtrees.{tree_of}
-use Rattle.image.specs.declared.trees.Subtree.{Subtree}
+use Rattle.image.specs.Subtrees.{Subtree, tree_of}
 use Rattle.image.proofs.Room.{low_below, low_after}
 use Rattle.push_down_base.specs.Inputs.{Two}
 

@@ -5,9 +5,7 @@ use mathlib.Core.Path.{◌≡◌, refl, sym, ap, ◌∙◌}
 use mathlib.Core.List.{List, [], ◌∷◌}
 use mathlib.Core.Option.{Option}
 use Rattle.image.specs.Tree.{Label, Forest, none, node, size, link}
-use Rattle.image.specs.Subtrees.{Below, Place, forest, place, places, places_from, tree_of}
-use Rattle.image.specs.declared.trees.Siblings.{Siblings}
-use Rattle.image.specs.declared.trees.Subtree.{Subtree}
+use Rattle.image.specs.Subtrees.{Siblings, Subtree, Below, Place, forest, place, places, places_from, tree_of}
 use Rattle.plan.specs.Syntax.{Entry, Key, AggEntry, WinEntry, Plan, project, distinct, sort, repartition, aggregate, window}
 use Rattle.plan.specs.Measure.{sizes}
 use Rattle.plan.specs.Trees.{label_p, kids_p, each, entry_label, entry_kids, key_label, key_kids, agg_label, agg_kids, win_label, win_kids}
@@ -75,15 +73,15 @@ pub record LastPlace (t : Subtree) (p : Place) : Type 0 where
   pub image : p.image ≡ t.image.now
   pub number : p.number ≡ last_of t.number (t.number + 1) (tree_of t).below
 
-last_from : (s : List ℕ) (f : Forest) (d : Place) (b : ℕ) → d.image ≡ s
-    → ((last_place d (places_from s b f)).image ≡ s) × ((last_place d (places_from s b f)).number ≡ last_of d.number b f)
+last_from : (s : List ℕ) (a : ℕ) (f : Forest) (d : Place) (b : ℕ) → d.image ≡ s
+    → ((last_place d (places_from s a b f)).image ≡ s) × ((last_place d (places_from s a b f)).number ≡ last_of d.number b f)
 unfolding places_from
-last_from s none d b e = (e, refl)
-last_from s (node l cs ns) d b e = last_from s ns (record { image = s; number = b; tree = record { label = l; below = cs } }) (b + 1 + size cs) refl
+last_from s a none d b e = (e, refl)
+last_from s a (node l cs ns) d b e = last_from s a ns (record { image = s; base = a; number = b; tree = record { label = l; below = cs } }) (b + 1 + size cs) refl
 
 pub children_last : {t : Subtree} {x : Siblings} → Below t x → LastPlace t (last_place (place t) (places x))
 children_last {t} {x} h =
-    let k = last_from x.image.now (forest x) (place t) x.first (sym h.image) in
+    let k = last_from x.image.now 0 (forest x) (place t) x.first (sym h.image) in
     record {
       image = k.0 ∙ h.image;
       number =

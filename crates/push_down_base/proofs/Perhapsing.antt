@@ -11,7 +11,7 @@ use Rattle.std.specs.Option.{is_none}
 use borrow.Author.Tests.{eqb-true}
 use Rattle.plan.specs.Syntax.{Name, Expr}
 use Rattle.writing.specs.Pushed as W
-use Rattle.image.specs.declared.trees.Subtree.{Subtree}
+use Rattle.image.specs.Subtrees.{Subtree}
 use Rattle.push_down_base.specs.Predicates.{Predicate, Perhaps, gone, left, Writable}
 
 abbrev pub is_gone : Predicate → Bool

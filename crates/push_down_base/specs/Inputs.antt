@@ -1,8 +1,7 @@
 -- The last child of a record, and the first two.
 use Rattle.std.specs.Prelude.{◌≡◌, ℕ, ◌+◌, Option, None, Some}
 use Rattle.image.specs.Tree.{Forest, none, node, size}
-use Rattle.image.specs.Subtrees.{tree_of}
-use Rattle.image.specs.declared.trees.Subtree.{Subtree}
+use Rattle.image.specs.Subtrees.{Subtree, tree_of}
 
 -- the number of the last tree of a forest whose first record has the number b; d where there is none
 abbrev pub last_of : ℕ → ℕ → Forest → ℕ

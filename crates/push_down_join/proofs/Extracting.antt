@@ -13,10 +13,9 @@ use Prim.Native.Nat.{ℕ}
 use native.Mathlib.Omega.{arith}
 use Rattle.std.specs.Prelude as P
 use Rattle.image.specs.Room.{Wrote}
-use Rattle.image.specs.Subtrees.{tree_of}
+use Rattle.image.specs.Subtrees.{Subtree, tree_of}
 use Rattle.image.specs.Tree as T
 use Rattle.image.specs.Tree.{Label, Tree, node}
-use Rattle.image.specs.declared.trees.Subtree.{Subtree}
 use Rattle.plan.specs.Columns.{on_cols}
 use Rattle.plan.specs.Schema.{has}
 use Rattle.plan.specs.Syntax.{Name, Op, and, or, cmp, eq, ne, lt, le, gt, ge, Expr, col, num, bool, nul, bin, neg, test, between, inlist, fn}

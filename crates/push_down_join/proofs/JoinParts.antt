@@ -20,8 +20,7 @@ use Rattle.std.specs.Bool.{then_some}
 use Rattle.image.specs.Limits.{work_bytes, no_room, max_below}
 use Rattle.image.specs.Room.{Wrote}
 use Rattle.image.specs.Tree.{Label, Forest, none, node, Tree, size}
-use Rattle.image.specs.Subtrees.{tree_of}
-use Rattle.image.specs.declared.trees.Subtree.{Subtree}
+use Rattle.image.specs.Subtrees.{Subtree, tree_of}
 use Rattle.image.specs.Word.{word}
 use Rattle.image.specs.Records.{Rec, recs, recs_any}
 use Rattle.image.proofs.Room.{cap_le}

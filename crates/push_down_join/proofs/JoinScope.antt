@@ -9,9 +9,8 @@ use Prim.Native.Nat.{◌≤◌}
 use lib.ListN.{length}
 use borrow.Author.Tests.{leb-true}
 use Rattle.image.specs.Limits.{max_fields}
-use Rattle.image.specs.Subtrees.{tree_of}
+use Rattle.image.specs.Subtrees.{Subtree, tree_of}
 use Rattle.image.specs.Tree.{Tree}
-use Rattle.image.specs.declared.trees.Subtree.{Subtree}
 use Rattle.plan.specs.Columns.{on_cols}
 use Rattle.plan.specs.Lists.{◌&◌, all, any}
 use Rattle.plan.specs.Schema.{has, same, schema, nodup}

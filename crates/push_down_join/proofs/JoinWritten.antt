@@ -9,9 +9,8 @@ use Prim.Native.Nat.{ℕ, ◌+◌, ◌-◌, ◌≤◌, ◌<◌}
 use lib.ListN.{length}
 use Rattle.image.specs.Limits.{work_bytes, max_list, max_below, max_level}
 use Rattle.image.specs.Room.{Low, Put, Wrote}
-use Rattle.image.specs.Subtrees.{tree_of}
+use Rattle.image.specs.Subtrees.{Subtree, tree_of}
 use Rattle.image.specs.Tree.{Label, Tree, none}
-use Rattle.image.specs.declared.trees.Subtree.{Subtree}
 use Rattle.image.specs.Records.{Rec, recs, recs_any}
 use Rattle.plan.specs.Schema.{has, schema}
 use Rattle.plan.specs.Read.{joins, nth}

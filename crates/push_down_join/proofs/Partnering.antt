@@ -12,9 +12,8 @@ use lib.Dec.{eqb}
 use borrow.Author.Tests.{eq-eqb, ne_eqb}
 use Rattle.std.specs.Prelude as P
 use Rattle.std.specs.Option.{is_some}
-use Rattle.image.specs.Subtrees.{tree_of}
+use Rattle.image.specs.Subtrees.{Subtree, tree_of}
 use Rattle.image.specs.Tree.{Label, Forest, none, node}
-use Rattle.image.specs.declared.trees.Subtree.{Subtree}
 use Rattle.plan.specs.Lists.{◌&◌}
 use Rattle.plan.specs.Syntax.{Name}
 use Rattle.rewrite.specs.PushDownFilter.{pair_of}

@@ -2,9 +2,8 @@
 use Rattle.std.specs.Prelude as P
 use Rattle.std.specs.Prelude.{◌≡◌, Bool, true, false, cond, ℕ, eqb}
 use Rattle.std.proofs.Math.Option.{Option, none, some}
-use Rattle.image.specs.Subtrees.{tree_of}
+use Rattle.image.specs.Subtrees.{Subtree, tree_of}
 use Rattle.image.specs.Tree.{Label}
-use Rattle.image.specs.declared.trees.Subtree.{Subtree}
 use Rattle.plan.specs.Kinds.{number_e, Binary}
 use Rattle.plan.specs.Syntax.{Name, Expr, and, or}
 use Rattle.plan.specs.Trees.{op_number, label_e, expr_tree}

@@ -5,7 +5,7 @@ use Rattle.std.proofs.Math.Option as O
 use Rattle.std.proofs.Math.Option.{Option, some}
 use Rattle.image.specs.Limits.{work_bytes, max_list}
 use Rattle.image.specs.Tree.{Forest, none, node}
-use Rattle.image.specs.declared.trees.Subtree.{Subtree}
+use Rattle.image.specs.Subtrees.{Subtree}
 use Rattle.image.specs.Records.{Rec, recs}
 use Rattle.plan.specs.Kinds.{number_q, PairPart}
 use Rattle.plan.specs.Schema.{has, schema}

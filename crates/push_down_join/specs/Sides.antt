@@ -9,7 +9,7 @@ use Rattle.conjuncts.specs.Items.{Conjuncts, listed, Holds, Item, clause_by, rep
 use Rattle.push_down_join.specs.Clauses.{or_clause}
 use Rattle.utils.specs.Fields.{Fields, Names}
 use Rattle.utils.specs.Masks.{Masks}
-use Rattle.image.specs.declared.trees.Subtree.{Subtree}
+use Rattle.image.specs.Subtrees.{Subtree}
 use Rattle.writing.specs.Maps.{MapsTo}
 use Rattle.writing.specs.Pushed.{Pushed, Each}
 

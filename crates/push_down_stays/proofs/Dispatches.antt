@@ -3,9 +3,8 @@ use Prim.Native.Nat.{ℕ}
 use mathlib.Core.Path.{◌≡◌, sym, ap, ◌∙◌}
 use mathlib.Core.List.{List}
 use mathlib.Core.Option.{Option}
-use Rattle.image.specs.Subtrees.{tree_of}
+use Rattle.image.specs.Subtrees.{Subtree, tree_of}
 use Rattle.image.specs.Tree.{Tree}
-use Rattle.image.specs.declared.trees.Subtree.{Subtree}
 use Rattle.plan.specs.Kinds.{What, PlanKind, plan, what_of, number_p}
 use Rattle.plan.specs.Syntax.{Expr, Field, Entry, AggEntry, WinEntry, Kind, Pair, Plan, Plans}
 use Rattle.plan.specs.Syntax.{scan, project, join, alias, union, aggregate, window}

@@ -10,7 +10,7 @@ use lib.Dec.{eqb}
 use lib.ListN.{length}
 use borrow.Author.Tests.{eqb-true, eqb-false}
 use Rattle.std.specs.Prelude as P
-use Rattle.image.specs.declared.trees.Subtree.{Subtree}
+use Rattle.image.specs.Subtrees.{Subtree}
 use Rattle.image.specs.Chains.{only}
 use Rattle.plan.specs.Columns.{on_cols}
 use Rattle.plan.specs.Schema.{schema}

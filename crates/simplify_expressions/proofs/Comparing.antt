@@ -5,10 +5,8 @@
 -- Assumes nothing.
 use mathlib.Core.Path.{◌≡◌, refl, sym, ap, subst, ◌∙◌}
 use mathlib.Core.Option.{Option, none, some}
-use Rattle.image.specs.Subtrees.{Split, forest, tree_of}
+use Rattle.image.specs.Subtrees.{Siblings, Subtree, Split, forest, tree_of}
 use Rattle.image.specs.Tree.{Forest, none, node, Tree}
-use Rattle.image.specs.declared.trees.Siblings.{Siblings}
-use Rattle.image.specs.declared.trees.Subtree.{Subtree}
 use Rattle.plan.specs.Kinds as Kinds
 use Rattle.plan.specs.Kinds.{What, expr, plan, part, unknown, what, what_of, among}
 use Rattle.plan.specs.Syntax.{Cmp, Op, and, or, cmp, Expr, col, num, bool, nul, bin, neg, test, between, inlist, fn, nm, Name}

@@ -12,9 +12,7 @@ use Rattle.image.specs.Tree.{Label, Forest, none, node, Tree, Deep, Linked, size
 use Rattle.std.specs.Iterator.{YieldsFirstBy}
 use Rattle.std.specs.Prelude.{Option, Some, None}
 use Rattle.image.specs.Room.{Low}
-use Rattle.image.specs.Subtrees.{Below, Place, forest, place, places, places_from, tree_of}
-use Rattle.image.specs.declared.trees.Siblings.{Siblings}
-use Rattle.image.specs.declared.trees.Subtree.{Subtree}
+use Rattle.image.specs.Subtrees.{Siblings, Subtree, Below, Place, forest, place, places, places_from, tree_of}
 use Rattle.image.proofs.Subtrees.{goes, gone}
 use Rattle.writing.specs.Replaced.{Begins, Finds, LowOver, is_entry, either, lookup, value_for, first_or, replaced, replaced_any}
 
@@ -33,14 +31,14 @@ abbrev pub Inside : List ℕ → List Place → Type 0
 Inside s [] = Unit {0}
 Inside s (p ∷ ps) = (p.image ≡ s) × Inside s ps
 
-inside_from : (s : List ℕ) (n : ℕ) (f : Forest) → Inside s (places_from s n f)
+inside_from : (s : List ℕ) (b n : ℕ) (f : Forest) → Inside s (places_from s b n f)
 unfolding places_from
-inside_from s n none = tt
-inside_from s n (node l cs ns) = (refl, inside_from s (n + 1 + size cs) ns)
+inside_from s b n none = tt
+inside_from s b n (node l cs ns) = (refl, inside_from s b (n + 1 + size cs) ns)
 
 -- those of siblings do
 pub inside : (x : Siblings) {s : List ℕ} → x.image.now ≡ s → Inside s (places x)
-inside x e = subst (λ (z : List ℕ). Inside z (places x)) e (inside_from x.image.now x.first (forest x))
+inside x e = subst (λ (z : List ℕ). Inside z (places x)) e (inside_from x.image.now _ x.first (forest x))
 
 -- the first does, and so do the others
 pub inside_step : (x y : Siblings) (t : Subtree) {s : List ℕ} → places x ≡ place t ∷ places y → Inside s (places x)

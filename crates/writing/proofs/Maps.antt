@@ -15,9 +15,8 @@ use lib.Dec.{eqb}
 use Rattle.image.specs.Limits.{max_below, max_depth, Shallow}
 use Rattle.image.specs.Places.{Stood}
 use Rattle.image.specs.Room.{Low}
-use Rattle.image.specs.Subtrees.{tree_of}
+use Rattle.image.specs.Subtrees.{Subtree, tree_of}
 use Rattle.image.specs.Tree.{Label, Forest, none, node, Tree, Deep, Readable}
-use Rattle.image.specs.declared.trees.Subtree.{Subtree}
 use Rattle.image.proofs.Subtrees.{tree_is}
 use Rattle.plan.specs.Lists.{◌&◌}
 use Rattle.plan.specs.Schema.{same}

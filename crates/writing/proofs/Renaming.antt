@@ -15,7 +15,7 @@ use lib.Seq.{sets, sets-eq, length-sets}
 use Rattle.image.specs.Limits.{max_fields, record_bytes}
 use Rattle.image.specs.Tree.{Label, Forest, none, node, size, link, At, Stands, Deep, Small}
 use Rattle.image.specs.Flat.{bytes_of, enc_any}
-use Rattle.image.specs.declared.trees.Subtree.{Subtree}
+use Rattle.image.specs.Subtrees.{Subtree}
 use Rattle.image.proofs.Subtrees.{tree_is}
 use Rattle.image.proofs.Writing.{sets_after, bytes_of_length}
 use Rattle.image.proofs.RoundTrip.{enc_length, stands_enc}

@@ -2,9 +2,8 @@
 -- renames.
 use Rattle.std.specs.Prelude.{◌≡◌, Bool, true, false, ◌&&◌, ℕ, ◌+◌, ◌<◌, eqb, Option, None, Some}
 use Rattle.image.specs.Limits.{max_level}
-use Rattle.image.specs.Subtrees.{tree_of}
+use Rattle.image.specs.Subtrees.{Subtree, tree_of}
 use Rattle.image.specs.Tree.{Deep, Label, Forest, none, node, Tree}
-use Rattle.image.specs.declared.trees.Subtree.{Subtree}
 use Rattle.plan.specs.Kinds.{number_e, number_q, Column, EntryPart}
 
 -- the label is that of an entry of this name

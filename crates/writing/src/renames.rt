@@ -5,7 +5,7 @@ ghost use Rattle.std.proofs.lemmas.List.Edits.{sets};
 ghost use Rattle.image.specs.Flat.{bytes_of};
 ghost use Rattle.image.specs.Limits.{max_fields};
 ghost use Rattle.image.specs.Tree.{Readable};
-ghost use Rattle.image.specs.declared.trees.Subtree.{Subtree};
+ghost use Rattle.image.specs.Subtrees.{Subtree};
 ghost use Rattle.plan.specs.Syntax.{Name, col};
 ghost use Rattle.rewrite.specs.PushDownFilter.{ren};
 ghost use Rattle.utils.specs.Fields.{Names, named};

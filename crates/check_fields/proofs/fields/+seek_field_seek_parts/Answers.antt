@@ -4,7 +4,7 @@ use Rattle.check_fields.proofs.Seeking.{of_parts, of_input, of_second, of_more, 
 use Rattle.check_fields.proofs.fields.+seek_field_seek_parts.Goals as goal
 
 pub seek_field-returns-then-eq : goal.seek_field-returns-then-eq
-seek_field-returns-then-eq t c =
+seek_field-returns-then-eq g t c =
     let y = c.in-Some.ensures in
     let l = c.label-label.ensures.label in
     let b = c.children-below.ensures.is in
@@ -12,7 +12,7 @@ seek_field-returns-then-eq t c =
     (sym (is_creates c.role_of-role.result c.eq.ensures) ∙ c.if-eq.true) ∙ y.same _
 
 pub seek_field-returns-in_err-left : goal.seek_field-returns-in_err-left
-seek_field-returns-in_err-left t c =
+seek_field-returns-in_err-left g t c =
     let y = c.in-Some.ensures in
     let l = c.label-label.ensures.label in
     let b = c.children-below.ensures.is in
@@ -21,7 +21,7 @@ seek_field-returns-in_err-left t c =
     (sym c.in_err-left.was ∙ (rw (c.question.ensures, c.own_input.ensures, b, l) at c.seek_field.ensures)) (λ g. refl) ∙ y.same _
 
 pub seek_field-returns-then-gives_both : goal.seek_field-returns-then-gives_both
-seek_field-returns-then-gives_both t c =
+seek_field-returns-then-gives_both g t c =
     let y = c.in-Some.ensures in
     let l = c.label-label.ensures.label in
     let b = c.children-below.ensures.is in
@@ -31,7 +31,7 @@ seek_field-returns-then-gives_both t c =
     (sym (rw l at c.gives_both.ensures) ∙ c.if-gives_both.true) ∙ y.same _
 
 pub seek_field-returns-then-eq-2 : goal.seek_field-returns-then-eq-2
-seek_field-returns-then-eq-2 t c =
+seek_field-returns-then-eq-2 g t c =
     let y = c.in-Some.ensures in
     let l = c.label-label.ensures.label in
     let b = c.children-below.ensures.is in
@@ -41,7 +41,7 @@ seek_field-returns-then-eq-2 t c =
     (sym (rw l at c.gives_both.ensures) ∙ c.if-gives_both.false) (sym (is_extends c.role_of-role.result c.eq-2.ensures) ∙ c.if-eq-2.true) ∙ y.same _
 
 pub seek_field-returns : goal.seek_field-returns
-seek_field-returns t c =
+seek_field-returns g t c =
     let y = c.in-Some.ensures in
     let l = c.label-label.ensures.label in
     let b = c.children-below.ensures.is in
@@ -50,6 +50,6 @@ seek_field-returns t c =
     (sym (rw l at c.gives_both.ensures) ∙ c.if-gives_both.false) (sym (is_extends c.role_of-role.result c.eq-2.ensures) ∙ c.if-eq-2.false) ∙ y.same _
 
 pub seek_parts-returns-in-Break-Named : goal.seek_parts-returns-in-Break-Named
-seek_parts-returns-in-Break-Named t c =
+seek_parts-returns-in-Break-Named g t c =
     told_named _ (c.seek_made.ensures _) c.in-Break-Named.is c.in-Break-Named.field-0-is c.type_found.ensures
     (c.seek_field.ensures ∙ rw (parts_input c.args.kind _ c.if-kind-eq-TABLE_SCAN.false) refl)

@@ -2,18 +2,18 @@ use mathlib.Core.Path.{sym, subst, ◌∙◌}
 use mathlib.Core.Bool.{◌||◌}
 use Rattle.std.proofs.Common.{Option}
 use Rattle.image.specs.Subtrees.{forest}
-use Rattle.image.specs.declared.trees.Subtree.{Subtree}
+use Rattle.image.specs.declared.trees.Stretch.{Stretch}
 use Rattle.plan.proofs.Bools.{neither_left, neither_right}
 use Rattle.plan.proofs.FieldSources.{is_creates, is_extends}
 use Rattle.check_fields.proofs.Seeking.{Asked, asked_start, asked_next}
 use Rattle.check_fields.proofs.fields.find_maker.Goals as goal
 
 pub loop-next-init : goal.loop-next-init
-loop-next-init c = asked_start _ _ _ _ c.nth_plan-next.ensures
+loop-next-init g c = asked_start _ _ _ _ c.nth_plan-next.ensures
 
 pub loop-next-preserved : goal.loop-next-preserved
-loop-next-preserved c =
-    let y = subst (λ (n : Option Subtree). Asked (forest c.args.trees) c.args.skip c.args.asks n c.loop-next.asked) c.in-Some.is c.loop-next.invariant in
+loop-next-preserved g c =
+    let y = subst (λ (n : Option (Stretch g.row.N)). Asked (forest c.args.trees) c.args.skip c.args.asks n c.loop-next.asked) c.in-Some.is c.loop-next.invariant in
     let l = c.label-label.ensures.label in
     let none = c.if-eq-gives_both.false in
     let first = neither_left (c.eq.result || c.eq-in-Some.result) c.gives_both.result none in

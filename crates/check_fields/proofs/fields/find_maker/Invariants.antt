@@ -4,7 +4,7 @@ use Rattle.check_fields.proofs.Seeking.{Asked, depth_left}
 use Rattle.check_fields.proofs.fields.find_maker.Given as goal
 
 abbrev pub invariant-loop-next : goal.invariant-loop-next
-invariant-loop-next l = Asked (forest l.trees) l.skip l.initial.asked l.next l.asked
+invariant-loop-next g l = Asked (forest l.trees) l.skip l.initial.asked l.next l.asked
 
 abbrev pub decreases-loop-next : goal.decreases-loop-next
-decreases-loop-next l = depth_left l.next
+decreases-loop-next g l = depth_left l.next

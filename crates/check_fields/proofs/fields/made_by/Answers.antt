@@ -6,7 +6,7 @@ use Rattle.check_fields.proofs.Typing.{of_entry, first_typed, first_untyped}
 use Rattle.check_fields.proofs.fields.made_by.Goals as goal
 
 pub returns-in-Some : goal.returns-in-Some
-returns-in-Some c =
+returns-in-Some g c =
     λ d m. (rw c.label.ensures.label at (c.source_of.ensures d)) ∙ first_typed c.in-Some.ensures.is d
     ∙ ap (type_first d) c.children.ensures.is
     ∙ of_entry _ _ d
@@ -14,7 +14,7 @@ returns-in-Some c =
     ∙ c.in-Part-EntryPart.is ∙ ap (λ (k : PartKind). part k) c.in-Part-EntryPart.field-0-is)
 
 pub returns-in-None : goal.returns-in-None
-returns-in-None c =
+returns-in-None g c =
     λ d m. first_untyped d c.in-None.ensures
     ∙ ap (type_first d) c.children.ensures.is
     ∙ of_entry _ _ d

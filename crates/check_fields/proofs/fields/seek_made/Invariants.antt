@@ -4,4 +4,4 @@ use Rattle.check_fields.proofs.Seeking.{Made}
 use Rattle.check_fields.proofs.fields.seek_made.Given as goal
 
 abbrev pub invariant-loop-part : goal.invariant-loop-part
-invariant-loop-part l = Made l.asks l.k l.left (forest l.parts) (forest l.part-iterator)
+invariant-loop-part g l = Made l.asks l.k l.left (forest l.parts) (forest l.part-iterator)

@@ -5,5 +5,5 @@ use Rattle.check_fields.proofs.Scoping.{passed_seen}
 use Rattle.check_fields.proofs.scopes.held_in.Goals as goal
 
 pub returns : goal.returns
-returns c =
+returns g c =
     c.passed.ensures ∙ passed_seen _ c.args.here.view c.args.here.trees _ (omega arith) c.seek_seen.ensures

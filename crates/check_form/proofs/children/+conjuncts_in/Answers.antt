@@ -10,12 +10,12 @@ use Rattle.check_form.proofs.children.+conjuncts_in.Goals.{then-splits, else-spl
 use Rattle.check_form.proofs.children.+conjuncts_in.Goals as goal
 
 pub conjuncts_in-requires : goal.conjuncts_in-requires
-conjuncts_in-requires t c =
+conjuncts_in-requires g t c =
     let g = goes c.loop-tree.tree-iterator c.next.new.self c.in-Some.tree c.in-Some.ensures.steps in
     omega (arith, ap size g.is, ap size c.children.ensures.is, c.loop-tree.invariant.0, c.decreases)
 
 pub overflow_add-n : goal.overflow_add-n
-overflow_add-n t c =
+overflow_add-n g t c =
     let g = goes c.loop-tree.tree-iterator c.next.new.self c.in-Some.tree c.in-Some.ensures.steps in
     let e : conjuncts (forest c.loop-tree.tree-iterator) ≡ c.if-splits.n + conjuncts (forest c.next.new.self) = elim c.if-splits.branch [
       | then-splits b ↦ rw b.n-is (conj_and g.is (sym c.splits.ensures ∙ b.if-splits.true) (rw b.children.ensures.is at b.conjuncts_in.ensures))
@@ -27,7 +27,7 @@ overflow_add-n t c =
     omega (arith, count_room c.args.trees (count_on c.loop-tree.invariant.1 _ _ e) (conj_few _))
 
 pub loop-tree-preserved : goal.loop-tree-preserved
-loop-tree-preserved t c =
+loop-tree-preserved g t c =
     let g = goes c.loop-tree.tree-iterator c.next.new.self c.in-Some.tree c.in-Some.ensures.steps in
     let e : conjuncts (forest c.loop-tree.tree-iterator) ≡ c.if-splits.n + conjuncts (forest c.next.new.self) = elim c.if-splits.branch [
       | then-splits b ↦ rw b.n-is (conj_and g.is (sym c.splits.ensures ∙ b.if-splits.true) (rw b.children.ensures.is at b.conjuncts_in.ensures))
@@ -39,4 +39,4 @@ loop-tree-preserved t c =
     (omega (arith, ap size g.is, c.loop-tree.invariant.0), count_on c.loop-tree.invariant.1 _ _ e)
 
 pub returns : goal.returns
-returns t c = count_end c.loop-tree.invariant.1 (conj_none _ (gone c.loop-tree.tree-iterator c.in-None.ensures.steps.0))
+returns g t c = count_end c.loop-tree.invariant.1 (conj_none _ (gone c.loop-tree.tree-iterator c.in-None.ensures.steps.0))

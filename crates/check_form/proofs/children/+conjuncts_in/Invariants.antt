@@ -7,8 +7,8 @@ use Rattle.check_form.proofs.Counts.{Counted}
 use Rattle.check_form.proofs.children.+conjuncts_in.Given as goal
 
 abbrev pub decreases-conjuncts_in : goal.decreases-conjuncts_in
-decreases-conjuncts_in l = size (forest l.trees)
+decreases-conjuncts_in g l = size (forest l.trees)
 
 abbrev pub invariant-loop-tree : goal.invariant-loop-tree
-invariant-loop-tree l =
+invariant-loop-tree g l =
     (size (forest l.tree-iterator) ≤ size (forest l.trees)) × Counted conjuncts l.n (forest l.trees) (forest l.tree-iterator)

@@ -5,4 +5,4 @@ use Rattle.check_form.proofs.children.children_e.Goals as goal
 
 pub returns-in-Between : goal.returns-in-Between
 unfolding meets sort_of
-returns-in-Between c = rw c.in-Between.is c.meets-in-Between.ensures
+returns-in-Between g c = rw c.in-Between.is c.meets-in-Between.ensures

@@ -6,4 +6,4 @@ use Rattle.check_form.proofs.children.children_p.Goals as goal
 
 pub returns-in-Aggregate : goal.returns-in-Aggregate
 unfolding meets sort_of
-returns-in-Aggregate c = rw (c.in-Aggregate.is, c.meets-in-Aggregate.ensures, c.meets-in-Aggregate-2.ensures) (both _ _)
+returns-in-Aggregate g c = rw (c.in-Aggregate.is, c.meets-in-Aggregate.ensures, c.meets-in-Aggregate-2.ensures) (both _ _)

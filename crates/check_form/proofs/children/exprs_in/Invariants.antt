@@ -5,4 +5,4 @@ use Rattle.check_form.proofs.Counts.{Counted}
 use Rattle.check_form.proofs.children.exprs_in.Given as goal
 
 abbrev pub invariant-loop-tree : goal.invariant-loop-tree
-invariant-loop-tree l = Counted exprs_in l.n (forest l.trees) (forest l.tree-iterator)
+invariant-loop-tree g l = Counted exprs_in l.n (forest l.trees) (forest l.tree-iterator)

@@ -19,7 +19,7 @@ abbrev deeper : ℕ → Label → Forest → ℕ × ℕ
 deeper d l cs = (d + 1, d + 1)
 
 pub returns-then-level-gt-MAX_DEPTH : goal.returns-then-level-gt-MAX_DEPTH
-returns-then-level-gt-MAX_DEPTH t c =
+returns-then-level-gt-MAX_DEPTH g t c =
     let x = c.loop-tree.tree-iterator in
     let g = goes x c.next.new.self c.in-Some.tree c.in-Some.ensures.steps in
     ap (λ (n : ℕ). Some n) g.number
@@ -27,12 +27,12 @@ returns-then-level-gt-MAX_DEPTH t c =
     ∙ c.loop-tree.invariant.1
 
 pub too_deep-below-requires : goal.too_deep-below-requires
-too_deep-below-requires t c =
+too_deep-below-requires g t c =
     let g = goes c.loop-tree.tree-iterator c.next.new.self c.in-Some.tree c.in-Some.ensures.steps in
     (omega (arith, ap size g.is, ap size c.children.ensures.is, c.loop-tree.invariant.0, c.decreases), omega arith)
 
 pub returns-then-is_some : goal.returns-then-is_some
-returns-then-is_some t c =
+returns-then-is_some g t c =
     let x = c.loop-tree.tree-iterator in
     let g = goes x c.next.new.self c.in-Some.tree c.in-Some.ensures.steps in
     place_below rule deeper x.first g.is (rw g.number at c.children.ensures.first) refl c.args.level c.args.level _ _ refl refl
@@ -41,7 +41,7 @@ returns-then-is_some t c =
     ∙ c.loop-tree.invariant.1
 
 pub loop-tree-preserved : goal.loop-tree-preserved
-loop-tree-preserved t c =
+loop-tree-preserved g t c =
     let x = c.loop-tree.tree-iterator in
     let g = goes x c.next.new.self c.in-Some.tree c.in-Some.ensures.steps in (
       omega (arith, ap size g.is, c.loop-tree.invariant.0),
@@ -53,4 +53,4 @@ loop-tree-preserved t c =
     )
 
 pub returns : goal.returns
-returns t c = place_none rule deeper _ _ _ _ (gone c.loop-tree.tree-iterator c.in-None.ensures.steps.0) ∙ c.loop-tree.invariant.1
+returns g t c = place_none rule deeper _ _ _ _ (gone c.loop-tree.tree-iterator c.in-None.ensures.steps.0) ∙ c.loop-tree.invariant.1

@@ -8,9 +8,9 @@ use Rattle.check_form.specs.Deep.{deepest}
 use Rattle.check_form.proofs.depth.+too_deep.Given as goal
 
 abbrev pub decreases-too_deep : goal.decreases-too_deep
-decreases-too_deep l = size (forest l.trees)
+decreases-too_deep g l = size (forest l.trees)
 
 abbrev pub invariant-loop-tree : goal.invariant-loop-tree
-invariant-loop-tree l =
+invariant-loop-tree g l =
     (size (forest l.tree-iterator) ≤ size (forest l.trees))
     × (deepest l.level l.tree-iterator.first (forest l.tree-iterator) ≡ deepest l.level l.trees.first (forest l.trees))

@@ -17,7 +17,7 @@ abbrev same : Unit {0} → Label → Forest → Unit {0} × Unit {0}
 same c l cs = (c, c)
 
 pub returns-then-not-form_ok : goal.returns-then-not-form_ok
-returns-then-not-form_ok t c =
+returns-then-not-form_ok g t c =
     let x = c.loop-tree.tree-iterator in
     let g = goes x c.next.new.self c.in-Some.tree c.in-Some.ensures.steps in
     ap (λ (n : ℕ). Some n) g.number
@@ -25,12 +25,12 @@ returns-then-not-form_ok t c =
     ∙ c.loop-tree.invariant.1
 
 pub bad_form-below-requires : goal.bad_form-below-requires
-bad_form-below-requires t c =
+bad_form-below-requires g t c =
     let g = goes c.loop-tree.tree-iterator c.next.new.self c.in-Some.tree c.in-Some.ensures.steps in
     omega (arith, ap size g.is, ap size c.children.ensures.is, c.loop-tree.invariant.0, c.decreases)
 
 pub returns-then-is_some : goal.returns-then-is_some
-returns-then-is_some t c =
+returns-then-is_some g t c =
     let x = c.loop-tree.tree-iterator in
     let g = goes x c.next.new.self c.in-Some.tree c.in-Some.ensures.steps in
     place_below rule same x.first g.is (rw g.number at c.children.ensures.first) refl tt tt tt tt refl c.form_ok.ensures c.if-not-form_ok.false _
@@ -38,7 +38,7 @@ returns-then-is_some t c =
     ∙ c.loop-tree.invariant.1
 
 pub loop-tree-preserved : goal.loop-tree-preserved
-loop-tree-preserved t c =
+loop-tree-preserved g t c =
     let x = c.loop-tree.tree-iterator in
     let g = goes x c.next.new.self c.in-Some.tree c.in-Some.ensures.steps in (
       omega (arith, ap size g.is, c.loop-tree.invariant.0),
@@ -49,4 +49,4 @@ loop-tree-preserved t c =
     )
 
 pub returns : goal.returns
-returns t c = place_none rule same tt tt _ _ (gone c.loop-tree.tree-iterator c.in-None.ensures.steps.0) ∙ c.loop-tree.invariant.1
+returns g t c = place_none rule same tt tt _ _ (gone c.loop-tree.tree-iterator c.in-None.ensures.steps.0) ∙ c.loop-tree.invariant.1

@@ -8,9 +8,9 @@ use Rattle.check_form.specs.Misformed.{misformed}
 use Rattle.check_form.proofs.form.+bad_form.Given as goal
 
 abbrev pub decreases-bad_form : goal.decreases-bad_form
-decreases-bad_form l = size (forest l.trees)
+decreases-bad_form g l = size (forest l.trees)
 
 abbrev pub invariant-loop-tree : goal.invariant-loop-tree
-invariant-loop-tree l =
+invariant-loop-tree g l =
     (size (forest l.tree-iterator) ≤ size (forest l.trees))
     × (misformed l.tree-iterator.first (forest l.tree-iterator) ≡ misformed l.trees.first (forest l.trees))

@@ -23,12 +23,12 @@ returns-then-end-n c =
     c.links.ensures c.word_at-next.ensures.0
     c.in_ok-end.was c.if-next-ne0.false c.if-end-n.true
 
-pub invariant_of-root : goal.invariant_of-root
-invariant_of-root c =
+pub at-root-requires : goal.at-root-requires
+at-root-requires c =
     let k = one_tree _ _ _ c.word_at.ensures.0 c.links.ensures c.word_at-next.ensures.0 c.in_ok-end.was c.if-next-ne0.false c.if-end-n.false in
-    record { stood = root_at k.1 c.requires.0 c.requires.1 }
+    root_at k.1 c.requires.0 c.requires.1
 
 pub returns : goal.returns
 returns c =
     let k = one_tree _ _ _ c.word_at.ensures.0 c.links.ensures c.word_at-next.ensures.0 c.in_ok-end.was c.if-next-ne0.false c.if-end-n.false in
-    root_of k.1 c.requires.0 c.requires.1 refl refl
+    root_of k.1 c.requires.0 c.requires.1 c.at-root.ensures.same_image c.at-root.ensures.same_number

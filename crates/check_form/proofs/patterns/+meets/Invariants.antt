@@ -3,4 +3,4 @@ use lib.ListN.{length}
 use Rattle.check_form.proofs.patterns.+meets.Given as goal
 
 abbrev pub decreases-meets : goal.decreases-meets
-decreases-meets l = length l.items.now
+decreases-meets g l = length l.items.now

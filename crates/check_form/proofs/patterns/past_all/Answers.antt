@@ -3,12 +3,12 @@ use Rattle.check_form.proofs.Patterned.{past_none, past_stay, past_on}
 use Rattle.check_form.proofs.patterns.past_all.Goals as goal
 
 pub returns-then-not-of_sort : goal.returns-then-not-of_sort
-returns-then-not-of_sort c =
+returns-then-not-of_sort g c =
     sym (c.loop-tree.invariant ∙ past_stay _ c.in-Some.ensures.is (sym (rw c.kind.ensures at c.of_sort.ensures) ∙ c.if-not-of_sort.true))
 
 pub loop-tree-preserved : goal.loop-tree-preserved
-loop-tree-preserved c =
+loop-tree-preserved g c =
     c.loop-tree.invariant ∙ past_on _ c.in-Some.ensures.is (sym (rw c.kind.ensures at c.of_sort.ensures) ∙ c.if-not-of_sort.false)
 
 pub returns : goal.returns
-returns c = c.in_default.ensures ∙ sym (c.loop-tree.invariant ∙ past_none _ c.in_default.ensures)
+returns g c = c.in_default.ensures ∙ sym (c.loop-tree.invariant ∙ past_none _ c.in_default.ensures)

@@ -7,7 +7,7 @@ use Rattle.check_form.specs.Sorts.{of_sort}
 use Rattle.check_form.proofs.patterns.past_all.Given as goal
 
 abbrev pub invariant-loop-tree : goal.invariant-loop-tree
-invariant-loop-tree l = past (of_sort l.sort) (forest l.trees) ≡ past (of_sort l.sort) (forest l.left)
+invariant-loop-tree g l = past (of_sort l.sort) (forest l.trees) ≡ past (of_sort l.sort) (forest l.left)
 
 abbrev pub decreases-loop-tree : goal.decreases-loop-tree
-decreases-loop-tree l = size (forest l.left)
+decreases-loop-tree g l = size (forest l.left)

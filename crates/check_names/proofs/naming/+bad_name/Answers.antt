@@ -14,12 +14,12 @@ use Rattle.check_names.proofs.NameRule.{sound_first, sound_next, sound_rest, sou
 use Rattle.check_names.proofs.naming.+bad_name.Goals as goal
 
 pub bad_name-below-requires : goal.bad_name-below-requires
-bad_name-below-requires t c =
+bad_name-below-requires g t c =
     let g = goes c.loop-tree.tree-iterator c.next.new.self c.in-Some.tree c.in-Some.ensures.steps in
     omega (arith, ap size g.is, ap size c.children.ensures.is, c.loop-tree.invariant.0, c.decreases)
 
 pub returns-then-not-name_ok : goal.returns-then-not-name_ok
-returns-then-not-name_ok t c =
+returns-then-not-name_ok g t c =
     λ k. let g = goes c.loop-tree.tree-iterator c.next.new.self c.in-Some.tree c.in-Some.ensures.steps in
     let v = c.loop-tree.invariant.1 k in
     ap (λ (n : ℕ). Some n) g.number
@@ -28,7 +28,7 @@ returns-then-not-name_ok t c =
     ∙ v.1
 
 pub returns-then-is_some : goal.returns-then-is_some
-returns-then-is_some t c =
+returns-then-is_some g t c =
     λ k. let g = goes c.loop-tree.tree-iterator c.next.new.self c.in-Some.tree c.in-Some.ensures.steps in
     let v = c.loop-tree.invariant.1 k in
     let here = scope_at c.loop-tree.over in
@@ -41,7 +41,7 @@ returns-then-is_some t c =
     ∙ v.1
 
 pub loop-tree-preserved-then-is_plan : goal.loop-tree-preserved-then-is_plan
-loop-tree-preserved-then-is_plan t c =
+loop-tree-preserved-then-is_plan g t c =
     let x = c.loop-tree.tree-iterator in
     let g = goes x c.next.new.self c.in-Some.tree c.in-Some.ensures.steps in (
       omega (arith, ap size g.is, c.loop-tree.invariant.0),
@@ -61,7 +61,7 @@ loop-tree-preserved-then-is_plan t c =
     )
 
 pub loop-tree-preserved : goal.loop-tree-preserved
-loop-tree-preserved t c =
+loop-tree-preserved g t c =
     let x = c.loop-tree.tree-iterator in
     let g = goes x c.next.new.self c.in-Some.tree c.in-Some.ensures.steps in (
       omega (arith, ap size g.is, c.loop-tree.invariant.0),
@@ -80,5 +80,5 @@ loop-tree-preserved t c =
     )
 
 pub returns : goal.returns
-returns t c =
+returns g t c =
     λ k. place_none name_ok hand _ _ _ _ (gone c.loop-tree.tree-iterator c.in-None.ensures.steps.0) ∙ (c.loop-tree.invariant.1 k).1

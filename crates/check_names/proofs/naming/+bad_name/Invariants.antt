@@ -13,10 +13,10 @@ use Rattle.check_fields.specs.Scopes.{scope_at}
 use Rattle.check_names.proofs.naming.+bad_name.Given as goal
 
 abbrev pub decreases-bad_name : goal.decreases-bad_name
-decreases-bad_name l = size (forest l.trees)
+decreases-bad_name g l = size (forest l.trees)
 
 abbrev pub invariant-loop-tree : goal.invariant-loop-tree
-invariant-loop-tree l =
+invariant-loop-tree g l =
     (size (forest l.tree-iterator) ≤ size (forest l.trees))
     × (((i : ℕ) → i < l.known → sound (names_in (input i (inputs (forest l.trees)))) ≡ true)
     → ((i : ℕ) → i < l.sound → sound (names_in (input i (inputs (forest l.tree-iterator)))) ≡ true)

@@ -8,10 +8,10 @@ use Rattle.check_names.proofs.Telling.{none_held, held_parts, held_fails, held_b
 use Rattle.check_names.proofs.schemas.+all_held.Goals as goal
 
 pub returns-in_default : goal.returns-in_default
-returns-in_default t c = none_held _ _ (missing _ _ c.in_default.ensures)
+returns-in_default g t c = none_held _ _ (missing _ _ c.in_default.ensures)
 
 pub returns-then-eq : goal.returns-then-eq
-returns-then-eq t c =
+returns-then-eq g t c =
     let y = c.in-Some.ensures in
     let l = c.label-label.ensures.label in
     let b = c.children-below.ensures.is in
@@ -20,7 +20,7 @@ returns-then-eq t c =
     ∙ plan_fields y)
 
 pub returns-then-eq-2 : goal.returns-then-eq-2
-returns-then-eq-2 t c =
+returns-then-eq-2 g t c =
     let y = c.in-Some.ensures in
     let l = c.label-label.ensures.label in
     let b = c.children-below.ensures.is in
@@ -30,7 +30,7 @@ returns-then-eq-2 t c =
     ∙ ap (all_of _) (plan_fields y)
 
 pub returns-then-not-all_held : goal.returns-then-not-all_held
-returns-then-not-all_held t c =
+returns-then-not-all_held g t c =
     let y = c.in-Some.ensures in
     let l = c.label-label.ensures.label in
     let b = c.children-below.ensures.is in
@@ -40,7 +40,7 @@ returns-then-not-all_held t c =
     ∙ ap (all_of _) (plan_fields y)
 
 pub returns-then-gives_both : goal.returns-then-gives_both
-returns-then-gives_both t c =
+returns-then-gives_both g t c =
     let y = c.in-Some.ensures in
     let l = c.label-label.ensures.label in
     let b = c.children-below.ensures.is in
@@ -51,7 +51,7 @@ returns-then-gives_both t c =
     ∙ ap (all_of _) (plan_fields y)
 
 pub returns-then-eq-3 : goal.returns-then-eq-3
-returns-then-eq-3 t c =
+returns-then-eq-3 g t c =
     let y = c.in-Some.ensures in
     let l = c.label-label.ensures.label in
     let b = c.children-below.ensures.is in
@@ -63,7 +63,7 @@ returns-then-eq-3 t c =
     ∙ ap (all_of _) (plan_fields y)
 
 pub returns : goal.returns
-returns t c =
+returns g t c =
     let y = c.in-Some.ensures in
     let l = c.label-label.ensures.label in
     let b = c.children-below.ensures.is in

@@ -4,4 +4,4 @@ use Rattle.image.specs.Subtrees.{forest}
 use Rattle.check_names.proofs.schemas.+all_held.Given as goal
 
 abbrev pub decreases-all_held : goal.decreases-all_held
-decreases-all_held l = size (forest l.trees)
+decreases-all_held g l = size (forest l.trees)

@@ -6,7 +6,7 @@ use Rattle.check_names.proofs.schemas.all_made.Goals.{else-makes_field-via-then-
 use Rattle.check_names.proofs.schemas.all_made.Goals as goal
 
 pub returns-then-not-is_single : goal.returns-then-not-is_single
-returns-then-not-is_single c =
+returns-then-not-is_single g c =
     let g = goes c.loop-part.part-iterator c.next.new.self c.in-Some.part c.in-Some.ensures.steps in
     let l = c.label-label.ensures.label in
     λ d. sym (c.loop-part.invariant d
@@ -15,7 +15,7 @@ returns-then-not-is_single c =
     ∙ sym (rw l at c.is_single.ensures) ∙ c.if-not-is_single.true))
 
 pub loop-part-preserved : goal.loop-part-preserved
-loop-part-preserved c =
+loop-part-preserved g c =
     let g = goes c.loop-part.part-iterator c.next.new.self c.in-Some.part c.in-Some.ensures.steps in
     let l = c.label-label.ensures.label in
     let k = rw l at c.makes_field.ensures in
@@ -29,4 +29,4 @@ loop-part-preserved c =
     ])
 
 pub returns : goal.returns
-returns c = λ d. none_made _ d _ (gone c.loop-part.part-iterator c.in-None.ensures.steps.0) ∙ sym (c.loop-part.invariant d)
+returns g c = λ d. none_made _ d _ (gone c.loop-part.part-iterator c.in-None.ensures.steps.0) ∙ sym (c.loop-part.invariant d)

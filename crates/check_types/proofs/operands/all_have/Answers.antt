@@ -7,7 +7,7 @@ use Rattle.check_types.proofs.operands.all_have.Goals.{else-is_expression-via-th
 use Rattle.check_types.proofs.operands.all_have.Goals as goal
 
 pub returns-then-t-type_of : goal.returns-then-t-type_of
-returns-then-t-type_of c =
+returns-then-t-type_of g c =
     let g = goes c.loop-tree.tree-iterator c.next.new.self c.in-Some.tree c.in-Some.ensures.steps in
     let l = c.label-label.ensures.label in
     sym (c.loop-tree.invariant
@@ -15,7 +15,7 @@ returns-then-t-type_of c =
     (rw (c.type_of.ensures, l) at c.if-t-type_of.true))
 
 pub loop-tree-preserved : goal.loop-tree-preserved
-loop-tree-preserved c =
+loop-tree-preserved g c =
     let g = goes c.loop-tree.tree-iterator c.next.new.self c.in-Some.tree c.in-Some.ensures.steps in
     let l = c.label-label.ensures.label in
     let k = rw l at c.is_expression.ensures in
@@ -27,4 +27,4 @@ loop-tree-preserved c =
     ])
 
 pub returns : goal.returns
-returns c = sym (c.loop-tree.invariant ∙ have_none c.args.t (types_none _ _ _ (gone c.loop-tree.tree-iterator c.in-None.ensures.steps.0)))
+returns g c = sym (c.loop-tree.invariant ∙ have_none c.args.t (types_none _ _ _ (gone c.loop-tree.tree-iterator c.in-None.ensures.steps.0)))

@@ -8,6 +8,6 @@ use Rattle.check_fields.specs.Scopes.{scope_at}
 use Rattle.check_types.proofs.operands.all_have.Given as goal
 
 abbrev pub invariant-loop-tree : goal.invariant-loop-tree
-invariant-loop-tree l =
+invariant-loop-tree g l =
     all (eqb l.t) (types_of (scope_at l.here) (scope_at l.after) (forest l.trees))
     ≡ all (eqb l.t) (types_of (scope_at l.over) (scope_at l.after) (forest l.tree-iterator))

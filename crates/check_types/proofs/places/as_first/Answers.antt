@@ -4,13 +4,13 @@ use Rattle.check_types.proofs.places.as_first.Goals.{else-is_plan-via-then-is_pl
 use Rattle.check_types.proofs.places.as_first.Goals as goal
 
 pub returns-then-not-same_fields : goal.returns-then-not-same_fields
-returns-then-not-same_fields c =
+returns-then-not-same_fields g c =
     sym (c.loop-tree.invariant
     ∙ all_not c.in-Some.ensures.is _ (sym (rw c.kind.ensures at c.is_plan.ensures) ∙ c.if-is_plan.true)
     (sym (rw (c.first_plan.ensures, c.first_plan-first.ensures) at c.same_fields.ensures) ∙ c.if-not-same_fields.true))
 
 pub loop-tree-preserved : goal.loop-tree-preserved
-loop-tree-preserved c =
+loop-tree-preserved g c =
     let k = rw c.kind.ensures at c.is_plan.ensures in
     c.loop-tree.invariant
     ∙ (elim c.else-is_plan.branch [
@@ -21,4 +21,4 @@ loop-tree-preserved c =
     ])
 
 pub returns : goal.returns
-returns c = sym (c.loop-tree.invariant ∙ all_none _ _ c.in_default.ensures)
+returns g c = sym (c.loop-tree.invariant ∙ all_none _ _ c.in_default.ensures)

@@ -5,4 +5,4 @@ use Rattle.check_types.proofs.ByPlacing.{seek_place}
 use Rattle.check_types.proofs.places.place_type.Goals as goal
 
 pub returns : goal.returns
-returns c = c.type_found.ensures ∙ ap type_found c.seek_seen.ensures ∙ seek_place c.args.k _
+returns g c = c.type_found.ensures ∙ ap type_found c.seek_seen.ensures ∙ seek_place c.args.k _

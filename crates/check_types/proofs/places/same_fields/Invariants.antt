@@ -7,4 +7,4 @@ use Rattle.check_types.specs.ByPlace.{ty_at}
 use Rattle.check_types.proofs.places.same_fields.Given as goal
 
 abbrev pub invariant-loop-k : goal.invariant-loop-k
-invariant-loop-k l = (m : ℕ) → m < l.k → ty_at m (seen (scope_at l.fields)) ≡ ty_at m (seen (scope_at l.others))
+invariant-loop-k g l = (m : ℕ) → m < l.k → ty_at m (seen (scope_at l.fields)) ≡ ty_at m (seen (scope_at l.others))

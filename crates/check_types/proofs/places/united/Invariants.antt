@@ -6,7 +6,7 @@ use Rattle.check_fields.specs.Fields.{inputs}
 use Rattle.check_types.proofs.places.united.Given as goal
 
 abbrev pub invariant-loop-tree : goal.invariant-loop-tree
-invariant-loop-tree l = inputs (forest l.trees) ≡ inputs (forest l.left)
+invariant-loop-tree g l = inputs (forest l.trees) ≡ inputs (forest l.left)
 
 abbrev pub decreases-loop-tree : goal.decreases-loop-tree
-decreases-loop-tree l = size (forest l.left)
+decreases-loop-tree g l = size (forest l.left)

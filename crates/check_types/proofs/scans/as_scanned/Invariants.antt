@@ -6,4 +6,4 @@ use Rattle.check_types.proofs.Scanning.{scans_at}
 use Rattle.check_types.proofs.scans.as_scanned.Given as goal
 
 abbrev pub invariant-loop-number : goal.invariant-loop-number
-invariant-loop-number l = (i : ℕ) → i < l.number → scans_at l.table l.root.image.now i ≡ false
+invariant-loop-number g l = (i : ℕ) → i < l.number → scans_at l.table l.root.image.now i ≡ false

@@ -14,12 +14,12 @@ use Rattle.check_types.proofs.Turning.{rule_of}
 use Rattle.check_types.proofs.walk.+bad_type.Goals as goal
 
 pub bad_type-below-requires : goal.bad_type-below-requires
-bad_type-below-requires t c =
+bad_type-below-requires g t c =
     let g = goes c.loop-tree.tree-iterator c.next.new.self c.in-Some.tree c.in-Some.ensures.steps in
     (omega (arith, ap size g.is, ap size c.children.ensures.is, c.loop-tree.invariant.0, c.decreases), c.requires)
 
 pub returns-then-not-type_ok : goal.returns-then-not-type_ok
-returns-then-not-type_ok t c =
+returns-then-not-type_ok g t c =
     let x = c.loop-tree.tree-iterator in
     let g = goes x c.next.new.self c.in-Some.tree c.in-Some.ensures.steps in
     let u = alone (tree_of c.args.root) in
@@ -29,7 +29,7 @@ returns-then-not-type_ok t c =
     ∙ c.loop-tree.invariant.1
 
 pub returns-then-is_some : goal.returns-then-is_some
-returns-then-is_some t c =
+returns-then-is_some g t c =
     let x = c.loop-tree.tree-iterator in
     let g = goes x c.next.new.self c.in-Some.tree c.in-Some.ensures.steps in
     let u = alone (tree_of c.args.root) in
@@ -39,7 +39,7 @@ returns-then-is_some t c =
     ∙ c.loop-tree.invariant.1
 
 pub loop-tree-preserved : goal.loop-tree-preserved
-loop-tree-preserved t c =
+loop-tree-preserved g t c =
     let x = c.loop-tree.tree-iterator in
     let g = goes x c.next.new.self c.in-Some.tree c.in-Some.ensures.steps in
     let u = alone (tree_of c.args.root) in (
@@ -52,6 +52,6 @@ loop-tree-preserved t c =
     )
 
 pub returns : goal.returns
-returns t c =
+returns g t c =
     place_none (type_ok (alone (tree_of c.args.root))) hand _ _ _ _ (gone c.loop-tree.tree-iterator c.in-None.ensures.steps.0)
     ∙ c.loop-tree.invariant.1

@@ -4,4 +4,4 @@ use Rattle.plan.proofs.Planning.{Plans}
 use Rattle.plan.proofs.inputs.nth_plan.Given as goal
 
 abbrev pub invariant-loop-tree : goal.invariant-loop-tree
-invariant-loop-tree l = Plans l.skip l.before (forest l.trees) (forest l.tree-iterator)
+invariant-loop-tree g l = Plans l.skip l.before (forest l.trees) (forest l.tree-iterator)

@@ -13,5 +13,5 @@ pub returns : goal.returns
 returns c =
     all_from_yields_List (λ (p : Place). lets (named c.args.c) p.tree) c.all.new.self _ _ c.all.ensures.ran
     (YieldsList-from_first place places _ refl) (λ x b q k. search (rules, tests))
-    ∙ all_let (named c.args.c) _ _ _
+    ∙ all_let (named c.args.c) _ _ _ _
     ∙ ap (lets_all (named c.args.c)) c.children.ensures.is

@@ -13,7 +13,7 @@ pub returns-in-Some : goal.returns-in-Some
 returns-in-Some c =
     any_from_yields_List (λ (p : Place). is_named (named c.args.c) p.tree.label) c.any.new.self _ _ c.any.ensures.ran
     (YieldsList-from_first place places _ refl) (λ x b q k. search (rules, tests))
-    ∙ any_named (named c.args.c) _ _ _
+    ∙ any_named (named c.args.c) _ _ _ _
     ∙ partition_rest (named c.args.c) (sym c.children.ensures.is ∙ c.in-Some.ensures.is)
 
 pub returns-in-None : goal.returns-in-None

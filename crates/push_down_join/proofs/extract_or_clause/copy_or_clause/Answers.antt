@@ -1,5 +1,5 @@
 -- `extract_or_clause::copy_or_clause` meets its contract.
-use Rattle.image.specs.declared.trees.Subtree.{Subtree}
+use Rattle.image.specs.Subtrees.{Subtree}
 use Rattle.writing.proofs.Maps.{deep_low, expr_deep, expr_is}
 use Rattle.push_down_join.proofs.Extracting.{or_whole}
 use Rattle.push_down_join.proofs.extract_or_clause.copy_or_clause.Goals as goal

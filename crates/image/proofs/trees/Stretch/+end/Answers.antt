@@ -3,18 +3,19 @@ use native.Mathlib.Omega.{arith}
 use Prim.Native.Nat.{◌+◌}
 use Rattle.image.specs.Tree.{size}
 use Rattle.image.proofs.Subtrees.{all_items, last_none, last_some, link_of}
-use Rattle.image.proofs.trees.Subtree.+end.Goals as goal
+use Rattle.image.proofs.trees.Stretch.+end.Goals as goal
 
 pub end-requires : goal.end-requires
-end-requires t c =
+end-requires g t c =
     let x = c.children.result in
     let ran = c.in-Some.ensures.ran in
     let all = all_items x ran.0 ran.1 in
     let last = last_some x ran.0 all (sym ran.2) in
-    (omega (arith, last.fewer, ap size c.children.ensures.is, c.decreases), tt)
+    let b = c.children.ensures in
+    (omega (arith, last.fewer, ap size b.is, c.decreases), rw (last.base, b.base, last.image, b.image) c.requires)
 
 pub returns-in-Some : goal.returns-in-Some
-returns-in-Some t c =
+returns-in-Some g t c =
     let x = c.children.result in
     let ran = c.in-Some.ensures.ran in
     let all = all_items x ran.0 ran.1 in
@@ -23,7 +24,7 @@ returns-in-Some t c =
     omega (arith, c.end.ensures, last.end, ap size c.children.ensures.is)
 
 pub returns-in-None : goal.returns-in-None
-returns-in-None t c =
+returns-in-None g t c =
     let x = c.children.result in
     let ran = c.in-None.ensures.ran in
     let all = all_items x ran.0 ran.1 in
