@@ -137,6 +137,23 @@ impl<'a, const N: usize> Stretches<'a, N> {
     }
 }
 
+impl<const N: usize> Stretches<'_, N> {
+    ghost use Rattle.std.specs.Prelude.{◌+◌, ◌<◌, ◌^◌, length};
+    ghost use Rattle.image.specs.Tree.{size};
+    ghost use Rattle.image.specs.Subtrees.{forest};
+
+    // The record behind the last one of the trees; 0 where there is none.
+    pub fn end(self) -> usize
+        requires { start N self.base + length self.image.now < 2 ^ 64 }
+        ensures { result ≡ self.entry.first + size (forest self.entry) }
+    {
+        match self.last() {
+            Some(tree) => tree.end(),
+            None => self.first,
+        }
+    }
+}
+
 impl<'a, const N: usize> Iterator for Stretches<'a, N> {
     ghost use Rattle.std.specs.Iterator.{YieldsFirstBy, item_count};
     ghost use Rattle.image.specs.Subtrees.{place, places};

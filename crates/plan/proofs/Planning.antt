@@ -7,6 +7,10 @@ use Prim.Native.Nat.{ℕ, zero, suc, ◌-◌, ◌≤◌}
 use native.Mathlib.Omega.{arith}
 use lib.ListN.{drop}
 use Rattle.image.specs.Tree.{Label, Forest, none, node, Tree, size}
+use Rattle.image.specs.Subtrees.{Split, forest, tree_of}
+use Rattle.image.specs.Places.{start}
+use Rattle.image.specs.declared.trees.Stretch.{Stretch}
+use Rattle.image.specs.declared.trees.Stretches.{Stretches}
 use Rattle.plan.specs.Lists.{put}
 use Rattle.plan.specs.Kinds.{is_plan}
 use Rattle.plan.specs.Inputs.{plans_in, PlanAt}
@@ -43,15 +47,17 @@ module _ {f : Forest} {l : Label} {cs ns : Forest} (w : f ≡ node l cs ns) wher
   skip_plan z (suc k) nz = let e : suc k - 1 ≡ k = omega arith in ap (drop (suc k)) plans_from ∙ rw (z, e)
 
 -- the plan that is sought
-pub plan_found : {f g : Forest} {k j : ℕ} {t : Tree} {ns : Forest} → Plans k j f g → g ≡ node t.label t.below ns → is_plan t.label ≡ true → j ≡ 0
-    → PlanAt f k t
-plan_found {g = g} {ns = ns} e w z q =
+pub plan_found : {N : ℕ} {x g : Stretches N} {k j : ℕ} {t : Stretch N} {ns : Stretches N} → Plans k j (forest x) (forest g)
+    → g.image.now ≡ x.image.now → start N g.base ≡ start N x.base → Split g t ns → is_plan (tree_of t).label ≡ true → j ≡ 0 → PlanAt x k t
+plan_found {g = g} {ns = ns} e m b w z q =
     record {
       trees = g;
       after = ns;
+      image = m;
+      base = b;
       first = w;
       is = z;
-      plans = e.plans ∙ ap (λ (i : ℕ). drop i (plans_in g)) q;
+      plans = e.plans ∙ ap (λ (i : ℕ). drop i (plans_in (forest g))) q;
       fewer = e.fewer;
     }
 

@@ -1,19 +1,17 @@
 // The plans among the children of a record: its inputs.
-ghost use Rattle.image.specs.Subtrees.{forest};
 ghost use Rattle.plan.specs.Inputs.{PlansAt};
 
 use crate::kinds::is_plan;
 use image::trees::{Stretch, Stretches};
 
 // The plan with the place `skip` among the trees.
-pub fn nth_plan<'a, const N: usize>(
-    trees: Stretches<'a, N>,
-    skip: usize,
-) -> Option<Stretch<'a, N>>
-    ensures { PlansAt (forest trees.entry) skip result }
+pub fn nth_plan<'a, const N: usize>(trees: Stretches<'a, N>, skip: usize) -> Option<Stretch<'a, N>>
+    ensures { PlansAt trees.entry skip result }
 {
     let mut before = skip;
-    for tree in trees {
+    let mut left = trees;
+    while let Some((tree, others)) = left.split_first() {
+        left = others;
         if is_plan(tree.kind()) {
             if before == 0 {
                 return Some(tree);

@@ -1,5 +1,6 @@
--- `patterns::past_all` meets its contract. The loop's invariant: all so far are of the sort.
+-- `patterns::past_all` meets its contract. The loop's invariant: all so far are of the sort, and what is left is of the same image.
 use mathlib.Core.Path.{◌≡◌}
+use Rattle.image.specs.Places.{start}
 use Rattle.image.specs.Subtrees.{forest}
 use Rattle.image.specs.Tree.{size}
 use Rattle.plan.specs.Form.{past}
@@ -7,7 +8,9 @@ use Rattle.check_form.specs.Sorts.{of_sort}
 use Rattle.check_form.proofs.patterns.past_all.Given as goal
 
 abbrev pub invariant-loop-tree : goal.invariant-loop-tree
-invariant-loop-tree g l = past (of_sort l.sort) (forest l.trees) ≡ past (of_sort l.sort) (forest l.left)
+invariant-loop-tree g l =
+    (past (of_sort l.sort) (forest l.trees) ≡ past (of_sort l.sort) (forest l.left)) × (l.left.image.now ≡ l.trees.image.now)
+    × (start g.row.N l.left.base ≡ start g.row.N l.trees.base)
 
 abbrev pub decreases-loop-tree : goal.decreases-loop-tree
 decreases-loop-tree g l = size (forest l.left)
