@@ -1,14 +1,15 @@
 -- Laws of looking an entry up.
---     Inside, ..      trees side by side stand in one image
+--     Inside, ..      trees side by side stand in one image, behind a record
 --     begins, ..      what is found, and how deep it may be written
 -- Assumes nothing.
 use mathlib.Core.Path.{◌≡◌, refl, sym, ap, subst, ◌∙◌}
 use mathlib.Core.Bool.{Bool, true, false}
 use mathlib.Core.List.{List, [], ◌∷◌}
-use Prim.Native.Nat.{ℕ, ◌+◌, ◌-◌, ◌<◌}
+use Prim.Native.Nat.{ℕ, ◌+◌, ◌-◌, ◌*◌, ◌<◌}
 use native.Mathlib.Omega.{arith}
 use lib.Dec.{eqb}
-use Rattle.image.specs.Tree.{Label, Forest, none, node, Tree, Deep, Linked, size}
+use lib.ListN.{drop}
+use Rattle.image.specs.Tree.{Label, Forest, none, node, Tree, Deep, Linked, Stands, link, size}
 use Rattle.std.specs.Iterator.{YieldsFirstBy}
 use Rattle.std.specs.Prelude.{Option, Some, None}
 use Rattle.image.specs.Room.{Low}
@@ -26,38 +27,55 @@ deep_lookup (node e cs ns) p q d h = deep_or (is_entry e p q) cs (lookup ns p q)
 
 -- ---- trees as the code has them
 
--- the trees of these places stand in the image s
-abbrev pub Inside : List ℕ → List Place → Type 0
-Inside s [] = Unit {0}
-Inside s (p ∷ ps) = (p.image ≡ s) × Inside s ps
+-- the trees of these places stand in the image s, behind record m
+abbrev pub Inside : List ℕ → ℕ → List Place → Type 0
+Inside s m [] = Unit {0}
+Inside s m (p ∷ ps) = (p.image ≡ s) × (m < p.number) × Inside s m ps
 
-inside_from : (s : List ℕ) (b n : ℕ) (f : Forest) → Inside s (places_from s b n f)
+inside_from : (s : List ℕ) (b m n : ℕ) (f : Forest) → m < n → Inside s m (places_from s b n f)
 unfolding places_from
-inside_from s b n none = tt
-inside_from s b n (node l cs ns) = (refl, inside_from s b (n + 1 + size cs) ns)
+inside_from s b m n none lt = tt
+inside_from s b m n (node l cs ns) lt = (refl, lt, inside_from s b m (n + 1 + size cs) ns (omega arith))
 
--- those of siblings do
-pub inside : (x : Siblings) {s : List ℕ} → x.image.now ≡ s → Inside s (places x)
-inside x e = subst (λ (z : List ℕ). Inside z (places x)) e (inside_from x.image.now _ x.first (forest x))
+-- those that are linked behind it do
+inside_linked : (s : List ℕ) (b m n : ℕ) (f : Forest) → n ≡ link (m + 1) f → Inside s m (places_from s b n f)
+unfolding places_from
+inside_linked s b m n none e = tt
+inside_linked s b m n (node l cs ns) e = inside_from s b m n (node l cs ns) (omega arith)
+
+-- those below a tree do
+pub inside : (t : Subtree) (x : Siblings) → Below t x → Inside t.image.now t.number (places x)
+inside t x b =
+    subst (λ (s : List ℕ). Inside s t.number (places x)) b.image
+    (inside_linked x.image.now _ t.number x.first (forest x) (b.first ∙ ap (link (t.number + 1)) (sym b.is)))
 
 -- the first does, and so do the others
-pub inside_step : (x y : Siblings) (t : Subtree) {s : List ℕ} → places x ≡ place t ∷ places y → Inside s (places x)
-    → (t.image.now ≡ s) × Inside s (places y)
-inside_step x y t {s} e h = subst (Inside s) e h
+pub inside_step : (x y : Siblings) (t : Subtree) {s : List ℕ} {m : ℕ} → places x ≡ place t ∷ places y → Inside s m (places x)
+    → (t.image.now ≡ s) × (m < t.number) × Inside s m (places y)
+inside_step x y t {s} {m} e h = subst (Inside s m) e h
 
 -- the first of the trees below an entry is its expression
-pub begins : (map t x : Subtree) (cs y : Siblings) → Below t cs → t.image.now ≡ map.image.now → places cs ≡ place x ∷ places y
-    → Begins (tree_of t).below map x
-begins map t x cs y b i e =
+pub begins : (map t x : Subtree) (cs y : Siblings) → Below t cs → t.image.now ≡ map.image.now → map.number < t.number
+    → places cs ≡ place x ∷ places y → Begins (tree_of t).below map x
+begins map t x cs y b i lt e =
     let g = goes cs y x e in
+    let is : (tree_of t).below ≡ node (tree_of x).label (tree_of x).below (forest y) = sym b.is ∙ g.is in
     let here = subst (λ (f : Forest). Linked f cs.image.now 0 cs.first) g.is cs.chained.linked in
-    record { image = g.image ∙ b.image ∙ i; past = omega (arith, here.0, g.number); others = forest y; is = sym b.is ∙ g.is }
+    let n : x.number ≡ t.number + 1 = g.number ∙ b.first ∙ ap (link (t.number + 1)) is in
+    let d : cs.first - 0 ≡ x.number = omega (arith, g.number) in
+    record {
+      image = g.image ∙ b.image ∙ i;
+      past = omega (arith, n, lt);
+      stands = rw (is, ← i, ← b.image, ← d) (rw g.number here.1);
+      others = forest y;
+      is = is;
+    }
 
 -- .. or there is none
-pub begins_of : (map t : Subtree) (cs y : Siblings) (o : Option Subtree) → Below t cs → t.image.now ≡ map.image.now
+pub begins_of : (map t : Subtree) (cs y : Siblings) (o : Option Subtree) → Below t cs → t.image.now ≡ map.image.now → map.number < t.number
     → YieldsFirstBy place places cs o y → Finds (tree_of t).below map o
-begins_of map t cs y (Some x) b i e = begins map t x cs y b i e
-begins_of map t cs y None b i e = sym b.is ∙ gone cs e.0
+begins_of map t cs y (Some x) b i lt e = begins map t x cs y b i lt e
+begins_of map t cs y None b i lt e = sym b.is ∙ gone cs e.0
 
 -- the first entry has the name
 pub lookup_first : (l : Label) (cs ns : Forest) (p q : ℕ) {b : Bool} → b ≡ is_entry l p q → b ≡ true → lookup (node l cs ns) p q ≡ cs
