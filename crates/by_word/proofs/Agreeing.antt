@@ -16,7 +16,8 @@ use borrow.Author.Tests.{eqb-true, eq-eqb, ne_eqb}
 use Rattle.image.specs.Word.{word}
 use Rattle.image.specs.Tree.{Label, Forest, none, node, Tree, size, link, Stands, At}
 use Rattle.image.specs.Flat.{size_t}
-use Rattle.image.specs.Subtrees.{Subtree, tree_of}
+use Rattle.image.specs.Subtrees.{part_of, tree_of}
+use Rattle.image.specs.declared.trees.Stretch.{Stretch}
 use Rattle.conjuncts.specs.Equality.{same, same_label}
 use Rattle.by_word.specs.Equality.{counted, same_link, alike, agreeing, agree}
 use Rattle.plan.specs.Syntax.{Expr}
@@ -47,15 +48,14 @@ module _ (n m : ℕ) where
   -- ---- a walk along the records
 
   pub agreeing_next : (k i : ℕ) (s v : List ℕ) → i < k
-      → agreeing (k - i) n (drop (32 * (n + i)) s) m (drop (32 * (m + i)) v)
-      ≡ ((alike n (drop (32 * (n + i)) s) m (drop (32 * (m + i)) v) && same_link 28 n (drop (32 * (n + i)) s) m (drop (32 * (m + i)) v))
-      && agreeing (k - (i + 1)) n (drop (32 * (n + (i + 1))) s) m (drop (32 * (m + (i + 1))) v))
+      → agreeing (k - i) n (drop (32 * i) s) m (drop (32 * i) v)
+      ≡ ((alike n (drop (32 * i) s) m (drop (32 * i) v) && same_link 28 n (drop (32 * i) s) m (drop (32 * i) v))
+      && agreeing (k - (i + 1)) n (drop (32 * (i + 1)) s) m (drop (32 * (i + 1)) v))
   unfolding agreeing
   agreeing_next k i s v lt =
       let z : k - i ≡ suc (k - (i + 1)) = omega arith in
-      let x : 32 * (n + i) + 32 ≡ 32 * (n + (i + 1)) = omega arith in
-      let y : 32 * (m + i) + 32 ≡ 32 * (m + (i + 1)) = omega arith in
-      rw z (rw (drop-drop, x, drop-drop, y))
+      let x : 32 * i + 32 ≡ 32 * (i + 1) = omega arith in
+      rw z (rw (drop-drop, drop-drop, x))
 
   pub agreeing_end : (k i : ℕ) (s v : List ℕ) → k ≤ i → agreeing (k - i) n s m v ≡ true
   unfolding agreeing
@@ -169,9 +169,8 @@ agree_only {t} {u} {s} {v} {n} {m} h k a =
 
 -- ---- two trees of an image
 
-module _ (a b : Subtree) where
-  pub same_agree : same (tree_of a) (tree_of b)
-      ≡ agree (size_t (tree_of a)) a.number (drop (32 * a.number) a.image.now) (size_t (tree_of b)) b.number (drop (32 * b.number) b.image.now)
+module _ {N : ℕ} (a b : Stretch N) where
+  pub same_agree : same (tree_of a) (tree_of b) ≡ agree (size_t (tree_of a)) a.number (part_of a) (size_t (tree_of b)) b.number (part_of b)
   same_agree =
       same_truth (same (tree_of a) (tree_of b)) _
       (λ h. let e = same_is (tree_of a) (tree_of b) h in rw e (agree_same (rw e at a.stood.at) b.stood.at))
@@ -184,14 +183,9 @@ module _ (a b : Subtree) where
   -- of one size: the tops, and then what is behind them
   pub same_tops : size_t (tree_of b) ≡ size_t (tree_of a)
       → same (tree_of a) (tree_of b)
-      ≡ (alike a.number (drop (32 * (a.number + 0)) a.image.now) b.number (drop (32 * (b.number + 0)) b.image.now)
-      && agreeing (size_t (tree_of a) - 1) a.number (drop (32 * (a.number + 1)) a.image.now) b.number (drop (32 * (b.number + 1)) b.image.now))
-  same_tops n =
-      let x : a.number + 0 ≡ a.number = omega arith in
-      let y : b.number + 0 ≡ b.number = omega arith in
-      let v : 32 * a.number + 32 * 1 ≡ 32 * (a.number + 1) = omega arith in
-      let w : 32 * b.number + 32 * 1 ≡ 32 * (b.number + 1) = omega arith in
-      rw (x, y) (same_agree ∙ rw n (rw (drop-drop, v, drop-drop, w) at (agree_tops a.number b.number (size_t (tree_of a)) (drop (32 * a.number) a.image.now) (drop (32 * b.number) b.image.now))))
+      ≡ (alike a.number (part_of a) b.number (part_of b)
+      && agreeing (size_t (tree_of a) - 1) a.number (drop (32 * 1) (part_of a)) b.number (drop (32 * 1) (part_of b)))
+  same_tops n = same_agree ∙ rw n (agree_tops a.number b.number (size_t (tree_of a)) (part_of a) (part_of b))
 
 -- two expressions
 pub agree_exprs : (a b : Expr) {s v : List ℕ} {n m : ℕ} → FitsE a → FitsE b → At (expr_tree a) s n → At (expr_tree b) v m

@@ -16,7 +16,9 @@ use Rattle.std.specs.Iterator.{YieldsFirstBy}
 use Rattle.std.specs.Option.{is_some}
 use Rattle.std.specs.Prelude.{Option, Some, None}
 use Rattle.image.specs.Tree.{Label, Forest, none, node, Tree}
-use Rattle.image.specs.Subtrees.{Siblings, Subtree, forest, place, places}
+use Rattle.image.specs.Subtrees.{forest, place, places}
+use Rattle.image.specs.declared.trees.Stretch.{Stretch}
+use Rattle.image.specs.declared.trees.Stretches.{Stretches}
 use Rattle.image.proofs.Subtrees.{goes, gone}
 use Rattle.plan.proofs.Bools.{same_truth}
 use Rattle.plan.specs.Kinds.{what}
@@ -147,7 +149,7 @@ label_eq l k = six (eqb l.kind k.kind) (eqb l.p k.p) (eqb l.q k.q) (eqb l.r k.r)
     six false b c d e f = refl
 
 -- the first of some trees is asked for, to see whether there is none
-pub none_left : (x y : Siblings) (o : Option Subtree) {b : Bool} → YieldsFirstBy place places x o y → is_some o ≡ not b
+pub none_left : {N : ℕ} (x y : Stretches N) (o : Option (Stretch N)) {b : Bool} → YieldsFirstBy place places x o y → is_some o ≡ not b
     → same_any none (forest x) ≡ b
 none_left x y None {b = true} s e = ap (same_any none) (gone x s.0)
 none_left x y None {b = false} s e = cc

@@ -8,14 +8,16 @@ use Rattle.rewrite.specs.Utils.{conjoin, conjunction}
 use Rattle.rewrite.proofs.LeftDeep.{deeper, shallower, right_and}
 use Rattle.std.specs.Option.{is_some}
 use Rattle.std.specs.Prelude.{Option, Some, None}
-use Rattle.image.specs.Subtrees.{Subtree, tree_of}
+use Rattle.image.specs.Subtrees.{tree_of}
+use Rattle.image.specs.declared.trees.Stretch.{Stretch}
+use Prim.Native.Nat.{ℕ}
 use Rattle.conjuncts.specs.Labels.{is_and}
 use Rattle.conjuncts.specs.Operands.{IsAnd}
 use Rattle.conjuncts.specs.Says.{Says, LeftDeep}
 use Rattle.conjuncts.proofs.Operands.{and_label, single}
 
 -- the right operand is asked for its own operands, to see whether it is an And
-pub asked : (r : Subtree) (o : Option (Subtree × Subtree)) (b : Bool) → IsAnd r o → is_some o ≡ not b → is_and (tree_of r).label ≡ not b
+pub asked : {N : ℕ} (r : Stretch N) (o : Option (Stretch N × Stretch N)) (b : Bool) → IsAnd r o → is_some o ≡ not b → is_and (tree_of r).label ≡ not b
 asked r None b h e = h ∙ e
 asked r (Some p) b h e = h.0 ∙ e
 

@@ -1,17 +1,22 @@
 -- The operands of an And, as the code has them.
 --     and_below, two_of               the first two trees below an And are its operands
 --     operands_of, left_is, right_is  they are expressions
+--     and_in                          where the And stands in an image, they do
 --     and_of, there_left, there_right where the And stands, they stand
 -- Assumes nothing.
 use mathlib.Core.Path.{◌≡◌, refl, sym, ap, subst, ◌∙◌}
 use mathlib.Core.Bool.{true, false}
 use mathlib.Core.List.{List, [], ◌∷◌}
-use Prim.Native.Nat.{ℕ, ◌+◌, ◌-◌, ◌≤◌, ◌<◌}
+use Prim.Native.Nat.{ℕ, suc, ◌+◌, ◌-◌, ◌*◌, ◌≤◌, ◌<◌}
 use native.Mathlib.Omega.{arith}
-use lib.ListN.{length}
-use Rattle.image.specs.Limits.{work_bytes, max_depth}
-use Rattle.image.specs.Subtrees.{Siblings, Subtree, Below, Split, forest, tree_of}
-use Rattle.image.specs.Tree.{Label, Forest, none, node, Tree, Deep, size, link}
+use lib.ListN.{drop, length, length-drop}
+use lib.Seq.{drop-drop}
+use Rattle.image.specs.Limits.{work_bytes, max_depth, max_records}
+use Rattle.image.specs.Flat.{size_t}
+use Rattle.image.specs.Subtrees.{Subtree, Below, Split, forest, tree_of}
+use Rattle.image.specs.declared.trees.Stretch.{Stretch}
+use Rattle.image.specs.declared.trees.Stretches.{Stretches}
+use Rattle.image.specs.Tree.{At, Label, Forest, none, node, Tree, Deep, size, link}
 use Rattle.plan.proofs.Bools.{no_yes}
 use Rattle.plan.specs.Syntax.{Op, and, or, cmp, eq, ne, lt, le, gt, ge, Expr, col, num, bool, nul, bin, neg, test, between, inlist, fn}
 use Rattle.plan.specs.Trees.{label_e, kids_e, expr_tree}
@@ -86,15 +91,15 @@ pub record Pair (f : Forest) : Type 0 where
   pub right : Tree
   pub is : f ≡ node left.label left.below (node right.label right.below none)
 
-pub and_below : (t : Subtree) → IsExpr (tree_of t) → is_and (tree_of t).label ≡ true → Pair (tree_of t).below
+pub and_below : {N : ℕ} (t : Stretch N) → IsExpr (tree_of t) → is_and (tree_of t).label ≡ true → Pair (tree_of t).below
 unfolding kids_e
 and_below t h y =
     let b : Both h.expr = and_label h.expr (rw h.is at y) in
     record { left = expr_tree b.lhs; right = expr_tree b.rhs; is = ap (λ (u : Tree). u.below) h.is ∙ ap kids_e b.is }
 
 -- the first two trees below it are its operands
-pub two_of : {t l r : Subtree} {x y z : Siblings} → Pair (tree_of t).below → Below t x → Split x l y → Split y r z → Operands t l r
-two_of {t} {l} {r} {x} {y} {z} p b u w =
+pub two_of : {N : ℕ} {t l r : Stretch N} {x y z : Stretches N} → Pair (tree_of t).below → Below t x → Split x l y → Split y r z → Operands t l r
+two_of {N} {t} {l} {r} {x} {y} {z} p b u w =
     let below : (tree_of t).below ≡ node (tree_of l).label (tree_of l).below (forest y) = sym b.is ∙ u.is in
     let rest : forest y ≡ node p.right.label p.right.below none = cc (p.is, below) in
     let last : forest z ≡ none = cc (w.is, rest) in
@@ -105,6 +110,8 @@ two_of {t} {l} {r} {x} {y} {z} p b u w =
       right = w.number ∙ (u.next ∙ (ap (link (x.first + 1 + size (tree_of l).below)) w.is ∙ ap (λ (n : ℕ). n + 1 + size (tree_of l).below) first));
       left_image = u.image ∙ b.image;
       right_image = w.image ∙ (u.others ∙ b.image);
+      left_base = u.base ∙ b.base;
+      right_base = w.base ∙ (u.others_base ∙ b.base);
     }
 
 -- the operands of an And are expressions
@@ -115,7 +122,7 @@ pub record OperandsOf (l r : Tree) (e : Expr) : Type 0 where
   pub left : l ≡ expr_tree lhs
   pub right : r ≡ expr_tree rhs
 
-module _ {t l r : Subtree} (y : is_and (tree_of t).label ≡ true) (w : Operands t l r) where
+module _ {N : ℕ} {t l r : Stretch N} (y : is_and (tree_of t).label ≡ true) (w : Operands t l r) where
   pub operands_of : {e : Expr} → tree_of t ≡ expr_tree e → OperandsOf (tree_of l) (tree_of r) e
   unfolding kids_e
   operands_of {e} is =
@@ -151,6 +158,62 @@ pub record AndOf (s : List ℕ) (l r : ℕ) (e : Expr) : Type 0 where
   pub is : e ≡ bin and lhs rhs
   pub left : Standing s l lhs
   pub right : Standing s r rhs
+
+-- what they are, and where they stand in an image
+pub record AndIn {N : ℕ} (s : List ℕ) (l r : Stretch N) (e : Expr) : Type 0 where
+  pub lhs : Expr
+  pub rhs : Expr
+  pub is : e ≡ bin and lhs rhs
+  pub left_is : tree_of l ≡ expr_tree lhs
+  pub right_is : tree_of r ≡ expr_tree rhs
+  pub left : Standing s l.number lhs
+  pub right : Standing s r.number rhs
+
+-- .. where the And does, if its records are within the longest one
+standing_parts : {s : List ℕ} {n : ℕ} (a b : Expr) → Standing s n (bin and a b) → n + size_t (expr_tree (bin and a b)) ≤ max_records
+    → Standing s (n + 1) a × Standing s (n + 1 + 1 + size (kids_e a)) b
+unfolding kids_e
+standing_parts {s} {n} a b h most =
+    let k = h.here.below in
+    let deep = deep_parts (max_depth - 1) and a b h.deep in
+    let here : At (expr_tree a) (drop 32 (drop (32 * n) s)) (n + 1) = record { head = k.head; below = k.below } in
+    let there : At (expr_tree b) (drop (32 * suc (size (kids_e a))) (drop 32 (drop (32 * n) s))) (n + 1 + 1 + size (kids_e a)) =
+    record { head = k.after.head; below = k.after.below } in
+    let d : 32 * n + 32 ≡ 32 * (n + 1) = omega arith in
+    let e : 32 * (n + 1) + 32 * suc (size (kids_e a)) ≡ 32 * (n + 1 + 1 + size (kids_e a)) = omega arith in (
+      record {
+        within = omega (arith, h.here.head.room, length-drop (32 * n) s);
+        here = rw (drop-drop, d) at here;
+        deep = deeper (kids_e a) (max_depth - 1) deep.1;
+        fits = h.fits.0;
+        small = omega (arith, most);
+      },
+      record {
+        within = omega (arith, h.here.head.room, length-drop (32 * n) s);
+        here = rw (drop-drop, d, e) at there;
+        deep = deeper (kids_e b) (max_depth - 1) deep.2.1;
+        fits = h.fits.1;
+        small = omega (arith, most);
+      },
+    )
+
+module _ {N : ℕ} {t l r : Stretch N} (y : is_and (tree_of t).label ≡ true) (w : Operands t l r) where
+  pub and_in : {s : List ℕ} {e : Expr} → tree_of t ≡ expr_tree e → t.number + size_t (tree_of t) ≤ max_records → Standing s t.number e → AndIn s l r e
+  and_in {s} {e} is most h =
+      let b : OperandsOf (tree_of l) (tree_of r) e = operands_of y w is in
+      let k : Standing s t.number (bin and b.lhs b.rhs) = subst (λ (f : Expr). Standing s t.number f) b.is h in
+      let fits : t.number + size_t (expr_tree (bin and b.lhs b.rhs)) ≤ max_records = rw (is, b.is) at most in
+      let v = standing_parts b.lhs b.rhs k fits in
+      let n : r.number ≡ t.number + 1 + 1 + size (kids_e b.lhs) = w.right ∙ ap (λ (u : Tree). t.number + 1 + 1 + size u.below) b.left in
+      record {
+        lhs = b.lhs;
+        rhs = b.rhs;
+        is = b.is;
+        left_is = b.left;
+        right_is = b.right;
+        left = rw (← w.left) at v.0;
+        right = rw (← n) at v.1;
+      }
 
 module _ {t l r : Subtree} (y : is_and (tree_of t).label ≡ true) (w : Operands t l r) (short : length t.image.now ≤ work_bytes) where
   pub and_of : {e : Expr} → Standing t.image.now t.number e → AndOf t.image.now l.number r.number e

@@ -9,12 +9,12 @@ ghost use Rattle.conjuncts.specs.Says.{Says};
 
 use crate::items::item_tree;
 use crate::lists::Conjuncts;
-use image::trees::Subtree;
+use image::trees::Stretch;
 use plan::kinds::BOOLEAN_LITERAL;
 use plan::words::TRUE;
 
 // Whether two trees are the same, wherever they stand.
-pub fn same_tree(a: Subtree, b: Subtree) -> bool
+pub fn same_tree<const N: usize>(a: Stretch<'_, N>, b: Stretch<'_, N>) -> bool
     ensures { result ≡ same (tree_of a.entry) (tree_of b.entry) }
 {
     if a.label() != b.label() {

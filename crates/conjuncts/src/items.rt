@@ -23,8 +23,5 @@ pub fn item_tree(s: &[u8], n: usize) -> Option<Subtree>
     if n == FALSE_ITEM {
         return None;
     }
-    Some(Subtree {
-        image: s,
-        number: n,
-    })
+    Some(Subtree::at(s, n))
 }

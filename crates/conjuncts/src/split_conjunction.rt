@@ -1,6 +1,7 @@
 // split_conjunction (datafusion-expr utils): the conjuncts of a predicate, left operand first; and whether joined again they are as it was.
-ghost use Rattle.std.specs.Prelude.{◌≡◌, ◌++◌, List, ◌<◌, ◌≤◌, length};
+ghost use Rattle.std.specs.Prelude.{◌≡◌, ◌++◌, List, ◌<◌, ◌≤◌, ℕ, length};
 ghost use Rattle.image.specs.Limits.{work_bytes};
+ghost use Rattle.image.specs.Places.{ending};
 ghost use Rattle.image.specs.Subtrees.{tree_of};
 ghost use Rattle.plan.specs.Syntax.{Expr};
 ghost use Rattle.plan.specs.Trees.{expr_tree};
@@ -11,12 +12,12 @@ ghost use Rattle.conjuncts.specs.Says.{LeftDeep, Says};
 ghost use Rattle.conjuncts.specs.Standing.{IsExpr, Standing};
 
 use crate::lists::Conjuncts;
-use image::trees::Subtree;
+use image::trees::Stretch;
 use plan::kinds::BINARY_EXPR;
 use plan::words::AND;
 
 // The operands of an And, left and right; none of any other expression.
-fn and_operands(tree: Subtree) -> Option<(Subtree, Subtree)>
+fn and_operands<'a, const N: usize>(tree: Stretch<'a, N>) -> Option<(Stretch<'a, N>, Stretch<'a, N>)>
     requires { IsExpr (tree_of tree) }
     ensures { IsAnd tree.entry result }
 {
@@ -30,12 +31,12 @@ fn and_operands(tree: Subtree) -> Option<(Subtree, Subtree)>
 }
 
 // Appends the conjuncts of an expression, which is not at the root.
-fn add_conjuncts(tree: Subtree, list: &mut Conjuncts)
+fn add_conjuncts<const N: usize>(tree: Stretch<'_, N>, list: &mut Conjuncts)
     requires expr { IsExpr (tree_of tree) }
     requires number_nonzero { 0 < tree.number }
-    requires image_bound { length tree.image.now ≤ work_bytes }
-    ensures { (e : Expr) (es : List Expr) → Standing tree.entry.image.now tree.entry.number e → Lists tree.entry.image.now list.old es →
-        Lists tree.entry.image.now list.new (es ++ split_conjunction e) }
+    requires image_bound { ending N tree.base (length tree.image.now) ≤ work_bytes }
+    ensures { (s : List ℕ) (e : Expr) (es : List Expr) → tree_of tree.entry ≡ expr_tree e → Standing s tree.entry.number e →
+        Lists s list.old es → Lists s list.new (es ++ split_conjunction e) }
 {
     match and_operands(tree) {
         Some((left, right)) => {
@@ -47,12 +48,12 @@ fn add_conjuncts(tree: Subtree, list: &mut Conjuncts)
 }
 
 // A list with the conjuncts of an expression, which is not at the root, behind its own.
-pub fn split_conjunction(tree: Subtree, c: Conjuncts) -> Conjuncts
+pub fn split_conjunction<const N: usize>(tree: Stretch<'_, N>, c: Conjuncts) -> Conjuncts
     requires expr { IsExpr (tree_of tree) }
     requires number_nonzero { 0 < tree.number }
-    requires image_bound { length tree.image.now ≤ work_bytes }
-    ensures { (e : Expr) (es : List Expr) → Standing tree.entry.image.now tree.entry.number e → Lists tree.entry.image.now c es →
-        Lists tree.entry.image.now result (es ++ split_conjunction e) }
+    requires image_bound { ending N tree.base (length tree.image.now) ≤ work_bytes }
+    ensures { (s : List ℕ) (e : Expr) (es : List Expr) → tree_of tree.entry ≡ expr_tree e → Standing s tree.entry.number e →
+        Lists s c es → Lists s result (es ++ split_conjunction e) }
 {
     let mut list = c;
     add_conjuncts(tree, &mut list);
@@ -60,7 +61,7 @@ pub fn split_conjunction(tree: Subtree, c: Conjuncts) -> Conjuncts
 }
 
 // Whether an expression is joined left-deep: no right operand of an And is one.
-pub fn is_left_deep(tree: Subtree) -> bool
+pub fn is_left_deep<const N: usize>(tree: Stretch<'_, N>) -> bool
     requires { IsExpr (tree_of tree) }
     ensures { (e : Expr) → tree_of tree.entry ≡ expr_tree e → Says result (LeftDeep e) }
 {

@@ -9,7 +9,7 @@ ghost use Rattle.conjuncts.specs.Items.{FALSE, Item, Known, Lists, Present};
 use crate::items::item_tree;
 use crate::lists::{Conjuncts, item_at};
 use image::records::Label;
-use image::trees::Subtree;
+use image::trees::Stretch;
 use plan::kinds::FUNCTION;
 use plan::words::{VOLATILE, VOLATILE_LEAFWARD};
 
@@ -40,7 +40,7 @@ fn is_function(label: Label, asked: Functions) -> bool
 }
 
 // Whether the tree holds such a function.
-pub fn has_function(tree: Subtree, asked: Functions) -> bool
+pub fn has_function<const N: usize>(tree: Stretch<'_, N>, asked: Functions) -> bool
     ensures { result ≡ fn_in (marked asked) (tree_of tree.entry) }
 {
     if is_function(tree.label(), asked) {

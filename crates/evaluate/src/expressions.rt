@@ -12,12 +12,12 @@ ghost use Rattle.evaluate.specs.Operators.{expr_in};
 
 use crate::cells::NamedRow;
 use crate::operands::{Seen, operate};
-use image::trees::Subtree;
+use image::trees::Stretch;
 use plan::kinds::COLUMN;
 use plan::values::{Value, literal_of};
 
 // The value of an expression on a row.
-pub fn evaluate(tree: Subtree, row: &NamedRow) -> Value
+pub fn evaluate<const N: usize>(tree: Stretch<'_, N>, row: &NamedRow) -> Value
     ensures right { Right result }
     ensures is { (ns : List Name) → Names row.now.fields ns → length row.now.row.types.now ≤ length ns
         → Valued result (type_of_expr (look_d no_type ns row.now.row.types.now) (expr_in (tree_of tree.entry)))

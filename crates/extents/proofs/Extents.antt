@@ -13,7 +13,9 @@ use Rattle.std.proofs.lemmas.List.{get_or-drop, get_or-take, length-take-le}
 use Rattle.std.specs.Ordering.{nat_cmp, ord_max}
 use lib.Seq.{take_all}
 use Rattle.image.specs.Limits.{max_records, work_bytes}
-use Rattle.image.specs.Subtrees.{Subtree, tree_of}
+use Rattle.image.specs.Places.{pos}
+use Rattle.image.specs.Subtrees.{tree_of}
+use Rattle.image.specs.declared.trees.Stretch.{Stretch}
 use Rattle.image.specs.Tree.{Forest, none, node, Tree, size}
 use Rattle.image.specs.Flat.{size_t}
 use Rattle.plan.specs.Measure.{depth}
@@ -58,9 +60,10 @@ unfolding depth
 left_end h = record { records = omega arith; depth = omega arith }
 
 -- what is counted fits the bytes of the image
-pub left_small : {records below : ℕ} (x : Subtree) {rest : Forest} → Left records below (tree_of x) rest
+pub left_small : {N records below : ℕ} (x : Stretch N) {rest : Forest} → Left records below (tree_of x) rest
     → (32 * (records + size rest) ≤ length x.image.now) × (32 * below + 32 ≤ length x.image.now)
-left_small x h = omega (arith, depth_size (tree_of x).below, x.stood.at.head.room, length-drop (32 * x.number) x.image.now)
+left_small {N} x h =
+    omega (arith, depth_size (tree_of x).below, x.stood.at.head.room, length-drop (32 * pos N x.base x.number) x.image.now)
 
 -- ---- expressions
 

@@ -10,7 +10,7 @@ ghost use Rattle.extents.specs.Extents.{Bounded, Measures};
 
 use conjuncts::items::item_tree;
 use conjuncts::lists::Conjuncts;
-use image::trees::Subtree;
+use image::trees::Stretch;
 
 // How many records a tree has, and how many levels.
 #[derive(Clone, Copy, Debug, PartialEq, Eq)]
@@ -20,7 +20,7 @@ pub struct Extent {
 }
 
 // The extent of a tree.
-pub fn tree_extent(tree: Subtree) -> Extent
+pub fn tree_extent<const N: usize>(tree: Stretch<'_, N>) -> Extent
     ensures { Measures result (tree_of tree.entry) }
 {
     let mut records = 1;

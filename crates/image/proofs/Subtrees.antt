@@ -1,5 +1,5 @@
 -- Laws of trees of an image as the code has them.
---     pos_is, pos_none, start_some         where a record is among bytes that begin at another
+--     pos_is, ending_is, start_some, ..    where a record is among bytes that begin at another
 --     for_all                              what holds of one tree that stands somewhere holds of each that does
 --     linked_first, turn, ended            the trees below a record; what a link that is not 0 leads to; nothing is linked at 0
 --     tree_at, forest_at                   what stands somewhere is what the struct has; tree_is, forest_is: in a whole image
@@ -22,7 +22,7 @@ use lib.ListN.{length, drop, get_or, length-drop}
 use lib.Seq.{drop-drop}
 use Rattle.image.specs.Word.{word}
 use Rattle.image.specs.Tree.{Forest, none, node, Tree, At, Stands, Linked, size, link}
-use Rattle.image.specs.Places.{pos, start}
+use Rattle.image.specs.Places.{ending, pos, start}
 use Rattle.image.specs.Chains.{only, one_chain}
 use Rattle.image.specs.Subtrees.{Siblings, Subtree, Place, Below, Split, forest, tree_of, place, places, places_from}
 use Rattle.image.specs.declared.trees.Stretch.{Stretch}
@@ -37,6 +37,15 @@ pos_is (suc k) (b ∷ bs) n = refl
 pub pos_none : (N : ℕ) (bs : List ℕ) (n : ℕ) → N ≡ 0 → pos N bs n ≡ n
 pos_none zero bs n e = refl
 pos_none (suc k) bs n e = absurd (omega (arith, e))
+
+pub ending_is : (N : ℕ) (bs : List ℕ) (n : ℕ) → ending N bs n ≡ 32 * start N bs + n
+ending_is zero bs n = omega arith
+ending_is (suc k) [] n = omega arith
+ending_is (suc k) (b ∷ bs) n = refl
+
+-- the same where they begin at one record and are as long
+pub ending_same : (N : ℕ) (bs cs : List ℕ) (m n : ℕ) → start N bs ≡ start N cs → m ≡ n → ending N bs m ≡ ending N cs n
+ending_same N bs cs m n e f = omega (arith, ending_is N bs m, ending_is N cs n, e, f)
 
 pub start_some : (N : ℕ) (bs : List ℕ) (d : ℕ) → (N ≡ 0 → ⊥) → length bs ≡ N → start N bs ≡ get_or bs 0 d
 start_some zero bs d nz e = absurd (nz refl)
@@ -100,8 +109,13 @@ ended (node l cs ns) s b at h z = absurd (omega arith)
 -- ---- one tree, and some side by side
 
 -- a tree's number, by its place
-number_is : {N : ℕ} (x : Stretch N) → x.number ≡ pos N x.base x.number + start N x.base
+pub number_is : {N : ℕ} (x : Stretch N) → x.number ≡ pos N x.base x.number + start N x.base
 number_is {N} x = omega (arith, pos_is N x.base x.number, x.past)
+
+-- its records are within the image
+pub tree_within : {N : ℕ} (x : Stretch N) → 32 * (x.number + size_t (tree_of x)) ≤ ending N x.base (length x.image.now)
+tree_within {N} x =
+    omega (arith, number_is x, x.stood.at.head.room, length-drop (32 * pos N x.base x.number) x.image.now, ending_is N x.base (length x.image.now))
 
 -- the tree that stands at record n, the p-th of the bytes, is the one that is named by it
 pub tree_at : {N : ℕ} (x : Stretch N) (t : Tree) {s : List ℕ} {p n : ℕ} → x.image.now ≡ s → pos N x.base x.number ≡ p → x.number ≡ n

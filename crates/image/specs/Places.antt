@@ -1,5 +1,5 @@
 -- A tree, and a chain of siblings, that stand somewhere.
-use Rattle.std.specs.Prelude.{List, [], ◌∷◌, ℕ, suc, zero, ◌*◌, ◌-◌, drop}
+use Rattle.std.specs.Prelude.{List, [], ◌∷◌, ℕ, suc, zero, ◌+◌, ◌*◌, ◌-◌, drop}
 use Rattle.image.specs.Tree.{At, Forest, Linked, Tree}
 
 -- Where bytes begin that hold records, as the code is told: the number of their first record. It is 0 if none is told.
@@ -13,6 +13,12 @@ abbrev pub pos : ℕ → List ℕ → ℕ → ℕ
 pos zero bs n = n
 pos (suc k) [] n = n
 pos (suc k) (b ∷ bs) n = n - b
+
+-- the byte of the whole image at which they end, where they are n
+abbrev pub ending : ℕ → List ℕ → ℕ → ℕ
+ending zero bs n = n
+ending (suc k) [] n = n
+ending (suc k) (b ∷ bs) n = 32 * b + n
 
 -- some tree stands at the p-th record of s, where its number is n
 pub record Placed (s : List ℕ) (p n : ℕ) : Type 0 where

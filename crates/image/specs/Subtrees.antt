@@ -1,7 +1,7 @@
 -- Trees of an image as the code has them: one tree, and some side by side.
-use Rattle.std.specs.Prelude.{◌≡◌, List, [], ◌∷◌, ℕ, ◌+◌, Option, None, Some}
+use Rattle.std.specs.Prelude.{◌≡◌, List, [], ◌∷◌, ℕ, ◌+◌, ◌*◌, drop, Option, None, Some}
 use Rattle.image.specs.Tree.{Forest, none, node, Tree, link, size}
-use Rattle.image.specs.Places.{start}
+use Rattle.image.specs.Places.{pos, start}
 use Rattle.image.specs.declared.trees.Stretch.{Stretch}
 use Rattle.image.specs.declared.trees.Stretches.{Stretches}
 
@@ -15,6 +15,10 @@ Siblings = Stretches 0
 -- the tree itself
 abbrev pub tree_of : {N : ℕ} → Stretch N → Tree
 tree_of t = t.stood.tree
+
+-- the bytes from its top on
+abbrev pub part_of : {N : ℕ} → Stretch N → List ℕ
+part_of {N} t = drop (32 * pos N t.base t.number) t.image.now
 
 -- the trees themselves
 abbrev pub forest : {N : ℕ} → Stretches N → Forest

@@ -62,8 +62,16 @@ impl<'a> Stretch<'a, 0> {
 }
 
 impl<'a, const N: usize> Stretch<'a, N> {
-    ghost use Rattle.image.specs.Subtrees.{Below, tree_of};
+    ghost use Rattle.image.specs.Subtrees.{Below, part_of, tree_of};
     ghost use Rattle.image.specs.Tree.{Fits32};
+
+    // The bytes from its top on.
+    #[inline]
+    pub fn part(self) -> &'a [u8]
+        ensures { result.now ≡ part_of self.entry }
+    {
+        record_at(self.image, position(self.base, self.number))
+    }
 
     // What its top says of itself.
     #[inline]
@@ -71,25 +79,24 @@ impl<'a, const N: usize> Stretch<'a, N> {
         ensures label { result ≡ (tree_of self.entry).label }
         ensures words { Fits32 result }
     {
-        label_at(record_at(self.image, position(self.base, self.number)))
+        label_at(self.part())
     }
 
     #[inline]
     pub fn kind(self) -> usize
         ensures { result ≡ (tree_of self.entry).label.kind }
     {
-        word_at(record_at(self.image, position(self.base, self.number)), KIND)
+        word_at(self.part(), KIND)
     }
 
     #[inline]
     pub fn children(self) -> Stretches<'a, N>
         ensures { Below self.entry result }
     {
-        let record = record_at(self.image, position(self.base, self.number));
         Stretches {
             image: self.image,
             base: self.base,
-            first: word_at(record, FIRST_LINK),
+            first: word_at(self.part(), FIRST_LINK),
         }
     }
 }
@@ -97,11 +104,12 @@ impl<'a, const N: usize> Stretch<'a, N> {
 impl<const N: usize> Stretch<'_, N> {
     ghost use Rattle.std.specs.Prelude.{◌+◌, ◌<◌, ◌^◌, length};
     ghost use Rattle.image.specs.Flat.{size_t};
+    ghost use Rattle.image.specs.Places.{ending};
     ghost use Rattle.image.specs.Subtrees.{tree_of};
 
     // The record behind the tree's last one, which is in its last child.
     pub fn end(self) -> usize
-        requires { start N self.base + length self.image.now < 2 ^ 64 }
+        requires { ending N self.base (length self.image.now) < 2 ^ 64 }
         ensures { result ≡ self.entry.number + size_t (tree_of self.entry) }
     {
         match self.children().last() {
@@ -127,11 +135,10 @@ impl<'a, const N: usize> Stretches<'a, N> {
             base: self.base,
             number: self.first,
         };
-        let record = record_at(self.image, position(self.base, self.first));
         let others = Stretches {
             image: self.image,
             base: self.base,
-            first: word_at(record, NEXT_LINK),
+            first: word_at(tree.part(), NEXT_LINK),
         };
         Some((tree, others))
     }
@@ -139,12 +146,13 @@ impl<'a, const N: usize> Stretches<'a, N> {
 
 impl<const N: usize> Stretches<'_, N> {
     ghost use Rattle.std.specs.Prelude.{◌+◌, ◌<◌, ◌^◌, length};
+    ghost use Rattle.image.specs.Places.{ending};
     ghost use Rattle.image.specs.Tree.{size};
     ghost use Rattle.image.specs.Subtrees.{forest};
 
     // The record behind the last one of the trees; 0 where there is none.
     pub fn end(self) -> usize
-        requires { start N self.base + length self.image.now < 2 ^ 64 }
+        requires { ending N self.base (length self.image.now) < 2 ^ 64 }
         ensures { result ≡ self.entry.first + size (forest self.entry) }
     {
         match self.last() {

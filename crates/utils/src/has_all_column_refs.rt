@@ -15,7 +15,7 @@ ghost use Rattle.utils.specs.Sets.{member};
 use crate::schema_columns::{ColumnReference, Fields, place_of};
 use crate::sets::FieldSet;
 use conjuncts::items::item_tree;
-use image::trees::Subtree;
+use image::trees::Stretch;
 use plan::kinds::COLUMN;
 
 // The set with the place of the field with this name besides.
@@ -40,7 +40,7 @@ pub fn add_column(set: FieldSet, f: Fields, q: usize, n: usize) -> FieldSet
 }
 
 // The set of those of the fields that a tree refers to.
-fn columns_of(tree: Subtree, fields: &[ColumnReference]) -> FieldSet
+fn columns_of<const N: usize>(tree: Stretch<'_, N>, fields: &[ColumnReference]) -> FieldSet
     requires { length fields.now ≤ max_fields }
     ensures { (ns : List Name) → fields.now ≡ map coded ns → on_tree (has ns) (tree_of tree.entry) ≡ true
         → Answers result ns (λ c. on_tree c (tree_of tree.entry)) }
@@ -57,7 +57,7 @@ fn columns_of(tree: Subtree, fields: &[ColumnReference]) -> FieldSet
 }
 
 // The set of the fields that a tree refers to.
-pub fn columns(tree: Subtree, f: Fields) -> FieldSet
+pub fn columns<const N: usize>(tree: Stretch<'_, N>, f: Fields) -> FieldSet
     requires { f.len ≤ max_fields }
     ensures { (ns : List Name) → Names f ns → on_tree (has ns) (tree_of tree.entry) ≡ true
         → Answers result ns (λ c. on_tree c (tree_of tree.entry)) }
@@ -66,7 +66,7 @@ pub fn columns(tree: Subtree, f: Fields) -> FieldSet
 }
 
 // Whether all columns of an expression are fields of the side: those that are, counted, are all of them.
-pub fn has_all_column_refs(tree: Subtree, f: Fields, side: FieldSet) -> bool
+pub fn has_all_column_refs<const N: usize>(tree: Stretch<'_, N>, f: Fields, side: FieldSet) -> bool
     requires { f.len ≤ max_fields }
     ensures { (e : Expr) (ns : List Name) (c : Name → Bool) → tree_of tree.entry ≡ expr_tree e → Names f ns
         → on_cols (has ns) e ≡ true → Masks side ns c → result ≡ on_cols c e }

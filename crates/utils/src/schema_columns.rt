@@ -10,7 +10,7 @@ ghost use Rattle.utils.specs.Inputs.{IsPlan, below, called, called_label, made};
 
 use bounded::Bounded;
 use image::limits::MAX_FIELDS;
-use image::trees::Subtree;
+use image::trees::Stretch;
 use plan::field_sources::{creates, extends, gives_both, makes_field, own_input, renames, role_of};
 use plan::inputs::nth_plan;
 
@@ -58,7 +58,7 @@ fn below_alias(renamed: bool, p: u32, alias: Option<u32>) -> Option<u32>
 }
 
 // Appends the field that a part makes, with the alias for its qualifier if there is one.
-fn add_part(part: Subtree, into: &mut Fields, alias: Option<u32>)
+fn add_part<const N: usize>(part: Stretch<'_, N>, into: &mut Fields, alias: Option<u32>)
     ensures { (ns : List Name) → Names into.old ns → Names into.new (ns ++ called alias (called_label (tree_of part.entry).label)) }
 {
     let l = part.label();
@@ -71,7 +71,7 @@ fn add_part(part: Subtree, into: &mut Fields, alias: Option<u32>)
 }
 
 // Appends the fields that the parts of a plan make.
-fn add_parts(plan: Subtree, into: &mut Fields, alias: Option<u32>)
+fn add_parts<const N: usize>(plan: Stretch<'_, N>, into: &mut Fields, alias: Option<u32>)
     ensures { (ns : List Name) → Names into.old ns → Names into.new (ns ++ called alias (made (tree_of plan.entry).below)) }
 {
     for part in plan.children() {
@@ -80,7 +80,7 @@ fn add_parts(plan: Subtree, into: &mut Fields, alias: Option<u32>)
 }
 
 // Appends the fields of a plan, all with the alias for their qualifier if there is one.
-pub fn add_schema(plan: Subtree, into: &mut Fields, alias: Option<u32>)
+pub fn add_schema<const N: usize>(plan: Stretch<'_, N>, into: &mut Fields, alias: Option<u32>)
     requires { IsPlan (tree_of plan) }
     ensures { (p : Plan) (ns : List Name) → tree_of plan.entry ≡ plan_tree p → Names into.old ns
         → Names into.new (ns ++ called alias (schema p)) }
@@ -109,7 +109,7 @@ pub fn add_schema(plan: Subtree, into: &mut Fields, alias: Option<u32>)
 }
 
 // The fields of a plan, behind others.
-pub fn schema_columns(plan: Subtree, into: Fields) -> Fields
+pub fn schema_columns<const N: usize>(plan: Stretch<'_, N>, into: Fields) -> Fields
     requires { IsPlan (tree_of plan) }
     ensures { (p : Plan) (ns : List Name) → tree_of plan.entry ≡ plan_tree p → Names into ns → Names result (ns ++ schema p) }
 {

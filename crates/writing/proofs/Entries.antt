@@ -13,8 +13,11 @@ use Rattle.image.specs.Tree.{Label, Forest, none, node, Tree, Deep, Linked, Stan
 use Rattle.std.specs.Iterator.{YieldsFirstBy}
 use Rattle.std.specs.Prelude.{Option, Some, None}
 use Rattle.image.specs.Room.{Low}
+use Rattle.image.specs.Places.{pos, start}
 use Rattle.image.specs.Subtrees.{Siblings, Subtree, Below, Place, forest, place, places, places_from, tree_of}
-use Rattle.image.proofs.Subtrees.{goes, gone}
+use Rattle.image.specs.declared.trees.Stretch.{Stretch}
+use Rattle.image.specs.declared.trees.Stretches.{Stretches}
+use Rattle.image.proofs.Subtrees.{goes, gone, pos_is}
 use Rattle.writing.specs.Replaced.{Begins, Finds, LowOver, is_entry, either, lookup, value_for, first_or, replaced, replaced_any}
 
 deep_or : (t : Bool) (f g : Forest) (d : ℕ) → Deep f d → Deep g d → Deep (either t f g) d
@@ -27,55 +30,76 @@ deep_lookup (node e cs ns) p q d h = deep_or (is_entry e p q) cs (lookup ns p q)
 
 -- ---- trees as the code has them
 
--- the trees of these places stand in the image s, behind record m
-abbrev pub Inside : List ℕ → ℕ → List Place → Type 0
-Inside s m [] = Unit {0}
-Inside s m (p ∷ ps) = (p.image ≡ s) × (m < p.number) × Inside s m ps
+-- the trees of these places stand in the image s
+abbrev pub Inside : List ℕ → List Place → Type 0
+Inside s [] = Unit {0}
+Inside s (p ∷ ps) = (p.image ≡ s) × Inside s ps
 
-inside_from : (s : List ℕ) (b m n : ℕ) (f : Forest) → m < n → Inside s m (places_from s b n f)
+inside_from : (s : List ℕ) (b n : ℕ) (f : Forest) → Inside s (places_from s b n f)
 unfolding places_from
-inside_from s b m n none lt = tt
-inside_from s b m n (node l cs ns) lt = (refl, lt, inside_from s b m (n + 1 + size cs) ns (omega arith))
+inside_from s b n none = tt
+inside_from s b n (node l cs ns) = (refl, inside_from s b (n + 1 + size cs) ns)
 
--- those that are linked behind it do
-inside_linked : (s : List ℕ) (b m n : ℕ) (f : Forest) → n ≡ link (m + 1) f → Inside s m (places_from s b n f)
-unfolding places_from
-inside_linked s b m n none e = tt
-inside_linked s b m n (node l cs ns) e = inside_from s b m n (node l cs ns) (omega arith)
-
--- those below a tree do
-pub inside : (t : Subtree) (x : Siblings) → Below t x → Inside t.image.now t.number (places x)
-inside t x b =
-    subst (λ (s : List ℕ). Inside s t.number (places x)) b.image
-    (inside_linked x.image.now _ t.number x.first (forest x) (b.first ∙ ap (link (t.number + 1)) (sym b.is)))
+-- those of siblings do
+pub inside : (x : Siblings) {s : List ℕ} → x.image.now ≡ s → Inside s (places x)
+inside x e = subst (λ (z : List ℕ). Inside z (places x)) e (inside_from x.image.now _ x.first (forest x))
 
 -- the first does, and so do the others
-pub inside_step : (x y : Siblings) (t : Subtree) {s : List ℕ} {m : ℕ} → places x ≡ place t ∷ places y → Inside s m (places x)
-    → (t.image.now ≡ s) × (m < t.number) × Inside s m (places y)
-inside_step x y t {s} {m} e h = subst (Inside s m) e h
+pub inside_step : (x y : Siblings) (t : Subtree) {s : List ℕ} → places x ≡ place t ∷ places y → Inside s (places x)
+    → (t.image.now ≡ s) × Inside s (places y)
+inside_step x y t {s} e h = subst (Inside s) e h
+
+-- the trees of these places stand in the bytes s from record b on, behind record m
+abbrev pub Behind : List ℕ → ℕ → ℕ → List Place → Type 0
+Behind s b m [] = Unit {0}
+Behind s b m (p ∷ ps) = (p.image ≡ s) × (p.base ≡ b) × (m < p.number) × Behind s b m ps
+
+behind_from : (s : List ℕ) (b m n : ℕ) (f : Forest) → m < n → Behind s b m (places_from s b n f)
+unfolding places_from
+behind_from s b m n none lt = tt
+behind_from s b m n (node l cs ns) lt = (refl, refl, lt, behind_from s b m (n + 1 + size cs) ns (omega arith))
+
+-- those that are linked behind it do
+behind_linked : (s : List ℕ) (b m n : ℕ) (f : Forest) → n ≡ link (m + 1) f → Behind s b m (places_from s b n f)
+unfolding places_from
+behind_linked s b m n none e = tt
+behind_linked s b m n (node l cs ns) e = behind_from s b m n (node l cs ns) (omega arith)
+
+-- those below a tree do
+pub behind : {M : ℕ} (t : Stretch M) (x : Stretches M) → Below t x → Behind t.image.now (start M t.base) t.number (places x)
+behind {M} t x w =
+    subst (λ (s : List ℕ). Behind s (start M t.base) t.number (places x)) w.image
+    (subst (λ (b : ℕ). Behind x.image.now b t.number (places x)) w.base
+    (behind_linked x.image.now (start M x.base) t.number x.first (forest x) (w.first ∙ ap (link (t.number + 1)) (sym w.is))))
+
+-- the first does, and so do the others
+pub behind_step : {M : ℕ} (x y : Stretches M) (t : Stretch M) {s : List ℕ} {b m : ℕ} → places x ≡ place t ∷ places y → Behind s b m (places x)
+    → (t.image.now ≡ s) × (start M t.base ≡ b) × (m < t.number) × Behind s b m (places y)
+behind_step x y t {s} {b} {m} e h = subst (Behind s b m) e h
 
 -- the first of the trees below an entry is its expression
-pub begins : (map t x : Subtree) (cs y : Siblings) → Below t cs → t.image.now ≡ map.image.now → map.number < t.number
-    → places cs ≡ place x ∷ places y → Begins (tree_of t).below map x
-begins map t x cs y b i lt e =
+pub begins : {M : ℕ} (map t x : Stretch M) (cs y : Stretches M) → Below t cs → t.image.now ≡ map.image.now → start M t.base ≡ start M map.base
+    → map.number < t.number → places cs ≡ place x ∷ places y → Begins (tree_of t).below map x
+begins {M} map t x cs y w i o lt e =
     let g = goes cs y x e in
-    let is : (tree_of t).below ≡ node (tree_of x).label (tree_of x).below (forest y) = sym b.is ∙ g.is in
-    let here = subst (λ (f : Forest). Linked f cs.image.now 0 cs.first) g.is cs.chained.linked in
-    let n : x.number ≡ t.number + 1 = g.number ∙ b.first ∙ ap (link (t.number + 1)) is in
-    let d : cs.first - 0 ≡ x.number = omega (arith, g.number) in
+    let is : (tree_of t).below ≡ node (tree_of x).label (tree_of x).below (forest y) = sym w.is ∙ g.is in
+    let here = subst (λ (f : Forest). Linked f cs.image.now (start M cs.base) cs.first) g.is cs.chained.linked in
+    let n : x.number ≡ t.number + 1 = g.number ∙ w.first ∙ ap (link (t.number + 1)) is in
+    let d : cs.first - start M cs.base ≡ pos M map.base x.number = omega (arith, pos_is M map.base x.number, g.number, w.base, o) in
     record {
-      image = g.image ∙ b.image ∙ i;
+      image = g.image ∙ w.image ∙ i;
+      base = g.base ∙ w.base ∙ o;
       past = omega (arith, n, lt);
-      stands = rw (is, ← i, ← b.image, ← d) (rw g.number here.1);
+      stands = rw (is, ← i, ← w.image, ← d) (rw g.number here.1);
       others = forest y;
       is = is;
     }
 
 -- .. or there is none
-pub begins_of : (map t : Subtree) (cs y : Siblings) (o : Option Subtree) → Below t cs → t.image.now ≡ map.image.now → map.number < t.number
-    → YieldsFirstBy place places cs o y → Finds (tree_of t).below map o
-begins_of map t cs y (Some x) b i lt e = begins map t x cs y b i lt e
-begins_of map t cs y None b i lt e = sym b.is ∙ gone cs e.0
+pub begins_of : {M : ℕ} (map t : Stretch M) (cs y : Stretches M) (r : Option (Stretch M)) → Below t cs → t.image.now ≡ map.image.now
+    → start M t.base ≡ start M map.base → map.number < t.number → YieldsFirstBy place places cs r y → Finds (tree_of t).below map r
+begins_of map t cs y (Some x) w i o lt e = begins map t x cs y w i o lt e
+begins_of map t cs y None w i o lt e = sym w.is ∙ gone cs e.0
 
 -- the first entry has the name
 pub lookup_first : (l : Label) (cs ns : Forest) (p q : ℕ) {b : Bool} → b ≡ is_entry l p q → b ≡ true → lookup (node l cs ns) p q ≡ cs
@@ -86,10 +110,10 @@ pub lookup_next : (l : Label) (cs ns : Forest) (p q : ℕ) {b : Bool} → b ≡ 
 lookup_next l cs ns p q e h = let t = sym e ∙ h in rw t
 
 -- what is found stands for the tree that columns give way to
-pub first_found : {f : Forest} {map x : Subtree} → Begins f map x → (t : Tree) → first_or f t ≡ tree_of x
+pub first_found : {M : ℕ} {f : Forest} {map x : Stretch M} → Begins f map x → (t : Tree) → first_or f t ≡ tree_of x
 first_found h t = rw h.is
 
-pub replaced_found : (e t : Tree) {map x : Subtree} → Begins (value_for e t.label) map x → tree_of x ≡ replaced e t
+pub replaced_found : {M : ℕ} (e t : Tree) {map x : Stretch M} → Begins (value_for e t.label) map x → tree_of x ≡ replaced e t
 replaced_found e t h = sym (first_found h (record { label = t.label; below = replaced_any e t.below }))
 
 -- where nothing is found, the trees below are replaced
@@ -99,7 +123,7 @@ replaced_below e t h = ap (λ (f : Forest). first_or f (record { label = t.label
 -- ---- levels
 
 -- what is found is less deep than the entries
-pub deep_found : (e : Tree) (l : Label) {d : ℕ} {map x : Subtree} → Deep e.below d → Begins (value_for e l) map x
+pub deep_found : {M : ℕ} (e : Tree) (l : Label) {d : ℕ} {map x : Stretch M} → Deep e.below d → Begins (value_for e l) map x
     → (1 < d) × Deep (tree_of x).below (d - 1 - 1)
 deep_found e l {d} {x = x} h b =
     let v : Deep (value_for e l) (d - 1) = deep_or (eqb l.kind 1) (lookup e.below l.p l.q) none (d - 1) (deep_lookup e.below l.p l.q d h) tt in
@@ -107,7 +131,7 @@ deep_found e l {d} {x = x} h b =
     (omega (arith, k.0), k.1)
 
 -- it may be written in a column's place
-pub low_found : (e : Tree) (l : Label) (level : ℕ) {f : Forest} {map x : Subtree}
+pub low_found : {M : ℕ} (e : Tree) (l : Label) (level : ℕ) {f : Forest} {map x : Stretch M}
     → LowOver (level + 1) e.below f → Begins (value_for e l) map x → Low (level + 1) (tree_of x).below
 low_found e l level h b =
     let k = deep_found e l h.entries_deep b in record { depth = h.room - 1 - 1; deep = k.1; low = omega (arith, h.low, k.0) }

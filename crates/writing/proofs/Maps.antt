@@ -16,6 +16,7 @@ use Rattle.image.specs.Limits.{max_below, max_depth, Shallow}
 use Rattle.image.specs.Places.{Stood}
 use Rattle.image.specs.Room.{Low}
 use Rattle.image.specs.Subtrees.{Subtree, tree_of}
+use Rattle.image.specs.declared.trees.Stretch.{Stretch}
 use Rattle.image.specs.Tree.{Label, Forest, none, node, Tree, Deep, Readable}
 use Rattle.image.proofs.Subtrees.{tree_is}
 use Rattle.plan.specs.Lists.{◌&◌}
@@ -217,8 +218,8 @@ pub deep_low : (level : ℕ) {f : Forest} → Shallow 1 level → Deep f max_bel
 deep_low level h d = record { depth = max_below; deep = d; low = omega (arith, h) }
 
 -- a tree over entries is a map
-pub maps_to : (map : Subtree) {t : Tree} {σ : Name → Expr} → tree_of map ≡ t → Gives t σ → MapsTo map σ
-maps_to map {t} {σ} e g = record { is = subst (λ (u : Tree). (x : Expr) → replaced u (expr_tree x) ≡ expr_tree (replace_cols σ x)) (sym e) (replaced_expr t σ g) }
+pub maps_to : {M : ℕ} (map : Stretch M) {t : Tree} {σ : Name → Expr} → tree_of map ≡ t → Gives t σ → MapsTo map σ
+maps_to {M} map {t} {σ} e g = record { is = subst (λ (u : Tree). (x : Expr) → replaced u (expr_tree x) ≡ expr_tree (replace_cols σ x)) (sym e) (replaced_expr t σ g) }
 
 -- a plan is
 pub plan_maps_to : {map : Subtree} {p : Plan} → StandingP map.image.now map.number p → MapsTo map (map_of p)
@@ -238,10 +239,10 @@ read_over {room = room} map {m} e n h l =
     record { room = room; some = h.some; deep = rw t h.deep; shallow = l }
 
 -- a lower writer may begin further down
-pub over_at : {k level : ℕ} {map : Subtree} {j n : ℕ} → Over k level map → n + j * max_depth ≤ level + k * max_depth → Over j n map
+pub over_at : {M k level : ℕ} {map : Stretch M} {j n : ℕ} → Over k level map → n + j * max_depth ≤ level + k * max_depth → Over j n map
 over_at h le = record { room = h.room; some = h.some; deep = h.deep; shallow = omega (arith, h.shallow, le) }
 
 -- an expression may be written over a map
-pub over_low : {level : ℕ} {map : Subtree} {f : Forest} → Over 1 level map → Deep f max_below → LowOver (level + 1) (tree_of map).below f
+pub over_low : {M level : ℕ} {map : Stretch M} {f : Forest} → Over 1 level map → Deep f max_below → LowOver (level + 1) (tree_of map).below f
 over_low h d =
     record { depth = max_below; deep = d; room = h.room - 1; entries_deep = h.deep; low = omega (arith, h.shallow, h.some) }

@@ -1,8 +1,9 @@
 -- A tree of entries as a map from names to expressions.
 use Rattle.std.specs.Prelude.{◌≡◌, ℕ, ◌+◌, ◌-◌, ◌<◌}
 use Rattle.image.specs.Limits.{Shallow}
-use Rattle.image.specs.Subtrees.{Subtree, tree_of}
+use Rattle.image.specs.Subtrees.{tree_of}
 use Rattle.image.specs.Tree.{Deep}
+use Rattle.image.specs.declared.trees.Stretch.{Stretch}
 use Rattle.plan.specs.Syntax.{Name, Expr, col}
 use Rattle.plan.specs.Syntax.{Plan, scan, filter, project, join, alias, union, distinct, sort, repartition, limit, aggregate, window}
 use Rattle.plan.specs.Trees.{expr_tree}
@@ -11,11 +12,11 @@ use Rattle.rewrite.specs.PushDownFilter.{pick}
 use Rattle.writing.specs.Replaced.{replaced}
 
 -- the map's entries replace columns as σ does
-pub record MapsTo (map : Subtree) (σ : Name → Expr) : Type 0 where
+pub record MapsTo {M : ℕ} (map : Stretch M) (σ : Name → Expr) : Type 0 where
   pub is : (e : Expr) → replaced (tree_of map) (expr_tree e) ≡ expr_tree (replace_cols σ e)
 
 -- a writer of height k may begin at depth `level` and go down further by the map, which is no deeper than `room`
-pub record Over (k level : ℕ) (map : Subtree) : Type 0 where
+pub record Over {M : ℕ} (k level : ℕ) (map : Stretch M) : Type 0 where
   pub room : ℕ
   pub some : 0 < room
   pub deep : Deep (tree_of map).below (room - 1)

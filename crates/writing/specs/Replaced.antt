@@ -2,8 +2,10 @@
 -- renames.
 use Rattle.std.specs.Prelude.{◌≡◌, Bool, true, false, ◌&&◌, ℕ, ◌+◌, ◌*◌, ◌<◌, eqb, drop, Option, None, Some}
 use Rattle.image.specs.Limits.{max_level}
-use Rattle.image.specs.Subtrees.{Subtree, tree_of}
+use Rattle.image.specs.Places.{pos, start}
+use Rattle.image.specs.Subtrees.{tree_of}
 use Rattle.image.specs.Tree.{Deep, Label, Forest, none, node, Stands, Tree}
+use Rattle.image.specs.declared.trees.Stretch.{Stretch}
 use Rattle.plan.specs.Kinds.{number_e, number_q, Column, EntryPart}
 
 -- the label is that of an entry of this name
@@ -43,15 +45,16 @@ abbrev pub replaced : Tree → Tree → Tree
 replaced e t = first_or (value_for e t.label) (record { label = t.label; below = replaced_any e t.below })
 
 -- x is what f begins with, and f stands there in the image of the map, behind the map's record
-pub record Begins (f : Forest) (map x : Subtree) : Type 0 where
+pub record Begins {M : ℕ} (f : Forest) (map x : Stretch M) : Type 0 where
   pub image : x.image.now ≡ map.image.now
+  pub base : start M x.base ≡ start M map.base
   pub past : map.number < x.number
-  pub stands : Stands f (drop (32 * x.number) map.image.now) x.number
+  pub stands : Stands f (drop (32 * pos M map.base x.number) map.image.now) x.number
   pub others : Forest
   pub is : f ≡ plant (tree_of x) others
 
 -- .. or there is none, and f is none
-abbrev pub Finds : Forest → Subtree → Option Subtree → Type 0
+abbrev pub Finds : {M : ℕ} → Forest → Stretch M → Option (Stretch M) → Type 0
 Finds f map None = f ≡ none
 Finds f map (Some x) = Begins f map x
 

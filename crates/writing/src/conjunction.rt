@@ -14,7 +14,7 @@ use crate::replace_cols_by_name::replace_cols_by_name;
 use conjuncts::items::{REPLACED, item_tree};
 use conjuncts::lists::{Conjuncts, item_at};
 use image::copying::Writer;
-use image::trees::Subtree;
+use image::trees::Stretch;
 use plan::kinds::{BINARY_EXPR, BOOLEAN_LITERAL};
 use plan::words::AND;
 
@@ -33,7 +33,7 @@ fn copy_plain(s: &[u8], n: usize, out: &mut Writer, level: usize)
 }
 
 // The same with the columns replaced.
-fn copy_changed(s: &[u8], map: Subtree, n: usize, out: &mut Writer, level: usize)
+fn copy_changed<const M: usize>(s: &[u8], map: Stretch<'_, M>, n: usize, out: &mut Writer, level: usize)
     requires present { Present s.now n }
     requires over { Over 1 level map }
     ensures same { out.new.bytes.ghost_name ≡ out.old.bytes.ghost_name }
@@ -47,7 +47,7 @@ fn copy_changed(s: &[u8], map: Subtree, n: usize, out: &mut Writer, level: usize
 }
 
 // Writes what the item n stands for.
-pub fn copy_item(s: &[u8], map: Subtree, n: usize, out: &mut Writer, level: usize)
+pub fn copy_item<const M: usize>(s: &[u8], map: Stretch<'_, M>, n: usize, out: &mut Writer, level: usize)
     requires one { One s.now n }
     requires over { Over 1 level map }
     ensures same { out.new.bytes.ghost_name ≡ out.old.bytes.ghost_name }
@@ -62,7 +62,7 @@ pub fn copy_item(s: &[u8], map: Subtree, n: usize, out: &mut Writer, level: usiz
 }
 
 // Writes the first k items of a list, joined left-deep.
-fn copy_first(s: &[u8], map: Subtree, c: &Conjuncts, k: usize, out: &mut Writer, level: usize)
+fn copy_first<const M: usize>(s: &[u8], map: Stretch<'_, M>, c: &Conjuncts, k: usize, out: &mut Writer, level: usize)
     requires some { Some s.now c.now }
     requires k_nonzero { (0 < k) × (k ≤ c.now.len) }
     requires over { Over 1 (level + k) map }
@@ -83,7 +83,7 @@ fn copy_first(s: &[u8], map: Subtree, c: &Conjuncts, k: usize, out: &mut Writer,
 }
 
 // Writes the items of a list, joined left-deep.
-pub fn copy_joined(s: &[u8], map: Subtree, c: Conjuncts, out: &mut Writer, level: usize)
+pub fn copy_joined<const M: usize>(s: &[u8], map: Stretch<'_, M>, c: Conjuncts, out: &mut Writer, level: usize)
     requires some { Some s.now c }
     requires len_nonzero { 0 < c.len }
     requires over { Over 2 level map }
@@ -96,9 +96,9 @@ pub fn copy_joined(s: &[u8], map: Subtree, c: Conjuncts, out: &mut Writer, level
 }
 
 // Writes a predicate: the item `written` as it is, or where there is none the items of a list, joined left-deep.
-pub fn copy_predicate(
+pub fn copy_predicate<const M: usize>(
     s: &[u8],
-    map: Subtree,
+    map: Stretch<'_, M>,
     written: Option<usize>,
     c: Conjuncts,
     out: &mut Writer,

@@ -12,16 +12,16 @@ ghost use Rattle.writing.specs.Pushed.{Predicate, Predicated};
 use crate::conjunction::copy_predicate;
 use conjuncts::lists::Conjuncts;
 use image::copying::Writer;
-use image::trees::Subtree;
+use image::trees::Stretch;
 use plan::kinds::FILTER;
 
 // Writes the plan under a Filter of a predicate.
-pub fn make_filter(
+pub fn make_filter<const N: usize, const M: usize>(
     s: &[u8],
-    map: Subtree,
+    map: Stretch<'_, M>,
     written: Option<usize>,
     c: Conjuncts,
-    input: Subtree,
+    input: Stretch<'_, N>,
     out: &mut Writer,
     level: usize,
 )

@@ -7,11 +7,11 @@ ghost use Rattle.writing.specs.Replaced.{Finds, LowOver, is_entry, lookup, repla
 
 use image::copying::Writer;
 use image::limits::{MAX_RECORDS, NO_ROOM};
-use image::trees::Subtree;
+use image::trees::Stretch;
 use plan::kinds::{COLUMN, ENTRY};
 
 // Whether the tree is an entry of this name.
-pub fn is_entry(tree: Subtree, p: usize, q: usize) -> bool
+pub fn is_entry<const N: usize>(tree: Stretch<'_, N>, p: usize, q: usize) -> bool
     ensures { result ≡ is_entry (tree_of tree.entry).label p q }
 {
     let l = tree.label();
@@ -19,7 +19,7 @@ pub fn is_entry(tree: Subtree, p: usize, q: usize) -> bool
 }
 
 // The expression that an entry of the map gives this name.
-pub fn find<'a>(map: Subtree<'a>, p: usize, q: usize) -> Option<Subtree<'a>>
+pub fn find<'a, const M: usize>(map: Stretch<'a, M>, p: usize, q: usize) -> Option<Stretch<'a, M>>
     ensures { Finds (lookup (tree_of map.entry).below p q) map.entry result }
 {
     for entry in map.children() {
@@ -31,7 +31,7 @@ pub fn find<'a>(map: Subtree<'a>, p: usize, q: usize) -> Option<Subtree<'a>>
 }
 
 // The same for the name of the tree, if it is a column.
-pub fn value_for<'a>(tree: Subtree, map: Subtree<'a>) -> Option<Subtree<'a>>
+pub fn value_for<'a, const N: usize, const M: usize>(tree: Stretch<'_, N>, map: Stretch<'a, M>) -> Option<Stretch<'a, M>>
     ensures { Finds (value_for (tree_of map.entry) (tree_of tree.entry).label) map.entry result }
 {
     let l = tree.label();
@@ -42,7 +42,7 @@ pub fn value_for<'a>(tree: Subtree, map: Subtree<'a>) -> Option<Subtree<'a>>
 }
 
 // Writes the tree with each column that an entry of the map names replaced by its expression.
-pub fn replace_cols_by_name(tree: Subtree, map: Subtree, out: &mut Writer, level: usize)
+pub fn replace_cols_by_name<const N: usize, const M: usize>(tree: Stretch<'_, N>, map: Stretch<'_, M>, out: &mut Writer, level: usize)
     requires { LowOver (level + 1) (tree_of map).below (tree_of tree).below }
     ensures same { out.new.bytes.ghost_name ≡ out.old.bytes.ghost_name }
     ensures wrote { Wrote out.old.bytes.now out.new.bytes.now out.old.next level out.new.next

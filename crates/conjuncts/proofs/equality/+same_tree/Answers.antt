@@ -9,19 +9,19 @@ use Rattle.conjuncts.proofs.Equals.{none_left}
 use Rattle.conjuncts.proofs.equality.+same_tree.Goals as goal
 
 pub returns-in_default : goal.returns-in_default
-returns-in_default t c =
+returns-in_default g t c =
     let k = c.loop-left.invariant in
     let g = goes c.loop-left.left-iterator c.next.new.self c.in-Some.left c.in-Some.ensures.steps in
     sym (k.0 ∙ ap₂ same_any g.is (gone c.loop-left.others c.in_default.ensures.steps.0))
 
 pub same_tree-requires : goal.same_tree-requires
-same_tree-requires t c =
+same_tree-requires g t c =
     let k = c.loop-left.invariant in
     let g = goes c.loop-left.left-iterator c.next.new.self c.in-Some.left c.in-Some.ensures.steps in
     omega (arith, ap size g.is, k.1, c.decreases)
 
 pub returns-then-not-same_tree : goal.returns-then-not-same_tree
-returns-then-not-same_tree t c =
+returns-then-not-same_tree g t c =
     let k = c.loop-left.invariant in
     let g = goes c.loop-left.left-iterator c.next.new.self c.in-Some.left c.in-Some.ensures.steps in
     let h = goes c.loop-left.others c.next-in-loop-left.new.self c.in-Some-next.right c.in-Some-next.ensures.steps in
@@ -29,7 +29,7 @@ returns-then-not-same_tree t c =
     sym (k.0 ∙ ap₂ same_any g.is h.is ∙ rw e)
 
 pub loop-left-preserved : goal.loop-left-preserved
-loop-left-preserved t c =
+loop-left-preserved g t c =
     let k = c.loop-left.invariant in
     let g = goes c.loop-left.left-iterator c.next.new.self c.in-Some.left c.in-Some.ensures.steps in
     let h = goes c.loop-left.others c.next-in-loop-left.new.self c.in-Some-next.right c.in-Some-next.ensures.steps in
@@ -37,7 +37,7 @@ loop-left-preserved t c =
     (k.0 ∙ ap₂ same_any g.is h.is ∙ rw e, omega (arith, ap size g.is, k.1))
 
 pub returns : goal.returns
-returns t c =
+returns g t c =
     let k = c.loop-left.invariant in
     let g = gone c.loop-left.left-iterator c.in-None.ensures.steps.0 in
     sym (k.0 ∙ rw g (none_left c.loop-left.others c.next-2.new.self c.next-2.result c.next-2.ensures.steps c.is_none.ensures))

@@ -7,9 +7,9 @@ use Rattle.conjuncts.specs.Equality.{same, same_any}
 use Rattle.conjuncts.proofs.equality.+same_tree.Given as goal
 
 abbrev pub decreases-same_tree : goal.decreases-same_tree
-decreases-same_tree l = size (tree_of l.a).below
+decreases-same_tree g l = size (tree_of l.a).below
 
 abbrev pub invariant-loop-left : goal.invariant-loop-left
-invariant-loop-left l =
+invariant-loop-left g l =
     (same (tree_of l.a) (tree_of l.b) ≡ same_any (forest l.left-iterator) (forest l.others))
     × (size (forest l.left-iterator) ≤ size (tree_of l.a).below)

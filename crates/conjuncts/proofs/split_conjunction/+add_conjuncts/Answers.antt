@@ -1,40 +1,47 @@
 use mathlib.Core.Path.{refl, sym, ap, ◌∙◌}
 use mathlib.Core.List.{append_assoc}
 use native.Mathlib.Omega.{arith}
+use Prim.Native.Nat.{◌+◌, ◌≤◌}
+use lib.ListN.{length}
 use Rattle.rewrite.specs.Utils.{split_conjunction}
+use Rattle.image.specs.Flat.{size_t}
+use Rattle.image.specs.Limits.{max_records}
+use Rattle.image.specs.Subtrees.{tree_of}
 use Rattle.image.specs.Tree.{Tree}
+use Rattle.image.proofs.Subtrees.{ending_same, tree_within}
 use Rattle.conjuncts.specs.Labels.{is_and}
-use Rattle.conjuncts.proofs.Operands.{and_of, fewer_left, fewer_right, item_of, left_is, right_is, single}
-use Rattle.conjuncts.proofs.Standing.{tree_standing}
+use Rattle.conjuncts.proofs.Operands.{and_in, fewer_left, fewer_right, item_of, left_is, right_is, single}
 use Rattle.conjuncts.proofs.Listed.{lists_add}
 use Rattle.conjuncts.proofs.split_conjunction.+add_conjuncts.Goals as goal
 
 pub add_conjuncts-requires : goal.add_conjuncts-requires
-add_conjuncts-requires t c =
+add_conjuncts-requires g t c =
     let k = c.in-Some.ensures in
-    let p = c.requires in (
+    let p = c.requires in
+    let same = ending_same g.row.N c.in-Some.left.base c.args.tree.base _ _ k.1.left_base (ap length k.1.left_image) in (
       omega (arith, fewer_left k.0 k.1, c.decreases),
-      (left_is k.0 k.1 p.expr, (omega (arith, k.1.left), rw k.1.left_image p.image_bound)),
+      (left_is k.0 k.1 p.expr, (omega (arith, k.1.left), omega (arith, same, p.image_bound))),
     )
 
 pub add_conjuncts-requires-in-Some : goal.add_conjuncts-requires-in-Some
-add_conjuncts-requires-in-Some t c =
+add_conjuncts-requires-in-Some g t c =
     let k = c.in-Some.ensures in
-    let p = c.requires in (
+    let p = c.requires in
+    let same = ending_same g.row.N c.in-Some.right.base c.args.tree.base _ _ k.1.right_base (ap length k.1.right_image) in (
       omega (arith, fewer_right k.0 k.1, c.decreases),
-      (right_is k.0 k.1 p.expr, (omega (arith, k.1.right), rw k.1.right_image p.image_bound)),
+      (right_is k.0 k.1 p.expr, (omega (arith, k.1.right), omega (arith, same, p.image_bound))),
     )
 
 pub returns-in-Some : goal.returns-in-Some
 unfolding split_conjunction
-returns-in-Some t c =
-    λ e es h l. let k = c.in-Some.ensures in
-    let u = and_of k.0 k.1 c.requires.image_bound h in
+returns-in-Some g t c =
+    λ s e es is h l. let k = c.in-Some.ensures in
+    let most : c.args.tree.number + size_t (tree_of c.args.tree) ≤ max_records = omega (arith, tree_within c.args.tree, c.requires.image_bound) in
+    let u = and_in k.0 k.1 is most h in
     rw (ap split_conjunction u.is, ← append_assoc)
-    (rw k.1.right_image at c.add_conjuncts-in-Some.ensures u.rhs _ u.right
-    (rw k.1.left_image at c.add_conjuncts.ensures u.lhs es u.left l))
+    (c.add_conjuncts-in-Some.ensures s u.rhs _ u.right_is u.right (c.add_conjuncts.ensures s u.lhs es u.left_is u.left l))
 
 pub returns-in-None : goal.returns-in-None
-returns-in-None t c =
-    λ e es h l. let is = ap (λ (u : Tree). is_and u.label) (tree_standing c.args.tree refl refl h) in
-    rw (single e (sym is ∙ c.in-None.ensures)) (lists_add _ l (item_of h c.requires.number_nonzero) c.push.ensures)
+returns-in-None g t c =
+    λ s e es is h l. let q = ap (λ (u : Tree). is_and u.label) is in
+    rw (single e (sym q ∙ c.in-None.ensures)) (lists_add _ l (item_of h c.requires.number_nonzero) c.push.ensures)

@@ -4,4 +4,4 @@ use Rattle.image.specs.Subtrees.{tree_of}
 use Rattle.conjuncts.proofs.split_conjunction.+add_conjuncts.Given as goal
 
 abbrev pub decreases-add_conjuncts : goal.decreases-add_conjuncts
-decreases-add_conjuncts l = size (tree_of l.tree).below
+decreases-add_conjuncts g l = size (tree_of l.tree).below

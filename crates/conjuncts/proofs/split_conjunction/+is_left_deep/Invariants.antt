@@ -4,4 +4,4 @@ use Rattle.image.specs.Subtrees.{tree_of}
 use Rattle.conjuncts.proofs.split_conjunction.+is_left_deep.Given as goal
 
 abbrev pub decreases-is_left_deep : goal.decreases-is_left_deep
-decreases-is_left_deep l = size (tree_of l.tree).below
+decreases-is_left_deep g l = size (tree_of l.tree).below

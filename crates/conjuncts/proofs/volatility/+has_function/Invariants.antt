@@ -7,9 +7,9 @@ use Rattle.conjuncts.specs.Functions.{marked, fn_any, fn_in}
 use Rattle.conjuncts.proofs.volatility.+has_function.Given as goal
 
 abbrev pub decreases-has_function : goal.decreases-has_function
-decreases-has_function l = size (tree_of l.tree).below
+decreases-has_function g l = size (tree_of l.tree).below
 
 abbrev pub invariant-loop-child : goal.invariant-loop-child
-invariant-loop-child l =
+invariant-loop-child g l =
     (fn_in (marked l.asked) (tree_of l.tree) ≡ fn_any (marked l.asked) (forest l.child-iterator))
     × (size (forest l.child-iterator) ≤ size (tree_of l.tree).below)

@@ -8,29 +8,29 @@ use Rattle.evaluate.proofs.Folding.{seen_none, seen_next, seen_all, tree_column,
 use Rattle.evaluate.proofs.expressions.+evaluate.Goals as goal
 
 pub returns-then-l-eq-COLUMN : goal.returns-then-l-eq-COLUMN
-returns-then-l-eq-COLUMN t c =
+returns-then-l-eq-COLUMN g t c =
     record {
       right = c.column.ensures.right;
       is = λ ns n le. tree_column _ _ (tree_of c.args.tree) c.label-l.ensures.label _ c.if-l-eq-COLUMN.true (c.column.ensures.is ns n le);
     }
 
 pub returns-in-Some : goal.returns-in-Some
-returns-in-Some t c =
+returns-in-Some g t c =
     let e = sym c.literal_of.ensures ∙ c.in-Some.is in
     record { right = right_literal c.label-l.result _ e; is = λ ns n le. tree_literal _ _ (tree_of c.args.tree) c.label-l.ensures.label _ e }
 
 pub loop-child-init : goal.loop-child-init
-loop-child-init t c =
+loop-child-init g t c =
     let e = ap forest c.into_iter-child-iterator.ensures.into_iter_gives ∙ c.children-child-items.ensures.is in
     rw e ((c.nothing-seen.ensures.right, λ ns n le. seen_none _ (tree_of c.args.tree) c.nothing-seen.ensures.is), omega arith)
 
 pub evaluate-requires : goal.evaluate-requires
-evaluate-requires t c =
+evaluate-requires g t c =
     let g = goes c.loop-child.child-iterator c.next.new.self c.in-Some-child.child c.in-Some-child.ensures.steps in
     omega (arith, ap size g.is, c.loop-child.invariant.1, c.decreases)
 
 pub loop-child-preserved : goal.loop-child-preserved
-loop-child-preserved t c =
+loop-child-preserved g t c =
     let g = goes c.loop-child.child-iterator c.next.new.self c.in-Some-child.child c.in-Some-child.ensures.steps in
     let k = rw g.is at c.loop-child.invariant in (
       (
@@ -42,7 +42,7 @@ loop-child-preserved t c =
     )
 
 pub returns : goal.returns
-returns t c =
+returns g t c =
     let k = rw (gone c.loop-child.child-iterator c.in-None.ensures.steps.0) at c.loop-child.invariant in
     record {
       right = c.operate.ensures.right;

@@ -6,9 +6,9 @@ use Rattle.evaluate.proofs.Folding.{Done}
 use Rattle.evaluate.proofs.expressions.+evaluate.Given as goal
 
 abbrev pub decreases-evaluate : goal.decreases-evaluate
-decreases-evaluate l = size (tree_of l.tree).below
+decreases-evaluate g l = size (tree_of l.tree).below
 
 abbrev pub invariant-loop-child : goal.invariant-loop-child
-invariant-loop-child l =
+invariant-loop-child g l =
     Done l.row.fields l.row.row.types.now l.row.row.values.now l.row.row.marks.now l.seen (tree_of l.tree) (forest l.child-iterator)
     × (size (forest l.child-iterator) ≤ size (tree_of l.tree).below)

@@ -7,9 +7,9 @@ use Rattle.extents.proofs.Extents.{Left}
 use Rattle.extents.proofs.extent.+tree_extent.Given as goal
 
 abbrev pub decreases-tree_extent : goal.decreases-tree_extent
-decreases-tree_extent l = size (tree_of l.tree).below
+decreases-tree_extent g l = size (tree_of l.tree).below
 
 abbrev pub invariant-loop-child : goal.invariant-loop-child
-invariant-loop-child l =
+invariant-loop-child g l =
     Left l.records l.below (tree_of l.tree) (forest l.child-iterator)
     × (size (forest l.child-iterator) ≤ size (tree_of l.tree).below)

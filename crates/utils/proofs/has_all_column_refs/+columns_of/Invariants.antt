@@ -11,9 +11,9 @@ use Rattle.utils.proofs.Answering.{So}
 use Rattle.utils.proofs.has_all_column_refs.+columns_of.Given as goal
 
 abbrev pub decreases-columns_of : goal.decreases-columns_of
-decreases-columns_of l = size (tree_of l.tree).below
+decreases-columns_of g l = size (tree_of l.tree).below
 
 abbrev pub invariant-loop-child : goal.invariant-loop-child
-invariant-loop-child l =
+invariant-loop-child g l =
     ((ns : List Name) → l.fields ≡ map coded ns → on_tree (has ns) (tree_of l.tree) ≡ true → So l.set ns (tree_of l.tree) (forest l.child-iterator))
     × (size (forest l.child-iterator) ≤ size (tree_of l.tree).below)

@@ -4,4 +4,4 @@ use Rattle.utils.proofs.Named.{names_listed}
 use Rattle.utils.proofs.has_all_column_refs.columns.Goals as goal
 
 pub returns : goal.returns
-returns c = λ ns h held. c.columns_of.ensures ns (c.items.ensures ∙ names_listed h c.requires) held
+returns g c = λ ns h held. c.columns_of.ensures ns (c.items.ensures ∙ names_listed h c.requires) held

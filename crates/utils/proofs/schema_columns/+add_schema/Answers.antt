@@ -7,12 +7,12 @@ use Rattle.utils.proofs.Making.{called_nil}
 use Rattle.utils.proofs.schema_columns.+add_schema.Goals as goal
 
 pub returns-then-creates : goal.returns-then-creates
-returns-then-creates t c =
+returns-then-creates g t c =
     λ p ns h g. rw (all_made p h _ c.label-l.ensures.label c.role_of-role.ensures (sym c.creates.ensures ∙ c.if-creates.true))
     (c.add_parts.ensures ns g)
 
 pub returns-in_default : goal.returns-in_default
-returns-in_default t c =
+returns-in_default g t c =
     λ p ns h g. let below = c.children.ensures.is in
     rw (
       no_first p h _ c.label-l.ensures.label c.role_of-role.ensures (sym c.creates.ensures ∙ c.if-creates.false) c.own_input.ensures (rw below at c.in_default.ensures),
@@ -21,7 +21,7 @@ returns-in_default t c =
     ) g
 
 pub add_schema-requires : goal.add_schema-requires
-add_schema-requires t c =
+add_schema-requires g t c =
     let h = c.requires in
     let below = c.children.ensures.is in
     let i = first_input h.plan h.is _ c.label-l.ensures.label c.role_of-role.ensures (sym c.creates.ensures ∙ c.if-creates.false) c.own_input.ensures
@@ -29,7 +29,7 @@ add_schema-requires t c =
     (omega (arith, fewer below c.in-Some.ensures, c.decreases), record { plan = i.input; is = i.is })
 
 pub returns-then-extends : goal.returns-then-extends
-returns-then-extends t c =
+returns-then-extends g t c =
     λ p ns h g. let e = c.label-l.ensures.label in
     let below = c.children.ensures.is in
     let R = c.role_of-role.ensures in
@@ -39,7 +39,7 @@ returns-then-extends t c =
     (λ ms k. rw h at (c.add_parts-then-extends.ensures ms k))
 
 pub returns-then-not-gives_both : goal.returns-then-not-gives_both
-returns-then-not-gives_both t c =
+returns-then-not-gives_both g t c =
     λ p ns h g. let e = c.label-l.ensures.label in
     let below = c.children.ensures.is in
     let R = c.role_of-role.ensures in
@@ -49,7 +49,7 @@ returns-then-not-gives_both t c =
     (sym c.gives_both.ensures ∙ c.if-not-gives_both.true)
 
 pub add_schema-requires-in-Some-nth_plan : goal.add_schema-requires-in-Some-nth_plan
-add_schema-requires-in-Some-nth_plan t c =
+add_schema-requires-in-Some-nth_plan g t c =
     let h = c.requires in
     let below = c.children.ensures.is in
     let e = c.label-l.ensures.label in
@@ -60,7 +60,7 @@ add_schema-requires-in-Some-nth_plan t c =
     (omega (arith, fewer again c.in-Some-nth_plan.ensures, c.decreases), record { plan = j.input; is = j.is })
 
 pub returns-in-Some-nth_plan : goal.returns-in-Some-nth_plan
-returns-in-Some-nth_plan t c =
+returns-in-Some-nth_plan g t c =
     λ p ns h g. let e = c.label-l.ensures.label in
     let below = c.children.ensures.is in
     let R = c.role_of-role.ensures in
@@ -72,7 +72,7 @@ returns-in-Some-nth_plan t c =
     (λ ms k. c.add_schema-in-Some-nth_plan.ensures j.input ms j.is k)
 
 pub returns-in_default-nth_plan : goal.returns-in_default-nth_plan
-returns-in_default-nth_plan t c =
+returns-in_default-nth_plan g t c =
     λ p ns h g. let e = c.label-l.ensures.label in
     let below = c.children.ensures.is in
     let R = c.role_of-role.ensures in

@@ -4,4 +4,4 @@ use Rattle.image.specs.Tree.{size}
 use Rattle.utils.proofs.schema_columns.+add_schema.Given as goal
 
 abbrev pub decreases-add_schema : goal.decreases-add_schema
-decreases-add_schema l = size (tree_of l.plan).below
+decreases-add_schema g l = size (tree_of l.plan).below

@@ -6,7 +6,7 @@ use Rattle.utils.proofs.Named.{names_more}
 use Rattle.utils.proofs.schema_columns.add_part.Goals as goal
 
 pub returns-then-makes_field : goal.returns-then-makes_field
-returns-then-makes_field c =
+returns-then-makes_field g c =
     λ ns h. rw (
       ← c.label-l.ensures.label,
       part_made c.args.alias c.label-l.result (sym c.makes_field.ensures ∙ c.if-makes_field.true),
@@ -14,7 +14,7 @@ returns-then-makes_field c =
     ) (names_more _ _ ns h c.push.ensures)
 
 pub returns-else-makes_field : goal.returns-else-makes_field
-returns-else-makes_field c =
+returns-else-makes_field g c =
     λ ns h. rw (
       ← c.label-l.ensures.label,
       part_none c.args.alias c.label-l.result (sym c.makes_field.ensures ∙ c.if-makes_field.false),

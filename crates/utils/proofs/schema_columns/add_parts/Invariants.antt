@@ -8,6 +8,6 @@ use Rattle.utils.proofs.Making.{Sum}
 use Rattle.utils.proofs.schema_columns.add_parts.Given as goal
 
 abbrev pub invariant-loop-part : goal.invariant-loop-part
-invariant-loop-part l =
+invariant-loop-part g l =
     (ns : List Name) → Names l.fn.into ns
     → Sum l.into (called l.alias (made (forest l.part-iterator))) (ns ++ called l.alias (made (tree_of l.plan).below))

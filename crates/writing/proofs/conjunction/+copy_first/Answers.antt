@@ -10,34 +10,34 @@ use Rattle.writing.proofs.Pushing.{pushes_length, pushes_room, pushes_at, one_of
 use Rattle.writing.proofs.conjunction.+copy_first.Goals as goal
 
 pub item_at-item-requires : goal.item_at-item-requires
-item_at-item-requires t c =
+item_at-item-requires g t c =
     let p = c.requires.some in omega (arith, pushes_room p.pushes p.most, c.requires.k_nonzero)
 
 pub copy_item-requires-clause-one : goal.copy_item-requires-clause-one
-copy_item-requires-clause-one t c =
+copy_item-requires-clause-one g t c =
     one_of c.requires.some _ _ (omega (arith, c.requires.k_nonzero))
     c.item_at-item.ensures
 
 pub copy_item-requires-clause-over : goal.copy_item-requires-clause-over
-copy_item-requires-clause-over t c = over_at c.requires.over (omega arith)
+copy_item-requires-clause-over g t c = over_at c.requires.over (omega arith)
 
 pub returns-then-last-eq0-clause-wrote : goal.returns-then-last-eq0-clause-wrote
-returns-then-last-eq0-clause-wrote t c =
+returns-then-last-eq0-clause-wrote g t c =
     λ σ g e es h. let k = c.args.k - 1 in
     rw (conjoin_one e es k c.if-last-eq0.true)
     (c.copy_item.ensures.wrote σ g (get_or (e ∷ es) k FALSE)
     (pushes_at h c.requires.some.most k _ (omega (arith, c.requires.k_nonzero)) c.item_at-item.ensures))
 
 pub copy_item-requires-2-clause-one : goal.copy_item-requires-2-clause-one
-copy_item-requires-2-clause-one t c =
+copy_item-requires-2-clause-one g t c =
     one_of c.requires.some _ _ (omega (arith, c.requires.k_nonzero))
     c.item_at-item.ensures
 
 pub copy_item-requires-2-clause-over : goal.copy_item-requires-2-clause-over
-copy_item-requires-2-clause-over t c = over_at c.requires.over (omega arith)
+copy_item-requires-2-clause-over g t c = over_at c.requires.over (omega arith)
 
 pub returns-clause-wrote : goal.returns-clause-wrote
-returns-clause-wrote t c =
+returns-clause-wrote g t c =
     λ σ g e es h. let k = c.args.k - 1 in
     let long = pushes_length h c.requires.some.most in
     rw (conjoin_more e es k c.if-last-eq0.false

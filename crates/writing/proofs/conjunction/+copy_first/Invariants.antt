@@ -2,4 +2,4 @@
 use Rattle.writing.proofs.conjunction.+copy_first.Given as goal
 
 abbrev pub decreases-copy_first : goal.decreases-copy_first
-decreases-copy_first l = l.k
+decreases-copy_first g l = l.k

@@ -6,13 +6,13 @@ use Rattle.writing.proofs.Written.{wrote_false}
 use Rattle.writing.proofs.conjunction.copy_changed.Goals as goal
 
 pub replace_cols_by_name-requires : goal.replace_cols_by_name-requires
-replace_cols_by_name-requires c =
+replace_cols_by_name-requires g c =
     let p = c.requires.present in over_low c.requires.over (found_deep (c.in-Some.ensures p.expr p.item))
 
 pub returns-in-Some-clause-wrote : goal.returns-in-Some-clause-wrote
-returns-in-Some-clause-wrote c =
+returns-in-Some-clause-wrote g c =
     λ σ g e h. rw (← g.is e) (rw (tree_found (c.in-Some.ensures e h)) at c.replace_cols_by_name.ensures.wrote)
 
 pub returns-in-None-clause-wrote : goal.returns-in-None-clause-wrote
-returns-in-None-clause-wrote c =
+returns-in-None-clause-wrote g c =
     λ σ g e h. rw (c.in-None.ensures e h, false_stays σ) (wrote_false c.args.out.now.long c.put_kind.ensures.put)

@@ -7,10 +7,10 @@ use Rattle.writing.proofs.Pushing.{pushes_length}
 use Rattle.writing.proofs.conjunction.copy_joined.Goals as goal
 
 pub copy_first-requires-clause-over : goal.copy_first-requires-clause-over
-copy_first-requires-clause-over c = over_at c.requires.over (omega (arith, c.requires.some.most))
+copy_first-requires-clause-over g c = over_at c.requires.over (omega (arith, c.requires.some.most))
 
 pub returns-clause-wrote : goal.returns-clause-wrote
-returns-clause-wrote c =
+returns-clause-wrote g c =
     λ σ g e es h. let k = c.args.c.len - 1 in
     let long = pushes_length h c.requires.some.most in
     rw (take_all k es (omega (arith, long))) at (c.copy_first.ensures.wrote σ g e es h)

@@ -5,12 +5,12 @@ use Rattle.writing.proofs.Written.{wrote_filter}
 use Rattle.writing.proofs.make_filter.make_filter.Goals as goal
 
 pub copy_predicate-requires-clause-over : goal.copy_predicate-requires-clause-over
-copy_predicate-requires-clause-over c = over_at c.requires.over (omega arith)
+copy_predicate-requires-clause-over g c = over_at c.requires.over (omega arith)
 
 pub copy_tree-requires : goal.copy_tree-requires
-copy_tree-requires c = deep_low _ (omega (arith, c.requires.over.shallow)) c.requires.deep
+copy_tree-requires g c = deep_low _ (omega (arith, c.requires.over.shallow)) c.requires.deep
 
 pub returns-clause-wrote : goal.returns-clause-wrote
-returns-clause-wrote c =
+returns-clause-wrote g c =
     λ σ g e h p k. wrote_filter c.args.out.now.long e p c.put_kind.ensures.put
     (c.copy_predicate.ensures.wrote σ g e h) (rw k at c.copy_tree.ensures.wrote)

@@ -9,23 +9,23 @@ use Rattle.writing.proofs.Entries.{replaced_found, replaced_below, low_found, ov
 use Rattle.writing.proofs.replace_cols_by_name.+replace_cols_by_name.Goals as goal
 
 pub returns-then-out-ge-MAX_RECORDS-clause-wrote : goal.returns-then-out-ge-MAX_RECORDS-clause-wrote
-returns-then-out-ge-MAX_RECORDS-clause-wrote t c = wrote_past _ _ _ _ c.args.out.now.long c.if-out-ge-MAX_RECORDS.true
+returns-then-out-ge-MAX_RECORDS-clause-wrote g t c = wrote_past _ _ _ _ c.args.out.now.long c.if-out-ge-MAX_RECORDS.true
 
 pub copy_tree-requires : goal.copy_tree-requires
-copy_tree-requires t c = low_found (tree_of c.args.map) (tree_of c.args.tree).label _ c.requires c.in-Some.ensures
+copy_tree-requires g t c = low_found (tree_of c.args.map) (tree_of c.args.tree).label _ c.requires c.in-Some.ensures
 
 pub returns-in-Some-clause-wrote : goal.returns-in-Some-clause-wrote
-returns-in-Some-clause-wrote t c =
+returns-in-Some-clause-wrote g t c =
     rw (replaced_found (tree_of c.args.map) (tree_of c.args.tree) c.in-Some.ensures) at c.copy_tree.ensures.wrote
 
 pub replace_cols_by_name-requires : goal.replace_cols_by_name-requires
-replace_cols_by_name-requires t c =
+replace_cols_by_name-requires g t c =
     let g = goes c.loop-child.child-iterator c.next.new.self c.in-Some-child.child c.in-Some-child.ensures.steps in
     let k = c.loop-child.invariant in
     (omega (arith, ap size g.is, k.3, c.decreases), over_below g.is k.2)
 
 pub loop-child-preserved : goal.loop-child-preserved
-loop-child-preserved t c =
+loop-child-preserved g t c =
     let g = goes c.loop-child.child-iterator c.next.new.self c.in-Some-child.child c.in-Some-child.ensures.steps in
     let k = c.loop-child.invariant in
     let w = c.replace_cols_by_name.ensures in (
@@ -36,7 +36,7 @@ loop-child-preserved t c =
     )
 
 pub returns-clause-wrote : goal.returns-clause-wrote
-returns-clause-wrote t c =
+returns-clause-wrote g t c =
     let k = c.loop-child.invariant in
     let all = rw (gone c.loop-child.child-iterator c.in-None.ensures.steps.0) at k.1 in
     rw (replaced_below (tree_of c.args.map) (tree_of c.args.tree) c.in_default.ensures)

@@ -8,10 +8,10 @@ use Rattle.writing.specs.Replaced.{LowOver, replaced_any}
 use Rattle.writing.proofs.replace_cols_by_name.+replace_cols_by_name.Given as goal
 
 abbrev pub decreases-replace_cols_by_name : goal.decreases-replace_cols_by_name
-decreases-replace_cols_by_name l = size (tree_of l.tree).below
+decreases-replace_cols_by_name g l = size (tree_of l.tree).below
 
 abbrev pub invariant-loop-child : goal.invariant-loop-child
-invariant-loop-child l =
+invariant-loop-child g l =
     (l.out.bytes.ghost_name ≡ l.fn.out.bytes.ghost_name)
     × Left l.initial.out.bytes.now l.initial.out.next (l.level + 1) (replaced_any (tree_of l.map) (tree_of l.tree).below) l.out.bytes.now l.out.next
     (replaced_any (tree_of l.map) (forest l.child-iterator))

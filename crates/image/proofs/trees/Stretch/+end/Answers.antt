@@ -2,7 +2,8 @@ use mathlib.Core.Path.{◌≡◌, sym, ap, ◌∙◌}
 use native.Mathlib.Omega.{arith}
 use Prim.Native.Nat.{◌+◌}
 use Rattle.image.specs.Tree.{size}
-use Rattle.image.proofs.Subtrees.{all_items, last_none, last_some, link_of}
+use Rattle.image.proofs.Subtrees.{all_items, ending_same, last_none, last_some, link_of}
+use lib.ListN.{length}
 use Rattle.image.proofs.trees.Stretch.+end.Goals as goal
 
 pub end-requires : goal.end-requires
@@ -12,7 +13,8 @@ end-requires g t c =
     let all = all_items x ran.0 ran.1 in
     let last = last_some x ran.0 all (sym ran.2) in
     let b = c.children.ensures in
-    (omega (arith, last.fewer, ap size b.is, c.decreases), rw (last.base, b.base, last.image, b.image) c.requires)
+    let same = ending_same g.row.N c.in-Some.child.base c.args.self.base _ _ (last.base ∙ b.base) (ap length (last.image ∙ b.image)) in
+    (omega (arith, last.fewer, ap size b.is, c.decreases), omega (arith, same, c.requires))
 
 pub returns-in-Some : goal.returns-in-Some
 returns-in-Some g t c =

@@ -9,7 +9,7 @@ invariant_of-result g c =
     let x = c.args.self in
     let t = x.stood.tree in
     let h = below_linked t x.image.now (start g.row.N x.base) (pos g.row.N x.base x.number) x.number (number_is x) x.stood.at in
-    record { chained = record { forest = t.below; linked = rw (c.word_at.ensures.0, c.record_at-record.ensures, c.position.ensures) h } }
+    record { chained = record { forest = t.below; linked = rw (c.word_at.ensures.0, c.part.ensures) h } }
 
 pub returns : goal.returns
-returns g c = below_of refl refl (rw (c.word_at.ensures.0, c.record_at-record.ensures, c.position.ensures) refl)
+returns g c = below_of refl refl (rw (c.word_at.ensures.0, c.part.ensures) refl)

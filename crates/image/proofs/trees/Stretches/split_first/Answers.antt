@@ -19,14 +19,10 @@ invariant_of-others g c =
     let x = c.args.self in
     let u = turn (forest x) x.chained.linked c.if-self-eq0.false in
     record {
-      chained = record {
-        forest = u.after;
-        linked = rw (c.word_at.ensures.0, c.record_at-record.ensures, c.position.ensures, pos_is g.row.N x.base x.first) u.next;
-      };
+      chained = record { forest = u.after; linked = rw (c.word_at.ensures.0, c.part.ensures, pos_is g.row.N x.base x.first) u.next };
     }
 
 pub returns : goal.returns
 returns g c =
     let x = c.args.self in
-    split_of c.if-self-eq0.false refl refl refl refl refl
-    (rw (c.word_at.ensures.0, c.record_at-record.ensures, c.position.ensures, pos_is g.row.N x.base x.first) refl)
+    split_of c.if-self-eq0.false refl refl refl refl refl (rw (c.word_at.ensures.0, c.part.ensures, pos_is g.row.N x.base x.first) refl)
