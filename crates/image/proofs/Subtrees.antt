@@ -18,7 +18,7 @@ use Rattle.std.proofs.lemmas.Iterator.Consumers.{YieldsList-from_first}
 use Rattle.std.proofs.lemmas.Option.{none-some}
 use Rattle.image.specs.Flat.{size_t}
 use native.Mathlib.Omega.{arith}
-use lib.ListN.{length, drop, get_or, length-drop}
+use lib.ListN.{length, drop, length-drop}
 use lib.Seq.{drop-drop}
 use Rattle.image.specs.Word.{word}
 use Rattle.image.specs.Tree.{Forest, none, node, Tree, At, Stands, Linked, size, link}
@@ -28,29 +28,27 @@ use Rattle.image.specs.Subtrees.{Siblings, Subtree, Place, Below, Split, forest,
 use Rattle.image.specs.declared.trees.Stretch.{Stretch}
 use Rattle.image.specs.declared.trees.Stretches.{Stretches}
 
--- the place of a record among the records of some bytes
-pub pos_is : (N : ℕ) (bs : List ℕ) (n : ℕ) → pos N bs n ≡ n - start N bs
-pos_is zero bs n = omega arith
-pos_is (suc k) [] n = omega arith
-pos_is (suc k) (b ∷ bs) n = refl
+-- the place of a record among the records of some bytes, and where they end
+pub pos_is : (N b n : ℕ) → pos N b n ≡ n - start N b
+pos_is zero b n = omega arith
+pos_is (suc k) b n = refl
 
-pub pos_none : (N : ℕ) (bs : List ℕ) (n : ℕ) → N ≡ 0 → pos N bs n ≡ n
-pos_none zero bs n e = refl
-pos_none (suc k) bs n e = absurd (omega (arith, e))
-
-pub ending_is : (N : ℕ) (bs : List ℕ) (n : ℕ) → ending N bs n ≡ 32 * start N bs + n
-ending_is zero bs n = omega arith
-ending_is (suc k) [] n = omega arith
-ending_is (suc k) (b ∷ bs) n = refl
+pub ending_is : (N b n : ℕ) → ending N b n ≡ 32 * start N b + n
+ending_is zero b n = omega arith
+ending_is (suc k) b n = refl
 
 -- the same where they begin at one record and are as long
-pub ending_same : (N : ℕ) (bs cs : List ℕ) (m n : ℕ) → start N bs ≡ start N cs → m ≡ n → ending N bs m ≡ ending N cs n
-ending_same N bs cs m n e f = omega (arith, ending_is N bs m, ending_is N cs n, e, f)
+pub ending_same : (N b c m n : ℕ) → start N b ≡ start N c → m ≡ n → ending N b m ≡ ending N c n
+ending_same N b c m n e f = omega (arith, ending_is N b m, ending_is N c n, e, f)
 
-pub start_some : (N : ℕ) (bs : List ℕ) (d : ℕ) → (N ≡ 0 → ⊥) → length bs ≡ N → start N bs ≡ get_or bs 0 d
-start_some zero bs d nz e = absurd (nz refl)
-start_some (suc k) [] d nz e = absurd (omega (arith, e))
-start_some (suc k) (b ∷ bs) d nz e = refl
+-- of a whole image, and of a part
+pub pos_none : (N b n : ℕ) → N ≡ 0 → pos N b n ≡ n
+pos_none zero b n e = refl
+pos_none (suc k) b n e = absurd (omega (arith, e))
+
+pub start_some : (N b : ℕ) → (N ≡ 0 → ⊥) → start N b ≡ b
+start_some zero b nz = absurd (nz refl)
+start_some (suc k) b nz = refl
 
 -- what holds of one tree that stands somewhere holds of each that does
 pub for_all : (P : Tree → Type 0) {t : Tree} {s : List ℕ} {b : ℕ} → At t s b → P t → (u : Tree) → At u s b → P u

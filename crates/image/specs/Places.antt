@@ -1,24 +1,21 @@
 -- A tree, and a chain of siblings, that stand somewhere.
-use Rattle.std.specs.Prelude.{List, [], ◌∷◌, ℕ, suc, zero, ◌+◌, ◌*◌, ◌-◌, drop}
+use Rattle.std.specs.Prelude.{List, ℕ, suc, zero, ◌+◌, ◌*◌, ◌-◌, drop}
 use Rattle.image.specs.Tree.{At, Forest, Linked, Tree}
 
--- Where bytes begin that hold records, as the code is told: the number of their first record. It is 0 if none is told.
-abbrev pub start : ℕ → List ℕ → ℕ
-start zero bs = 0
-start (suc k) [] = 0
-start (suc k) (b ∷ bs) = b
+-- Where bytes begin that hold records: at record b of an image; at record 0, whatever b is, if there is no more before them (the first number).
+abbrev pub start : ℕ → ℕ → ℕ
+start zero b = 0
+start (suc k) b = b
 
 -- the place of record n among the records of the bytes
-abbrev pub pos : ℕ → List ℕ → ℕ → ℕ
-pos zero bs n = n
-pos (suc k) [] n = n
-pos (suc k) (b ∷ bs) n = n - b
+abbrev pub pos : ℕ → ℕ → ℕ → ℕ
+pos zero b n = n
+pos (suc k) b n = n - b
 
--- the byte of the whole image at which they end, where they are n
-abbrev pub ending : ℕ → List ℕ → ℕ → ℕ
-ending zero bs n = n
-ending (suc k) [] n = n
-ending (suc k) (b ∷ bs) n = 32 * b + n
+-- the byte of the image at which they end, where they are n
+abbrev pub ending : ℕ → ℕ → ℕ → ℕ
+ending zero b n = n
+ending (suc k) b n = 32 * b + n
 
 -- some tree stands at the p-th record of s, where its number is n
 pub record Placed (s : List ℕ) (p n : ℕ) : Type 0 where

@@ -7,11 +7,11 @@ use crate::limits::RECORD_BYTES;
 use crate::records::{FIRST_LINK, KIND, Label, NEXT_LINK, label_at, record_at};
 use crate::words::word_at;
 
-// A tree, whose top is the record with this number, in bytes that begin at the record `base`: at record 0 where N is 0.
+// A tree, whose top is the record with this number, in bytes that begin at the record `base`; where N is 0 in a whole image, whatever that is.
 #[derive(Clone, Copy)]
 pub struct Stretch<'a, const N: usize> {
     pub image: &'a [u8],
-    pub base: [usize; N],
+    pub base: usize,
     pub number: usize,
     pub ghost past: { start N base ≤ number },
     pub ghost stood: { Placed image.now (pos N base number) number } by { Placed-prop image.now (pos N base number) number },
@@ -21,7 +21,7 @@ pub struct Stretch<'a, const N: usize> {
 #[derive(Clone, Copy)]
 pub struct Stretches<'a, const N: usize> {
     pub image: &'a [u8],
-    pub base: [usize; N],
+    pub base: usize,
     pub first: usize,
     pub ghost chained: { Chained image.now (start N base) first } by { Chained-prop image.now (start N base) first },
 }
@@ -33,14 +33,14 @@ pub type Siblings<'a> = Stretches<'a, 0>;
 
 // The place of record `number` among the records of bytes that begin at `base`.
 #[inline]
-fn position<const N: usize>(base: [usize; N], number: usize) -> usize
+fn position<const N: usize>(base: usize, number: usize) -> usize
     requires { start N base ≤ number }
-    ensures { result ≡ pos N base.entry number }
+    ensures { result ≡ pos N base number }
 {
     if N == 0 {
         return number;
     }
-    number - base[0]
+    number - base
 }
 
 impl<'a> Stretch<'a, 0> {
@@ -55,7 +55,7 @@ impl<'a> Stretch<'a, 0> {
     {
         Stretch {
             image,
-            base: [],
+            base: 0,
             number,
         }
     }
@@ -70,7 +70,7 @@ impl<'a, const N: usize> Stretch<'a, N> {
     pub fn part(self) -> &'a [u8]
         ensures { result.now ≡ part_of self.entry }
     {
-        record_at(self.image, position(self.base, self.number))
+        record_at(self.image, position::<N>(self.base, self.number))
     }
 
     // What its top says of itself.

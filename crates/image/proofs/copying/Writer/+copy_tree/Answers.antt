@@ -1,5 +1,6 @@
 use mathlib.Core.Path.{ap, ◌∙◌}
 use native.Mathlib.Omega.{arith}
+use Rattle.std.proofs.Common.{rules}
 use Rattle.image.specs.Tree.{size}
 use Rattle.image.specs.Subtrees.{forest}
 use Rattle.image.proofs.Room.{put_start, left_next, left_end, wrote_past, low_below, low_after}
@@ -15,11 +16,11 @@ loop-child-init g t c =
     let start = put_start c.args.self.now.long c.put.ensures.put c.args.tree.stood.tree.below in
     (c.put.ensures.same, rw e start, rw e c.requires, omega (arith, ap size e))
 
-pub copy_tree-requires : goal.copy_tree-requires
-copy_tree-requires g t c =
+pub copy_tree-requires-whole : goal.copy_tree-requires-whole
+copy_tree-requires-whole g t c =
     let g = goes c.loop-child.child-iterator c.next.new.self c.in-Some.child c.in-Some.ensures.steps in
     let k = c.loop-child.invariant in
-    (omega (arith, ap size g.is, k.3, c.decreases), low_below g.is k.2)
+    let low = low_below g.is k.2 in λ κs. (omega (arith, ap size g.is, k.3, c.decreases), search rules)
 
 pub loop-child-preserved : goal.loop-child-preserved
 loop-child-preserved g t c =
