@@ -1,3 +1,4 @@
+use Rattle.std.proofs.Common.{rules}
 use mathlib.Core.Path.{◌≡◌, sym, ap, ◌∙◌}
 use Prim.Native.Nat.{◌+◌}
 use native.Mathlib.Omega.{arith}
@@ -9,10 +10,10 @@ use Rattle.check_form.proofs.Counts.{one_is, conj_few, conj_none, conj_and, conj
 use Rattle.check_form.proofs.children.+conjuncts_in.Goals.{then-splits, else-splits}
 use Rattle.check_form.proofs.children.+conjuncts_in.Goals as goal
 
-pub conjuncts_in-requires : goal.conjuncts_in-requires
-conjuncts_in-requires g t c =
+pub conjuncts_in-requires-whole : goal.conjuncts_in-requires-whole
+conjuncts_in-requires-whole g t c =
     let g = goes c.loop-tree.tree-iterator c.next.new.self c.in-Some.tree c.in-Some.ensures.steps in
-    omega (arith, ap size g.is, ap size c.children.ensures.is, c.loop-tree.invariant.0, c.decreases)
+    λ κs. (omega (arith, ap size g.is, ap size c.children.ensures.is, c.loop-tree.invariant.0, c.decreases), search rules)
 
 pub overflow_add-n : goal.overflow_add-n
 overflow_add-n g t c =

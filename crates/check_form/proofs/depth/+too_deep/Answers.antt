@@ -1,3 +1,4 @@
+use Rattle.std.proofs.Common.{rules}
 use mathlib.Core.Path.{refl, sym, ap, ◌∙◌}
 use mathlib.Core.Bool.{Bool}
 use Prim.Native.Nat.{ℕ, ◌+◌}
@@ -26,10 +27,11 @@ returns-then-level-gt-MAX_DEPTH g t c =
     ∙ place_here rule deeper x.first g.is refl refl c.args.level c.args.level _ _ refl refl (lt-leb _ max_depth c.if-level-gt-MAX_DEPTH.true)
     ∙ c.loop-tree.invariant.1
 
-pub too_deep-below-requires : goal.too_deep-below-requires
-too_deep-below-requires g t c =
+pub too_deep-below-requires-whole : goal.too_deep-below-requires-whole
+too_deep-below-requires-whole g t c =
     let g = goes c.loop-tree.tree-iterator c.next.new.self c.in-Some.tree c.in-Some.ensures.steps in
-    (omega (arith, ap size g.is, ap size c.children.ensures.is, c.loop-tree.invariant.0, c.decreases), omega arith)
+    let held = omega arith in
+    λ κs. (omega (arith, ap size g.is, ap size c.children.ensures.is, c.loop-tree.invariant.0, c.decreases), search rules)
 
 pub returns-then-is_some : goal.returns-then-is_some
 returns-then-is_some g t c =

@@ -1,3 +1,4 @@
+use Rattle.std.proofs.Common.{rules}
 use mathlib.Core.Path.{refl, sym, ap, ◌∙◌}
 use mathlib.Core.Bool.{Bool}
 use Prim.Native.Nat.{ℕ}
@@ -32,10 +33,10 @@ returns-then-not-form_ok g t c =
     ∙ place_here rule same x.first g.is refl refl tt tt tt tt refl f c.if-not-form_ok.true
     ∙ c.loop-tree.invariant.1
 
-pub bad_form-below-requires : goal.bad_form-below-requires
-bad_form-below-requires g t c =
+pub bad_form-below-requires-whole : goal.bad_form-below-requires-whole
+bad_form-below-requires-whole g t c =
     let g = goes c.loop-tree.tree-iterator c.next.new.self c.in-Some.tree c.in-Some.ensures.steps in
-    omega (arith, ap size g.is, ap size c.children-children.ensures.is, c.loop-tree.invariant.0, c.decreases)
+    λ κs. (omega (arith, ap size g.is, ap size c.children-children.ensures.is, c.loop-tree.invariant.0, c.decreases), search rules)
 
 pub returns-then-is_some : goal.returns-then-is_some
 returns-then-is_some g t c =

@@ -1,3 +1,4 @@
+use Rattle.std.proofs.Common.{rules}
 use mathlib.Core.Path.{◌≡◌, refl, sym, ap, ◌∙◌}
 use mathlib.Core.Bool.{true}
 use Prim.Native.Nat.{ℕ}
@@ -13,10 +14,10 @@ use Rattle.check_fields.specs.Scopes.{scope_at}
 use Rattle.check_names.proofs.NameRule.{sound_first, sound_next, sound_rest, sound_below}
 use Rattle.check_names.proofs.naming.+bad_name.Goals as goal
 
-pub bad_name-below-requires : goal.bad_name-below-requires
-bad_name-below-requires g t c =
+pub bad_name-below-requires-whole : goal.bad_name-below-requires-whole
+bad_name-below-requires-whole g t c =
     let g = goes c.loop-tree.tree-iterator c.next.new.self c.in-Some.tree c.in-Some.ensures.steps in
-    omega (arith, ap size g.is, ap size c.children.ensures.is, c.loop-tree.invariant.0, c.decreases)
+    λ κs. (omega (arith, ap size g.is, ap size c.children.ensures.is, c.loop-tree.invariant.0, c.decreases), search rules)
 
 pub returns-then-not-name_ok : goal.returns-then-not-name_ok
 returns-then-not-name_ok g t c =

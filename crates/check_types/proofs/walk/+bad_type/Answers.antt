@@ -1,3 +1,4 @@
+use Rattle.std.proofs.Common.{rules}
 use mathlib.Core.Path.{refl, sym, ap, ◌∙◌}
 use Prim.Native.Nat.{ℕ}
 use native.Mathlib.Omega.{arith}
@@ -13,10 +14,11 @@ use Rattle.check_fields.specs.Scopes.{scope_at}
 use Rattle.check_types.proofs.Turning.{rule_of}
 use Rattle.check_types.proofs.walk.+bad_type.Goals as goal
 
-pub bad_type-below-requires : goal.bad_type-below-requires
-bad_type-below-requires g t c =
+pub bad_type-below-requires-whole : goal.bad_type-below-requires-whole
+bad_type-below-requires-whole g t c =
     let g = goes c.loop-tree.tree-iterator c.next.new.self c.in-Some.tree c.in-Some.ensures.steps in
-    (omega (arith, ap size g.is, ap size c.children.ensures.is, c.loop-tree.invariant.0, c.decreases), c.requires)
+    let held = c.requires in
+    λ κs. (omega (arith, ap size g.is, ap size c.children.ensures.is, c.loop-tree.invariant.0, c.decreases), search rules)
 
 pub returns-then-not-type_ok : goal.returns-then-not-type_ok
 returns-then-not-type_ok g t c =

@@ -1,3 +1,4 @@
+use Rattle.std.proofs.Common.{rules}
 use mathlib.Core.Path.{◌≡◌, sym, ap, ap₂, ◌∙◌}
 use mathlib.Core.Bool.{true, false}
 use native.Mathlib.Omega.{arith}
@@ -14,11 +15,11 @@ returns-in_default g t c =
     let g = goes c.loop-left.left-iterator c.next.new.self c.in-Some.left c.in-Some.ensures.steps in
     sym (k.0 ∙ ap₂ same_any g.is (gone c.loop-left.others c.in_default.ensures.steps.0))
 
-pub same_tree-requires : goal.same_tree-requires
-same_tree-requires g t c =
+pub same_tree-requires-whole : goal.same_tree-requires-whole
+same_tree-requires-whole g t c =
     let k = c.loop-left.invariant in
     let g = goes c.loop-left.left-iterator c.next.new.self c.in-Some.left c.in-Some.ensures.steps in
-    omega (arith, ap size g.is, k.1, c.decreases)
+    λ κs. (omega (arith, ap size g.is, k.1, c.decreases), search rules)
 
 pub returns-then-not-same_tree : goal.returns-then-not-same_tree
 returns-then-not-same_tree g t c =

@@ -1,3 +1,4 @@
+use Rattle.std.proofs.Common.{rules}
 use mathlib.Core.Path.{sym, ap, ◌∙◌}
 use native.Mathlib.Omega.{arith}
 use mathlib.Core.Bool.{true, false, not}
@@ -11,9 +12,11 @@ pub and_operands-requires-in-Some : goal.and_operands-requires-in-Some
 and_operands-requires-in-Some g t c =
     let k = c.in-Some.ensures in right_is k.0 k.1 c.requires
 
-pub is_left_deep-requires : goal.is_left_deep-requires
-is_left_deep-requires g t c =
-    let k = c.in-Some.ensures in (omega (arith, fewer_left k.0 k.1, c.decreases), left_is k.0 k.1 c.requires)
+pub is_left_deep-requires-whole : goal.is_left_deep-requires-whole
+is_left_deep-requires-whole g t c =
+    let k = c.in-Some.ensures in 
+    let held = left_is k.0 k.1 c.requires in
+    λ κs. (omega (arith, fewer_left k.0 k.1, c.decreases), search rules)
 
 pub returns-then-is_none : goal.returns-then-is_none
 returns-then-is_none g t c =

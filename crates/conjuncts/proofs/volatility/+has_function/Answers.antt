@@ -1,3 +1,4 @@
+use Rattle.std.proofs.Common.{rules}
 use mathlib.Core.Path.{◌≡◌, sym, ap, ◌∙◌}
 use mathlib.Core.Bool.{true, false}
 use native.Mathlib.Omega.{arith}
@@ -7,11 +8,11 @@ use Rattle.image.proofs.Subtrees.{goes, gone}
 use Rattle.conjuncts.specs.Functions.{marked, fn_any, fn_in}
 use Rattle.conjuncts.proofs.volatility.+has_function.Goals as goal
 
-pub has_function-requires : goal.has_function-requires
-has_function-requires g t c =
+pub has_function-requires-whole : goal.has_function-requires-whole
+has_function-requires-whole g t c =
     let g = goes c.loop-child.child-iterator c.next.new.self c.in-Some.child c.in-Some.ensures.steps in
     let k = c.loop-child.invariant in
-    omega (arith, ap size g.is, k.1, c.decreases)
+    λ κs. (omega (arith, ap size g.is, k.1, c.decreases), search rules)
 
 pub returns-then-has_function : goal.returns-then-has_function
 returns-then-has_function g t c =

@@ -1,3 +1,4 @@
+use Rattle.std.proofs.Common.{rules}
 use native.Mathlib.Omega.{arith}
 use mathlib.Core.Path.{sym, ap, ◌∙◌}
 use Rattle.image.specs.Tree.{size}
@@ -24,10 +25,10 @@ loop-child-init g t c =
     let e = ap forest c.into_iter-child-iterator.ensures.into_iter_gives ∙ c.children-child-items.ensures.is in
     rw e ((c.nothing-seen.ensures.right, λ ns n le. seen_none _ (tree_of c.args.tree) c.nothing-seen.ensures.is), omega arith)
 
-pub evaluate-requires : goal.evaluate-requires
-evaluate-requires g t c =
+pub evaluate-requires-whole : goal.evaluate-requires-whole
+evaluate-requires-whole g t c =
     let g = goes c.loop-child.child-iterator c.next.new.self c.in-Some-child.child c.in-Some-child.ensures.steps in
-    omega (arith, ap size g.is, c.loop-child.invariant.1, c.decreases)
+    λ κs. (omega (arith, ap size g.is, c.loop-child.invariant.1, c.decreases), search rules)
 
 pub loop-child-preserved : goal.loop-child-preserved
 loop-child-preserved g t c =

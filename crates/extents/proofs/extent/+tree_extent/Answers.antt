@@ -1,3 +1,4 @@
+use Rattle.std.proofs.Common.{rules}
 use mathlib.Core.Path.{ap, ◌∙◌}
 use native.Mathlib.Omega.{arith}
 use Rattle.image.specs.Subtrees.{forest, tree_of}
@@ -11,11 +12,11 @@ loop-child-init g t c =
     let e = ap forest c.into_iter-child-iterator.ensures.into_iter_gives ∙ c.children-child-items.ensures.is in
     (rw e (left_start (tree_of c.args.tree)), omega (arith, ap size e))
 
-pub tree_extent-e-requires : goal.tree_extent-e-requires
-tree_extent-e-requires g t c =
+pub tree_extent-e-requires-whole : goal.tree_extent-e-requires-whole
+tree_extent-e-requires-whole g t c =
     let g = goes c.loop-child.child-iterator c.next.new.self c.in-Some.child c.in-Some.ensures.steps in
     let k = c.loop-child.invariant in
-    omega (arith, ap size g.is, k.1, c.decreases)
+    λ κs. (omega (arith, ap size g.is, k.1, c.decreases), search rules)
 
 pub overflow_add-records : goal.overflow_add-records
 overflow_add-records g t c =

@@ -1,3 +1,4 @@
+use Rattle.std.proofs.Common.{rules}
 use mathlib.Core.Path.{ap, sym, ◌∙◌}
 use native.Mathlib.Omega.{arith}
 use lib.ListN.{length, length-map}
@@ -23,11 +24,12 @@ loop-child-init g t c =
     let e = ap forest c.into_iter-child-iterator.ensures.into_iter_gives ∙ c.children-child-items.ensures.is in
     (λ ns h held. rw (c.empty-set.ensures, e) (so_start ns (tree_of c.args.tree) is held), omega (arith, ap size e))
 
-pub columns_of-requires : goal.columns_of-requires
-columns_of-requires g t c =
+pub columns_of-requires-whole : goal.columns_of-requires-whole
+columns_of-requires-whole g t c =
     let g = goes c.loop-child.child-iterator c.next.new.self c.in-Some.child c.in-Some.ensures.steps in
     let k = c.loop-child.invariant in
-    (omega (arith, ap size g.is, k.1, c.decreases), c.requires)
+    let held = c.requires in
+    λ κs. (omega (arith, ap size g.is, k.1, c.decreases), search rules)
 
 pub loop-child-preserved : goal.loop-child-preserved
 loop-child-preserved g t c =

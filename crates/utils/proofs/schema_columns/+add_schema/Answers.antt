@@ -1,3 +1,4 @@
+use Rattle.std.proofs.Common.{rules}
 use mathlib.Core.Path.{sym, ◌∙◌}
 use mathlib.Core.List.{append-nil}
 use native.Mathlib.Omega.{arith}
@@ -20,13 +21,14 @@ returns-in_default g t c =
       append-nil,
     ) g
 
-pub add_schema-requires : goal.add_schema-requires
-add_schema-requires g t c =
+pub add_schema-requires-whole : goal.add_schema-requires-whole
+add_schema-requires-whole g t c =
     let h = c.requires in
     let below = c.children.ensures.is in
     let i = first_input h.plan h.is _ c.label-l.ensures.label c.role_of-role.ensures (sym c.creates.ensures ∙ c.if-creates.false) c.own_input.ensures
     below c.in-Some.ensures in
-    (omega (arith, fewer below c.in-Some.ensures, c.decreases), record { plan = i.input; is = i.is })
+    let held = record { plan = i.input; is = i.is } in
+    λ κs. (omega (arith, fewer below c.in-Some.ensures, c.decreases), search rules)
 
 pub returns-then-extends : goal.returns-then-extends
 returns-then-extends g t c =
@@ -48,8 +50,8 @@ returns-then-not-gives_both g t c =
     ends_first p _ (label_is p h _ e R) R c.args.alias ns i.input n i.rest (sym c.extends.ensures ∙ c.if-extends.false)
     (sym c.gives_both.ensures ∙ c.if-not-gives_both.true)
 
-pub add_schema-requires-in-Some-nth_plan : goal.add_schema-requires-in-Some-nth_plan
-add_schema-requires-in-Some-nth_plan g t c =
+pub add_schema-requires-in-Some-nth_plan-whole : goal.add_schema-requires-in-Some-nth_plan-whole
+add_schema-requires-in-Some-nth_plan-whole g t c =
     let h = c.requires in
     let below = c.children.ensures.is in
     let e = c.label-l.ensures.label in
@@ -57,7 +59,8 @@ add_schema-requires-in-Some-nth_plan g t c =
     let i = first_input h.plan h.is _ e R (sym c.creates.ensures ∙ c.if-creates.false) c.own_input.ensures below c.in-Some.ensures in
     let again = c.children-2.ensures.is in
     let j = second_input h.plan h.is _ e R i.input i.rest (sym c.gives_both.ensures ∙ c.if-not-gives_both.false) again c.in-Some-nth_plan.ensures in
-    (omega (arith, fewer again c.in-Some-nth_plan.ensures, c.decreases), record { plan = j.input; is = j.is })
+    let held = record { plan = j.input; is = j.is } in
+    λ κs. (omega (arith, fewer again c.in-Some-nth_plan.ensures, c.decreases), search rules)
 
 pub returns-in-Some-nth_plan : goal.returns-in-Some-nth_plan
 returns-in-Some-nth_plan g t c =

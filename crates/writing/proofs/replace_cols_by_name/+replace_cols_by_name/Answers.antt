@@ -1,3 +1,4 @@
+use Rattle.std.proofs.Common.{rules}
 use mathlib.Core.Path.{ap, ◌∙◌}
 use native.Mathlib.Omega.{arith}
 use Rattle.image.specs.Tree.{size}
@@ -18,11 +19,12 @@ pub returns-in-Some-clause-wrote : goal.returns-in-Some-clause-wrote
 returns-in-Some-clause-wrote g t c =
     rw (replaced_found (tree_of c.args.map) (tree_of c.args.tree) c.in-Some.ensures) at c.copy_tree.ensures.wrote
 
-pub replace_cols_by_name-requires : goal.replace_cols_by_name-requires
-replace_cols_by_name-requires g t c =
+pub replace_cols_by_name-requires-whole : goal.replace_cols_by_name-requires-whole
+replace_cols_by_name-requires-whole g t c =
     let g = goes c.loop-child.child-iterator c.next.new.self c.in-Some-child.child c.in-Some-child.ensures.steps in
     let k = c.loop-child.invariant in
-    (omega (arith, ap size g.is, k.3, c.decreases), over_below g.is k.2)
+    let held = over_below g.is k.2 in
+    λ κs. (omega (arith, ap size g.is, k.3, c.decreases), search rules)
 
 pub loop-child-preserved : goal.loop-child-preserved
 loop-child-preserved g t c =
