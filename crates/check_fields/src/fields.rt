@@ -115,7 +115,11 @@ fn made_by<const N: usize>(part: Stretch<'_, N>) -> FieldType
 }
 
 // Of the fields asked for that the parts make, the one with the place k.
-pub fn seek_made<const N: usize>(parts: Stretches<'_, N>, asks: Question, k: usize) -> ControlFlow<FieldType, usize>
+pub fn seek_made<const N: usize>(
+    parts: Stretches<'_, N>,
+    asks: Question,
+    k: usize,
+) -> ControlFlow<FieldType, usize>
     ensures { (d : Schema) → told_in d result ≡ seek (hits asks) k (made d (forest parts.entry)) }
 {
     let mut left = k;
@@ -150,7 +154,11 @@ pub struct Maker<'a, const N: usize> {
 }
 
 // Past the plans that have the fields of one input and no others: the plan to ask for those of the one with the place `skip`.
-fn find_maker<'a, const N: usize>(trees: Stretches<'a, N>, skip: usize, asks: Question) -> Option<Maker<'a, N>>
+fn find_maker<'a, const N: usize>(
+    trees: Stretches<'a, N>,
+    skip: usize,
+    asks: Question,
+) -> Option<Maker<'a, N>>
     ensures { Makers trees.entry skip asks result }
 {
     let mut asked = asks;
@@ -181,7 +189,12 @@ pub fn type_found(x: Sought) -> usize
 // Of the fields asked for of the plan with the place `skip`, the one with the place k. No plan is gone into twice: where an input has it
 // not, the search goes on with what is left to pass.
 #[cycle(seek_field_seek_parts)]
-pub fn seek_field<const N: usize>(trees: Stretches<'_, N>, skip: usize, asks: Question, k: usize) -> Sought
+pub fn seek_field<const N: usize>(
+    trees: Stretches<'_, N>,
+    skip: usize,
+    asks: Question,
+    k: usize,
+) -> Sought
     ensures { result ≡ seek (hits asks) k (input skip (inputs (forest trees.entry))) }
 {
     let Some(maker) = find_maker(trees, skip, asks) else {
@@ -207,7 +220,12 @@ pub fn seek_field<const N: usize>(trees: Stretches<'_, N>, skip: usize, asks: Qu
 
 // The same of the fields that the parts of a plan of this kind make: they stand over its input.
 #[cycle(seek_field_seek_parts)]
-fn seek_parts<const N: usize>(parts: Stretches<'_, N>, kind: usize, asks: Question, k: usize) -> Sought
+fn seek_parts<const N: usize>(
+    parts: Stretches<'_, N>,
+    kind: usize,
+    asks: Question,
+    k: usize,
+) -> Sought
     ensures { result ≡ seek (hits asks) k (made (parts_over kind (inputs (forest parts.entry))) (forest parts.entry)) }
 {
     if kind == TABLE_SCAN {

@@ -55,7 +55,12 @@ fn all_made<const N: usize>(w: Whole<'_, N>, parts: Stretches<'_, N>, to: Option
 }
 
 // Whether each field of the plan with the place `skip` is told apart.
-fn all_held<const N: usize>(w: Whole<'_, N>, trees: Stretches<'_, N>, skip: usize, to: Option<usize>) -> bool
+fn all_held<const N: usize>(
+    w: Whole<'_, N>,
+    trees: Stretches<'_, N>,
+    skip: usize,
+    to: Option<usize>,
+) -> bool
     ensures { result ≡ all_of (lone (whole_of w.entry) (own_question w.entry.role) to) (input skip (inputs (forest trees.entry))) }
 {
     let Some(plan) = nth_plan(trees, skip) else {

@@ -180,7 +180,7 @@ standing_parts {s} {n} a b h most =
     let there : At (expr_tree b) (drop (32 * suc (size (kids_e a))) (drop 32 (drop (32 * n) s))) (n + 1 + 1 + size (kids_e a)) =
     record { head = k.after.head; below = k.after.below } in
     let d : 32 * n + 32 ≡ 32 * (n + 1) = omega arith in
-    let e : 32 * (n + 1) + 32 * suc (size (kids_e a)) ≡ 32 * (n + 1 + 1 + size (kids_e a)) = omega arith in (
+    let e : 32 * n + (32 + 32 * suc (size (kids_e a))) ≡ 32 * (n + 1 + 1 + size (kids_e a)) = omega arith in (
       record {
         within = omega (arith, h.here.head.room, length-drop (32 * n) s);
         here = rw (drop-drop, d) at here;
@@ -190,7 +190,7 @@ standing_parts {s} {n} a b h most =
       },
       record {
         within = omega (arith, h.here.head.room, length-drop (32 * n) s);
-        here = rw (drop-drop, d, e) at there;
+        here = rw (drop-drop, drop-drop, e) at there;
         deep = deeper (kids_e b) (max_depth - 1) deep.2.1;
         fits = h.fits.1;
         small = omega (arith, most);
@@ -228,8 +228,10 @@ module _ {t l r : Subtree} (y : is_and (tree_of t).label ≡ true) (w : Operands
         lhs = b.lhs;
         rhs = b.rhs;
         is = b.is;
-        left = rw w.left_image at (standing_tree l b.lhs b.left sl (deeper (kids_e b.lhs) (max_depth - 1) deep.1) k.fits.0);
-        right = rw w.right_image at (standing_tree r b.rhs b.right sr (deeper (kids_e b.rhs) (max_depth - 1) deep.2.1) k.fits.1);
+        left = subst (λ (z : List ℕ). Standing z l.number b.lhs) w.left_image
+            (standing_tree l b.lhs b.left sl (deeper (kids_e b.lhs) (max_depth - 1) deep.1) k.fits.0);
+        right = subst (λ (z : List ℕ). Standing z r.number b.rhs) w.right_image
+            (standing_tree r b.rhs b.right sr (deeper (kids_e b.rhs) (max_depth - 1) deep.2.1) k.fits.1);
       }
 
   -- some expressions stand there

@@ -17,7 +17,9 @@ use plan::kinds::BINARY_EXPR;
 use plan::words::AND;
 
 // The operands of an And, left and right; none of any other expression.
-fn and_operands<'a, const N: usize>(tree: Stretch<'a, N>) -> Option<(Stretch<'a, N>, Stretch<'a, N>)>
+fn and_operands<'a, const N: usize>(
+    tree: Stretch<'a, N>,
+) -> Option<(Stretch<'a, N>, Stretch<'a, N>)>
     requires { IsExpr (tree_of tree) }
     ensures { IsAnd tree.entry result }
 {

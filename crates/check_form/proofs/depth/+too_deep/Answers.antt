@@ -1,7 +1,7 @@
 use Rattle.std.proofs.Common.{rules}
 use mathlib.Core.Path.{refl, sym, ap, ◌∙◌}
 use mathlib.Core.Bool.{Bool}
-use Prim.Native.Nat.{ℕ, ◌+◌}
+use Prim.Native.Nat.{ℕ, ◌+◌, ◌≤◌}
 use lib.Dec.{leb}
 use native.Mathlib.Omega.{arith}
 use borrow.Author.Tests.{le-leb, lt-leb}
@@ -30,7 +30,7 @@ returns-then-level-gt-MAX_DEPTH g t c =
 pub too_deep-below-requires-whole : goal.too_deep-below-requires-whole
 too_deep-below-requires-whole g t c =
     let g = goes c.loop-tree.tree-iterator c.next.new.self c.in-Some.tree c.in-Some.ensures.steps in
-    let held = omega arith in
+    let held : c.args.level + 1 ≤ max_depth + 1 = omega arith in
     λ κs. (omega (arith, ap size g.is, ap size c.children.ensures.is, c.loop-tree.invariant.0, c.decreases), search rules)
 
 pub returns-then-is_some : goal.returns-then-is_some

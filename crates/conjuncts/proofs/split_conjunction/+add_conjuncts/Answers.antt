@@ -1,11 +1,13 @@
 use mathlib.Core.Path.{refl, sym, ap, ◌∙◌}
 use mathlib.Core.List.{append_assoc}
 use native.Mathlib.Omega.{arith}
-use Prim.Native.Nat.{◌+◌, ◌≤◌}
+use Prim.Native.Nat.{◌+◌, ◌≤◌, ◌<◌}
+use Rattle.std.proofs.Common.{rules}
 use lib.ListN.{length}
 use Rattle.rewrite.specs.Utils.{split_conjunction}
 use Rattle.image.specs.Flat.{size_t}
-use Rattle.image.specs.Limits.{max_records}
+use Rattle.image.specs.Limits.{max_records, work_bytes}
+use Rattle.image.specs.Places.{ending}
 use Rattle.image.specs.Subtrees.{tree_of}
 use Rattle.image.specs.Tree.{Tree}
 use Rattle.image.proofs.Subtrees.{ending_same, tree_within}
@@ -14,23 +16,27 @@ use Rattle.conjuncts.proofs.Operands.{and_in, fewer_left, fewer_right, item_of, 
 use Rattle.conjuncts.proofs.Listed.{lists_add}
 use Rattle.conjuncts.proofs.split_conjunction.+add_conjuncts.Goals as goal
 
-pub add_conjuncts-requires : goal.add_conjuncts-requires
-add_conjuncts-requires g t c =
+pub add_conjuncts-requires-whole : goal.add_conjuncts-requires-whole
+add_conjuncts-requires-whole g t c =
     let k = c.in-Some.ensures in
     let p = c.requires in
-    let same = ending_same g.row.N c.in-Some.left.base c.args.tree.base _ _ k.1.left_base (ap length k.1.left_image) in (
-      omega (arith, fewer_left k.0 k.1, c.decreases),
-      (left_is k.0 k.1 p.expr, (omega (arith, k.1.left), omega (arith, same, p.image_bound))),
-    )
+    let x = c.in-Some.left in
+    let same = ending_same g.row.N x.base c.args.tree.base _ _ k.1.left_base (ap length k.1.left_image) in
+    let expr = left_is k.0 k.1 p.expr in
+    let behind : 0 < x.number = omega (arith, k.1.left) in
+    let short : ending g.row.N x.base (length x.image.now) ≤ work_bytes = omega (arith, same, p.image_bound) in
+    λ κs. (omega (arith, fewer_left k.0 k.1, c.decreases), search rules)
 
-pub add_conjuncts-requires-in-Some : goal.add_conjuncts-requires-in-Some
-add_conjuncts-requires-in-Some g t c =
+pub add_conjuncts-requires-in-Some-whole : goal.add_conjuncts-requires-in-Some-whole
+add_conjuncts-requires-in-Some-whole g t c =
     let k = c.in-Some.ensures in
     let p = c.requires in
-    let same = ending_same g.row.N c.in-Some.right.base c.args.tree.base _ _ k.1.right_base (ap length k.1.right_image) in (
-      omega (arith, fewer_right k.0 k.1, c.decreases),
-      (right_is k.0 k.1 p.expr, (omega (arith, k.1.right), omega (arith, same, p.image_bound))),
-    )
+    let x = c.in-Some.right in
+    let same = ending_same g.row.N x.base c.args.tree.base _ _ k.1.right_base (ap length k.1.right_image) in
+    let expr = right_is k.0 k.1 p.expr in
+    let behind : 0 < x.number = omega (arith, k.1.right) in
+    let short : ending g.row.N x.base (length x.image.now) ≤ work_bytes = omega (arith, same, p.image_bound) in
+    λ κs. (omega (arith, fewer_right k.0 k.1, c.decreases), search rules)
 
 pub returns-in-Some : goal.returns-in-Some
 unfolding split_conjunction

@@ -10,11 +10,11 @@ use Rattle.conjuncts.proofs.split_conjunction.+is_left_deep.Goals as goal
 
 pub and_operands-requires-in-Some : goal.and_operands-requires-in-Some
 and_operands-requires-in-Some g t c =
-    let k = c.in-Some.ensures in right_is k.0 k.1 c.requires
+    let k = c.in-Some.ensures in (omega arith, right_is k.0 k.1 c.requires)
 
 pub is_left_deep-requires-whole : goal.is_left_deep-requires-whole
 is_left_deep-requires-whole g t c =
-    let k = c.in-Some.ensures in 
+    let k = c.in-Some.ensures in
     let held = left_is k.0 k.1 c.requires in
     λ κs. (omega (arith, fewer_left k.0 k.1, c.decreases), search rules)
 

@@ -3,6 +3,8 @@ use mathlib.Core.Path.{sym, ◌∙◌}
 use mathlib.Core.List.{append-nil}
 use native.Mathlib.Omega.{arith}
 use Rattle.plan.specs.Schema.{schema}
+use Rattle.image.specs.Subtrees.{tree_of}
+use Rattle.utils.specs.Inputs.{IsPlan}
 use Rattle.utils.proofs.Appending.{all_made, ends_first, ends_more, ends_parts, fewer, first_input, label_is, no_first, second_input, some_second}
 use Rattle.utils.proofs.Making.{called_nil}
 use Rattle.utils.proofs.schema_columns.+add_schema.Goals as goal
@@ -27,7 +29,7 @@ add_schema-requires-whole g t c =
     let below = c.children.ensures.is in
     let i = first_input h.plan h.is _ c.label-l.ensures.label c.role_of-role.ensures (sym c.creates.ensures ∙ c.if-creates.false) c.own_input.ensures
     below c.in-Some.ensures in
-    let held = record { plan = i.input; is = i.is } in
+    let held : IsPlan (tree_of c.in-Some.first) = record { plan = i.input; is = i.is } in
     λ κs. (omega (arith, fewer below c.in-Some.ensures, c.decreases), search rules)
 
 pub returns-then-extends : goal.returns-then-extends
@@ -59,7 +61,7 @@ add_schema-requires-in-Some-nth_plan-whole g t c =
     let i = first_input h.plan h.is _ e R (sym c.creates.ensures ∙ c.if-creates.false) c.own_input.ensures below c.in-Some.ensures in
     let again = c.children-2.ensures.is in
     let j = second_input h.plan h.is _ e R i.input i.rest (sym c.gives_both.ensures ∙ c.if-not-gives_both.false) again c.in-Some-nth_plan.ensures in
-    let held = record { plan = j.input; is = j.is } in
+    let held : IsPlan (tree_of c.in-Some-nth_plan.second) = record { plan = j.input; is = j.is } in
     λ κs. (omega (arith, fewer again c.in-Some-nth_plan.ensures, c.decreases), search rules)
 
 pub returns-in-Some-nth_plan : goal.returns-in-Some-nth_plan
