@@ -69,7 +69,9 @@ pub fn agree<const N: usize>(a: Stretch<'_, N>, b: Stretch<'_, N>) -> bool
         return false;
     }
     for i in 1..size {
-        if !(alike(s, a.number, t, b.number, i) & same_link(s, a.number, t, b.number, i, NEXT_LINK)) {
+        if !(alike(s, a.number, t, b.number, i)
+            & same_link(s, a.number, t, b.number, i, NEXT_LINK))
+        {
             return false;
         }
     }

@@ -54,7 +54,11 @@ pub fn demand_of(kind: usize, p: usize, r: usize) -> Demand
 }
 
 // The type of the first expression among the trees, of which the first stands over `here` and the others over `after`; no type if none is.
-pub fn first_type<'a, const N: usize>(trees: Stretches<'a, N>, here: Scope<'a, N>, after: Scope<'a, N>) -> usize
+pub fn first_type<'a, const N: usize>(
+    trees: Stretches<'a, N>,
+    here: Scope<'a, N>,
+    after: Scope<'a, N>,
+) -> usize
     ensures { result ≡ first no_type (types_of (scope_at here.entry) (scope_at after.entry) (forest trees.entry)) }
 {
     let mut over = here;
@@ -69,7 +73,12 @@ pub fn first_type<'a, const N: usize>(trees: Stretches<'a, N>, here: Scope<'a, N
 }
 
 // Whether all expressions among the trees have the type t.
-pub fn all_have<'a, const N: usize>(trees: Stretches<'a, N>, here: Scope<'a, N>, after: Scope<'a, N>, t: usize) -> bool
+pub fn all_have<'a, const N: usize>(
+    trees: Stretches<'a, N>,
+    here: Scope<'a, N>,
+    after: Scope<'a, N>,
+    t: usize,
+) -> bool
     ensures { result ≡ all (eqb t) (types_of (scope_at here.entry) (scope_at after.entry) (forest trees.entry)) }
 {
     let mut over = here;
@@ -84,7 +93,11 @@ pub fn all_have<'a, const N: usize>(trees: Stretches<'a, N>, here: Scope<'a, N>,
 }
 
 // Whether all expressions among the trees have one type: the first is asked for it, and then the others.
-pub fn all_alike<'a, const N: usize>(trees: Stretches<'a, N>, here: Scope<'a, N>, after: Scope<'a, N>) -> bool
+pub fn all_alike<'a, const N: usize>(
+    trees: Stretches<'a, N>,
+    here: Scope<'a, N>,
+    after: Scope<'a, N>,
+) -> bool
     ensures { result ≡ alike (types_of (scope_at here.entry) (scope_at after.entry) (forest trees.entry)) }
 {
     let mut over = here;
@@ -101,7 +114,12 @@ pub fn all_alike<'a, const N: usize>(trees: Stretches<'a, N>, here: Scope<'a, N>
 }
 
 // Whether the expressions among the trees are as the record above them asks.
-pub fn meets<'a, const N: usize>(d: Demand, trees: Stretches<'a, N>, here: Scope<'a, N>, after: Scope<'a, N>) -> bool
+pub fn meets<'a, const N: usize>(
+    d: Demand,
+    trees: Stretches<'a, N>,
+    here: Scope<'a, N>,
+    after: Scope<'a, N>,
+) -> bool
     ensures { result ≡ met d (types_of (scope_at here.entry) (scope_at after.entry) (forest trees.entry)) }
 {
     match d {

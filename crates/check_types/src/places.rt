@@ -22,7 +22,10 @@ pub fn place_type<const N: usize>(fields: Scope<'_, N>, k: usize) -> usize
 }
 
 // Whether two schemas have the same types by place, widths included.
-pub fn same_fields<const N: usize, const M: usize>(fields: Scope<'_, N>, others: Scope<'_, M>) -> bool
+pub fn same_fields<const N: usize, const M: usize>(
+    fields: Scope<'_, N>,
+    others: Scope<'_, M>,
+) -> bool
     ensures { result ≡ same_types (types_in (seen (scope_at fields.entry))) (types_in (seen (scope_at others.entry))) }
 {
     let width = held_in(fields, Question::Every);

@@ -15,7 +15,11 @@ use image::trees::{Stretch, Stretches, Subtree};
 use plan::kinds::{TABLE_SCAN, UNION};
 
 // The rule of the tree's record, which hands this down.
-pub fn type_ok<'a, const N: usize>(tree: Stretch<'a, N>, handed: Handed<'a, N>, root: Subtree) -> bool
+pub fn type_ok<'a, const N: usize>(
+    tree: Stretch<'a, N>,
+    handed: Handed<'a, N>,
+    root: Subtree,
+) -> bool
     requires { Whole root }
     ensures { let t = tree_of tree.entry in
         result ≡ type_ok_by (what t.label) (alone (tree_of root.entry)) t.label t.below

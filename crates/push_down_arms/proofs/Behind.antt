@@ -6,6 +6,9 @@ use Prim.Native.Nat.{ℕ, ◌+◌, ◌-◌, ◌<◌}
 use native.Mathlib.Omega.{arith}
 use Rattle.image.specs.Limits.{max_below}
 use Rattle.image.specs.Tree.{Label, Forest, none, node, Linked, Deep, size, link}
+use Rattle.image.specs.Places.{start}
+use Rattle.image.specs.declared.trees.Stretch.{Stretch}
+use Rattle.image.specs.declared.trees.Stretches.{Stretches}
 use Rattle.image.specs.Subtrees.{Siblings, Subtree, Place, forest, place, places, places_from, tree_of}
 use Rattle.image.proofs.Subtrees.{goes}
 use Rattle.push_down_base.proofs.Steps.{deep_more}
@@ -19,19 +22,19 @@ number_or n [] = n
 number_or n (p ∷ ps) = p.number
 
 -- the same trees at two places are at one
-one_place : (s s' : List ℕ) (b m n : ℕ) (f : Forest) → places_from s b m f ≡ places_from s' b n f → Linked f s' b n → n ≡ link m f
+one_place : (s s' : List ℕ) (b c m n : ℕ) (f : Forest) → places_from s b m f ≡ places_from s' c n f → Linked f s' c n → n ≡ link m f
 unfolding places_from number_or
-one_place s s' b m n none e h = h
-one_place s s' b m n (node l cs ns) e h = sym (ap (number_or 0) e)
+one_place s s' b c m n none e h = h
+one_place s s' b c m n (node l cs ns) e h = sym (ap (number_or 0) e)
 
 -- they begin behind the records of the first
-pub goes_next : (x y : Siblings) (t : Subtree) → places x ≡ place t ∷ places y → y.first ≡ link (x.first + 1 + size (tree_of t).below) (forest y)
+pub goes_next : {N : ℕ} (x y : Stretches N) (t : Stretch N) → places x ≡ place t ∷ places y → y.first ≡ link (x.first + 1 + size (tree_of t).below) (forest y)
 unfolding places_from behind
-goes_next x y t e =
+goes_next {N} x y t e =
     let g = goes x y t e in
-    let all : places x ≡ places_from x.image.now 0 x.first (node (tree_of t).label (tree_of t).below (forest y)) =
-    ap (places_from x.image.now 0 x.first) g.is in
-    one_place x.image.now y.image.now 0 (x.first + 1 + size (tree_of t).below) y.first (forest y) (ap behind (sym all ∙ e)) y.chained.linked
+    let all : places x ≡ places_from x.image.now (start N x.base) x.first (node (tree_of t).label (tree_of t).below (forest y)) =
+    ap (places_from x.image.now (start N x.base) x.first) g.is in
+    one_place x.image.now y.image.now (start N x.base) (start N y.base) (x.first + 1 + size (tree_of t).below) y.first (forest y) (ap behind (sym all ∙ e)) y.chained.linked
 
 -- the first is not the image's first record
 pub goes_past : (x y : Siblings) (t : Subtree) → places x ≡ place t ∷ places y → 0 < t.number

@@ -13,7 +13,8 @@ use borrow.Author.Tests.{eq-eqb, ne_eqb}
 use Rattle.std.specs.List.{list_any, list_all}
 use Rattle.std.specs.Prelude.{Option, None, Some}
 use Rattle.std.specs.Option.{is_some as found}
-use Rattle.image.specs.Subtrees.{Subtree, Place, places_from}
+use Rattle.image.specs.Subtrees.{Place, places_from}
+use Rattle.image.specs.declared.trees.Stretch.{Stretch}
 use Rattle.image.specs.Tree.{Label, Forest, none, node, Tree, size}
 use Rattle.plan.specs.Lists.{◌&◌, any, all}
 use Rattle.plan.specs.Schema.{same, has}
@@ -168,6 +169,6 @@ all_let x s b n none = refl
 all_let x s b n (node l cs ns) = ap (λ b. lets x (record { label = l; below = cs }) && b) (all_let x s b (n + 1 + size cs) ns)
 
 -- what is found, is something
-pub some_found : (map : Subtree) (f : Forest) (o : Option Subtree) → Finds f map o → found o ≡ is_some f
+pub some_found : {M : ℕ} (map : Stretch M) (f : Forest) (o : Option (Stretch M)) → Finds f map o → found o ≡ is_some f
 some_found map f None h = sym (ap is_some h)
 some_found map f (Some x) h = sym (ap is_some h.is)

@@ -9,7 +9,7 @@ ghost use Rattle.utils.specs.Masks.{Masks};
 ghost use Rattle.push_down_arms.specs.Movable.{fixed, is_named, leaf_here, lets, lets_all, may_move, partition_in};
 
 use conjuncts::volatility::{Functions, has_function};
-use image::trees::Subtree;
+use image::trees::Stretch;
 use image::words::wide;
 use plan::kinds::{AGGREGATE, FUNCTION, WINDOW_ENTRY};
 use plan::words::{LEAFWARD, VOLATILE_LEAFWARD};
@@ -18,7 +18,7 @@ use utils::sets::FieldSet;
 use writing::replace_cols_by_name::{find, is_entry};
 
 // Whether this is a function that moves towards the leaves.
-fn is_leafward(tree: Subtree) -> bool
+fn is_leafward<const N: usize>(tree: Stretch<'_, N>) -> bool
     ensures { result ≡ leaf_here (tree_of tree.entry).label }
 {
     let label = tree.label();
@@ -26,7 +26,7 @@ fn is_leafward(tree: Subtree) -> bool
 }
 
 // Whether the entry's expression is volatile or leafward.
-fn is_fixed(part: Subtree) -> bool
+fn is_fixed<const N: usize>(part: Stretch<'_, N>) -> bool
     ensures { result ≡ fixed (tree_of part.entry) }
 {
     if has_function(part, Functions::Volatile) {
@@ -39,7 +39,7 @@ fn is_fixed(part: Subtree) -> bool
 }
 
 // Whether the column has this name.
-fn is_named(tree: Subtree, c: ColumnReference) -> bool
+fn is_named<const N: usize>(tree: Stretch<'_, N>, c: ColumnReference) -> bool
     ensures { result ≡ is_named (named c) (tree_of tree.entry).label }
 {
     let label = tree.label();
@@ -47,7 +47,7 @@ fn is_named(tree: Subtree, c: ColumnReference) -> bool
 }
 
 // Whether the entry of a Window is partitioned by the column: they stand behind its expression.
-fn has_partition(part: Subtree, c: ColumnReference) -> bool
+fn has_partition<const N: usize>(part: Stretch<'_, N>, c: ColumnReference) -> bool
     ensures { result ≡ partition_in (named c) (tree_of part.entry).below }
 {
     match part.children().split_first() {
@@ -57,7 +57,7 @@ fn has_partition(part: Subtree, c: ColumnReference) -> bool
 }
 
 // Whether the part of a plan lets a conjunct pass that reads the field.
-fn lets_pass(part: Subtree, c: ColumnReference) -> bool
+fn lets_pass<const N: usize>(part: Stretch<'_, N>, c: ColumnReference) -> bool
     ensures { result ≡ lets (named c) (tree_of part.entry) }
 {
     if part.kind() == WINDOW_ENTRY {
@@ -70,14 +70,14 @@ fn lets_pass(part: Subtree, c: ColumnReference) -> bool
 }
 
 // Whether each part of the plan does.
-fn all_let_pass(plan: Subtree, c: ColumnReference) -> bool
+fn all_let_pass<const N: usize>(plan: Stretch<'_, N>, c: ColumnReference) -> bool
     ensures { result ≡ lets_all (named c) (tree_of plan.entry).below }
 {
     plan.children().all(|part| lets_pass(part, c))
 }
 
 // Whether a conjunct that reads the field may move below the plan.
-fn may_move(plan: Subtree, c: ColumnReference) -> bool
+fn may_move<const N: usize>(plan: Stretch<'_, N>, c: ColumnReference) -> bool
     ensures { result ≡ may_move (tree_of plan.entry) (named c) }
 {
     if plan.kind() == AGGREGATE {
@@ -87,7 +87,7 @@ fn may_move(plan: Subtree, c: ColumnReference) -> bool
 }
 
 // The set of the fields with which a conjunct may move below the plan.
-pub fn movable(plan: Subtree, fields: Fields) -> FieldSet
+pub fn movable<const N: usize>(plan: Stretch<'_, N>, fields: Fields) -> FieldSet
     requires { fields.len ≤ max_fields }
     ensures { (ns : List Name) → Names fields ns → Masks result ns (may_move (tree_of plan.entry)) }
 {

@@ -16,14 +16,14 @@ ghost use Rattle.push_down_base.specs.Predicates.{Perhaps, Writable};
 ghost use Rattle.push_down_arms.specs.Over.{under};
 
 use image::copying::Writer;
-use image::trees::Subtree;
+use image::trees::{Stretch, Subtree};
 use plan::kinds::FILTER;
 use push_down_base::predicates::Predicate;
 use writing::conjunction::copy_predicate;
 use writing::make_filter::make_filter;
 
 // Writes flat those records of the tree that have a number before `end`.
-pub fn copy_some(tree: Subtree, end: usize, out: &mut Writer, level: usize)
+pub fn copy_some<const N: usize>(tree: Stretch<'_, N>, end: usize, out: &mut Writer, level: usize)
     requires { Low (level + 1) (tree_of tree).below }
     ensures same { out.new.bytes.ghost_name ≡ out.old.bytes.ghost_name }
     ensures wrote { WroteAll out.old.bytes.now out.new.bytes.now out.old.next out.new.next

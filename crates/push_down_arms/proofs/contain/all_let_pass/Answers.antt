@@ -10,7 +10,7 @@ use Rattle.push_down_arms.proofs.Moves.{all_let}
 use Rattle.push_down_arms.proofs.contain.all_let_pass.Goals as goal
 
 pub returns : goal.returns
-returns c =
+returns g c =
     all_from_yields_List (λ (p : Place). lets (named c.args.c) p.tree) c.all.new.self _ _ c.all.ensures.ran
     (YieldsList-from_first place places _ refl) (λ x b q k. search (rules, tests))
     ∙ all_let (named c.args.c) _ _ _ _

@@ -9,4 +9,4 @@ use Rattle.push_down_arms.specs.Movable.{may_move}
 use Rattle.push_down_arms.proofs.contain.movable.Given as goal
 
 abbrev pub invariant-loop-i : goal.invariant-loop-i
-invariant-loop-i l = (ns : List Name) → Names l.fn.fields ns → Masks l.set (take l.i ns) (may_move (tree_of l.plan))
+invariant-loop-i g l = (ns : List Name) → Names l.fn.fields ns → Masks l.set (take l.i ns) (may_move (tree_of l.plan))

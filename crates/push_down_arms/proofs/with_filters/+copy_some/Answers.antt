@@ -1,3 +1,4 @@
+use Rattle.std.proofs.Common.{rules}
 use mathlib.Core.Path.{◌≡◌, ap, ◌∙◌}
 use Prim.Native.Nat.{◌-◌}
 use native.Mathlib.Omega.{arith}
@@ -10,26 +11,27 @@ use Rattle.push_down_arms.proofs.Behind.{goes_next}
 use Rattle.push_down_arms.proofs.with_filters.+copy_some.Goals as goal
 
 pub returns-then-end-tree-clause-wrote : goal.returns-then-end-tree-clause-wrote
-returns-then-end-tree-clause-wrote t c =
+returns-then-end-tree-clause-wrote g t c =
     let z : c.args.end - c.args.tree.number ≡ 0 = omega (arith, c.if-end-tree.true) in
     rw z (wrote_none _ _ c.args.out.now.counted)
 
 pub loop-child-init : goal.loop-child-init
-loop-child-init t c =
+loop-child-init g t c =
     let i = c.into_iter-child-iterator.ensures.into_iter_gives in
     let b = c.children-child-items.ensures in
     let e = ap forest i ∙ b.is in
     let f = ap (λ x. x.first) i ∙ b.first in
     (c.put.ensures.same, rw e (rest_all _ _ _ _ c.args.out.now.long (wrote_one c.put.ensures.put) f), rw e c.requires, omega (arith, ap size e))
 
-pub copy_some-requires : goal.copy_some-requires
-copy_some-requires t c =
+pub copy_some-requires-whole : goal.copy_some-requires-whole
+copy_some-requires-whole g t c =
     let g = goes c.loop-child.child-iterator c.next.new.self c.in-Some.child c.in-Some.ensures.steps in
     let k = c.loop-child.invariant in
-    (omega (arith, ap size g.is, k.3, c.decreases), low_below g.is k.2)
+    let held = low_below g.is k.2 in
+    λ κs. (omega (arith, ap size g.is, k.3, c.decreases), search rules)
 
 pub loop-child-preserved : goal.loop-child-preserved
-loop-child-preserved t c =
+loop-child-preserved g t c =
     let x = c.loop-child.child-iterator in
     let y = c.next.new.self in
     let child = c.in-Some.child in
@@ -43,7 +45,7 @@ loop-child-preserved t c =
     )
 
 pub returns-clause-wrote : goal.returns-clause-wrote
-returns-clause-wrote t c =
+returns-clause-wrote g t c =
     let k = c.loop-child.invariant in
     let all = rw (gone c.loop-child.child-iterator c.in-None.ensures.steps.0) at k.1 in
     rest_end _ _ (tree_of c.args.tree) c.args.out.now.long (omega (arith, c.if-end-tree.false)) (rw c.label.ensures.label at (wrote_one c.put.ensures.put)) all
