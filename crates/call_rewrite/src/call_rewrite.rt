@@ -155,6 +155,7 @@ fn rewrite_at(image: &[u8], node: usize, out: &mut [u8]) -> Result<Answer, Refus
     }
     let plan = Subtree {
         image,
+        base: 0,
         number: node,
     };
     // A plan that stays as it is needs no work space.

@@ -7,10 +7,10 @@ ghost use Rattle.check_fields.specs.Rules.{types_in};
 
 use check_types::places::{first_plan, place_type};
 use image::limits::MAX_FIELDS;
-use image::trees::Siblings;
+use image::trees::Stretches;
 
 // The types of the n fields of the first plan among the trees, by place.
-pub fn field_types(trees: Siblings, n: usize) -> [usize; MAX_FIELDS]
+pub fn field_types<const N: usize>(trees: Stretches<'_, N>, n: usize) -> [usize; MAX_FIELDS]
     requires { n ≤ max_fields }
     ensures { length (input 0 (inputs (forest trees.entry))) ≡ n → take n result ≡ types_in (input 0 (inputs (forest trees.entry))) }
 {

@@ -95,6 +95,7 @@ fn test_at(image: &[u8], node: usize, values: &[i64], marks: &[u8]) -> Result<Tr
     }
     let filter = Subtree {
         image,
+        base: 0,
         number: node,
     };
     test_filter(filter, values, marks)

@@ -51,6 +51,7 @@ fn list_within(image: &[u8], out: &mut [u8], flat: &mut [u8], text: &mut Text<'_
     }
     let plan = Subtree {
         image: out,
+        base: 0,
         number: 0,
     };
     let n = write_flat(plan, flat);

@@ -100,6 +100,7 @@ fn visit(w: Walk, image: &mut [u8], scratch: &mut Scratch) -> Result<Walk, Refus
     let end = RECORD_BYTES * w.records;
     let plan = Subtree {
         image: &image[..end],
+        base: 0,
         number: w.next,
     };
     match rewrite(plan, scratch) {

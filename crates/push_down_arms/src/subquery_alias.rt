@@ -38,6 +38,7 @@ pub fn copy_renamed(
     write_renames(from, to, m);
     let map = Subtree {
         image: m,
+        base: 0,
         number: 0,
     };
     let list = p.list;

@@ -191,6 +191,7 @@ pub fn copy_or_clause(
 {
     let tree = Subtree {
         image: s,
+        base: 0,
         number: n,
     };
     copy_clause(tree, f, side, out, level);

@@ -216,6 +216,7 @@ fn push_down_all_join(
     write_renames(sc.fields, sc.to, m);
     let map = Subtree {
         image: m,
+        base: 0,
         number: 0,
     };
     write_kept(plan, map, v, &sc, out, level);

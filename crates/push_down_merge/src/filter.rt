@@ -55,6 +55,7 @@ pub fn predicate_at(plan: Subtree) -> Predicate
 {
     let predicate = Subtree {
         image: plan.image,
+        base: 0,
         number: plan.number + 1,
     };
     Predicate {
@@ -102,6 +103,7 @@ pub fn filter_input(plan: Subtree) -> Subtree
     let predicate = record_at(plan.image, plan.number + 1);
     Subtree {
         image: plan.image,
+        base: 0,
         number: word_at(predicate, NEXT_LINK),
     }
 }

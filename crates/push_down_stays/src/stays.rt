@@ -87,7 +87,11 @@ fn joined_left_deep(image: &[u8], p: Predicate) -> bool
     ensures { (e : Expr) → Shaped image.now p e → Says result (LeftDeep e) }
 {
     match p.written {
-        Some(number) => is_left_deep(Subtree { image, number }),
+        Some(number) => is_left_deep(Subtree {
+            image,
+            base: 0,
+            number,
+        }),
         None => true,
     }
 }

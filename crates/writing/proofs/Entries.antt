@@ -90,7 +90,9 @@ begins {M} map t x cs y w i o lt e =
       image = g.image ∙ w.image ∙ i;
       base = g.base ∙ w.base ∙ o;
       past = omega (arith, n, lt);
-      stands = rw (is, ← i, ← w.image, ← d) (rw g.number here.1);
+      stands =
+          rw (is, ← d) (subst (λ (s : List ℕ). Stands (node (tree_of x).label (tree_of x).below (forest y)) (drop (32 * (cs.first - start M cs.base)) s) x.number)
+          (w.image ∙ i) (subst (λ (n : ℕ). Stands (node (tree_of x).label (tree_of x).below (forest y)) (drop (32 * (cs.first - start M cs.base)) cs.image.now) n) (sym g.number) here.1));
       others = forest y;
       is = is;
     }

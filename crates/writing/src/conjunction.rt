@@ -33,7 +33,13 @@ fn copy_plain(s: &[u8], n: usize, out: &mut Writer, level: usize)
 }
 
 // The same with the columns replaced.
-fn copy_changed<const M: usize>(s: &[u8], map: Stretch<'_, M>, n: usize, out: &mut Writer, level: usize)
+fn copy_changed<const M: usize>(
+    s: &[u8],
+    map: Stretch<'_, M>,
+    n: usize,
+    out: &mut Writer,
+    level: usize,
+)
     requires present { Present s.now n }
     requires over { Over 1 level map }
     ensures same { out.new.bytes.ghost_name ≡ out.old.bytes.ghost_name }
@@ -47,7 +53,13 @@ fn copy_changed<const M: usize>(s: &[u8], map: Stretch<'_, M>, n: usize, out: &m
 }
 
 // Writes what the item n stands for.
-pub fn copy_item<const M: usize>(s: &[u8], map: Stretch<'_, M>, n: usize, out: &mut Writer, level: usize)
+pub fn copy_item<const M: usize>(
+    s: &[u8],
+    map: Stretch<'_, M>,
+    n: usize,
+    out: &mut Writer,
+    level: usize,
+)
     requires one { One s.now n }
     requires over { Over 1 level map }
     ensures same { out.new.bytes.ghost_name ≡ out.old.bytes.ghost_name }
@@ -62,7 +74,14 @@ pub fn copy_item<const M: usize>(s: &[u8], map: Stretch<'_, M>, n: usize, out: &
 }
 
 // Writes the first k items of a list, joined left-deep.
-fn copy_first<const M: usize>(s: &[u8], map: Stretch<'_, M>, c: &Conjuncts, k: usize, out: &mut Writer, level: usize)
+fn copy_first<const M: usize>(
+    s: &[u8],
+    map: Stretch<'_, M>,
+    c: &Conjuncts,
+    k: usize,
+    out: &mut Writer,
+    level: usize,
+)
     requires some { Some s.now c.now }
     requires k_nonzero { (0 < k) × (k ≤ c.now.len) }
     requires over { Over 1 (level + k) map }
@@ -83,7 +102,13 @@ fn copy_first<const M: usize>(s: &[u8], map: Stretch<'_, M>, c: &Conjuncts, k: u
 }
 
 // Writes the items of a list, joined left-deep.
-pub fn copy_joined<const M: usize>(s: &[u8], map: Stretch<'_, M>, c: Conjuncts, out: &mut Writer, level: usize)
+pub fn copy_joined<const M: usize>(
+    s: &[u8],
+    map: Stretch<'_, M>,
+    c: Conjuncts,
+    out: &mut Writer,
+    level: usize,
+)
     requires some { Some s.now c }
     requires len_nonzero { 0 < c.len }
     requires over { Over 2 level map }

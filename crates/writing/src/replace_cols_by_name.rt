@@ -31,7 +31,10 @@ pub fn find<'a, const M: usize>(map: Stretch<'a, M>, p: usize, q: usize) -> Opti
 }
 
 // The same for the name of the tree, if it is a column.
-pub fn value_for<'a, const N: usize, const M: usize>(tree: Stretch<'_, N>, map: Stretch<'a, M>) -> Option<Stretch<'a, M>>
+pub fn value_for<'a, const N: usize, const M: usize>(
+    tree: Stretch<'_, N>,
+    map: Stretch<'a, M>,
+) -> Option<Stretch<'a, M>>
     ensures { Finds (value_for (tree_of map.entry) (tree_of tree.entry).label) map.entry result }
 {
     let l = tree.label();
@@ -42,7 +45,12 @@ pub fn value_for<'a, const N: usize, const M: usize>(tree: Stretch<'_, N>, map: 
 }
 
 // Writes the tree with each column that an entry of the map names replaced by its expression.
-pub fn replace_cols_by_name<const N: usize, const M: usize>(tree: Stretch<'_, N>, map: Stretch<'_, M>, out: &mut Writer, level: usize)
+pub fn replace_cols_by_name<const N: usize, const M: usize>(
+    tree: Stretch<'_, N>,
+    map: Stretch<'_, M>,
+    out: &mut Writer,
+    level: usize,
+)
     requires { LowOver (level + 1) (tree_of map).below (tree_of tree).below }
     ensures same { out.new.bytes.ghost_name ≡ out.old.bytes.ghost_name }
     ensures wrote { Wrote out.old.bytes.now out.new.bytes.now out.old.next level out.new.next

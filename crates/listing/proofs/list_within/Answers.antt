@@ -1,4 +1,5 @@
 -- `list_within` meets its contract: what the pass came to is written, line by line.
+use native.Mathlib.Omega.{arith}
 use Rattle.std.proofs.Common.{arith}
 use Rattle.plan.specs.Trees.{plan_tree}
 use Rattle.text.proofs.Appending.{put_both}
@@ -14,7 +15,7 @@ pub invariant_of-plan : goal.invariant_of-plan
 invariant_of-plan c =
     let k = pass_comes _ (λ i. omega (arith, c.type_inv.image i)) c.requires.0 c.push_down_filter_pass-passed.ensures in
     let g = k.granted c.if-passed-eq0.false in
-    record { stood = record { tree = plan_tree g.plan; at = (here g).here } }
+    record { past = omega arith; stood = record { tree = plan_tree g.plan; at = (here g).here } }
 
 pub write_flat-n-requires-clause-standing : goal.write_flat-n-requires-clause-standing
 write_flat-n-requires-clause-standing c =

@@ -1,4 +1,5 @@
 -- `call_rewrite::rewrite_at` meets its contract.
+use native.Mathlib.Omega.{arith}
 use mathlib.Core.Path.{refl, ◌∙◌}
 use Rattle.push_down_rewrite.proofs.Images.{whole_image}
 use Rattle.push_down_merge.proofs.Tested.{stood_inside}
@@ -20,7 +21,7 @@ invariant_of-plan c =
     let h = a_plan c.requires c.if-image-node.false
     c.record_at.ensures
     c.word_at.ensures.0 c.is_plan.ensures (c.if-not-is_plan.false) in
-    record { stood = stood_inside h.inside }
+    record { past = omega arith; stood = stood_inside h.inside }
 
 pub stays-requires : goal.stays-requires
 stays-requires c =

@@ -9,5 +9,5 @@ use Rattle.check_types.specs.ByPlace.{ty_at}
 use Rattle.call_row_test.proofs.schemas.field_types.Given as goal
 
 abbrev pub invariant-loop-k : goal.invariant-loop-k
-invariant-loop-k l =
+invariant-loop-k g l =
     (length l.types ≡ max_fields) × ((m : ℕ) → m < l.k → get_or l.types m 0 ≡ ty_at m (seen (scope_at l.fields)))

@@ -19,7 +19,7 @@ invariant_of-filter c =
     let f = present (located _ c.args.image.now 0 c.args.node c.requires.sound c.requires.stands)
     (omega (arith, c.requires.bytes, c.if-image-node.false))
     (rw (← c.record_at.ensures, ← c.word_at.ensures.0) c.if-word_at-ne-FILTER.false) in
-    record { stood = filter_stood f }
+    record { past = omega arith; stood = filter_stood f }
 
 pub test_filter-requires : goal.test_filter-requires
 test_filter-requires c =

@@ -19,7 +19,7 @@ slice_bounds-plan-end-2 c =
 
 pub invariant_of-plan : goal.invariant_of-plan
 invariant_of-plan c =
-    record { stood = stood_inside (found_next c.requires.standing c.requires.next_lt_records.0).inside }
+    record { past = omega arith; stood = stood_inside (found_next c.requires.standing c.requires.next_lt_records.0).inside }
 
 pub rewrite-requires : goal.rewrite-requires
 rewrite-requires c =

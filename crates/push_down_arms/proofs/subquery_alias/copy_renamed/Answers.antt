@@ -19,7 +19,7 @@ write_renames-requires c =
     (n, omega (arith, n, c.requires.map_room))
 
 pub invariant_of-map : goal.invariant_of-map
-invariant_of-map c = let r = c.write_renames.ensures.stood in record { stood = record { tree = r.tree; at = r.at } }
+invariant_of-map c = let r = c.write_renames.ensures.stood in record { past = omega arith; stood = record { tree = r.tree; at = r.at } }
 
 pub make_filter-requires-clause-predicated : goal.make_filter-requires-clause-predicated
 make_filter-requires-clause-predicated c =

@@ -27,7 +27,7 @@ word_at-requires c =
 pub invariant_of-result : goal.invariant_of-result
 invariant_of-result c =
     let i = input_there c.requires.short c.requires.here.standing c.record_at-predicate.ensures c.word_at.ensures.0 in
-    record { stood = record { tree = plan_tree c.requires.here.plan; at = i.standing.here } }
+    record { past = omega arith; stood = record { tree = plan_tree c.requires.here.plan; at = i.standing.here } }
 
 pub returns-clause-input : goal.returns-clause-input
 returns-clause-input c =

@@ -10,7 +10,7 @@ use Rattle.push_down_merge.proofs.filter.predicate_at.Goals as goal
 
 pub invariant_of-predicate : goal.invariant_of-predicate
 invariant_of-predicate c =
-    record { stood = stood_expr (filter_predicate c.requires.short c.requires.here.standing) }
+    record { past = omega arith; stood = stood_expr (filter_predicate c.requires.short c.requires.here.standing) }
 
 pub split_conjunction-requires-clause-expr : goal.split_conjunction-requires-clause-expr
 split_conjunction-requires-clause-expr c =

@@ -13,13 +13,10 @@ pub item_at-item-requires : goal.item_at-item-requires
 item_at-item-requires g t c =
     let p = c.requires.some in omega (arith, pushes_room p.pushes p.most, c.requires.k_nonzero)
 
-pub copy_item-requires-clause-one : goal.copy_item-requires-clause-one
-copy_item-requires-clause-one g t c =
-    one_of c.requires.some _ _ (omega (arith, c.requires.k_nonzero))
-    c.item_at-item.ensures
-
-pub copy_item-requires-clause-over : goal.copy_item-requires-clause-over
-copy_item-requires-clause-over g t c = over_at c.requires.over (omega arith)
+pub copy_item-requires : goal.copy_item-requires
+copy_item-requires g t c =
+    let one = one_of c.requires.some _ _ (omega (arith, c.requires.k_nonzero)) c.item_at-item.ensures in
+    (omega arith, (one, over_at c.requires.over (omega arith)))
 
 pub returns-then-last-eq0-clause-wrote : goal.returns-then-last-eq0-clause-wrote
 returns-then-last-eq0-clause-wrote g t c =
@@ -28,13 +25,10 @@ returns-then-last-eq0-clause-wrote g t c =
     (c.copy_item.ensures.wrote σ g (get_or (e ∷ es) k FALSE)
     (pushes_at h c.requires.some.most k _ (omega (arith, c.requires.k_nonzero)) c.item_at-item.ensures))
 
-pub copy_item-requires-2-clause-one : goal.copy_item-requires-2-clause-one
-copy_item-requires-2-clause-one g t c =
-    one_of c.requires.some _ _ (omega (arith, c.requires.k_nonzero))
-    c.item_at-item.ensures
-
-pub copy_item-requires-2-clause-over : goal.copy_item-requires-2-clause-over
-copy_item-requires-2-clause-over g t c = over_at c.requires.over (omega arith)
+pub copy_item-requires-2 : goal.copy_item-requires-2
+copy_item-requires-2 g t c =
+    let one = one_of c.requires.some _ _ (omega (arith, c.requires.k_nonzero)) c.item_at-item.ensures in
+    (omega arith, (one, over_at c.requires.over (omega arith)))
 
 pub returns-clause-wrote : goal.returns-clause-wrote
 returns-clause-wrote g t c =

@@ -1,4 +1,5 @@
 -- `conjunction::copy_changed` meets its contract.
+use Rattle.std.proofs.Common.{rules}
 use Rattle.conjuncts.proofs.Standing.{tree_found}
 use Rattle.writing.proofs.Maps.{found_deep, over_low}
 use Rattle.writing.proofs.Pushing.{false_stays}
@@ -7,7 +8,9 @@ use Rattle.writing.proofs.conjunction.copy_changed.Goals as goal
 
 pub replace_cols_by_name-requires : goal.replace_cols_by_name-requires
 replace_cols_by_name-requires g c =
-    let p = c.requires.present in over_low c.requires.over (found_deep (c.in-Some.ensures p.expr p.item))
+    let p = c.requires.present in
+    let low = over_low c.requires.over (found_deep (c.in-Some.ensures p.expr p.item)) in
+    search rules
 
 pub returns-in-Some-clause-wrote : goal.returns-in-Some-clause-wrote
 returns-in-Some-clause-wrote g c =

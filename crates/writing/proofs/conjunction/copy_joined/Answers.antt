@@ -6,8 +6,10 @@ use Rattle.writing.proofs.Maps.{over_at}
 use Rattle.writing.proofs.Pushing.{pushes_length}
 use Rattle.writing.proofs.conjunction.copy_joined.Goals as goal
 
-pub copy_first-requires-clause-over : goal.copy_first-requires-clause-over
-copy_first-requires-clause-over g c = over_at c.requires.over (omega (arith, c.requires.some.most))
+pub copy_first-requires : goal.copy_first-requires
+copy_first-requires g c =
+    let p = c.requires in
+    (omega arith, (p.some, ((p.len_nonzero, omega arith), over_at p.over (omega (arith, p.some.most)))))
 
 pub returns-clause-wrote : goal.returns-clause-wrote
 returns-clause-wrote g c =

@@ -1,4 +1,5 @@
 -- `conjunction::copy_plain` meets its contract.
+use native.Mathlib.Omega.{arith}
 use Rattle.conjuncts.proofs.Standing.{tree_found}
 use Rattle.writing.proofs.Maps.{deep_low, found_deep}
 use Rattle.writing.proofs.Written.{wrote_false}
@@ -6,7 +7,9 @@ use Rattle.writing.proofs.conjunction.copy_plain.Goals as goal
 
 pub copy_tree-requires : goal.copy_tree-requires
 copy_tree-requires c =
-    let p = c.requires.present in deep_low _ c.requires.shallow (found_deep (c.in-Some.ensures p.expr p.item))
+    let p = c.requires.present in
+    let low = deep_low _ c.requires.shallow (found_deep (c.in-Some.ensures p.expr p.item)) in
+    (omega arith, low)
 
 pub returns-in-Some-clause-wrote : goal.returns-in-Some-clause-wrote
 returns-in-Some-clause-wrote c =

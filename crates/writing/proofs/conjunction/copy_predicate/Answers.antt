@@ -4,22 +4,16 @@ use Rattle.writing.proofs.Maps.{over_at}
 use Rattle.writing.proofs.Pushing.{pushes_length}
 use Rattle.writing.proofs.conjunction.copy_predicate.Goals as goal
 
-pub copy_item-requires-clause-one : goal.copy_item-requires-clause-one
-copy_item-requires-clause-one g c =
+pub copy_item-requires : goal.copy_item-requires
+copy_item-requires g c =
     let p = c.requires.predicated in
-    record { mapping = p.mapping; expr = p.expr; pushed = p.predicate.item _ c.in-Some.is }
+    (omega arith, (record { mapping = p.mapping; expr = p.expr; pushed = p.predicate.item _ c.in-Some.is }, over_at c.requires.over (omega arith)))
 
-pub copy_item-requires-clause-over : goal.copy_item-requires-clause-over
-copy_item-requires-clause-over g c = over_at c.requires.over (omega arith)
-
-pub copy_joined-requires-clause-some : goal.copy_joined-requires-clause-some
-copy_joined-requires-clause-some g c =
+pub copy_joined-requires : goal.copy_joined-requires
+copy_joined-requires g c =
     let p = c.requires.predicated in
-    record { mapping = p.mapping; exprs = _; pushes = (p.predicate.list c.in-None.is).pushes; most = p.most }
-
-pub copy_joined-requires-clause-len_nonzero : goal.copy_joined-requires-clause-len_nonzero
-copy_joined-requires-clause-len_nonzero g c =
-    let p = c.requires.predicated in omega (arith, pushes_length (p.predicate.list c.in-None.is).pushes p.most)
+    let k = p.predicate.list c.in-None.is in
+    (omega arith, (record { mapping = p.mapping; exprs = _; pushes = k.pushes; most = p.most }, (omega (arith, pushes_length k.pushes p.most), c.requires.over)))
 
 pub returns-in-Some-clause-wrote : goal.returns-in-Some-clause-wrote
 returns-in-Some-clause-wrote g c =

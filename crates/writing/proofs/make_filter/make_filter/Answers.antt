@@ -4,11 +4,11 @@ use Rattle.writing.proofs.Maps.{deep_low, over_at}
 use Rattle.writing.proofs.Written.{wrote_filter}
 use Rattle.writing.proofs.make_filter.make_filter.Goals as goal
 
-pub copy_predicate-requires-clause-over : goal.copy_predicate-requires-clause-over
-copy_predicate-requires-clause-over g c = over_at c.requires.over (omega arith)
+pub copy_predicate-requires : goal.copy_predicate-requires
+copy_predicate-requires g c = (omega arith, (c.requires.predicated, over_at c.requires.over (omega arith)))
 
 pub copy_tree-requires : goal.copy_tree-requires
-copy_tree-requires g c = deep_low _ (omega (arith, c.requires.over.shallow)) c.requires.deep
+copy_tree-requires g c = (omega arith, deep_low _ (omega (arith, c.requires.over.shallow)) c.requires.deep)
 
 pub returns-clause-wrote : goal.returns-clause-wrote
 returns-clause-wrote g c =

@@ -13,7 +13,8 @@ pub returns-then-out-ge-MAX_RECORDS-clause-wrote : goal.returns-then-out-ge-MAX_
 returns-then-out-ge-MAX_RECORDS-clause-wrote g t c = wrote_past _ _ _ _ c.args.out.now.long c.if-out-ge-MAX_RECORDS.true
 
 pub copy_tree-requires : goal.copy_tree-requires
-copy_tree-requires g t c = low_found (tree_of c.args.map) (tree_of c.args.tree).label _ c.requires c.in-Some.ensures
+copy_tree-requires g t c =
+    let low = low_found (tree_of c.args.map) (tree_of c.args.tree).label _ c.requires c.in-Some.ensures in (omega arith, low)
 
 pub returns-in-Some-clause-wrote : goal.returns-in-Some-clause-wrote
 returns-in-Some-clause-wrote g t c =
