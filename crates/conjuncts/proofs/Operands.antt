@@ -167,8 +167,10 @@ module _ {t l r : Subtree} (y : is_and (tree_of t).label ≡ true) (w : Operands
         lhs = b.lhs;
         rhs = b.rhs;
         is = b.is;
-        left = rw w.left_image at (standing_tree l b.lhs b.left sl (deeper (kids_e b.lhs) (max_depth - 1) deep.1) k.fits.0);
-        right = rw w.right_image at (standing_tree r b.rhs b.right sr (deeper (kids_e b.rhs) (max_depth - 1) deep.2.1) k.fits.1);
+        left = subst (λ (s : List ℕ). Standing s l.number b.lhs) w.left_image
+            (standing_tree l b.lhs b.left sl (deeper (kids_e b.lhs) (max_depth - 1) deep.1) k.fits.0);
+        right = subst (λ (s : List ℕ). Standing s r.number b.rhs) w.right_image
+            (standing_tree r b.rhs b.right sr (deeper (kids_e b.rhs) (max_depth - 1) deep.2.1) k.fits.1);
       }
 
   -- some expressions stand there

@@ -1,5 +1,6 @@
 -- Laws of looking an entry up.
---     Inside, ..      trees side by side stand in one image, behind a record
+--     Inside, ..      trees side by side stand in one image
+--     Behind, ..      .. behind a record
 --     begins, ..      what is found, and how deep it may be written
 -- Assumes nothing.
 use mathlib.Core.Path.{◌≡◌, refl, sym, ap, subst, ◌∙◌}
@@ -29,32 +30,53 @@ deep_lookup (node e cs ns) p q d h = deep_or (is_entry e p q) cs (lookup ns p q)
 
 -- ---- trees as the code has them
 
--- the trees of these places stand in the image s, behind record m
-abbrev pub Inside : List ℕ → ℕ → List Place → Type 0
-Inside s m [] = Unit {0}
-Inside s m (p ∷ ps) = (p.image ≡ s) × (m < p.number) × Inside s m ps
+-- the trees of these places stand in the image s
+abbrev pub Inside : List ℕ → List Place → Type 0
+Inside s [] = Unit {0}
+Inside s (p ∷ ps) = (p.image ≡ s) × Inside s ps
 
-inside_from : (s : List ℕ) (m n : ℕ) (f : Forest) → m < n → Inside s m (places_from s n f)
+inside_from : (s : List ℕ) (n : ℕ) (f : Forest) → Inside s (places_from s n f)
 unfolding places_from
-inside_from s m n none lt = tt
-inside_from s m n (node l cs ns) lt = (refl, lt, inside_from s m (n + 1 + size cs) ns (omega arith))
+inside_from s n none = tt
+inside_from s n (node l cs ns) = (refl, inside_from s (n + 1 + size cs) ns)
 
--- those that are linked behind it do
-inside_linked : (s : List ℕ) (m n : ℕ) (f : Forest) → n ≡ link (m + 1) f → Inside s m (places_from s n f)
-unfolding places_from
-inside_linked s m n none e = tt
-inside_linked s m n (node l cs ns) e = inside_from s m n (node l cs ns) (omega arith)
-
--- those below a tree do
-pub inside : (t : Subtree) (x : Siblings) → Below t x → Inside t.image.now t.number (places x)
-inside t x b =
-    subst (λ (s : List ℕ). Inside s t.number (places x)) b.image
-    (inside_linked x.image.now t.number x.first (forest x) (b.first ∙ ap (link (t.number + 1)) (sym b.is)))
+-- those of siblings do
+pub inside : (x : Siblings) {s : List ℕ} → x.image.now ≡ s → Inside s (places x)
+inside x e = subst (λ (z : List ℕ). Inside z (places x)) e (inside_from x.image.now x.first (forest x))
 
 -- the first does, and so do the others
-pub inside_step : (x y : Siblings) (t : Subtree) {s : List ℕ} {m : ℕ} → places x ≡ place t ∷ places y → Inside s m (places x)
-    → (t.image.now ≡ s) × (m < t.number) × Inside s m (places y)
-inside_step x y t {s} {m} e h = subst (Inside s m) e h
+pub inside_step : (x y : Siblings) (t : Subtree) {s : List ℕ} → places x ≡ place t ∷ places y → Inside s (places x)
+    → (t.image.now ≡ s) × Inside s (places y)
+inside_step x y t {s} e h = subst (Inside s) e h
+
+-- .. behind record m
+abbrev pub Behind : ℕ → List Place → Type 0
+Behind m [] = Unit {0}
+Behind m (p ∷ ps) = (m < p.number) × Behind m ps
+
+behind_from : (s : List ℕ) (m n : ℕ) (f : Forest) → m < n → Behind m (places_from s n f)
+unfolding places_from
+behind_from s m n none lt = tt
+behind_from s m n (node l cs ns) lt = (lt, behind_from s m (n + 1 + size cs) ns (omega arith))
+
+behind_linked : (s : List ℕ) (m n : ℕ) (f : Forest) → n ≡ link (m + 1) f → Behind m (places_from s n f)
+unfolding places_from
+behind_linked s m n none e = tt
+behind_linked s m n (node l cs ns) e = behind_from s m n (node l cs ns) (omega arith)
+
+-- those below a tree do
+pub behind : (t : Subtree) (x : Siblings) → Below t x → Behind t.number (places x)
+behind t x b = behind_linked x.image.now t.number x.first (forest x) (b.first ∙ ap (link (t.number + 1)) (sym b.is))
+
+-- the first does, and so do the others
+pub behind_step : (x y : Siblings) (t : Subtree) {m : ℕ} → places x ≡ place t ∷ places y → Behind m (places x)
+    → (m < t.number) × Behind m (places y)
+behind_step x y t {m} e h = subst (Behind m) e h
+
+-- what is linked at a record stands there
+linked_stands : (f : Forest) {s v : List ℕ} {n m : ℕ} → s ≡ v → m ≡ n → Linked f s 0 n → Stands f (drop (32 * m) v) m
+linked_stands none es en h = tt
+linked_stands (node l cs ns) {n = n} es en h = let d : n - 0 ≡ n = omega arith in rw (← es, en) (rw d at h.1)
 
 -- the first of the trees below an entry is its expression
 pub begins : (map t x : Subtree) (cs y : Siblings) → Below t cs → t.image.now ≡ map.image.now → map.number < t.number
@@ -62,13 +84,12 @@ pub begins : (map t x : Subtree) (cs y : Siblings) → Below t cs → t.image.no
 begins map t x cs y b i lt e =
     let g = goes cs y x e in
     let is : (tree_of t).below ≡ node (tree_of x).label (tree_of x).below (forest y) = sym b.is ∙ g.is in
-    let here = subst (λ (f : Forest). Linked f cs.image.now 0 cs.first) g.is cs.chained.linked in
     let n : x.number ≡ t.number + 1 = g.number ∙ b.first ∙ ap (link (t.number + 1)) is in
-    let d : cs.first - 0 ≡ x.number = omega (arith, g.number) in
     record {
       image = g.image ∙ b.image ∙ i;
       past = omega (arith, n, lt);
-      stands = rw (is, ← i, ← b.image, ← d) (rw g.number here.1);
+      stands = linked_stands (tree_of t).below (b.image ∙ i) g.number
+          (subst (λ (f : Forest). Linked f cs.image.now 0 cs.first) b.is cs.chained.linked);
       others = forest y;
       is = is;
     }
