@@ -1,8 +1,8 @@
 -- `filter::predicate_at` meets its contract.
-use mathlib.Core.Path.{refl}
+use borrow.Author.Rules.{rules}
 use native.Mathlib.Omega.{arith}
 use Rattle.conjuncts.proofs.Listed.{lists_none}
-use Rattle.conjuncts.proofs.Standing.{tree_standing}
+use Rattle.image.specs.Chains.{only}
 use Rattle.writing.proofs.Maps.{stood_expr}
 use Rattle.push_down_base.proofs.Steps.{filter_predicate}
 use Rattle.push_down_merge.proofs.Merges.{shaped_written}
@@ -16,7 +16,7 @@ pub split_conjunction-requires-clause-expr : goal.split_conjunction-requires-cla
 split_conjunction-requires-clause-expr c =
     record {
       expr = c.requires.here.expr;
-      is = tree_standing c.predicate refl refl (filter_predicate c.requires.short c.requires.here.standing);
+      is = only (search rules) (filter_predicate c.requires.short c.requires.here.standing).here;
     }
 
 pub returns : goal.returns
