@@ -35,7 +35,7 @@ use push_down_arms::through::takes_none;
 use push_down_base::predicates::Predicate;
 use push_down_join::column_checker::join_scope;
 use push_down_join::push_down_all_join::{filter_of, join_kind, moves_of, own_filter};
-use push_down_merge::filter::{filter_input, predicate_at, simplify_filter};
+use push_down_merge::filter::{filter_input, predicate_at, predicate_of, simplify_filter};
 
 // Whether the filter of the join is joined left-deep, if it has one.
 fn own_left_deep(plan: Subtree) -> bool
@@ -232,7 +232,7 @@ fn filter_stays(plan: Subtree) -> bool
     if !may_stay(input) {
         return false;
     }
-    let p = predicate_at(plan);
+    let p = predicate_at(predicate_of(plan));
     if over_stays(input, p) {
         return is_simple(plan.image, p);
     }

@@ -1,20 +1,8 @@
 -- `filter::predicate_at` meets its contract.
-use native.Mathlib.Omega.{arith}
 use Rattle.conjuncts.proofs.Listed.{lists_none}
-use Rattle.writing.proofs.Maps.{stood_expr}
-use Rattle.push_down_base.proofs.Steps.{filter_predicate}
 use Rattle.push_down_merge.proofs.Merges.{shaped_written}
 use Rattle.push_down_merge.proofs.filter.predicate_at.Goals as goal
 
-pub invariant_of-predicate : goal.invariant_of-predicate
-invariant_of-predicate c =
-    record { stood = stood_expr (filter_predicate c.requires.short c.requires.here.standing) }
-
-pub split_conjunction-requires-clause-there : goal.split_conjunction-requires-clause-there
-split_conjunction-requires-clause-there c =
-    record { expr = c.requires.here.expr; standing = filter_predicate c.requires.short c.requires.here.standing }
-
 pub returns : goal.returns
 returns c =
-    λ e q h few. let p = filter_predicate c.requires.short h in
-    shaped_written (omega arith) p (c.split_conjunction.ensures e _ p (lists_none c.empty.ensures)) few
+    λ e h few. shaped_written c.requires.number_nonzero h (c.split_conjunction.ensures e _ h (lists_none c.empty.ensures)) few
