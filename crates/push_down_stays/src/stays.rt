@@ -185,7 +185,7 @@ fn over_stays(plan: Subtree, p: Predicate) -> bool
         )
         | What::Expr(_)
         | What::Part(_)
-        | What::Unknown => takes_none(plan),
+        | What::Unknown => takes_none(plan.label()),
     }
 }
 
@@ -199,7 +199,7 @@ fn may_stay(plan: Subtree) -> bool
         | (label.kind == PROJECTION)
         | ((label.kind == AGGREGATE) | (label.kind == WINDOW))
         | ((label.kind == JOIN) & (label.p != INNER))
-        | takes_none(plan)
+        | takes_none(label)
 }
 
 // Whether simplifying leaves the predicate p as it is.
