@@ -102,6 +102,7 @@ pub fn push_some(plan: Subtree, d: Divided, out: &mut Writer, level: usize) -> b
     }
     let above = Predicate::joined(kept);
     let below = Predicate::joined(changed(moved));
-    write_over(plan, above, below, last_child(plan), out, level);
+    let input = last_child(plan).unwrap_or(plan);
+    write_over(plan, above, below, input, out, level);
     flag
 }

@@ -64,6 +64,7 @@ pub fn rewrite_subquery_alias(
     let from = schema_columns(plan, no_fields());
     let below = changed_predicate(p);
     out.put(plan.label(), level);
-    copy_renamed(from, below, last_child(plan), m, out, level + 1);
+    let input = last_child(plan).unwrap_or(plan);
+    copy_renamed(from, below, input, m, out, level + 1);
     true
 }

@@ -2,7 +2,6 @@
 // leave it where it is, as the source's test of fetch and skip does (827 to 832).
 ghost use Rattle.std.specs.Prelude.{◌≡◌, true};
 ghost use Rattle.image.specs.Limits.{Shallow};
-ghost use Rattle.image.specs.Subtrees.{tree_of};
 ghost use Rattle.plan.specs.Syntax.{Expr, Plan, filter};
 ghost use Rattle.rewrite.specs.PushDownFilter.{transformed_no, transformed_yes, rewrite_filter};
 ghost use Rattle.push_down_base.specs.Arms.{Answers, Resting, Rests, Taken, Takes};
@@ -11,6 +10,7 @@ ghost use Rattle.push_down_arms.specs.Through.{OverThrough, takes_none, through}
 use crate::with_filters::write_over;
 use conjuncts::lists::empty;
 use image::copying::Writer;
+use image::records::Label;
 use image::trees::Subtree;
 use plan::kinds::{LIMIT, SORT};
 use plan::words::FETCHES;
@@ -43,15 +43,15 @@ pub fn push_filter(plan: Subtree, p: Predicate, out: &mut Writer, level: usize) 
         (transformed_yes (f (filter e q))) }
 {
     let nothing = Predicate::joined(empty());
-    write_over(plan, nothing, p, last_child(plan), out, level);
+    let input = last_child(plan).unwrap_or(plan);
+    write_over(plan, nothing, p, input, out, level);
     true
 }
 
-// Whether the plan, a Distinct, a Sort, a Repartition or a Limit, takes no Filter: it counts rows.
-pub fn takes_none(plan: Subtree) -> bool
-    ensures { result ≡ takes_none (tree_of plan.entry).label }
+// Whether the plan with this label, a Distinct, a Sort, a Repartition or a Limit, takes no Filter: it counts rows.
+pub fn takes_none(label: Label) -> bool
+    ensures { result ≡ takes_none label }
 {
-    let label = plan.label();
     (label.kind == LIMIT) | ((label.kind == SORT) & (label.p == FETCHES))
 }
 
@@ -64,7 +64,7 @@ pub fn rewrite_through(plan: Subtree, p: Predicate, out: &mut Writer, level: usi
         Answers out.old.bytes.now out.new.bytes.now out.old.next level (record { next = out.new.next; flag = result })
         (rewrite_filter e q) }
 {
-    if takes_none(plan) {
+    if takes_none(plan.label()) {
         return keep_filter(plan, p, out, level);
     }
     push_filter(plan, p, out, level)

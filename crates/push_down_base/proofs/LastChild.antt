@@ -1,15 +1,20 @@
 -- The last child of a plan with one input is that input.
 use Prim.Native.Nat.{ℕ, suc, ◌+◌}
 use native.Mathlib.Omega.{arith}
-use mathlib.Core.Path.{◌≡◌, refl, sym, ap, ◌∙◌}
-use mathlib.Core.List.{List, [], ◌∷◌}
 use mathlib.Core.Option.{Option}
+use mathlib.Core.Path.{◌≡◌, refl, sym, ap, subst, ◌∙◌}
+use mathlib.Core.List.{List, [], ◌∷◌, map}
+use lib.ListN.{length}
+use Rattle.std.specs.List.{last_or}
+use Rattle.std.specs.Prelude.{None, Some, unwrap_or}
+use Rattle.std.specs.Prelude as P
 use Rattle.image.specs.Tree.{Label, Forest, none, node, size, link}
 use Rattle.image.specs.Subtrees.{Siblings, Subtree, Below, Place, forest, place, places, places_from, tree_of}
 use Rattle.plan.specs.Syntax.{Entry, Key, AggEntry, WinEntry, Plan, project, distinct, sort, repartition, aggregate, window}
 use Rattle.plan.specs.Measure.{sizes}
 use Rattle.plan.specs.Trees.{label_p, kids_p, each, entry_label, entry_kids, key_label, key_kids, agg_label, agg_kids, win_label, win_kids}
-use Rattle.push_down_base.specs.Inputs.{last_of}
+use Rattle.image.proofs.Subtrees.{last_none, places_end}
+use Rattle.push_down_base.specs.Inputs.{Last, LastOf, last_of}
 
 -- the number of a forest is that of the link to it
 last_link : (d m : ℕ) (f : Forest) → last_of d (link m f) f ≡ last_of d m f
@@ -88,3 +93,28 @@ children_last {t} {x} h =
           k.1 ∙ ap (λ f. last_of t.number x.first f) h.is ∙ ap (λ b. last_of t.number b (tree_of t).below) h.first
           ∙ last_link t.number (t.number + 1) (tree_of t).below;
     }
+
+-- the place of the last item of some
+last_item : (x : Subtree) (xs : List Subtree) {u : Subtree} → last_or (Some x) xs ≡ Some u → place u ≡ last_place (place x) (map place xs)
+last_item x [] {u} e = let same : x ≡ u = cc in ap place (sym same)
+last_item x (y ∷ ys) e = last_item y ys e
+
+-- the last that comes of the children of t is its last child
+pub last_of_children : {t : Subtree} {x : Siblings} {o : P.Option Subtree} → Below t x → (xs : List Subtree) → map place xs ≡ places x
+    → last_or None xs ≡ o → LastOf t o
+last_of_children {x = x} {o = None} h xs e z = sym h.is ∙ last_none x xs e z
+last_of_children {o = Some u} h [] e z = cc
+last_of_children {t} {x} {o = Some u} h (y ∷ ys) e z =
+    let same = last_item y ys z ∙ ap (last_place (place t)) e in
+    let k = children_last h in (
+      λ none. absurd (omega (arith, ap length (e ∙ places_end x (h.is ∙ none)))),
+      record { image = ap (λ (p : Place). p.image) same ∙ k.image; number = ap (λ (p : Place). p.number) same ∙ k.number },
+    )
+
+-- it, or t itself where t has none
+pub last_here : {t u : Subtree} (o : P.Option Subtree) → LastOf t o → u ≡ unwrap_or o t → Last t u
+last_here {t} o h e = subst (Last t) (sym e) (go o h)
+  where
+    go : (o : P.Option Subtree) → LastOf t o → Last t (unwrap_or o t)
+    go None h = record { image = refl; number = ap (last_of t.number (t.number + 1)) (sym h) }
+    go (Some u) h = h.1

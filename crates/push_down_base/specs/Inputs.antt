@@ -13,6 +13,11 @@ pub record Last (t u : Subtree) : Type 0 where
   pub image : u.image.now ≡ t.image.now
   pub number : u.number ≡ last_of t.number (t.number + 1) (tree_of t).below
 
+-- t has no child, or its last one is that
+abbrev pub LastOf : Subtree → Option Subtree → Type 0
+LastOf t None = (tree_of t).below ≡ none
+LastOf t (Some u) = ((tree_of t).below ≡ none → ⊥) × Last t u
+
 -- a is the first child of t, and b the second
 pub record Two (t a b : Subtree) : Type 0 where
   pub others : Forest

@@ -1,17 +1,13 @@
 // The inputs of a plan: its last child, where it has one input; its first two children, where it has two.
-ghost use Rattle.push_down_base.specs.Inputs.{Firsts, Last};
+ghost use Rattle.push_down_base.specs.Inputs.{Firsts, LastOf};
 
 use image::trees::Subtree;
 
-// The last child of a plan, or the plan itself: each caller's has a child, and would only unwrap an Option.
-pub fn last_child(plan: Subtree) -> Subtree
-    ensures { Last plan.entry result }
+// The last child of a plan, if it has any.
+pub fn last_child(plan: Subtree) -> Option<Subtree>
+    ensures { LastOf plan.entry result }
 {
-    let mut last = plan;
-    for child in plan.children() {
-        last = child;
-    }
-    last
+    plan.children().last()
 }
 
 // The first two children of a tree, if it has as many.

@@ -112,6 +112,12 @@ module _ {s : List ℕ} (short : length s ≤ work_bytes) where
       (omega (arith, right.stands.head.room, length-drop (32 * (x + 1 + suc (size (kids_p l)))) s))
       (omega (arith, ap (λ (l : Label). l.kind) right.stands.head.label, plan_kind r))))
 
+-- a join has children
+pub join_some : (t : Subtree) {k : Kind} {l r : Plan} {on : List Pair} {f : Option Expr} → Placed t.image.now t.number (join k l r on f)
+    → (tree_of t).below ≡ none → ⊥
+unfolding kids_p
+join_some t h e = absurd (omega (arith, ap size (sym e ∙ ap (λ (v : Tree). v.below) (plan_standing t refl refl h.standing))))
+
 -- the last child of a join, as `last_child` finds it
 module _ {t u : Subtree} {k : Kind} {l r : Plan} {on : List Pair} {f : Option Expr} (w : L.Last t u)
     (h : Placed t.image.now t.number (join k l r on f)) where

@@ -1,6 +1,6 @@
 -- What the writing of a join is asked and answers: the lists that move, and the join over them.
 use Rattle.std.specs.Prelude as P
-use Rattle.std.specs.Prelude.{◌≡◌, not, List, [], ◌++◌, ℕ, ◌+◌, ◌≤◌, ◌<◌, eqb, length}
+use Rattle.std.specs.Prelude.{◌≡◌, true, not, List, [], ◌++◌, ℕ, ◌+◌, ◌≤◌, ◌<◌, eqb, length}
 use Rattle.std.proofs.Math.Option as O
 use Rattle.std.proofs.Math.Option.{Option, some}
 use Rattle.image.specs.Limits.{work_bytes, max_list}
@@ -11,6 +11,7 @@ use Rattle.plan.specs.Kinds.{number_q, PairPart}
 use Rattle.plan.specs.Schema.{has, schema}
 use Rattle.plan.specs.Syntax.{Name, Expr, Pair, Kind, Plan, join}
 use Rattle.plan.specs.Lists.{when}
+use Rattle.acceptance.specs.NamesRule.{ok}
 use Rattle.rewrite.specs.Utils.{with_filters, conjunction}
 use Rattle.rewrite.specs.PushDownFilter.{left_push, right_push, keep_predicates, join_conditions, on_filter_join_conditions, nothing_moves}
 use Rattle.conjuncts.specs.Items.{Conjuncts, Lists}
@@ -34,6 +35,16 @@ pub record JoinHere (s : List ℕ) (x : ℕ) : Type 0 where
   pub keys : List Pair
   pub condition : Option Expr
   pub placed : Placed s x (join kind lhs rhs keys condition)
+
+-- some join that keeps the name rules does
+pub record JoinRuled (s : List ℕ) (x : ℕ) : Type 0 where
+  pub kind : Kind
+  pub lhs : Plan
+  pub rhs : Plan
+  pub keys : List Pair
+  pub condition : Option Expr
+  pub standing : StandingP s x (join kind lhs rhs keys condition)
+  pub rules : ok (join kind lhs rhs keys condition) ≡ true
 
 -- the filter of a join is this tree of the image, or it has none
 pub data FilterOf (s : List ℕ) : P.Option Subtree → Option Expr → Type 0 where

@@ -7,11 +7,12 @@ ghost use Rattle.image.specs.Tree.{Forest};
 ghost use Rattle.plan.specs.Schema.{has, nodup, schema};
 ghost use Rattle.plan.specs.Syntax.{Expr, Kind, Name, Pair, Plan, join};
 ghost use Rattle.plan.specs.Trees.{plan_tree};
+ghost use Rattle.acceptance.specs.NamesRule.{ok};
 ghost use Rattle.rewrite.specs.PushDownFilter.{partner};
+ghost use Rattle.conjuncts.specs.Standing.{StandingP};
 ghost use Rattle.utils.specs.Fields.{Names};
-ghost use Rattle.push_down_base.specs.Arms.{Placed};
 ghost use Rattle.push_down_base.specs.Inputs.{Two};
-ghost use Rattle.push_down_join.specs.JoinPlans.{JoinHere};
+ghost use Rattle.push_down_join.specs.JoinPlans.{JoinRuled};
 ghost use Rattle.push_down_join.specs.Partners.{Swaps, partner_in};
 ghost use Rattle.push_down_join.specs.Scopes.{Scopes, swap};
 
@@ -68,11 +69,12 @@ pub fn inputs(plan: Subtree) -> (Subtree, Subtree)
     }
 }
 
-// The fields of a join.
+// The fields of a join that keeps the name rules.
 pub fn join_scope(plan: Subtree) -> Scope
-    requires { JoinHere plan.image.now plan.number }
+    requires { JoinRuled plan.image.now plan.number }
     ensures { (k : Kind) (l r : Plan) (on : List Pair) (f : Option Expr) →
-        Placed plan.entry.image.now plan.entry.number (join k l r on f) → Scopes result (schema l) (schema r) on }
+        StandingP plan.entry.image.now plan.entry.number (join k l r on f) → ok (join k l r on f) ≡ true →
+        Scopes result (schema l) (schema r) on }
 {
     let (lhs, rhs) = inputs(plan);
     let left = schema_columns(lhs, no_fields());

@@ -21,6 +21,7 @@ use conjuncts::items::{CLAUSE, item_tree};
 use conjuncts::lists::{Conjuncts, add};
 use image::copying::Writer;
 use image::limits::{MAX_RECORDS, NO_ROOM};
+use image::records::Label;
 use image::trees::Subtree;
 use plan::kinds::BINARY_EXPR;
 use plan::words::{AND, OR};
@@ -72,16 +73,15 @@ pub enum Connective {
     Or,
 }
 
-// The operator of an expression, if it is And or Or.
+// The operator of the expression with this label, if it is And or Or.
 #[tactic(auto, unfolding(crate::specs::Clauses::operator_of))]
-pub fn operator(tree: Subtree) -> Option<Connective>
-    ensures { result ≡ operator_of (tree_of tree.entry).label }
+pub fn operator(label: Label) -> Option<Connective>
+    ensures { result ≡ operator_of label }
 {
-    let l = tree.label();
-    if l.kind != BINARY_EXPR {
+    if label.kind != BINARY_EXPR {
         return None;
     }
-    match l.p {
+    match label.p {
         AND => Some(Connective::And),
         OR => Some(Connective::Or),
         _ => None,
@@ -92,7 +92,7 @@ pub fn operator(tree: Subtree) -> Option<Connective>
 fn operands(tree: Subtree) -> Option<(Connective, Subtree, Subtree)>
     ensures { Operands tree.entry result }
 {
-    let op = operator(tree)?;
+    let op = operator(tree.label())?;
     let (left, right) = first_two(tree)?;
     Some((op, left, right))
 }
@@ -166,7 +166,7 @@ pub fn or_clause_at(s: &[u8], n: usize, f: Fields, side: FieldSet) -> bool
     let Some(tree) = item_tree(s, n) else {
         return false;
     };
-    match operator(tree) {
+    match operator(tree.label()) {
         Some(Connective::Or) => extract_or_clause(tree, &f, side),
         _ => false,
     }

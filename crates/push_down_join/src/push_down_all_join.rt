@@ -168,7 +168,7 @@ pub fn filter_of(plan: Subtree) -> Option<Subtree>
     ensures { (k : Kind) (l r : Plan) (on : List Pair) (f : Option Expr) →
         Placed plan.entry.image.now plan.entry.number (join k l r on f) → FilterOf plan.entry.image.now result f }
 {
-    let last = last_child(plan);
+    let last = last_child(plan)?;
     (last.kind() < FIRST_PLAN).then_some(last)
 }
 

@@ -123,6 +123,7 @@ fn copy_sided_joined(
 
 // Writes a plan under a Filter of a side's list, if it has any items.
 pub fn copy_sided_filtered(
+    s: &[u8],
     input: Subtree,
     map: Subtree,
     c: Conjuncts,
@@ -131,13 +132,13 @@ pub fn copy_sided_filtered(
     out: &mut Writer,
     level: usize,
 )
-    requires some_sided { SomeSided input.image.now c }
+    requires some_sided { SomeSided s.now c }
     requires len_le_max_fields { fields.now.len ≤ max_fields }
     requires low { Low (level + 2) (tree_of input).below }
     requires over { Over 3 level map }
     ensures same { out.new.bytes.ghost_name ≡ out.old.bytes.ghost_name }
     ensures wrote { (σ : Name → Expr) (ns : List Name) (t : Name → Bool) → Side map.entry fields.now side σ ns t →
-        (es : List Expr) → Sides input.entry.image.now σ ns t c es → (p : Plan) → tree_of input.entry ≡ plan_tree p →
+        (es : List Expr) → Sides s.now σ ns t c es → (p : Plan) → tree_of input.entry ≡ plan_tree p →
         Wrote out.old.bytes.now out.new.bytes.now out.old.next level out.new.next (plan_tree (with_filters es p)) }
 {
     if c.len == 0 {
@@ -145,7 +146,7 @@ pub fn copy_sided_filtered(
         return;
     }
     out.put_kind(FILTER, 0, level);
-    copy_sided_joined(input.image, map, &c, fields, side, out, level + 1);
+    copy_sided_joined(s, map, &c, fields, side, out, level + 1);
     out.copy_tree(input, level + 1);
 }
 
@@ -194,14 +195,15 @@ fn write_join(plan: Subtree, map: Subtree, v: Moves, sc: &Scope, out: &mut Write
         Carries plan.entry map.entry sc.now v k l r on f P G σ →
         Wrote out.old.bytes.now out.new.bytes.now out.old.next level out.new.next (plan_tree (join_over k l r on P G)) }
 {
+    let s = plan.image;
     let (left, right) = inputs(plan);
     let fields = &sc.fields;
     let below = level + 1;
     out.put(plan.label(), level);
-    copy_sided_filtered(left, map, v.left, fields, sc.left, out, below);
-    copy_sided_filtered(right, map, v.right, fields, sc.right, out, below);
+    copy_sided_filtered(s, left, map, v.left, fields, sc.left, out, below);
+    copy_sided_filtered(s, right, map, v.right, fields, sc.right, out, below);
     copy_pairs(plan, out, below);
-    copy_conditions(plan.image, map, v.conditions, out, below);
+    copy_conditions(s, map, v.conditions, out, below);
 }
 
 // The same under a Filter of what stays above it, if anything does.

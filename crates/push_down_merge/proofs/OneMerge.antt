@@ -4,7 +4,7 @@ use mathlib.Core.Path.{◌≡◌, refl, sym, ap, subst, ◌∙◌}
 use mathlib.Core.Bool.{Bool, true, false}
 use mathlib.Core.List.{List, [], ◌∷◌, ◌++◌}
 use mathlib.Core.Option.{Option, none, some}
-use Prim.Native.Nat.{ℕ, ◌≤◌}
+use Prim.Native.Nat.{ℕ, ◌+◌, ◌≤◌}
 use native.Mathlib.Nat.{le_trans, le-max_left, le-max_right}
 use native.Mathlib.Omega.{arith}
 use lib.Dec.{eqb, leb}
@@ -21,13 +21,14 @@ use Rattle.rewrite.specs.Utils.{split_conjunction, conjunction, unique}
 use Rattle.rewrite.specs.Limits.{list_p, within_limits}
 use Rattle.rewrite.specs.RewriteAt.{Focus}
 use Rattle.rewrite.specs.PushDownFilter.{merged, merges_under}
-use Rattle.conjuncts.specs.Standing.{StandingP}
+use Rattle.conjuncts.specs.Standing.{Standing, StandingP}
 use Rattle.conjuncts.proofs.Listed.{lists_length}
 use Rattle.push_down_base.specs.Predicates.{Predicate}
 use Rattle.push_down_base.specs.Arms.{Shaped, Placed, Rests}
 use Rattle.push_down_merge.specs.Merging.{Remains, nothing, something, Made, Inside, is_filter}
 use Rattle.push_down_base.proofs.Plain.{Joined?, none_left, some_left, joined?, merged_plain, split_some}
 use Rattle.push_down_base.proofs.Perhapsing.{is_gone, both}
+use Rattle.push_down_base.proofs.Steps.{filter_predicate}
 use Rattle.push_down_merge.proofs.Merges.{made_shaped}
 use Rattle.push_down_merge.proofs.Scoped.{merged_reads}
 use Rattle.push_down_merge.proofs.Tested.{too_long}
@@ -70,6 +71,14 @@ input_placed b {q} short rules lists k =
 pub own_few : (b : Expr) (q : Plan) → list_p (filter b q) ≤ max_list → length (split_conjunction b) ≤ max_list
 unfolding list_p
 own_few b q h = le_trans (le-max_left (length (split_conjunction b)) (list_p q)) h
+
+-- the predicate of a Filter in its own place, read at record n of the same bytes: what stands there, and what is made of it
+module _ {s t : List ℕ} {x n : ℕ} (i : t ≡ s) (k : n ≡ x + 1) {e : Expr} {q : Plan} (h : Placed s x (filter e q)) where
+  pub predicate_stands : Standing t n e
+  predicate_stands = rw (i, k) (filter_predicate h.short h.standing)
+
+  pub predicate_shaped : {p : Predicate} → ((e : Expr) → Standing t n e → length (split_conjunction e) ≤ max_list → Shaped t p e) → Shaped s p e
+  predicate_shaped {p} f = subst (λ b. Shaped b p e) i (f e predicate_stands (own_few e q h.lists))
 
 -- where the merged Filter fits, its conjuncts are few enough
 merge_few : {s : List ℕ} {node : ℕ} {w : Plan} {c : Focus} {p : Predicate} {m : Expr} (q : Plan) → Inside s node w c → Made s p m

@@ -62,6 +62,7 @@ pub record FilterAt (s : List ℕ) (x : ℕ) : Type 0 where
 -- the plan q is the input of the Filter at record x: it stands at record y, to which the link of the Filter's predicate leads
 pub record FilterInput (s : List ℕ) (x y : ℕ) (q : Plan) : Type 0 where
   pub link : y ≡ word (drop (32 * (x + 1)) s) 28
+  pub after : x ≤ y
   pub standing : StandingP s y q
 
 -- a predicate that was merged can stand over the plan at record x, in the place of record `node` of the whole

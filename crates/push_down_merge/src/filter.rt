@@ -1,7 +1,8 @@
 // What PushDownFilter::rewrite does of a Filter before the match (799 to 832), and the arm Filter (835 to 850) up to where it calls the
 // rewrite again: a predicate is simplified, and merged with that of the Filter below.
-ghost use Rattle.std.specs.Prelude.{◌≡◌, true, is_some, List, ◌<◌, ◌≤◌, ℕ, is_ok, length};
+ghost use Rattle.std.specs.Prelude.{◌≡◌, true, is_some, List, ◌+◌, ◌<◌, ◌≤◌, ℕ, is_ok, length};
 ghost use Rattle.std.proofs.Math.Option.{some};
+ghost use Rattle.image.specs.Buffers.{Scratch};
 ghost use Rattle.image.specs.Limits.{max_list, work_bytes};
 ghost use Rattle.plan.specs.Syntax.{Expr, Plan, filter};
 ghost use Rattle.rewrite.specs.Limits.{list_p, within_limits};
@@ -9,12 +10,10 @@ ghost use Rattle.rewrite.specs.PushDownFilter.{merged, simplify_filter};
 ghost use Rattle.rewrite.specs.RewriteAt.{Focus};
 ghost use Rattle.rewrite.specs.Utils.{conjunction, split_conjunction};
 ghost use Rattle.conjuncts.specs.Items.{Known, Lists};
-ghost use Rattle.conjuncts.specs.Standing.{StandingP};
+ghost use Rattle.conjuncts.specs.Standing.{Standing, StandingP, There};
 ghost use Rattle.push_down_base.specs.Arms.{Shaped};
-ghost use Rattle.push_down_merge.specs.Lent.{SameSpace};
 ghost use Rattle.push_down_merge.specs.Merging.{FilterAt, FilterInput, Fitting, Formed, Inside, Made, Mergeable, Remains};
 
-use crate::scratch::Scratch;
 use answers::handing_out::is_shallow;
 use answers::splicing::{write_before, write_records};
 use conjuncts::lists::{Conjuncts, empty};
@@ -44,20 +43,16 @@ impl fmt::Display for TooLarge {
 
 impl Error for TooLarge {}
 
-// The predicate of the Filter `plan` as it is written, with its conjuncts.
+// An expression as the predicate that is written there, with its conjuncts. It isn't at the root.
 // Never inlined, like merge_fits: their lists would stand in the frame of every Filter of a stack.
 #[inline(never)]
-pub fn predicate_at(plan: Subtree) -> Predicate
-    requires here { FilterAt plan.image.now plan.number }
-    requires short { length plan.image.now ≤ work_bytes }
-    ensures { (e : Expr) (q : Plan) → StandingP plan.entry.image.now plan.entry.number (filter e q) →
-        length (split_conjunction e) ≤ max_list → Shaped plan.entry.image.now result e }
+pub fn predicate_at(predicate: Subtree) -> Predicate
+    requires there { There predicate.image.now predicate.number }
+    requires number_nonzero { 0 < predicate.number }
+    requires short { length predicate.image.now ≤ work_bytes }
+    ensures { (e : Expr) → Standing predicate.entry.image.now predicate.entry.number e →
+        length (split_conjunction e) ≤ max_list → Shaped predicate.entry.image.now result e }
 {
-    let predicate = Subtree {
-        image: plan.image,
-        base: 0,
-        number: plan.number + 1,
-    };
     Predicate {
         written: Some(predicate.number),
         list: split_conjunction(predicate, empty()),
@@ -90,6 +85,20 @@ pub fn merge(s: &[u8], upper: &Predicate, lower: &Conjuncts) -> Predicate
 {
     let list = upper.list;
     Predicate::joined(unique(s, *lower, list))
+}
+
+// The predicate of the Filter `plan`, which is right behind it.
+pub fn predicate_of(plan: Subtree) -> Subtree
+    requires here { FilterAt plan.image.now plan.number }
+    requires short { length plan.image.now ≤ work_bytes }
+    ensures same { result.image.now ≡ plan.entry.image.now }
+    ensures number { result.number ≡ plan.entry.number + 1 }
+{
+    Subtree {
+        image: plan.image,
+        base: 0,
+        number: plan.number + 1,
+    }
 }
 
 // The input of the Filter `plan`: what follows its predicate, which is right behind it.
@@ -125,12 +134,13 @@ pub fn merge_fits(
     plan: Subtree,
     p: &Predicate,
     input: Subtree,
-    scratch: &mut Scratch,
+    work: &mut [u8],
+    levels: &mut [u32],
 ) -> Result<(), TooLarge>
     requires image { input.image.now ≡ plan.image.now }
     requires mergeable { Mergeable plan.image.now plan.number p.now input.number }
-    ensures same { SameSpace scratch.old scratch.new }
-    ensures fits { (w : Plan) (c : Focus) → Inside plan.entry.image.now plan.entry.number w c → (e : Expr) (q : Plan) →
+    requires scratch { Scratch work.old levels.old }
+    ensures { (w : Plan) (c : Focus) → Inside plan.entry.image.now plan.entry.number w c → (e : Expr) (q : Plan) →
         Made plan.entry.image.now p.now e → StandingP plan.entry.image.now input.entry.number q → list_p q ≤ max_list →
         is_ok result ≡ within_limits (c.back (filter e q)) }
 {
@@ -139,8 +149,6 @@ pub fn merge_fits(
         return Err(TooLarge);
     }
     let s = plan.image;
-    let levels = &mut *scratch.levels;
-    let work = &mut *scratch.work;
     let mut out = Writer {
         bytes: work,
         next: 0,

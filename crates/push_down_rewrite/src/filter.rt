@@ -18,7 +18,7 @@ use image::trees::Subtree;
 use plan::kinds::FILTER;
 use push_down_base::predicates::Predicate;
 use push_down_merge::filter::{
-    TooLarge, filter_input, merge, merge_fits, predicate_at, simplify_filter,
+    TooLarge, filter_input, merge, merge_fits, predicate_at, predicate_of, simplify_filter,
 };
 use push_down_merge::scratch::Scratch;
 
@@ -90,8 +90,10 @@ fn merge_filter(
         Finishes scratch.new.work.now result c (merges_under e (filter b q)) (rewrite_filter e (filter b q)) }
 {
     let input = filter_input(child);
-    let lower = predicate_at(child);
+    let lower = predicate_at(predicate_of(child));
     let merged = merge(plan.image, &p, &lower.list);
-    merge_fits(plan, &merged, input, scratch)?;
+    let work = &mut *scratch.work;
+    let levels = &mut *scratch.levels;
+    merge_fits(plan, &merged, input, work, levels)?;
     rewrite_filter(plan, merged, input, scratch)
 }

@@ -17,7 +17,7 @@ use image::relink::relink;
 use image::trees::Subtree;
 use plan::kinds::{FILTER, JOIN};
 use push_down_join::push_down_all_join::push_down_join;
-use push_down_merge::filter::{TooLarge, filter_input, fits, predicate_at};
+use push_down_merge::filter::{TooLarge, filter_input, fits, predicate_at, predicate_of};
 use push_down_merge::scratch::Scratch;
 use push_down_stays::stays::stays;
 
@@ -91,7 +91,8 @@ pub fn rewrite_anew(plan: Subtree, scratch: &mut Scratch) -> Result<Rewritten, T
     // Two kinds of twelve: a match is no shorter.
     let kind = plan.kind();
     if kind == FILTER {
-        return rewrite_filter(plan, predicate_at(plan), filter_input(plan), scratch);
+        let p = predicate_at(predicate_of(plan));
+        return rewrite_filter(plan, p, filter_input(plan), scratch);
     }
     if kind == JOIN {
         return rewrite_join_node(plan, scratch);

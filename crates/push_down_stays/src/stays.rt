@@ -35,7 +35,7 @@ use push_down_arms::through::takes_none;
 use push_down_base::predicates::Predicate;
 use push_down_join::column_checker::join_scope;
 use push_down_join::push_down_all_join::{filter_of, join_kind, moves_of, own_filter};
-use push_down_merge::filter::{filter_input, predicate_at, simplify_filter};
+use push_down_merge::filter::{filter_input, predicate_at, predicate_of, simplify_filter};
 
 // Whether the filter of the join is joined left-deep, if it has one.
 fn own_left_deep(plan: Subtree) -> bool
@@ -189,7 +189,7 @@ fn over_stays(plan: Subtree, p: Predicate) -> bool
         )
         | What::Expr(_)
         | What::Part(_)
-        | What::Unknown => takes_none(plan),
+        | What::Unknown => takes_none(plan.label()),
     }
 }
 
@@ -203,7 +203,7 @@ fn may_stay(plan: Subtree) -> bool
         | (label.kind == PROJECTION)
         | ((label.kind == AGGREGATE) | (label.kind == WINDOW))
         | ((label.kind == JOIN) & (label.p != INNER))
-        | takes_none(plan)
+        | takes_none(label)
 }
 
 // Whether simplifying leaves the predicate p as it is.
@@ -236,7 +236,7 @@ fn filter_stays(plan: Subtree) -> bool
     if !may_stay(input) {
         return false;
     }
-    let p = predicate_at(plan);
+    let p = predicate_at(predicate_of(plan));
     if over_stays(input, p) {
         return is_simple(plan.image, p);
     }

@@ -1,4 +1,5 @@
 use mathlib.Core.Path.{refl}
+use native.Mathlib.Omega.{arith}
 use Rattle.rewrite.specs.Utils.{replace_cols, split_conjunction}
 use Rattle.writing.specs.Maps.{map_of}
 use Rattle.conjuncts.proofs.Standing.{tree_found, tree_standing}
@@ -9,14 +10,15 @@ pub returns-in_default : goal.returns-in_default
 returns-in_default c =
     λ e p k i o h m. counts_one {e = e} _ m i (false_parts (map_of p) e (rw c.in_default.is at (c.item_tree.ensures e i))) c.add.ensures
 
-pub split_conjunction-requires-clause-expr : goal.split_conjunction-requires-clause-expr
-split_conjunction-requires-clause-expr c =
+pub split_conjunction-requires : goal.split_conjunction-requires
+split_conjunction-requires c =
     let i = c.requires.present.0 in
     let h = c.requires.present.1 in
     let f = c.in-Some.ensures i.expr i.item in
     let b = c.in-Some-value_for.ensures in
     let v = standing_found c.args.plan c.in-Some.conjunct i.expr h.plan h.standing (tree_found f) c.requires.image_bound f.standing.fits b in
-    record { expr = replace_cols (map_of h.plan) i.expr; is = tree_standing c.in-Some-value_for.value b.image refl v }
+    let is = tree_standing c.in-Some-value_for.value b.image refl v in
+    (omega arith, (record { expr = replace_cols (map_of h.plan) i.expr; is = is }, (omega (arith, b.past), rw b.image c.requires.image_bound)))
 
 pub returns-in-Some-value_for : goal.returns-in-Some-value_for
 returns-in-Some-value_for c =
@@ -24,7 +26,7 @@ returns-in-Some-value_for c =
     let b = c.in-Some-value_for.ensures in
     let v = standing_found c.args.plan c.in-Some.conjunct e p h (tree_found f) c.requires.image_bound f.standing.fits b in
     counts_more (split_conjunction (replace_cols (map_of p) e)) m
-    (rw b.image at (c.split_conjunction.ensures (replace_cols (map_of p) e) m.exprs (rw b.image v) (rw b.image m.lists)))
+    (c.split_conjunction.ensures _ (replace_cols (map_of p) e) m.exprs (tree_standing c.in-Some-value_for.value b.image refl v) v m.lists)
 
 pub returns-in-None : goal.returns-in-None
 returns-in-None c =

@@ -9,6 +9,7 @@ use Rattle.writing.specs.Maps.{map_of}
 use Rattle.writing.proofs.Maps.{plan_is, plan_maps_to, plan_over}
 use Rattle.push_down_arms.specs.Divided.{parts}
 use Rattle.push_down_base.proofs.Answering.{answers}
+use Rattle.push_down_base.proofs.LastChild.{last_here}
 use Rattle.push_down_base.proofs.InputOf.{input_number, input_tree}
 use Rattle.push_down_arms.proofs.Divides.{pushed_few, pushed_many, some_moved, kept_perhaps, moved_small, moved_perhaps, pushed_is}
 use Rattle.push_down_arms.proofs.push_some.push_some.Goals as goal
@@ -49,13 +50,13 @@ write_over-requires-clause-over c = plan_over c.requires.dividing.placed.standin
 pub write_over-requires-clause-deep : goal.write_over-requires-clause-deep
 write_over-requires-clause-deep c =
     let o = c.requires.dividing in
-    rw (input_tree c.last_child.ensures o.placed.standing o.takes) o.takes.input.deep
+    rw (input_tree (last_here _ c.last_child.ensures c.unwrap_or-input.ensures) o.placed.standing o.takes) o.takes.input.deep
 
 pub returns-clause-answers : goal.returns-clause-answers
 returns-clause-answers c =
     λ f q us ds h t k. let o = ltb-false max_list (parts (map_of (f q)) ds)
     (sym (c.is_over.ensures ds (f q) k.moved k.moved_single h.standing) ∙ c.if-is_over.false) in
-    let n = c.last_child.ensures in
+    let n = last_here _ c.last_child.ensures c.unwrap_or-input.ensures in
     let w = c.changed.ensures _ (map_of (f q)) ds k.moved in
     answers (some_moved ds k.moved k.moved_most) (pushed_few h t k o)
     (rw (← pushed_is f q us ds)

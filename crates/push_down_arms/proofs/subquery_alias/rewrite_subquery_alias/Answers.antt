@@ -7,6 +7,7 @@ use Rattle.plan.specs.Trees.{label_p, kids_p}
 use Rattle.rewrite.specs.PushDownFilter.{rewrite_filter}
 use Rattle.writing.proofs.Maps.{plan_is}
 use Rattle.push_down_base.proofs.Answering.{answers}
+use Rattle.push_down_base.proofs.LastChild.{last_here}
 use Rattle.push_down_base.proofs.Steps.{alias_input}
 use Rattle.push_down_arms.proofs.Renames.{alias_few, alias_wide, alias_lists, alias_last}
 use Rattle.push_down_arms.proofs.subquery_alias.rewrite_subquery_alias.Goals as goal
@@ -21,7 +22,7 @@ copy_renamed-requires-clause-renaming c =
     let h = o.rests in
     let q = alias o.qualifier o.plan in
     let k = h.placed.standing in
-    let w = c.last_child.ensures in
+    let w = last_here _ c.last_child.ensures c.unwrap_or-input.ensures in
     let n = alias_last w k in
     rw (w.image, n) (record {
       expr = o.expr;
@@ -42,7 +43,7 @@ unfolding rewrite_filter schema label_p kids_p
 returns-clause-answers c =
     λ e i q h. let a = alias i q in
     let k = h.placed.standing in
-    let w = c.last_child.ensures in
+    let w = last_here _ c.last_child.ensures c.unwrap_or-input.ensures in
     let n = alias_last w k in
     let l : c.label.result ≡ label_p a = c.label.ensures.label ∙ ap (λ (t : Tree). t.label) (plan_is c.args.plan k) in
     let v = c.copy_renamed.ensures.wrote e q (schema a) (rw (w.image, n) (record {

@@ -5,6 +5,7 @@ use native.Mathlib.Omega.{arith}
 use Rattle.writing.specs.Maps.{map_of}
 use Rattle.writing.proofs.Maps.{plan_is, plan_maps_to, plan_over}
 use Rattle.push_down_base.specs.Predicates.{gone}
+use Rattle.push_down_base.proofs.LastChild.{last_here}
 use Rattle.push_down_base.proofs.InputOf.{input_number, input_tree}
 use Rattle.push_down_base.proofs.Answering.{answers, taken_few}
 use Rattle.push_down_arms.proofs.Shaping.{shaped_perhaps}
@@ -32,12 +33,12 @@ write_over-requires-clause-over c = plan_over c.requires.taken.rests.placed.stan
 pub write_over-requires-clause-deep : goal.write_over-requires-clause-deep
 write_over-requires-clause-deep c =
     let t = c.requires.taken in
-    rw (input_tree c.last_child.ensures t.rests.placed.standing t.takes) t.takes.input.deep
+    rw (input_tree (last_here _ c.last_child.ensures c.unwrap_or-input.ensures) t.rests.placed.standing t.takes) t.takes.input.deep
 
 pub returns-clause-answers : goal.returns-clause-answers
 returns-clause-answers c =
     λ e q f h t. let k = h.placed.standing in
-    let w = c.last_child.ensures in
+    let w = last_here _ c.last_child.ensures c.unwrap_or-input.ensures in
     answers refl (taken_few t h)
     (c.write_over.ensures.wrote (map_of (f q)) (plan_maps_to k) none (some e)
     (rw c.joined-nothing.ensures (gone refl c.empty.ensures.1))

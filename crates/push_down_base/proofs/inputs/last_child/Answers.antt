@@ -1,15 +1,10 @@
-use Rattle.push_down_base.proofs.LastChild.{children_last}
+-- `inputs::last_child` meets its contract.
+use mathlib.Core.Path.{sym}
+use Rattle.image.proofs.Subtrees.{all_items}
+use Rattle.push_down_base.proofs.LastChild.{last_of_children}
 use Rattle.push_down_base.proofs.inputs.last_child.Goals as goal
-
-pub loop-child-init : goal.loop-child-init
-loop-child-init c =
-    let e = c.into_iter-child-iterator.ensures.into_iter_gives in
-    rw e (children_last c.children-child-items.ensures)
-
-pub loop-child-preserved : goal.loop-child-preserved
-loop-child-preserved c = rw c.in-Some.ensures.steps at c.loop-child.invariant
 
 pub returns : goal.returns
 returns c =
-    let k = rw c.in-None.ensures.steps.0 at c.loop-child.invariant in
-    record { image = k.image; number = k.number }
+    let ran = c.last.ensures.ran in
+    last_of_children c.children.ensures ran.0 (all_items c.children.result ran.0 ran.1) (sym ran.2)

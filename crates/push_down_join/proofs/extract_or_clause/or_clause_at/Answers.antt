@@ -13,17 +13,20 @@ pub returns-in-Some-Or : goal.returns-in-Some-Or
 returns-in-Some-Or c =
     λ e ns d h g held m.
     let t = tree_found (c.in-Some.ensures e h) in
+    let l = c.label.ensures.label ∙ ap (λ (u : Tree). u.label) t in
     c.extract_or_clause.ensures e ns d t g held m
-    ∙ ap yields (or_top d e (c.operator.ensures ∙ ap (λ (u : Tree). operator_of u.label) t) (rw c.in-Some-Or.field-0-is at c.in-Some-Or.is))
+    ∙ ap yields (or_top d e (c.operator.ensures ∙ ap operator_of l) (rw c.in-Some-Or.field-0-is at c.in-Some-Or.is))
 
 pub returns-in_default-operator : goal.returns-in_default-operator
 returns-in_default-operator c =
     λ e ns d h g held m.
     let t = tree_found (c.in-Some.ensures e h) in
-    no_or_top d e (c.operator.ensures ∙ ap (λ (u : Tree). operator_of u.label) t) (λ k. cc c.in_default-operator.ensures)
+    let l = c.label.ensures.label ∙ ap (λ (u : Tree). u.label) t in
+    no_or_top d e (c.operator.ensures ∙ ap operator_of l) (λ k. cc c.in_default-operator.ensures)
 
 pub returns-in_default-operator-2 : goal.returns-in_default-operator-2
 returns-in_default-operator-2 c =
     λ e ns d h g held m.
     let t = tree_found (c.in-Some.ensures e h) in
-    no_or_top d e (c.operator.ensures ∙ ap (λ (u : Tree). operator_of u.label) t) (λ k. cc)
+    let l = c.label.ensures.label ∙ ap (λ (u : Tree). u.label) t in
+    no_or_top d e (c.operator.ensures ∙ ap operator_of l) (λ k. cc)

@@ -1,7 +1,9 @@
 -- `push_down_all_join::own_filter` meets its contract.
 use mathlib.Core.List.{[]}
+use mathlib.Core.Path.{refl}
+use native.Mathlib.Omega.{arith}
 use Rattle.conjuncts.proofs.Listed.{lists_none}
-use Rattle.conjuncts.proofs.Standing.{is_expr}
+use Rattle.conjuncts.proofs.Standing.{is_expr, tree_standing}
 use Rattle.push_down_base.proofs.Scoping.{reads_none}
 use Rattle.push_down_join.proofs.JoinParts.{own_there, own_reads, own_none}
 use Rattle.push_down_join.proofs.push_down_all_join.own_filter.Goals as goal
@@ -13,8 +15,8 @@ pub split_conjunction-requires : goal.split_conjunction-requires
 split_conjunction-requires c =
     let p = c.requires in
     let t = own_there (c.in-Some.ensures p.kind p.lhs p.rhs p.keys p.condition p.placed) p.placed.short in
-    record { expr = is_expr c.in-Some.filter t.0; number_nonzero = t.1; image_bound = t.2 }
+    (omega arith, (is_expr c.in-Some.filter t.0, (t.1, t.2)))
 
 pub returns-in-Some : goal.returns-in-Some
 returns-in-Some c =
-    λ k l r on f h. own_reads h (c.in-Some.ensures k l r on f h) (λ e t. c.split_conjunction.ensures e [] t (lists_none c.empty.ensures))
+    λ k l r on f h. own_reads h (c.in-Some.ensures k l r on f h) (λ e t. c.split_conjunction.ensures _ e [] (tree_standing c.in-Some.filter refl refl t) t (lists_none c.empty.ensures))

@@ -9,11 +9,7 @@ use Rattle.push_down_join.proofs.JoinWritten.{left_side, right_side, left_some, 
 use Rattle.push_down_join.proofs.write_sides.write_join.Goals as goal
 
 pub copy_sided_filtered-requires-clause-some_sided : goal.copy_sided_filtered-requires-clause-some_sided
-copy_sided_filtered-requires-clause-some_sided c =
-    let q = c.requires.carried in
-    let h = q.carries in
-    let w = c.inputs.ensures q.kind q.lhs q.rhs q.keys q.condition (plan_is c.args.plan h.standing) in
-    rw w.image_first (left_some h)
+copy_sided_filtered-requires-clause-some_sided c = left_some c.requires.carried.carries
 
 pub copy_sided_filtered-requires-clause-low : goal.copy_sided_filtered-requires-clause-low
 copy_sided_filtered-requires-clause-low c =
@@ -24,11 +20,7 @@ copy_sided_filtered-requires-clause-low c =
     record { depth = low.depth; deep = low.deep; low = omega (arith, low.low) }
 
 pub copy_sided_filtered-requires-2-clause-some_sided : goal.copy_sided_filtered-requires-2-clause-some_sided
-copy_sided_filtered-requires-2-clause-some_sided c =
-    let q = c.requires.carried in
-    let h = q.carries in
-    let w = c.inputs.ensures q.kind q.lhs q.rhs q.keys q.condition (plan_is c.args.plan h.standing) in
-    rw w.image_second (right_some h)
+copy_sided_filtered-requires-2-clause-some_sided c = right_some c.requires.carried.carries
 
 pub copy_sided_filtered-requires-2-clause-low : goal.copy_sided_filtered-requires-2-clause-low
 copy_sided_filtered-requires-2-clause-low c =
@@ -48,7 +40,7 @@ returns-clause-wrote c =
     let w = c.inputs.ensures k l r on f t in
     let i = inputs_are w k l r on f t in
     join_wrote k l r _ _ on f _ c.args.out.now.long c.put.ensures.put (c.label.ensures.label ∙ ap (λ (u : Tree). u.label) t)
-    (c.copy_sided_filtered.ensures.wrote σ _ _ (left_side h) _ (rw w.image_first h.moved.left) l i.0)
-    (c.copy_sided_filtered-2.ensures.wrote σ _ _ (right_side h) _ (rw w.image_second h.moved.right) r i.1)
+    (c.copy_sided_filtered.ensures.wrote σ _ _ (left_side h) _ h.moved.left l i.0)
+    (c.copy_sided_filtered-2.ensures.wrote σ _ _ (right_side h) _ h.moved.right r i.1)
     (pairs_are _ _ t c.copy_pairs.ensures.wrote)
     (c.copy_conditions.ensures.wrote σ h.maps _ h.moved.conditions)

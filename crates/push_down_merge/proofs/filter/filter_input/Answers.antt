@@ -18,7 +18,7 @@ use Rattle.push_down_merge.proofs.filter.filter_input.Goals as goal
 input_there : {s part : List ℕ} {x y : ℕ} {e : Expr} {q : Plan} → length s ≤ work_bytes → StandingP s x (filter e q) → part ≡ drop (32 * (x + 1)) s
     → y ≡ word part 28 → FilterInput s x y q
 input_there n h r w =
-    let k = rw r at w in record { link = k; standing = rw (k ∙ filter_next n h) (filter_input n h) }
+    let k = rw r at w in record { link = k; after = omega (arith, k, filter_next n h); standing = rw (k ∙ filter_next n h) (filter_input n h) }
 
 pub word_at-requires : goal.word_at-requires
 word_at-requires c =

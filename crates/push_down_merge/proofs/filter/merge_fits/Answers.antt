@@ -11,8 +11,8 @@ use Rattle.push_down_merge.proofs.Tested.{made_predicate, few_records, all_recor
 use Rattle.push_down_merge.proofs.Tested.{elsewhere, too_long, few_lists, within_is}
 use Rattle.push_down_merge.proofs.filter.merge_fits.Goals as goal
 
-pub returns-then-list-gt-MAX_LIST-clause-fits : goal.returns-then-list-gt-MAX_LIST-clause-fits
-returns-then-list-gt-MAX_LIST-clause-fits c =
+pub returns-then-list-gt-MAX_LIST : goal.returns-then-list-gt-MAX_LIST
+returns-then-list-gt-MAX_LIST c =
     λ w f h e q m k l. sym (too_long h m q c.if-list-gt-MAX_LIST.true)
 
 pub write_before-spot-requires-clause-there_p : goal.write_before-spot-requires-clause-there_p
@@ -45,14 +45,14 @@ write_records-requires c =
       n_le_max_records = (
         omega (arith, b.records, few_records i),
         omega (arith, b.records, all_records i),
-        c.write_before-spot.auto.levels ∙ c.args.scratch.now.levels_long,
+        c.write_before-spot.auto.levels ∙ c.requires.scratch.1,
       );
       from_le_n = omega (arith, b.records, b.end, end_within i);
     }
 
-pub returns-then-not-fits-clause-fits : goal.returns-then-not-fits-clause-fits
+pub returns-then-not-fits : goal.returns-then-not-fits
 unfolding size_p
-returns-then-not-fits-clause-fits c =
+returns-then-not-fits c =
     λ w f h e q m k l. let b = c.write_before-spot.ensures.before w f h.root h.there (stands_inside h) in
     let t = elsewhere c.requires.image k in
     let v = c.make_filter.ensures.wrote (map_of q) (plan_maps_to t) e (made_predicate _ m) q (plan_is c.args.input t) in
@@ -60,9 +60,9 @@ returns-then-not-fits-clause-fits c =
     let g = spliced w _ f h.there (filter e q) c.write_before-spot.new.out.long (few_records h) b (rw c.write_before-spot.ensures.next at v) a in
     sym c.if-not-fits.true ∙ within_is c.fits.ensures (f.back (filter e q)) g (few_lists h m q l c.if-list-gt-MAX_LIST.false)
 
-pub returns-clause-fits : goal.returns-clause-fits
+pub returns : goal.returns
 unfolding size_p
-returns-clause-fits c =
+returns c =
     λ w f h e q m k l. let b = c.write_before-spot.ensures.before w f h.root h.there (stands_inside h) in
     let t = elsewhere c.requires.image k in
     let v = c.make_filter.ensures.wrote (map_of q) (plan_maps_to t) e (made_predicate _ m) q (plan_is c.args.input t) in

@@ -1,25 +1,17 @@
 -- `filter::predicate_at` meets its contract.
-use borrow.Author.Rules.{rules}
 use native.Mathlib.Omega.{arith}
 use Rattle.conjuncts.proofs.Listed.{lists_none}
-use Rattle.image.specs.Chains.{only}
-use Rattle.writing.proofs.Maps.{stood_expr}
-use Rattle.push_down_base.proofs.Steps.{filter_predicate}
+use Rattle.writing.proofs.Maps.{expr_is}
 use Rattle.push_down_merge.proofs.Merges.{shaped_written}
 use Rattle.push_down_merge.proofs.filter.predicate_at.Goals as goal
 
-pub invariant_of-predicate : goal.invariant_of-predicate
-invariant_of-predicate c =
-    record { past = omega arith; stood = stood_expr (filter_predicate c.requires.short c.requires.here.standing) }
-
-pub split_conjunction-requires-clause-expr : goal.split_conjunction-requires-clause-expr
-split_conjunction-requires-clause-expr c =
-    record {
-      expr = c.requires.here.expr;
-      is = only (search rules) (filter_predicate c.requires.short c.requires.here.standing).here;
-    }
+pub split_conjunction-requires : goal.split_conjunction-requires
+split_conjunction-requires c =
+    let p = c.requires in
+    let x = c.args.predicate in
+    (omega arith, (record { expr = p.there.expr; is = expr_is x p.there.standing }, (p.number_nonzero, p.short)))
 
 pub returns : goal.returns
 returns c =
-    λ e q h few. let p = filter_predicate c.requires.short h in
-    shaped_written (omega arith) p (c.split_conjunction.ensures e _ p (lists_none c.empty.ensures)) few
+    λ e h few. shaped_written c.requires.number_nonzero h
+    (c.split_conjunction.ensures _ e _ (expr_is c.args.predicate h) h (lists_none c.empty.ensures)) few

@@ -1,6 +1,7 @@
 -- `node::rewrite_anew` meets its contract.
 use mathlib.Core.Path.{refl, sym, ◌∙◌}
-use Rattle.push_down_merge.proofs.OneMerge.{own_few}
+use native.Mathlib.Omega.{arith}
+use Rattle.push_down_merge.proofs.OneMerge.{predicate_shaped, predicate_stands}
 use Rattle.push_down_merge.proofs.Tested.{stands_inside}
 use Rattle.push_down_stays.proofs.Dispatches.{kind_of}
 use Rattle.push_down_stays.proofs.Nodes.{a_filter, a_join, other_stays, placed_inside}
@@ -8,12 +9,23 @@ use Rattle.push_down_stays.proofs.Stayings.{rests_written}
 use Rattle.push_down_rewrite.proofs.Outcoming.{filter_outcomes, stays_outcomes}
 use Rattle.push_down_rewrite.proofs.node.rewrite_anew.Goals as goal
 
-pub predicate_at-requires-clause-here : goal.predicate_at-requires-clause-here
-predicate_at-requires-clause-here c =
+pub predicate_of-requires-clause-here : goal.predicate_of-requires-clause-here
+predicate_of-requires-clause-here c =
     let f = c.requires in
     let i = f.inside in
     let a = a_filter f.spot.plan (sym (kind_of c.args.plan c.kind-kind.ensures (stands_inside i)) ∙ c.if-kind-eq-FILTER.true) in
     record { expr = a.expr; plan = a.plan; standing = (placed_inside i a.is).standing }
+
+pub predicate_at-p-requires : goal.predicate_at-p-requires
+predicate_at-p-requires c =
+    let f = c.requires in
+    let i = f.inside in
+    let a = a_filter f.spot.plan (sym (kind_of c.args.plan c.kind-kind.ensures (stands_inside i)) ∙ c.if-kind-eq-FILTER.true) in
+    let d = c.predicate_of.ensures in record {
+      there = record { expr = a.expr; standing = predicate_stands d.same d.number (placed_inside i a.is) };
+      number_nonzero = omega (arith, d.number);
+      short = rw d.same i.short;
+    }
 
 pub filter_input-requires-clause-here : goal.filter_input-requires-clause-here
 filter_input-requires-clause-here c =
@@ -30,7 +42,8 @@ rewrite_filter-requires-clause-on_plan c =
     let e = a.expr in
     let q = a.plan in
     let h = placed_inside i a.is in
-    let k = c.predicate_at.ensures e q h.standing (own_few e q h.lists) in
+    let d = c.predicate_of.ensures in
+    let k = predicate_shaped d.same d.number h c.predicate_at-p.ensures in
     let g = c.filter_input.ensures.input e q h.standing in record {
       whole = f.whole;
       spot = f.spot;
@@ -46,7 +59,8 @@ returns-then-kind-eq-FILTER-clause-outcomes c =
     let e = a.expr in
     let q = a.plan in
     let h = placed_inside i a.is in
-    let k = c.predicate_at.ensures e q h.standing (own_few e q h.lists) in
+    let d = c.predicate_of.ensures in
+    let k = predicate_shaped d.same d.number h c.predicate_at-p.ensures in
     let g = c.filter_input.ensures.input e q h.standing in
     filter_outcomes a.is (c.rewrite_filter.ensures.finishes w f i e q (rests_written e q h k g.standing))
 

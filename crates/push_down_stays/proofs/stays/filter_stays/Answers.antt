@@ -1,8 +1,9 @@
 -- `stays::filter_stays` meets its contract.
 use mathlib.Core.Path.{sym, ap, ◌∙◌}
+use native.Mathlib.Omega.{arith}
 use Rattle.image.specs.Tree.{Tree}
 use Rattle.writing.proofs.Maps.{plan_is}
-use Rattle.push_down_merge.proofs.OneMerge.{own_few}
+use Rattle.push_down_merge.proofs.OneMerge.{predicate_shaped, predicate_stands}
 use Rattle.push_down_merge.proofs.Tested.{elsewhere}
 use Rattle.push_down_stays.specs.Staying.{may_stay}
 use Rattle.push_down_stays.proofs.Nodes.{the_filter, placed_inside}
@@ -23,10 +24,19 @@ returns-then-not-may_stay c =
     let m = c.may_stay.ensures ∙ ap (λ (t : Tree). may_stay t.label) (plan_is c.filter_input-input.result (elsewhere same st.standing)) in
     rw a.is (filter_goes a.expr a.plan (sym m ∙ c.if-not-may_stay.true))
 
+pub predicate_of-requires : goal.predicate_of-requires
+predicate_of-requires c =
+    let p = c.requires in
+    record { here = record { expr = p.expr; plan = p.plan; standing = (placed_inside p.inside p.is).standing }; short = p.inside.short }
+
 pub predicate_at-p-requires : goal.predicate_at-p-requires
 predicate_at-p-requires c =
     let p = c.requires in
-    record { here = record { expr = p.expr; plan = p.plan; standing = (placed_inside p.inside p.is).standing }; short = p.inside.short }
+    let d = c.predicate_of.ensures in record {
+      there = record { expr = p.expr; standing = predicate_stands d.same d.number (placed_inside p.inside p.is) };
+      number_nonzero = omega (arith, d.number);
+      short = rw d.same p.inside.short;
+    }
 
 pub over_stays-requires : goal.over_stays-requires
 over_stays-requires c =
@@ -35,7 +45,8 @@ over_stays-requires c =
     let st = c.filter_input-input.ensures.input p.expr p.plan at.standing in
     let same = c.filter_input-input.ensures.same in
     let m = c.may_stay.ensures ∙ ap (λ (t : Tree). may_stay t.label) (plan_is c.filter_input-input.result (elsewhere same st.standing)) in
-    let k = c.predicate_at-p.ensures p.expr p.plan at.standing (own_few _ _ at.lists) in record {
+    let d = c.predicate_of.ensures in
+    let k = predicate_shaped d.same d.number at c.predicate_at-p.ensures in record {
       expr = p.expr;
       plan = p.plan;
       rests = rests_elsewhere same (rests_written p.expr p.plan at k st.standing);
@@ -46,7 +57,8 @@ pub is_simple-requires : goal.is_simple-requires
 is_simple-requires c =
     let p = c.requires in
     let at = placed_inside p.inside p.is in
-    (record { expr = p.expr; shaped = c.predicate_at-p.ensures p.expr p.plan at.standing (own_few _ _ at.lists) }, p.inside.short)
+    let d = c.predicate_of.ensures in
+    (record { expr = p.expr; shaped = predicate_shaped d.same d.number at c.predicate_at-p.ensures }, p.inside.short)
 
 pub returns-then-over_stays : goal.returns-then-over_stays
 returns-then-over_stays c =
@@ -55,7 +67,8 @@ returns-then-over_stays c =
     let st = c.filter_input-input.ensures.input a.expr a.plan at.standing in
     let same = c.filter_input-input.ensures.same in
     let m = c.may_stay.ensures ∙ ap (λ (t : Tree). may_stay t.label) (plan_is c.filter_input-input.result (elsewhere same st.standing)) in
-    let k = c.predicate_at-p.ensures a.expr a.plan at.standing (own_few _ _ at.lists) in
+    let d = c.predicate_of.ensures in
+    let k = predicate_shaped d.same d.number at c.predicate_at-p.ensures in
     let o = may_stay_other a.plan (sym m ∙ c.if-not-may_stay.false) in
     let r = rests_elsewhere same (rests_written a.expr a.plan at k st.standing) in
     rw a.is (filter_simple a.expr a.plan o (kept_as c.if-over_stays.true (c.over_stays.ensures a.expr a.plan r o))
@@ -68,7 +81,8 @@ returns c =
     let st = c.filter_input-input.ensures.input a.expr a.plan at.standing in
     let same = c.filter_input-input.ensures.same in
     let m = c.may_stay.ensures ∙ ap (λ (t : Tree). may_stay t.label) (plan_is c.filter_input-input.result (elsewhere same st.standing)) in
-    let k = c.predicate_at-p.ensures a.expr a.plan at.standing (own_few _ _ at.lists) in
+    let d = c.predicate_of.ensures in
+    let k = predicate_shaped d.same d.number at c.predicate_at-p.ensures in
     let o = may_stay_other a.plan (sym m ∙ c.if-not-may_stay.false) in
     let r = rests_elsewhere same (rests_written a.expr a.plan at k st.standing) in
     rw a.is (filter_moves a.expr a.plan o (kept_as c.if-over_stays.false (c.over_stays.ensures a.expr a.plan r o)))

@@ -1,5 +1,6 @@
 -- `stays::joined_left_deep` meets its contract.
 use borrow.Author.Rules.{rules}
+use native.Mathlib.Omega.{arith}
 use Rattle.image.specs.Chains.{only}
 use Rattle.writing.proofs.Maps.{stood_expr}
 use Rattle.push_down_stays.proofs.Stayings.{says_so}
@@ -7,7 +8,7 @@ use Rattle.push_down_stays.proofs.stays.joined_left_deep.Goals as goal
 
 pub invariant_of-is_left_deep : goal.invariant_of-is_left_deep
 invariant_of-is_left_deep c =
-    record { stood = stood_expr (c.requires.0.shaped.stands _ c.in-Some.is).1 }
+    record { past = omega arith; stood = stood_expr (c.requires.0.shaped.stands _ c.in-Some.is).1 }
 
 pub is_left_deep-requires : goal.is_left_deep-requires
 is_left_deep-requires c =

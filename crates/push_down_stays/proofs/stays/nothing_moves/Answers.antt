@@ -14,19 +14,20 @@ use Rattle.push_down_stays.proofs.stays.nothing_moves.Goals as goal
 pub join_scope-sc-requires : goal.join_scope-sc-requires
 join_scope-sc-requires c =
     let q = c.requires in
-    record { kind = q.kind; lhs = q.lhs; rhs = q.rhs; keys = q.keys; condition = q.condition; placed = q.placed }
+    let p = q.placed in
+    record { kind = q.kind; lhs = q.lhs; rhs = q.rhs; keys = q.keys; condition = q.condition; standing = p.standing; rules = p.rules }
 
 pub moves_of-v-requires : goal.moves_of-v-requires
 moves_of-v-requires c =
     let q = c.requires in
-    let sc = c.join_scope-sc.ensures q.kind q.lhs q.rhs q.keys q.condition q.placed in
+    let sc = c.join_scope-sc.ensures q.kind q.lhs q.rhs q.keys q.condition q.placed.standing q.placed.rules in
     (asked sc q.reads, asked sc q.reads_own)
 
 pub returns : goal.returns
 returns c =
     λ k l r on f P G h q g. let s = schema l in
     let t = schema r in
-    let sc = c.join_scope-sc.ensures k l r on f h in
+    let sc = c.join_scope-sc.ensures k l r on f h.standing h.rules in
     let e = c.join_kind-kind.ensures k l r on f h in
     let σ : Name → Expr = λ x. col (ren (s ++ t) (map (swap on) (s ++ t)) x) in
     let v = c.moves_of-v.ensures k s t on P G σ e sc q g (renames_swap (s ++ t) on) in

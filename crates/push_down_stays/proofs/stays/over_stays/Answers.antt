@@ -3,7 +3,7 @@ use mathlib.Core.Path.{◌≡◌, sym, ap, ◌∙◌}
 use mathlib.Core.Bool.{true}
 use Rattle.std.proofs.Common.{rules}
 use Rattle.plan.specs.Kinds.{TableScan, Projection, Join, Aggregate, Window}
-use Rattle.image.specs.Tree.{Tree}
+use Rattle.image.specs.Tree.{Label, Tree}
 use Rattle.writing.proofs.Maps.{plan_is}
 use Rattle.push_down_arms.specs.Through.{takes_none}
 use Rattle.push_down_stays.proofs.Dispatches.{kind_of, numbered, over_scan, over_project, over_join, over_aggregate, over_window}
@@ -76,4 +76,5 @@ returns-in-Plan-SubqueryAlias c =
     λ e q h o. let y = kind_of c.args.plan c.kind.ensures h.placed.standing in
     let t : decided c.what_of.result ≡ true = search rules in
     through_kept e q o y c.what_of.ensures t
-    (c.takes_none.ensures ∙ ap (λ (t : Tree). takes_none t.label) (plan_is c.args.plan h.placed.standing))
+    (c.takes_none.ensures
+    ∙ ap (λ (l : Label). takes_none l) (c.label.ensures.label ∙ ap (λ (t : Tree). t.label) (plan_is c.args.plan h.placed.standing)))
