@@ -168,6 +168,33 @@ unfolding lets_all places_from
 all_let x s b n none = refl
 all_let x s b n (node l cs ns) = ap (λ b. lets x (record { label = l; below = cs }) && b) (all_let x s b (n + 1 + size cs) ns)
 
+-- the first of some trees, and the others
+module _ (x : Name) {f : Forest} {l : Label} {cs ns : Forest} (e : f ≡ node l cs ns) where
+  pub named_here : is_named x l ≡ true → named_in x f ≡ true
+  unfolding named_in
+  named_here h = rw (e, h) refl
+
+  pub named_next : is_named x l ≡ false → named_in x f ≡ named_in x ns
+  unfolding named_in
+  named_next h = rw (e, h) refl
+
+  pub lets_here : lets x (record { label = l; below = cs }) ≡ false → lets_all x f ≡ false
+  unfolding lets_all
+  lets_here h = rw (e, h) refl
+
+  pub lets_next : lets x (record { label = l; below = cs }) ≡ true → lets_all x f ≡ lets_all x ns
+  unfolding lets_all
+  lets_next h = rw (e, h) refl
+
+-- there is none
+pub named_none : (x : Name) {f : Forest} → f ≡ none → named_in x f ≡ false
+unfolding named_in
+named_none x e = rw e refl
+
+pub lets_none : (x : Name) {f : Forest} → f ≡ none → lets_all x f ≡ true
+unfolding lets_all
+lets_none x e = rw e refl
+
 -- what is found, is something
 pub some_found : {M : ℕ} (map : Stretch M) (f : Forest) (o : Option (Stretch M)) → Finds f map o → found o ≡ is_some f
 some_found map f None h = sym (ap is_some h)

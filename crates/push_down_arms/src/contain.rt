@@ -50,10 +50,15 @@ fn is_named<const N: usize>(tree: Stretch<'_, N>, c: ColumnReference) -> bool
 fn has_partition<const N: usize>(part: Stretch<'_, N>, c: ColumnReference) -> bool
     ensures { result ≡ partition_in (named c) (tree_of part.entry).below }
 {
-    match part.children().split_first() {
-        Some((_, mut columns)) => columns.any(|x| is_named(x, c)),
-        None => false,
+    let Some((_, columns)) = part.children().split_first() else {
+        return false;
+    };
+    for column in columns {
+        if is_named(column, c) {
+            return true;
+        }
     }
+    false
 }
 
 // Whether the part of a plan lets a conjunct pass that reads the field.
@@ -73,7 +78,12 @@ fn lets_pass<const N: usize>(part: Stretch<'_, N>, c: ColumnReference) -> bool
 fn all_let_pass<const N: usize>(plan: Stretch<'_, N>, c: ColumnReference) -> bool
     ensures { result ≡ lets_all (named c) (tree_of plan.entry).below }
 {
-    plan.children().all(|part| lets_pass(part, c))
+    for part in plan.children() {
+        if !lets_pass(part, c) {
+            return false;
+        }
+    }
+    true
 }
 
 // Whether a conjunct that reads the field may move below the plan.

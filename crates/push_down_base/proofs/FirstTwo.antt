@@ -7,11 +7,12 @@ use Prim.Native.Nat.{ℕ, ◌+◌, ◌-◌}
 use native.Mathlib.Omega.{arith}
 use Rattle.image.specs.Tree.{Label, Forest, node, Tree}
 use Rattle.image.specs.Room.{Low}
-use Rattle.image.specs.Subtrees.{Subtree, tree_of}
+use Rattle.image.specs.Subtrees.{tree_of}
+use Rattle.image.specs.declared.trees.Stretch.{Stretch}
 use Rattle.image.proofs.Room.{low_below, low_after}
 use Rattle.push_down_base.specs.Inputs.{Two}
 
-module _ {t a b : Subtree} (w : Two t a b) where
+module _ {N : ℕ} {t a b : Stretch N} (w : Two t a b) where
   pub two_are : {u v : Tree} {ns : Forest} → (tree_of t).below ≡ node u.label u.below (node v.label v.below ns)
       → (tree_of a ≡ u) × (tree_of b ≡ v)
   two_are e =

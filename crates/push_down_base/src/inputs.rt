@@ -1,7 +1,7 @@
 // The inputs of a plan: its last child, where it has one input; its first two children, where it has two.
 ghost use Rattle.push_down_base.specs.Inputs.{Firsts, LastOf};
 
-use image::trees::Subtree;
+use image::trees::{Stretch, Subtree};
 
 // The last child of a plan, if it has any.
 pub fn last_child(plan: Subtree) -> Option<Subtree>
@@ -11,7 +11,7 @@ pub fn last_child(plan: Subtree) -> Option<Subtree>
 }
 
 // The first two children of a tree, if it has as many.
-pub fn first_two(tree: Subtree) -> Option<(Subtree, Subtree)>
+pub fn first_two<'a, const N: usize>(tree: Stretch<'a, N>) -> Option<(Stretch<'a, N>, Stretch<'a, N>)>
     ensures { Firsts tree.entry result }
 {
     let (first, others) = tree.children().split_first()?;

@@ -13,7 +13,8 @@ use Prim.Native.Nat.{ℕ}
 use native.Mathlib.Omega.{arith}
 use Rattle.std.specs.Prelude as P
 use Rattle.image.specs.Room.{Wrote}
-use Rattle.image.specs.Subtrees.{Subtree, tree_of}
+use Rattle.image.specs.Subtrees.{tree_of}
+use Rattle.image.specs.declared.trees.Stretch.{Stretch}
 use Rattle.image.specs.Tree as T
 use Rattle.image.specs.Tree.{Label, Tree, node}
 use Rattle.plan.specs.Columns.{on_cols}
@@ -58,21 +59,21 @@ operated (fn p q r xs) = other refl (λ c. refl)
 -- ---- the operands
 
 -- the expression is o of two others, which stand there
-pub record Sides (o : Op) (e : Expr) (a b : Subtree) : Type 0 where
+pub record Sides {N : ℕ} (o : Op) (e : Expr) (a b : Stretch N) : Type 0 where
   pub lhs : Expr
   pub rhs : Expr
   pub is : e ≡ bin o lhs rhs
   pub left : tree_of a ≡ expr_tree lhs
   pub right : tree_of b ≡ expr_tree rhs
 
-sides : {t a b : Subtree} (o : Op) (e x y : Expr) → Two t a b → e ≡ bin o x y → tree_of t ≡ expr_tree e → Sides o e a b
+sides : {N : ℕ} {t a b : Stretch N} (o : Op) (e x y : Expr) → Two t a b → e ≡ bin o x y → tree_of t ≡ expr_tree e → Sides o e a b
 unfolding label_e kids_e
-sides {t} {a} {b} o e x y w is h =
+sides {N} {t} {a} {b} o e x y w is h =
     let below : (tree_of t).below ≡ kids_e (bin o x y) = ap (λ (u : Tree). u.below) h ∙ ap kids_e is in
     let k : (tree_of a ≡ expr_tree x) × (tree_of b ≡ expr_tree y) = two_are w below in
     record { lhs = x; rhs = y; is = is; left = k.0; right = k.1 }
 
-module _ {t a b : Subtree} {op : Connective} (w : Apart t op a b) (e : Expr) (h : tree_of t ≡ expr_tree e) where
+module _ {N : ℕ} {t a b : Stretch N} {op : Connective} (w : Apart t op a b) (e : Expr) (h : tree_of t ≡ expr_tree e) where
   top : P.Some op ≡ operator_of (label_e e)
   top = w.is ∙ ap (λ (u : Tree). operator_of u.label) h
 
@@ -92,7 +93,7 @@ module _ {t a b : Subtree} {op : Connective} (w : Apart t op a b) (e : Expr) (h 
       go q (disj x y k is) = sides or e x y w.two is h
       go q (other k is) = absurd (cc)
 
-module _ {o : Op} {e : Expr} {a b : Subtree} (u : Sides o e a b) where
+module _ {N : ℕ} {o : Op} {e : Expr} {a b : Stretch N} (u : Sides o e a b) where
   -- the columns of the operands
   pub held_left : (c : Name → Bool) → on_cols c e ≡ true → on_cols c u.lhs ≡ true
   unfolding on_cols
@@ -103,7 +104,7 @@ module _ {o : Op} {e : Expr} {a b : Subtree} (u : Sides o e a b) where
   held_right c h = and_r (on_cols c u.lhs) (on_cols c u.rhs) (rw u.is at h)
 
 -- an expression over fewer trees has no operator
-pub few_whole : (t : Subtree) → Few (tree_of t).below → (e : Expr) → tree_of t ≡ expr_tree e → operator_of (label_e e) ≡ P.None
+pub few_whole : {N : ℕ} (t : Stretch N) → Few (tree_of t).below → (e : Expr) → tree_of t ≡ expr_tree e → operator_of (label_e e) ≡ P.None
 unfolding kids_e
 few_whole t few e h = go (operated e)
   where
@@ -146,7 +147,7 @@ module _ (c : Name → Bool) (e : Expr) where
       go true k = cc
       go false k = cc
 
-module _ (c : Name → Bool) {e : Expr} {a b : Subtree} where
+module _ {N : ℕ} (c : Name → Bool) {e : Expr} {a b : Stretch N} where
   of_or : (u : Sides or e a b) → extract_or_clause c e ≡ both_or (extract_or_clause c u.lhs) (extract_or_clause c u.rhs)
   unfolding extract_or_clause
   of_or u = ap (extract_or_clause c) u.is
@@ -191,14 +192,14 @@ never : {A : Type 0} {a : Expr} → none ≡ some a → A
 never h = let z : ◌≡◌ {A = ℕ} 0 1 = cc in absurd (omega arith)
 
 -- an operand with its clause
-pub record Half (a : Subtree) (ns : List Name) (c : Name → Bool) (clause : Expr) : Type 0 where
+pub record Half {N : ℕ} (a : Stretch N) (ns : List Name) (c : Name → Bool) (clause : Expr) : Type 0 where
   pub expr : Expr
   pub is : tree_of a ≡ expr_tree expr
   pub held : on_cols (has ns) expr ≡ true
   pub yields : extract_or_clause c expr ≡ some clause
 
 -- both operands, of which a clause is made
-pub record Both (a b : Subtree) (ns : List Name) (c : Name → Bool) (e clause : Expr) : Type 0 where
+pub record Both {N : ℕ} (a b : Stretch N) (ns : List Name) (c : Name → Bool) (e clause : Expr) : Type 0 where
   pub op : Op
   pub lhs : Expr
   pub rhs : Expr
@@ -207,7 +208,7 @@ pub record Both (a b : Subtree) (ns : List Name) (c : Name → Bool) (e clause :
   pub is : clause ≡ bin op lhs rhs
   pub label : label_e e ≡ label_e (bin op lhs rhs)
 
-module _ {t a b : Subtree} {op : Connective} (w : Apart t op a b) (ns : List Name) (c : Name → Bool) (e d : Expr)
+module _ {N : ℕ} {t a b : Stretch N} {op : Connective} (w : Apart t op a b) (ns : List Name) (c : Name → Bool) (e d : Expr)
     (h : tree_of t ≡ expr_tree e) (held : on_cols (has ns) e ≡ true) (gives : extract_or_clause c e ≡ some d) where
   first_of : {o : Op} {x : Expr} (u : Sides o e a b) → extract_or_clause c u.lhs ≡ some x → Half a ns c x
   first_of u k = record { expr = u.lhs; is = u.left; held = held_left u (has ns) held; yields = k }

@@ -12,7 +12,9 @@ use lib.Dec.{eqb}
 use borrow.Author.Tests.{eq-eqb, ne_eqb}
 use Rattle.std.specs.Prelude as P
 use Rattle.std.specs.Option.{is_some}
-use Rattle.image.specs.Subtrees.{Subtree, tree_of}
+use Prim.Native.Nat.{ℕ}
+use Rattle.image.specs.Subtrees.{tree_of}
+use Rattle.image.specs.declared.trees.Stretch.{Stretch}
 use Rattle.image.specs.Tree.{Label, Forest, none, node}
 use Rattle.plan.specs.Lists.{◌&◌}
 use Rattle.plan.specs.Syntax.{Name}
@@ -53,7 +55,7 @@ few_pair z none h = refl
 few_pair z (node l cs none) h = refl
 few_pair z (node l cs (node m ds ns)) h = absurd h
 
-pub two_pair : {t a b : Subtree} (z : Name) → Two t a b
+pub two_pair : {N : ℕ} {t a b : Stretch N} (z : Name) → Two t a b
     → pair_in z (tree_of t).below ≡ pair_of z (column_of (tree_of a).label) (column_of (tree_of b).label) O.none
 unfolding pair_in
 two_pair z w = rw w.is

@@ -2,7 +2,8 @@
 use Rattle.std.specs.Prelude as P
 use Rattle.std.specs.Prelude.{◌≡◌, Bool, true, false, cond, ℕ, eqb}
 use Rattle.std.proofs.Math.Option.{Option, none, some}
-use Rattle.image.specs.Subtrees.{Subtree, tree_of}
+use Rattle.image.specs.Subtrees.{tree_of}
+use Rattle.image.specs.declared.trees.Stretch.{Stretch}
 use Rattle.image.specs.Tree.{Label}
 use Rattle.plan.specs.Kinds.{number_e, Binary}
 use Rattle.plan.specs.Syntax.{Name, Expr, and, or}
@@ -37,11 +38,11 @@ or_clause c e = cond (is_or e) (extract_or_clause c e) none
 -- ---- taken apart
 
 -- a and b are the operands of t, an And or an Or
-pub record Apart (t : Subtree) (op : Connective) (a b : Subtree) : Type 0 where
+pub record Apart {N : ℕ} (t : Stretch N) (op : Connective) (a b : Stretch N) : Type 0 where
   pub is : P.Some op ≡ operator_of (tree_of t).label
   pub two : Two t a b
 
 -- the operator of t and its operands, or an expression t is neither an And nor an Or
-abbrev pub Operands : Subtree → P.Option (Connective × Subtree × Subtree) → Type 0
+abbrev pub Operands : {N : ℕ} → Stretch N → P.Option (Connective × Stretch N × Stretch N) → Type 0
 Operands t P.None = (e : Expr) → tree_of t ≡ expr_tree e → operator_of (label_e e) ≡ P.None
 Operands t (P.Some p) = Apart t p.0 p.1 p.2

@@ -9,7 +9,7 @@ use Rattle.conjuncts.specs.Items.{Conjuncts, listed, Holds, Item, clause_by, rep
 use Rattle.push_down_join.specs.Clauses.{or_clause}
 use Rattle.utils.specs.Fields.{Fields, Names}
 use Rattle.utils.specs.Masks.{Masks}
-use Rattle.image.specs.Subtrees.{Subtree}
+use Rattle.image.specs.declared.trees.Stretch.{Stretch}
 use Rattle.writing.specs.Maps.{MapsTo}
 use Rattle.writing.specs.Pushed.{Pushed, Each}
 
@@ -56,7 +56,7 @@ pub record SomeSided (s : List ℕ) (c : Conjuncts) : Type 0 where
   pub most : c.len ≤ max_list
 
 -- the map is σ, and `side` has those of the names ns, which `fields` holds, that pass t
-pub record Side (map : Subtree) (fields : Fields) (side : ℕ) (σ : Name → Expr) (ns : List Name) (t : Name → Bool) : Type 0 where
+pub record Side {M : ℕ} (map : Stretch M) (fields : Fields) (side : ℕ) (σ : Name → Expr) (ns : List Name) (t : Name → Bool) : Type 0 where
   pub maps : MapsTo map σ
   pub names : Names fields ns
   pub masks : Masks side ns t

@@ -22,7 +22,7 @@ use conjuncts::lists::{Conjuncts, add};
 use image::copying::Writer;
 use image::limits::{MAX_RECORDS, NO_ROOM};
 use image::records::Label;
-use image::trees::Subtree;
+use image::trees::{Stretch, Subtree};
 use plan::kinds::BINARY_EXPR;
 use plan::words::{AND, OR};
 use push_down_base::inputs::first_two;
@@ -89,7 +89,9 @@ pub fn operator(label: Label) -> Option<Connective>
 }
 
 // An And or an Or, taken apart.
-fn operands(tree: Subtree) -> Option<(Connective, Subtree, Subtree)>
+fn operands<'a, const N: usize>(
+    tree: Stretch<'a, N>,
+) -> Option<(Connective, Stretch<'a, N>, Stretch<'a, N>)>
     ensures { Operands tree.entry result }
 {
     let op = operator(tree.label())?;
@@ -99,7 +101,7 @@ fn operands(tree: Subtree) -> Option<(Connective, Subtree, Subtree)>
 
 // Whether an expression yields a clause that reads fields of the side only; `copy_clause` writes it.
 // An AND keeps each operand that yields, an OR yields only if both its operands do.
-pub fn extract_or_clause(tree: Subtree, f: &Fields, side: FieldSet) -> bool
+pub fn extract_or_clause<const N: usize>(tree: Stretch<'_, N>, f: &Fields, side: FieldSet) -> bool
     requires { f.now.len ≤ max_fields }
     ensures { (e : Expr) (ns : List Name) (c : Name → Bool) → tree_of tree.entry ≡ expr_tree e → Names f.now ns
         → on_cols (has ns) e ≡ true → Masks side ns c → result ≡ yields (extract_or_clause c e) }
@@ -114,7 +116,7 @@ pub fn extract_or_clause(tree: Subtree, f: &Fields, side: FieldSet) -> bool
 }
 
 // Whether an operand is part of the clause of an AND or OR that yields one: of an OR each is, of an AND each that yields.
-fn is_kept(op: Connective, tree: Subtree, f: &Fields, side: FieldSet) -> bool
+fn is_kept<const N: usize>(op: Connective, tree: Stretch<'_, N>, f: &Fields, side: FieldSet) -> bool
     requires { f.now.len ≤ max_fields }
     ensures { (e : Expr) (ns : List Name) (c : Name → Bool) → tree_of tree.entry ≡ expr_tree e → Names f.now ns
         → on_cols (has ns) e ≡ true → Masks side ns c → result ≡ kept op (extract_or_clause c e) }
@@ -126,7 +128,7 @@ fn is_kept(op: Connective, tree: Subtree, f: &Fields, side: FieldSet) -> bool
 }
 
 // Writes that clause. There must be one.
-pub fn copy_clause(tree: Subtree, f: &Fields, side: FieldSet, out: &mut Writer, level: usize)
+pub fn copy_clause<const N: usize>(tree: Stretch<'_, N>, f: &Fields, side: FieldSet, out: &mut Writer, level: usize)
     requires len_le_max_fields { f.now.len ≤ max_fields }
     requires low { Low (level + 1) (tree_of tree).below }
     ensures same { out.new.bytes.ghost_name ≡ out.old.bytes.ghost_name }

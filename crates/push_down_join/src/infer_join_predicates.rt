@@ -15,7 +15,7 @@ ghost use Rattle.push_down_join.specs.Scopes.{Asked, Scopes, keyed};
 use crate::column_checker::Scope;
 use crate::lr_is_preserved::is_inner;
 use conjuncts::lists::{Conjuncts, empty};
-use image::trees::Subtree;
+use image::trees::Stretch;
 use image::words::wide;
 use plan::kinds::{COLUMN, PAIR};
 use plan::words::JoinKind;
@@ -38,7 +38,7 @@ pub fn infer_join_predicates(s: &[u8], c: Conjuncts, sc: &Scope, kind: JoinKind)
 }
 
 // The name of an expression, if it is a column.
-fn as_column(tree: Subtree) -> Option<ColumnReference>
+fn as_column<const N: usize>(tree: Stretch<'_, N>) -> Option<ColumnReference>
     ensures { name_of result ≡ column_of (tree_of tree.entry).label }
 {
     let l = tree.label();
@@ -67,7 +67,7 @@ fn pair_of(
 }
 
 // The partner of the column x in a part of a join, if that is a pair of keys.
-fn partner_in(part: Subtree, x: ColumnReference) -> Option<ColumnReference>
+fn partner_in<const N: usize>(part: Stretch<'_, N>, x: ColumnReference) -> Option<ColumnReference>
     ensures { name_of result ≡ key_in (named x) (tree_of part.entry).label (tree_of part.entry).below }
 {
     if part.kind() != PAIR {
@@ -78,7 +78,7 @@ fn partner_in(part: Subtree, x: ColumnReference) -> Option<ColumnReference>
 }
 
 // The partner of the column x in the first pair of keys of a join that holds it.
-fn partner(plan: Subtree, x: ColumnReference) -> Option<ColumnReference>
+fn partner<const N: usize>(plan: Stretch<'_, N>, x: ColumnReference) -> Option<ColumnReference>
     ensures { name_of result ≡ partner_in (named x) (tree_of plan.entry).below }
 {
     for child in plan.children() {
@@ -98,7 +98,7 @@ pub struct Swapped {
 }
 
 // The partners of the fields by the keys of a join.
-pub fn swap_keys(plan: Subtree, fields: Fields) -> Swapped
+pub fn swap_keys<const N: usize>(plan: Stretch<'_, N>, fields: Fields) -> Swapped
     requires { fields.len ≤ max_fields }
     ensures { (ns : List Name) → Names fields ns → Swaps result (tree_of plan.entry).below ns }
 {

@@ -25,7 +25,7 @@ use crate::extract_or_clause::copy_or_clause;
 use conjuncts::items::CLAUSE;
 use conjuncts::lists::{Conjuncts, item_at};
 use image::copying::Writer;
-use image::trees::Subtree;
+use image::trees::{Stretch, Subtree};
 use plan::kinds::{BINARY_EXPR, FILTER, PAIR};
 use plan::words::AND;
 use utils::schema_columns::Fields;
@@ -44,9 +44,9 @@ pub struct Moves {
 }
 
 // Writes what the item n of a side's list stands for.
-pub fn copy_sided(
+pub fn copy_sided<const M: usize>(
     s: &[u8],
-    map: Subtree,
+    map: Stretch<'_, M>,
     n: usize,
     fields: &Fields,
     side: FieldSet,
@@ -69,9 +69,9 @@ pub fn copy_sided(
 }
 
 // Writes the first k items of a side's list, joined left-deep.
-fn copy_sided_first(
+fn copy_sided_first<const M: usize>(
     s: &[u8],
-    map: Subtree,
+    map: Stretch<'_, M>,
     c: &Conjuncts,
     k: usize,
     fields: &Fields,
@@ -100,9 +100,9 @@ fn copy_sided_first(
 }
 
 // Writes the items of a side's list, joined left-deep.
-fn copy_sided_joined(
+fn copy_sided_joined<const M: usize>(
     s: &[u8],
-    map: Subtree,
+    map: Stretch<'_, M>,
     c: &Conjuncts,
     fields: &Fields,
     side: FieldSet,
@@ -122,10 +122,10 @@ fn copy_sided_joined(
 }
 
 // Writes a plan under a Filter of a side's list, if it has any items.
-pub fn copy_sided_filtered(
+pub fn copy_sided_filtered<const N: usize, const M: usize>(
     s: &[u8],
-    input: Subtree,
-    map: Subtree,
+    input: Stretch<'_, N>,
+    map: Stretch<'_, M>,
     c: Conjuncts,
     fields: &Fields,
     side: FieldSet,

@@ -1,4 +1,5 @@
 -- `testing::test_filter` meets its contract.
+use native.Mathlib.Omega.{arith}
 use mathlib.Core.Path.{ap, ◌∙◌}
 use mathlib.Core.List.{[]}
 use Rattle.image.specs.Tree.{Tree}
@@ -9,12 +10,12 @@ use Rattle.call_row_test.proofs.testing.test_filter.Goals as goal
 pub schema_columns-fields-requires : goal.schema_columns-fields-requires
 schema_columns-fields-requires c =
     let w = c.requires in
-    record { plan = w.1; is = (c.in-Some.ensures w.0 w.1 w.2).1 }
+    (omega arith, record { plan = w.1; is = (c.in-Some.ensures w.0 w.1 w.2).1 })
 
 pub field_types-types-requires : goal.field_types-types-requires
 field_types-types-requires c =
     let w = c.requires in
-    (all_fields w.0 w.1 w.2.sound (c.schema_columns-fields.ensures w.1 [] (c.in-Some.ensures w.0 w.1 w.2).1 c.no_fields.ensures)).1
+    (omega arith, (all_fields w.0 w.1 w.2.sound (c.schema_columns-fields.ensures w.1 [] (c.in-Some.ensures w.0 w.1 w.2).1 c.no_fields.ensures)).1)
 
 pub slice_bounds-types-end : goal.slice_bounds-types-end
 slice_bounds-types-end c =

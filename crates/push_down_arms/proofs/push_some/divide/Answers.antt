@@ -1,3 +1,4 @@
+use native.Mathlib.Omega.{arith}
 use mathlib.Core.List.{[]}
 use Rattle.plan.specs.Schema.{has, schema}
 use Rattle.plan.specs.Trees.{plan_tree}
@@ -10,12 +11,13 @@ use Rattle.push_down_arms.proofs.Divisions.{fields_few, divides_of}
 use Rattle.push_down_arms.proofs.push_some.divide.Goals as goal
 
 pub schema_columns-fields-requires : goal.schema_columns-fields-requires
-schema_columns-fields-requires c = record { plan = c.requires.plan; is = plan_is c.args.plan c.requires.rests.placed.standing }
+schema_columns-fields-requires c =
+    (omega arith, record { plan = c.requires.plan; is = plan_is c.args.plan c.requires.rests.placed.standing })
 
 pub movable-side-requires : goal.movable-side-requires
 movable-side-requires c =
     let h = c.requires.rests.placed in
-    names_fit (c.schema_columns-fields.ensures c.requires.plan [] (plan_is c.args.plan h.standing) c.no_fields.ensures) (fields_few h)
+    (omega arith, names_fit (c.schema_columns-fields.ensures c.requires.plan [] (plan_is c.args.plan h.standing) c.no_fields.ensures) (fields_few h))
 
 pub select_side-requires-clause-len_le_max_fields : goal.select_side-requires-clause-len_le_max_fields
 select_side-requires-clause-len_le_max_fields c =

@@ -11,7 +11,8 @@ use Rattle.push_down_arms.proofs.subquery_alias.copy_renamed.Goals as goal
 
 pub schema_columns-to-requires : goal.schema_columns-to-requires
 schema_columns-to-requires c =
-    let o = c.requires.renaming in record { plan = o.plan; is = plan_is c.args.input o.renamed.standing }
+    let o = c.requires.renaming in
+    (omega arith, record { plan = o.plan; is = plan_is c.args.input o.renamed.standing })
 
 pub write_renames-requires : goal.write_renames-requires
 write_renames-requires c =
@@ -21,18 +22,12 @@ write_renames-requires c =
 pub invariant_of-map : goal.invariant_of-map
 invariant_of-map c = let r = c.write_renames.ensures.stood in record { past = omega arith; stood = record { tree = r.tree; at = r.at } }
 
-pub make_filter-requires-clause-predicated : goal.make_filter-requires-clause-predicated
-make_filter-requires-clause-predicated c =
+pub make_filter-requires : goal.make_filter-requires
+make_filter-requires c =
     let o = c.requires.renaming in
     let h = o.renamed in
     let σ : Name → Expr = λ x. col (ren o.over (schema o.plan) x) in
-    record { mapping = σ; expr = replace_cols σ o.expr; predicate = whole_left (h.changed σ); most = h.most }
-
-pub make_filter-requires-clause-over : goal.make_filter-requires-clause-over
-make_filter-requires-clause-over c = read_over _ refl refl c.write_renames.ensures.stood (omega (arith, c.requires.shallow))
-
-pub make_filter-requires-clause-deep : goal.make_filter-requires-clause-deep
-make_filter-requires-clause-deep c = plan_deep c.args.input c.requires.renaming.renamed.standing
+    (omega arith, (omega arith, (record { mapping = σ; expr = replace_cols σ o.expr; predicate = whole_left (h.changed σ); most = h.most }, (read_over _ refl refl c.write_renames.ensures.stood (omega (arith, c.requires.shallow)), plan_deep c.args.input c.requires.renaming.renamed.standing))))
 
 pub returns-clause-wrote : goal.returns-clause-wrote
 unfolding renamed

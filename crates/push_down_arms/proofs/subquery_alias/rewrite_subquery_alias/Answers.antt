@@ -1,3 +1,4 @@
+use native.Mathlib.Omega.{arith}
 use mathlib.Core.Path.{◌≡◌, refl, ap, ◌∙◌}
 use Rattle.image.specs.Tree.{Tree}
 use Rattle.image.proofs.Room.{wrote_one}
@@ -13,7 +14,8 @@ use Rattle.push_down_arms.proofs.Renames.{alias_few, alias_wide, alias_lists, al
 use Rattle.push_down_arms.proofs.subquery_alias.rewrite_subquery_alias.Goals as goal
 
 pub schema_columns-from-requires : goal.schema_columns-from-requires
-schema_columns-from-requires c = record { plan = _; is = plan_is c.args.plan c.requires.over_alias.rests.placed.standing }
+schema_columns-from-requires c =
+    (omega arith, record { plan = _; is = plan_is c.args.plan c.requires.over_alias.rests.placed.standing })
 
 pub copy_renamed-requires-clause-renaming : goal.copy_renamed-requires-clause-renaming
 unfolding rewrite_filter schema

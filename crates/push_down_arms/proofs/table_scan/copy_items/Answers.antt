@@ -1,3 +1,4 @@
+use native.Mathlib.Omega.{arith}
 use mathlib.Core.Path.{refl, ◌∙◌}
 use lib.ListN.{get_or}
 use Rattle.conjuncts.specs.Items.{FALSE}
@@ -12,17 +13,19 @@ use Rattle.push_down_arms.proofs.table_scan.copy_items.Goals as goal
 pub loop-n-init : goal.loop-n-init
 loop-n-init c = (refl, λ es h. copied_start c.args.out.now.counted)
 
-pub copy_item-requires-clause-one : goal.copy_item-requires-clause-one
-copy_item-requires-clause-one c =
-    let p = c.requires.known.0 in
-    record {
-      mapping = map_of c.requires.known.1.plan;
-      expr = _;
-      pushed = pushed_plain (walk_item p.lists p.most c.items-n-items.ensures _ _ c.loop-n-test.true c.from.ensures);
-    }
-
-pub copy_item-requires-clause-over : goal.copy_item-requires-clause-over
-copy_item-requires-clause-over c = plan_over c.requires.known.1.standing c.requires.shallow
+pub copy_item-requires : goal.copy_item-requires
+copy_item-requires c =
+    let p = c.requires.known.0 in (
+      omega arith,
+      (
+        record {
+          mapping = map_of c.requires.known.1.plan;
+          expr = _;
+          pushed = pushed_plain (walk_item p.lists p.most c.items-n-items.ensures _ _ c.loop-n-test.true c.from.ensures);
+        },
+        plan_over c.requires.known.1.standing c.requires.shallow,
+      ),
+    )
 
 pub loop-n-preserved : goal.loop-n-preserved
 loop-n-preserved c = (

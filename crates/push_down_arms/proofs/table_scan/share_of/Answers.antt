@@ -1,4 +1,5 @@
 -- `table_scan::share_of` meets its contract.
+use native.Mathlib.Omega.{arith}
 use Rattle.plan.specs.Schema.{schema}
 use Rattle.plan.specs.Syntax.{scan}
 use Rattle.rewrite.specs.PushDownFilter.{marked}
@@ -8,7 +9,8 @@ use Rattle.push_down_arms.proofs.ScanShares.{fields_most, fields_count, some_sca
 use Rattle.push_down_arms.proofs.table_scan.share_of.Goals as goal
 
 pub schema_columns-fields-requires : goal.schema_columns-fields-requires
-schema_columns-fields-requires c = record { plan = _; is = plan_is c.args.plan c.requires.rests.placed.standing }
+schema_columns-fields-requires c =
+    (omega arith, record { plan = _; is = plan_is c.args.plan c.requires.rests.placed.standing })
 
 pub marked_fields-marked-requires : goal.marked_fields-marked-requires
 marked_fields-marked-requires c =

@@ -14,18 +14,20 @@ returns-then-above-eq0-clause-wrote c =
     λ t fs es xs ys h k a b. rw (filters_none xs (scan t fs ys) (lists_length a c.requires.some_scan.1.most ∙ c.if-above-eq0.true))
     (c.write_scan.ensures.wrote t fs es ys h k b)
 
-pub copy_joined-requires-clause-some : goal.copy_joined-requires-clause-some
-copy_joined-requires-clause-some c =
-    let s = c.requires.some_scan.0 in
-    record {
-      mapping = map_of (scan s.table s.fields s.filters);
-      exprs = _;
-      pushes = pushes_of c.requires.some_scan.1.lists;
-      most = c.requires.some_scan.1.most;
-    }
-
-pub copy_joined-requires-clause-over : goal.copy_joined-requires-clause-over
-copy_joined-requires-clause-over c = plan_over c.requires.some_scan.0.placed.standing (omega (arith, c.requires.shallow))
+pub copy_joined-requires : goal.copy_joined-requires
+copy_joined-requires c =
+    let s = c.requires.some_scan.0 in (
+      omega arith,
+      (
+        record {
+          mapping = map_of (scan s.table s.fields s.filters);
+          exprs = _;
+          pushes = pushes_of c.requires.some_scan.1.lists;
+          most = c.requires.some_scan.1.most;
+        },
+        (omega arith, plan_over c.requires.some_scan.0.placed.standing (omega (arith, c.requires.shallow))),
+      ),
+    )
 
 pub returns-clause-wrote : goal.returns-clause-wrote
 returns-clause-wrote c =

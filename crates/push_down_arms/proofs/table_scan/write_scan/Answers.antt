@@ -10,7 +10,8 @@ overflow_add-plan-2 c =
     let p = c.requires.some_scan.0 in omega (arith, p.placed.standing.small, p.count, scan_few p.placed)
 
 pub copy_some-requires : goal.copy_some-requires
-copy_some-requires c = deep_low _ (omega (arith, c.requires.shallow)) (plan_deep c.args.plan c.requires.some_scan.0.placed.standing)
+copy_some-requires c =
+    (omega arith, deep_low _ (omega (arith, c.requires.shallow)) (plan_deep c.args.plan c.requires.some_scan.0.placed.standing))
 
 pub returns-clause-wrote : goal.returns-clause-wrote
 returns-clause-wrote c =

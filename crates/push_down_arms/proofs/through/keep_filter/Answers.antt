@@ -6,17 +6,11 @@ use Rattle.push_down_base.proofs.Answering.{answers, filter_few}
 use native.Mathlib.Omega.{arith}
 use Rattle.push_down_arms.proofs.through.keep_filter.Goals as goal
 
-pub make_filter-requires-clause-predicated : goal.make_filter-requires-clause-predicated
-make_filter-requires-clause-predicated c =
+pub make_filter-requires : goal.make_filter-requires
+make_filter-requires c =
     let o = c.requires.resting in
     let h = o.rests in
-    record { mapping = map_of o.plan; expr = o.expr; predicate = shaped_predicate (map_of o.plan) h.shaped; most = h.shaped.most }
-
-pub make_filter-requires-clause-over : goal.make_filter-requires-clause-over
-make_filter-requires-clause-over c = plan_over c.requires.resting.rests.placed.standing (omega (arith, c.requires.arm))
-
-pub make_filter-requires-clause-deep : goal.make_filter-requires-clause-deep
-make_filter-requires-clause-deep c = plan_deep c.args.plan c.requires.resting.rests.placed.standing
+    (omega arith, (omega arith, (record { mapping = map_of o.plan; expr = o.expr; predicate = shaped_predicate (map_of o.plan) h.shaped; most = h.shaped.most }, (plan_over c.requires.resting.rests.placed.standing (omega (arith, c.requires.arm)), plan_deep c.args.plan c.requires.resting.rests.placed.standing))))
 
 pub returns-clause-answers : goal.returns-clause-answers
 returns-clause-answers c =

@@ -1,3 +1,4 @@
+use native.Mathlib.Omega.{arith}
 use mathlib.Core.Path.{refl, ap, ◌∙◌}
 use borrow.Author.Rules.{rules}
 use Rattle.image.specs.Subtrees.{forest}
@@ -15,7 +16,8 @@ use Rattle.push_down_arms.proofs.Unions.{spread_of, all_inputs, first, renames_f
 use Rattle.push_down_arms.proofs.union.rewrite_union.Goals as goal
 
 pub schema_columns-from-requires : goal.schema_columns-from-requires
-schema_columns-from-requires c = record { plan = _; is = plan_is c.args.plan c.requires.over_union.rests.placed.standing }
+schema_columns-from-requires c =
+    (omega arith, record { plan = _; is = plan_is c.args.plan c.requires.over_union.rests.placed.standing })
 
 pub loop-input-init : goal.loop-input-init
 loop-input-init c =

@@ -6,7 +6,8 @@ use Rattle.push_down_arms.proofs.Trees.{map_low}
 use Rattle.push_down_arms.proofs.with_filters.write_below.Goals as goal
 
 pub copy_some-requires : goal.copy_some-requires
-copy_some-requires c = map_low (over_at c.requires.over (omega arith))
+copy_some-requires c =
+    (omega arith, map_low (over_at c.requires.over (omega arith)))
 
 pub with_filters-requires-clause-over : goal.with_filters-requires-clause-over
 with_filters-requires-clause-over c = over_at c.requires.over (omega arith)

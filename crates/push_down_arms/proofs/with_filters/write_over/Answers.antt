@@ -13,12 +13,9 @@ pub returns-then-is_gone-clause-wrote : goal.returns-then-is_gone-clause-wrote
 returns-then-is_gone-clause-wrote c =
     λ σ m a b h k f q n g e x y. rw (none_left h (sym c.is_gone.ensures ∙ c.if-is_gone.true)) (c.write_below.ensures.wrote σ m b k f q n g e x y)
 
-pub copy_predicate-requires-clause-predicated : goal.copy_predicate-requires-clause-predicated
-copy_predicate-requires-clause-predicated c =
-    predicated c.requires.writable.0 (sym c.is_gone.ensures ∙ c.if-is_gone.false)
-
-pub copy_predicate-requires-clause-over : goal.copy_predicate-requires-clause-over
-copy_predicate-requires-clause-over c = over_at c.requires.over (omega arith)
+pub copy_predicate-requires : goal.copy_predicate-requires
+copy_predicate-requires c =
+    (omega arith, (predicated c.requires.writable.0 (sym c.is_gone.ensures ∙ c.if-is_gone.false), over_at c.requires.over (omega arith)))
 
 pub write_below-requires-2-clause-over : goal.write_below-requires-2-clause-over
 write_below-requires-2-clause-over c = over_at c.requires.over (omega arith)

@@ -17,14 +17,14 @@ schema_columns-left-requires c =
     let p = c.requires in
     let h = plan_standing c.args.plan refl refl p.standing in
     let i = inputs_are (c.inputs.ensures p.kind p.lhs p.rhs p.keys p.condition h) p.kind p.lhs p.rhs p.keys p.condition h in
-    record { plan = p.lhs; is = i.0 }
+    (omega arith, record { plan = p.lhs; is = i.0 })
 
 pub schema_columns-fields-requires : goal.schema_columns-fields-requires
 schema_columns-fields-requires c =
     let p = c.requires in
     let h = plan_standing c.args.plan refl refl p.standing in
     let i = inputs_are (c.inputs.ensures p.kind p.lhs p.rhs p.keys p.condition h) p.kind p.lhs p.rhs p.keys p.condition h in
-    record { plan = p.rhs; is = i.1 }
+    (omega arith, record { plan = p.rhs; is = i.1 })
 
 pub swap_keys-swapped-requires : goal.swap_keys-swapped-requires
 swap_keys-swapped-requires c =
@@ -32,7 +32,7 @@ swap_keys-swapped-requires c =
     let h = plan_standing c.args.plan refl refl p.standing in
     let i = inputs_are (c.inputs.ensures p.kind p.lhs p.rhs p.keys p.condition h) p.kind p.lhs p.rhs p.keys p.condition h in
     let first = c.schema_columns-left.ensures p.lhs [] i.0 c.no_fields.ensures in
-    names_fit (c.schema_columns-fields.ensures p.rhs (schema p.lhs) i.1 first) (join_short p.kind p.lhs p.rhs p.keys p.condition p.rules)
+    (omega arith, names_fit (c.schema_columns-fields.ensures p.rhs (schema p.lhs) i.1 first) (join_short p.kind p.lhs p.rhs p.keys p.condition p.rules))
 
 pub scope_of-requires : goal.scope_of-requires
 scope_of-requires c =

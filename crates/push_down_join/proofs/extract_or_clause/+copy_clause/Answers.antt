@@ -7,15 +7,15 @@ use Rattle.push_down_join.proofs.Extracting.{other_whole, wrote_clause}
 use Rattle.push_down_join.proofs.extract_or_clause.+copy_clause.Goals as goal
 
 pub returns-then-out-ge-MAX_RECORDS-clause-wrote : goal.returns-then-out-ge-MAX_RECORDS-clause-wrote
-returns-then-out-ge-MAX_RECORDS-clause-wrote t c =
+returns-then-out-ge-MAX_RECORDS-clause-wrote g t c =
     λ e k ns d h g held m gives. wrote_past _ _ _ (expr_tree k) c.args.out.now.long c.if-out-ge-MAX_RECORDS.true
 
 pub returns-in_default-clause-wrote : goal.returns-in_default-clause-wrote
-returns-in_default-clause-wrote t c =
+returns-in_default-clause-wrote g t c =
     λ e k ns d h g held m gives. rw (← other_whole d e (sym (c.in_default.ensures e h)) refl gives, ← h) c.copy_tree.ensures.wrote
 
 pub returns-then-not-is_kept-clause-wrote : goal.returns-then-not-is_kept-clause-wrote
-returns-then-not-is_kept-clause-wrote t c =
+returns-then-not-is_kept-clause-wrote g t c =
     λ e k ns d h g held m gives.
     let x =
     only_last c.in-Some.ensures ns d e k h held gives
@@ -23,7 +23,7 @@ returns-then-not-is_kept-clause-wrote t c =
     c.copy_clause.ensures.wrote x.expr k ns d x.is g x.held m x.yields
 
 pub returns-then-not-is_kept-2-clause-wrote : goal.returns-then-not-is_kept-2-clause-wrote
-returns-then-not-is_kept-2-clause-wrote t c =
+returns-then-not-is_kept-2-clause-wrote g t c =
     λ e k ns d h g held m gives.
     let x =
     only_first c.in-Some.ensures ns d e k h held gives
@@ -31,7 +31,7 @@ returns-then-not-is_kept-2-clause-wrote t c =
     c.copy_clause-then-not-is_kept-2.ensures.wrote x.expr k ns d x.is g x.held m x.yields
 
 pub returns-clause-wrote : goal.returns-clause-wrote
-returns-clause-wrote t c =
+returns-clause-wrote g t c =
     λ e k ns d h g held m gives.
     let x =
     both_of c.in-Some.ensures ns d e k h held gives

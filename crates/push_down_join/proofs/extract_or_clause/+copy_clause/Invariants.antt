@@ -4,4 +4,4 @@ use Rattle.image.specs.Tree.{size}
 use Rattle.push_down_join.proofs.extract_or_clause.+copy_clause.Given as goal
 
 abbrev pub decreases-copy_clause : goal.decreases-copy_clause
-decreases-copy_clause l = size (tree_of l.tree).below
+decreases-copy_clause g l = size (tree_of l.tree).below

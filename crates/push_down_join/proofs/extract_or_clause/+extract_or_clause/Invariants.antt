@@ -4,4 +4,4 @@ use Rattle.image.specs.Tree.{size}
 use Rattle.push_down_join.proofs.extract_or_clause.+extract_or_clause.Given as goal
 
 abbrev pub decreases-extract_or_clause : goal.decreases-extract_or_clause
-decreases-extract_or_clause l = size (tree_of l.tree).below
+decreases-extract_or_clause g l = size (tree_of l.tree).below

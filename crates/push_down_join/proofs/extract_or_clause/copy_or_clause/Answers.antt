@@ -5,10 +5,10 @@ use Rattle.writing.proofs.Maps.{deep_low, expr_deep, expr_is}
 use Rattle.push_down_join.proofs.Extracting.{or_whole}
 use Rattle.push_down_join.proofs.extract_or_clause.copy_or_clause.Goals as goal
 
-pub copy_clause-requires-clause-low : goal.copy_clause-requires-clause-low
-copy_clause-requires-clause-low c =
+pub copy_clause-requires : goal.copy_clause-requires
+copy_clause-requires c =
     let x : Subtree = record { image = c.args.s; base = 0; number = c.args.n; past = omega arith; stood = c.copy_clause-arg-2-1.given.0 } in
-    deep_low _ c.requires.shallow (expr_deep x c.requires.there.standing)
+    (omega arith, (c.requires.len_le_max_fields, deep_low _ c.requires.shallow (expr_deep x c.requires.there.standing)))
 
 pub returns-clause-wrote : goal.returns-clause-wrote
 returns-clause-wrote c =

@@ -6,4 +6,4 @@ use Rattle.push_down_join.specs.Partners.{partner_in}
 use Rattle.push_down_join.proofs.infer_join_predicates.partner.Given as goal
 
 abbrev pub invariant-loop-child : goal.invariant-loop-child
-invariant-loop-child l = partner_in (named l.x) (tree_of l.plan).below ≡ partner_in (named l.x) (forest l.child-iterator)
+invariant-loop-child g l = partner_in (named l.x) (tree_of l.plan).below ≡ partner_in (named l.x) (forest l.child-iterator)

@@ -5,10 +5,10 @@ use Rattle.push_down_join.proofs.Growing.{items_at, items_count, swap_start, swa
 use Rattle.push_down_join.proofs.infer_join_predicates.swap_keys.Goals as goal
 
 pub loop-i-init : goal.loop-i-init
-loop-i-init c = λ ns k. rw c.empty-alone.ensures (swap_start c.no_fields-to.ensures)
+loop-i-init g c = λ ns k. rw c.empty-alone.ensures (swap_start c.no_fields-to.ensures)
 
 pub loop-i-preserved : goal.loop-i-preserved
-loop-i-preserved c =
+loop-i-preserved g c =
     λ ns k.
     let le = c.requires in
     let e = c.items-x-items.ensures in
@@ -18,5 +18,5 @@ loop-i-preserved c =
     (c.loop-i.invariant ns k)
 
 pub returns : goal.returns
-returns c =
+returns g c =
     λ ns k. swap_end (omega (arith, items_count k c.requires c.items-x-items.ensures, c.loop-i-test.false)) (c.loop-i.invariant ns k)

@@ -7,4 +7,4 @@ use Rattle.push_down_join.proofs.Growing.{Swapping}
 use Rattle.push_down_join.proofs.infer_join_predicates.swap_keys.Given as goal
 
 abbrev pub invariant-loop-i : goal.invariant-loop-i
-invariant-loop-i l = (ns : List Name) → Names l.fn.fields ns → Swapping l.to l.alone (tree_of l.plan).below ns l.i
+invariant-loop-i g l = (ns : List Name) → Names l.fn.fields ns → Swapping l.to l.alone (tree_of l.plan).below ns l.i

@@ -5,9 +5,9 @@ use Rattle.writing.proofs.Pushing.{pushes_of}
 use Rattle.push_down_join.proofs.JoinParts.{conditions_none, conditions_some}
 use Rattle.push_down_join.proofs.write_sides.copy_conditions.Goals as goal
 
-pub copy_joined-requires-clause-some : goal.copy_joined-requires-clause-some
-copy_joined-requires-clause-some c =
-    record { mapping = λ x. col x; exprs = c.requires.known.exprs; pushes = pushes_of c.requires.known.lists; most = c.requires.known.most }
+pub copy_joined-requires : goal.copy_joined-requires
+copy_joined-requires c =
+    (omega arith, (record { mapping = λ x. col x; exprs = c.requires.known.exprs; pushes = pushes_of c.requires.known.lists; most = c.requires.known.most }, (omega arith, c.requires.over)))
 
 pub returns-then-c-ne0-clause-wrote : goal.returns-then-c-ne0-clause-wrote
 returns-then-c-ne0-clause-wrote c =

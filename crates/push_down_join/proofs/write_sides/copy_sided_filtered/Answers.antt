@@ -6,12 +6,12 @@ use Rattle.push_down_join.proofs.SideItems.{sides_length}
 use Rattle.push_down_join.proofs.write_sides.copy_sided_filtered.Goals as goal
 
 pub returns-then-c-eq0-clause-wrote : goal.returns-then-c-eq0-clause-wrote
-returns-then-c-eq0-clause-wrote c =
+returns-then-c-eq0-clause-wrote g c =
     λ σ ns d g es h p k.
     rw (filters_none es p (omega (arith, sides_length h c.requires.some_sided.most, c.if-c-eq0.true)), ← k) c.copy_tree.ensures.wrote
 
 pub returns-clause-wrote : goal.returns-clause-wrote
-returns-clause-wrote c =
+returns-clause-wrote g c =
     λ σ ns d g es h p k. wrote_filtered c.args.out.now.long es p
     (λ z. omega (arith, sides_length h c.requires.some_sided.most, c.if-c-eq0.false)) c.put_kind.ensures.put
     (λ e rest same. c.copy_sided_joined.ensures.wrote σ ns d g e rest (rw same at h))

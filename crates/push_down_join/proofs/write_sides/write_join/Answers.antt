@@ -2,33 +2,28 @@ use mathlib.Core.Path.{ap, ◌∙◌}
 use Prim.Native.Nat.{◌+◌}
 use native.Mathlib.Omega.{arith}
 use Rattle.image.specs.Tree.{Tree}
-use Rattle.writing.proofs.Maps.{plan_is}
+use Rattle.std.proofs.Common.{rules}
+use Rattle.writing.proofs.Maps.{over_at, plan_is}
 use Rattle.push_down_base.proofs.FirstTwo.{low_first, low_second}
 use Rattle.push_down_join.proofs.JoinScope.{inputs_are}
 use Rattle.push_down_join.proofs.JoinWritten.{left_side, right_side, left_some, right_some, carried_low, join_wrote, pairs_are}
 use Rattle.push_down_join.proofs.write_sides.write_join.Goals as goal
 
-pub copy_sided_filtered-requires-clause-some_sided : goal.copy_sided_filtered-requires-clause-some_sided
-copy_sided_filtered-requires-clause-some_sided c = left_some c.requires.carried.carries
-
-pub copy_sided_filtered-requires-clause-low : goal.copy_sided_filtered-requires-clause-low
-copy_sided_filtered-requires-clause-low c =
+pub copy_sided_filtered-requires : goal.copy_sided_filtered-requires
+copy_sided_filtered-requires c =
     let q = c.requires.carried in
     let h = q.carries in
     let w = c.inputs.ensures q.kind q.lhs q.rhs q.keys q.condition (plan_is c.args.plan h.standing) in
     let low = low_first w (carried_low h (c.args.level + 2) (omega (arith, c.requires.over.shallow))) in
-    record { depth = low.depth; deep = low.deep; low = omega (arith, low.low) }
+    (omega arith, (left_some c.requires.carried.carries, (search rules, (record { depth = low.depth; deep = low.deep; low = omega (arith, low.low) }, over_at c.requires.over (omega arith)))))
 
-pub copy_sided_filtered-requires-2-clause-some_sided : goal.copy_sided_filtered-requires-2-clause-some_sided
-copy_sided_filtered-requires-2-clause-some_sided c = right_some c.requires.carried.carries
-
-pub copy_sided_filtered-requires-2-clause-low : goal.copy_sided_filtered-requires-2-clause-low
-copy_sided_filtered-requires-2-clause-low c =
+pub copy_sided_filtered-requires-2 : goal.copy_sided_filtered-requires-2
+copy_sided_filtered-requires-2 c =
     let q = c.requires.carried in
     let h = q.carries in
     let w = c.inputs.ensures q.kind q.lhs q.rhs q.keys q.condition (plan_is c.args.plan h.standing) in
     let low = low_second w (carried_low h (c.args.level + 2) (omega (arith, c.requires.over.shallow))) in
-    record { depth = low.depth; deep = low.deep; low = omega (arith, low.low) }
+    (omega arith, (right_some c.requires.carried.carries, (search rules, (record { depth = low.depth; deep = low.deep; low = omega (arith, low.low) }, over_at c.requires.over (omega arith)))))
 
 pub copy_pairs-requires : goal.copy_pairs-requires
 copy_pairs-requires c = carried_low c.requires.carried.carries _ (omega (arith, c.requires.over.shallow))

@@ -2,6 +2,7 @@ use native.Mathlib.Omega.{arith}
 use Rattle.plan.specs.Schema.{schema}
 use Rattle.rewrite.specs.PushDownFilter.{keep_predicates}
 use Rattle.conjuncts.proofs.Listed.{lists_length}
+use Rattle.writing.proofs.Maps.{over_at}
 use Rattle.writing.proofs.Pushing.{pushes_of, filters_none}
 use Rattle.writing.proofs.Written.{wrote_filtered}
 use Rattle.push_down_join.specs.JoinPlans.{join_over}
@@ -15,8 +16,9 @@ returns-then-v-eq0-clause-wrote c =
     (omega (arith, lists_length kept.lists kept.most, c.if-v-eq0.true)))
     (c.write_join.ensures.wrote k l r on f P G σ h)
 
-pub copy_joined-requires-clause-some : goal.copy_joined-requires-clause-some
-copy_joined-requires-clause-some c = kept_some c.requires.carried.carries
+pub copy_joined-requires : goal.copy_joined-requires
+copy_joined-requires c =
+    (omega arith, (kept_some c.requires.carried.carries, (omega arith, over_at c.requires.over (omega arith))))
 
 pub returns-clause-wrote : goal.returns-clause-wrote
 returns-clause-wrote c =

@@ -19,23 +19,21 @@ pub write_before-spot-requires-clause-there_p : goal.write_before-spot-requires-
 write_before-spot-requires-clause-there_p c =
     record { plan = c.requires.mergeable.spot.plan; standing = stands_inside c.requires.mergeable.inside }
 
-pub make_filter-requires-clause-predicated : goal.make_filter-requires-clause-predicated
-make_filter-requires-clause-predicated c = record {
-  mapping = map_of c.requires.mergeable.plan;
-  expr = c.requires.mergeable.expr;
-  predicate = made_predicate _ c.requires.mergeable.made;
-  most = c.if-list-gt-MAX_LIST.false;
-}
-
-pub make_filter-requires-clause-over : goal.make_filter-requires-clause-over
-make_filter-requires-clause-over c =
+pub make_filter-requires : goal.make_filter-requires
+make_filter-requires c =
     let i = c.requires.mergeable.inside in
-    let b = c.write_before-spot.ensures.before c.requires.mergeable.whole c.requires.mergeable.spot i.root i.there (stands_inside i) in
-    plan_over (elsewhere c.requires.image c.requires.mergeable.standing) (omega (arith, level_small i b.level))
-
-pub make_filter-requires-clause-deep : goal.make_filter-requires-clause-deep
-make_filter-requires-clause-deep c =
-    plan_deep c.args.input (elsewhere c.requires.image c.requires.mergeable.standing)
+    let b = c.write_before-spot.ensures.before c.requires.mergeable.whole c.requires.mergeable.spot i.root i.there (stands_inside i) in (
+      omega arith,
+      (
+        record {
+          mapping = map_of c.requires.mergeable.plan;
+          expr = c.requires.mergeable.expr;
+          predicate = made_predicate _ c.requires.mergeable.made;
+          most = c.if-list-gt-MAX_LIST.false;
+        },
+        (plan_over (elsewhere c.requires.image c.requires.mergeable.standing) (omega (arith, level_small i b.level)), plan_deep c.args.input (elsewhere c.requires.image c.requires.mergeable.standing)),
+      ),
+    )
 
 pub write_records-requires : goal.write_records-requires
 unfolding size_p

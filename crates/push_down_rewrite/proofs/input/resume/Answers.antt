@@ -9,7 +9,7 @@ use Rattle.push_down_rewrite.proofs.input.resume.Goals as goal
 
 pub copy_tree-requires : goal.copy_tree-requires
 copy_tree-requires c =
-    deep_low _ (omega (arith, c.requires.arm)) (plan_deep c.args.input c.requires.some_left.left.placed.standing)
+    (omega arith, deep_low _ (omega (arith, c.requires.arm)) (plan_deep c.args.input c.requires.some_left.left.placed.standing))
 
 pub returns-then-is_gone-clause-answers : goal.returns-then-is_gone-clause-answers
 returns-then-is_gone-clause-answers c =

@@ -12,7 +12,8 @@ invariant_of-is_left_deep c =
 
 pub is_left_deep-requires : goal.is_left_deep-requires
 is_left_deep-requires c =
-    let p = c.requires.0 in record { expr = p.expr; is = only (search rules) (p.shaped.stands _ c.in-Some.is).1.here }
+    let p = c.requires.0 in
+    (omega arith, record { expr = p.expr; is = only (search rules) (p.shaped.stands _ c.in-Some.is).1.here })
 
 pub returns-in-Some : goal.returns-in-Some
 returns-in-Some c = λ e h. c.is_left_deep.ensures e (only (search rules) (h.stands _ c.in-Some.is).1.here)

@@ -1,4 +1,5 @@
 -- `stays::own_left_deep` meets its contract.
+use native.Mathlib.Omega.{arith}
 use mathlib.Core.Path.{refl}
 use Rattle.conjuncts.proofs.Standing.{is_expr, tree_standing}
 use Rattle.push_down_join.proofs.JoinParts.{own_there}
@@ -13,7 +14,7 @@ pub is_left_deep-requires : goal.is_left_deep-requires
 is_left_deep-requires c =
     let p = c.requires.placed in
     let t = own_there (rw c.in-Some.is at c.filter_of.ensures _ _ _ _ _ p) p.short in
-    is_expr c.in-Some.filter t.0
+    (omega arith, is_expr c.in-Some.filter t.0)
 
 pub returns-in-Some : goal.returns-in-Some
 returns-in-Some c =
