@@ -128,7 +128,13 @@ fn is_kept<const N: usize>(op: Connective, tree: Stretch<'_, N>, f: &Fields, sid
 }
 
 // Writes that clause. There must be one.
-pub fn copy_clause<const N: usize>(tree: Stretch<'_, N>, f: &Fields, side: FieldSet, out: &mut Writer, level: usize)
+pub fn copy_clause<const N: usize>(
+    tree: Stretch<'_, N>,
+    f: &Fields,
+    side: FieldSet,
+    out: &mut Writer,
+    level: usize,
+)
     requires len_le_max_fields { f.now.len ≤ max_fields }
     requires low { Low (level + 1) (tree_of tree).below }
     ensures same { out.new.bytes.ghost_name ≡ out.old.bytes.ghost_name }

@@ -14,16 +14,26 @@ copy_sided_filtered-requires c =
     let q = c.requires.carried in
     let h = q.carries in
     let w = c.inputs.ensures q.kind q.lhs q.rhs q.keys q.condition (plan_is c.args.plan h.standing) in
-    let low = low_first w (carried_low h (c.args.level + 2) (omega (arith, c.requires.over.shallow))) in
-    (omega arith, (left_some c.requires.carried.carries, (search rules, (record { depth = low.depth; deep = low.deep; low = omega (arith, low.low) }, over_at c.requires.over (omega arith)))))
+    let low = low_first w (carried_low h (c.args.level + 2) (omega (arith, c.requires.over.shallow))) in (
+      omega arith,
+      (
+        omega arith,
+        (left_some h, (search rules, (record { depth = low.depth; deep = low.deep; low = omega (arith, low.low) }, over_at c.requires.over (omega arith)))),
+      ),
+    )
 
 pub copy_sided_filtered-requires-2 : goal.copy_sided_filtered-requires-2
 copy_sided_filtered-requires-2 c =
     let q = c.requires.carried in
     let h = q.carries in
     let w = c.inputs.ensures q.kind q.lhs q.rhs q.keys q.condition (plan_is c.args.plan h.standing) in
-    let low = low_second w (carried_low h (c.args.level + 2) (omega (arith, c.requires.over.shallow))) in
-    (omega arith, (right_some c.requires.carried.carries, (search rules, (record { depth = low.depth; deep = low.deep; low = omega (arith, low.low) }, over_at c.requires.over (omega arith)))))
+    let low = low_second w (carried_low h (c.args.level + 2) (omega (arith, c.requires.over.shallow))) in (
+      omega arith,
+      (
+        omega arith,
+        (right_some h, (search rules, (record { depth = low.depth; deep = low.deep; low = omega (arith, low.low) }, over_at c.requires.over (omega arith)))),
+      ),
+    )
 
 pub copy_pairs-requires : goal.copy_pairs-requires
 copy_pairs-requires c = carried_low c.requires.carried.carries _ (omega (arith, c.requires.over.shallow))

@@ -21,17 +21,17 @@ write_before-spot-requires-clause-there_p c =
 
 pub make_filter-requires : goal.make_filter-requires
 make_filter-requires c =
-    let i = c.requires.mergeable.inside in
-    let b = c.write_before-spot.ensures.before c.requires.mergeable.whole c.requires.mergeable.spot i.root i.there (stands_inside i) in (
+    let q = c.requires.mergeable in
+    let i = q.inside in
+    let b = c.write_before-spot.ensures.before q.whole q.spot i.root i.there (stands_inside i) in
+    let standing = elsewhere c.requires.image q.standing in (
       omega arith,
       (
-        record {
-          mapping = map_of c.requires.mergeable.plan;
-          expr = c.requires.mergeable.expr;
-          predicate = made_predicate _ c.requires.mergeable.made;
-          most = c.if-list-gt-MAX_LIST.false;
-        },
-        (plan_over (elsewhere c.requires.image c.requires.mergeable.standing) (omega (arith, level_small i b.level)), plan_deep c.args.input (elsewhere c.requires.image c.requires.mergeable.standing)),
+        omega arith,
+        (
+          record { mapping = map_of q.plan; expr = q.expr; predicate = made_predicate _ q.made; most = c.if-list-gt-MAX_LIST.false },
+          (plan_over standing (omega (arith, level_small i b.level)), plan_deep c.args.input standing),
+        ),
       ),
     )
 
