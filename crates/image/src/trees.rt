@@ -103,6 +103,22 @@ impl<'a> Siblings<'a> {
     }
 }
 
+impl Siblings<'_> {
+    ghost use Rattle.std.specs.Prelude.{◌≡◌, ◌+◌};
+    ghost use Rattle.image.specs.Tree.{size};
+    ghost use Rattle.image.specs.Subtrees.{forest};
+
+    // The record behind the last one of the trees; 0 where there is none.
+    pub fn end(self) -> usize
+        ensures { result ≡ self.entry.first + size (forest self.entry) }
+    {
+        match self.last() {
+            Some(tree) => tree.end(),
+            None => self.first,
+        }
+    }
+}
+
 impl<'a> Iterator for Siblings<'a> {
     ghost use Rattle.std.specs.Iterator.{YieldsFirstBy, item_count};
     ghost use Rattle.image.specs.Subtrees.{place, places};
