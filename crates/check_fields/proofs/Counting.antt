@@ -12,6 +12,7 @@ use Rattle.image.specs.Lowest.{alone}
 use Rattle.image.specs.Tree.{Label, Forest, none, node, Tree, size, Stands, Linked}
 use Rattle.image.specs.Subtrees.{forest}
 use Rattle.image.specs.declared.trees.Siblings.{Siblings}
+use Rattle.image.specs.declared.trees.Subtree.{Subtree}
 use Rattle.plan.specs.Kinds as K
 use Rattle.plan.specs.Kinds.{What, expr, plan, part, unknown, what, plan_w, is_plan}
 use Rattle.plan.specs.FieldSources.{role, role_p, creates, renames, extends, gives_both, own}
@@ -75,9 +76,9 @@ drop_map (suc i) [] = refl
 drop_map (suc i) (t ∷ ts) = drop_map i ts
 
 -- so from the plan on that was found
-pub inputs_from : {f : Forest} {i : ℕ} {t : Tree} (y : PlanAt f i t) → drop i (inputs f) ≡ inputs y.trees
-inputs_from {f} {i} y =
-    ap (drop i) (inputs_of f) ∙ drop_map i (plans_in f) ∙ ap (map own_schema) y.plans ∙ sym (inputs_of y.trees)
+pub inputs_from : {x : Siblings} {i : ℕ} {t : Subtree} (y : PlanAt x i t) → drop i (inputs (forest x)) ≡ inputs (forest y.trees)
+inputs_from {x} {i} y =
+    ap (drop i) (inputs_of (forest x)) ∙ drop_map i (plans_in (forest x)) ∙ ap (map own_schema) y.plans ∙ sym (inputs_of (forest y.trees))
 
 -- there is none
 pub inputs_none : (f : Forest) (i : ℕ) → drop i (plans_in f) ≡ [] → drop i (inputs f) ≡ []

@@ -1,5 +1,5 @@
 -- Laws of the search for a field.
---     seek-++, seek_name, seek_passed                 of two schemas; what the first place and the last one tell
+--     seek-++, seek_name, seek_passed, passed_told    of two schemas; what the first place and the last one tell
 --     made_done, made_pass, made_skip, made_found     a record more among the parts
 --     plan_fields, missing                            the plan with a place
 --     of_parts, of_input, of_second, of_more, of_one  the fields of a plan by its role
@@ -13,7 +13,8 @@ use lib.Dec.{eqb}
 use lib.ListN.{drop}
 use borrow.Author.Tests.{eq-eqb, ne_eqb}
 use Rattle.image.specs.Tree.{Label, Forest, none, node, Tree, size}
-use Rattle.image.specs.Subtrees.{tree_of}
+use Rattle.image.specs.Subtrees.{Below, forest, tree_of}
+use Rattle.image.specs.declared.trees.Siblings.{Siblings}
 use Rattle.image.specs.declared.trees.Subtree.{Subtree}
 use Rattle.std.specs.declared.ops.ControlFlow.{ControlFlow}
 use Rattle.std.specs.declared.ops.ControlFlow.TheVariants.{Break, Continue}
@@ -78,6 +79,15 @@ module _ (h : Name → Bool) where
   seek_passed s l e =
       let z : all_places - (all_places - counted h s) ≡ counted h s = omega arith in
       ap passed_of (e ∙ seek_all all_places s l) ∙ z
+
+  -- of a search that told a name and no type yet, too
+  pub passed_told : (d : Schema) (s : Schema) (x : ControlFlow FieldType ℕ) → counted h s ≤ all_places → told_in d x ≡ seek h all_places s
+      → passed_of x ≡ counted h s
+  passed_told d s x l e = same x ∙ seek_passed s l e
+    where
+      same : (y : ControlFlow FieldType ℕ) → passed_of y ≡ passed_of (told_in d y)
+      same (Break t) = refl
+      same (Continue k) = refl
 
   -- a search over no parts has passed the same
   pub seek_none : (k : ℕ) (s : Schema) → s ≡ [] → seek h k s ≡ Continue k
@@ -171,8 +181,8 @@ input_drop (suc k) [] = refl
 input_drop (suc k) (s ∷ ss) = input_drop k ss
 
 -- the schema of the plan that was found
-pub plan_fields : {f : Forest} {i : ℕ} {t : Tree} (y : PlanAt f i t) → input 0 (inputs y.trees) ≡ input i (inputs f)
-plan_fields {f} {i} y = sym (input_drop i (inputs f) ∙ ap (input 0) (inputs_from y))
+pub plan_fields : {x : Siblings} {i : ℕ} {t : Subtree} (y : PlanAt x i t) → input 0 (inputs (forest y.trees)) ≡ input i (inputs (forest x))
+plan_fields {x} {i} y = sym (input_drop i (inputs (forest x)) ∙ ap (input 0) (inputs_from y))
 
 -- there is no such plan
 pub missing : (f : Forest) (i : ℕ) → drop i (plans_in f) ≡ [] → input i (inputs f) ≡ []
@@ -269,9 +279,9 @@ module _ (asks : Question) (k : ℕ) where
 -- ---- the plan that is asked
 
 -- the plan that is sought is asked, or there is none
-abbrev pub Asked : Forest → ℕ → Question → Option Subtree → Question → Type 0
-Asked f i asks None m = Fieldless f i asks
-Asked f i asks (Some t) m = Makes f i asks (tree_of t) m
+abbrev pub Asked : Siblings → ℕ → Question → Option Subtree → Question → Type 0
+Asked x i asks None m = Fieldless (forest x) i asks
+Asked x i asks (Some t) m = Makes x i asks t m
 
 -- the measure: how many trees there are below it
 abbrev pub depth_left : Option Subtree → ℕ
@@ -279,12 +289,13 @@ depth_left None = 0
 depth_left (Some t) = suc (size (tree_of t).below)
 
 -- the plan with the place itself
-pub asked_start : (f : Forest) (i : ℕ) (asks : Question) (x : Option Subtree) → PlansAt f i x → Asked f i asks x asks
-asked_start f i asks None e = plan_missing asks f i e
-asked_start f i asks (Some t) y =
+pub asked_start : (x : Siblings) (i : ℕ) (asks : Question) (r : Option Subtree) → PlansAt x i r → Asked x i asks r asks
+asked_start x i asks None e = plan_missing asks (forest x) i e
+asked_start x i asks (Some t) y =
     record {
       trees = y.trees;
       after = y.after;
+      image = y.image;
       first = y.first;
       is = y.is;
       same = λ k. ap (seek (hits asks) k) (plan_fields y);
@@ -292,24 +303,31 @@ asked_start f i asks (Some t) y =
     }
 
 -- past a plan that has one input's fields and no others
-module _ {f : Forest} {i : ℕ} {asks m : Question} {t : Tree} (y : Makes f i asks t m) {x : Role} (X : x ≡ role (what t.label))
-    (c : creates x ≡ false) (d : extends x ≡ false) (g : gives_both x t.label.p ≡ false) where
-  one_input : (k : ℕ) → seek (hits (below x t.label.p m)) k (input (own x t.label.p) (inputs t.below)) ≡ seek (hits asks) k (input i (inputs f))
-  one_input k = of_one m k y.first y.is X c g d ∙ y.same k
+module _ {s : Siblings} {i : ℕ} {asks m : Question} {u : Subtree} (y : Makes s i asks u m) {x : Role} (X : x ≡ role (what (tree_of u).label))
+    (c : creates x ≡ false) (d : extends x ≡ false) (g : gives_both x (tree_of u).label.p ≡ false) where
+  abbrev t : Tree
+  t = tree_of u
 
-  pub asked_next : {o : Question} {u : ℕ} → o ≡ below x t.label.p m → u ≡ own x t.label.p
-      → (z : Option Subtree) → PlansAt t.below u z → Asked f i asks z o
-  asked_next {o} {u} O U None e =
-      λ k. sym (seek_none (hits (below x t.label.p m)) k _ (ap (λ (n : ℕ). input n (inputs t.below)) (sym U) ∙ missing t.below u e))
-      ∙ one_input k
-  asked_next {o} {u} O U (Some n) z =
+  one_input : (k : ℕ) → seek (hits (below x t.label.p m)) k (input (own x t.label.p) (inputs t.below)) ≡ seek (hits asks) k (input i (inputs (forest s)))
+  one_input k = of_one m k y.first.is y.is X c g d ∙ y.same k
+
+  pub asked_next : {o : Question} {j : ℕ} → o ≡ below x t.label.p m → j ≡ own x t.label.p
+      → {b : Siblings} → Below u b → (z : Option Subtree) → PlansAt b j z → Asked s i asks z o
+  asked_next {o} {j} O J {b} w None e =
+      let none : input (own x t.label.p) (inputs t.below) ≡ [] =
+      ap (λ (n : ℕ). input n (inputs t.below)) (sym J) ∙ ap (λ (f : Forest). input j (inputs f)) (sym w.is) ∙ missing (forest b) j e in
+      λ k. sym (seek_none (hits (below x t.label.p m)) k _ none) ∙ one_input k
+  asked_next {o} {j} O J {b} w (Some n) z =
+      let fields : input 0 (inputs (forest z.trees)) ≡ input (own x t.label.p) (inputs t.below) =
+      plan_fields z ∙ ap (λ (f : Forest). input j (inputs f)) w.is ∙ ap (λ (e : ℕ). input e (inputs t.below)) J in
       record {
         trees = z.trees;
         after = z.after;
+        image = z.image ∙ w.image ∙ y.first.image ∙ y.image;
         first = z.first;
         is = z.is;
         same =
-            λ k. ap (λ (a : Question). seek (hits a) k (input 0 (inputs z.trees))) O
-            ∙ ap (seek (hits (below x t.label.p m)) k) (plan_fields z ∙ ap (λ (e : ℕ). input e (inputs t.below)) U) ∙ one_input k;
-        fewer = omega (arith, z.fewer, y.fewer, ap size y.first);
+            λ k. ap (λ (a : Question). seek (hits a) k (input 0 (inputs (forest z.trees)))) O
+            ∙ ap (seek (hits (below x t.label.p m)) k) fields ∙ one_input k;
+        fewer = omega (arith, z.fewer, y.fewer, ap size y.first.is, ap size w.is);
       }

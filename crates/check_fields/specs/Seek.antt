@@ -2,8 +2,10 @@
 use Rattle.std.specs.Prelude.{◌≡◌, Bool, true, cond, [], ◌∷◌, ℕ, ◌-◌, ◌≤◌, eqb, Option, None, Some}
 use Rattle.std.specs.declared.ops.ControlFlow.{ControlFlow}
 use Rattle.std.specs.declared.ops.ControlFlow.TheVariants.{Break, Continue}
-use Rattle.image.specs.Tree.{Forest, node, Tree, size}
-use Rattle.image.specs.Subtrees.{tree_of}
+use Rattle.image.specs.Tree.{Forest, size}
+use Rattle.image.specs.Subtrees.{Split, forest, tree_of}
+use Rattle.image.specs.declared.trees.Siblings.{Siblings}
+use Rattle.image.specs.declared.trees.Subtree.{Subtree}
 use Rattle.plan.specs.Kinds.{is_plan}
 use Rattle.plan.specs.Syntax.{Name, nm, no_type}
 use Rattle.check_fields.specs.Fields.{Schema, input, inputs, type_in}
@@ -42,24 +44,26 @@ abbrev pub all_places : ℕ
 all_places = 18446744073709551615
 
 -- how many of them a search for that place has passed
-abbrev pub passed_of : Sought → ℕ
+abbrev pub passed_of : {T : Type 0} → ControlFlow T ℕ → ℕ
 passed_of (Break t) = 0
 passed_of (Continue j) = all_places - j
 
--- t is the plan that is asked, by the question m, for the fields of f's plan with the place `skip`: the first of some trees
-pub record Makes (f : Forest) (skip : ℕ) (asks : Question) (t : Tree) (m : Question) : Type 0 where
-  pub trees : Forest
-  pub after : Forest
-  pub first : trees ≡ node t.label t.below after
-  pub is : is_plan t.label ≡ true
-  pub same : (k : ℕ) → seek (hits m) k (input 0 (inputs trees)) ≡ seek (hits asks) k (input skip (inputs f))
-  pub fewer : size trees ≤ size f
+-- t is the plan that is asked, by the question m, for the fields of the plan with the place `skip` of the trees x: the first of some trees
+-- of the same image
+pub record Makes (x : Siblings) (skip : ℕ) (asks : Question) (t : Subtree) (m : Question) : Type 0 where
+  pub trees : Siblings
+  pub after : Siblings
+  pub image : trees.image.now ≡ x.image.now
+  pub first : Split trees t after
+  pub is : is_plan (tree_of t).label ≡ true
+  pub same : (k : ℕ) → seek (hits m) k (input 0 (inputs (forest trees))) ≡ seek (hits asks) k (input skip (inputs (forest x)))
+  pub fewer : size (forest trees) ≤ size (forest x)
 
 -- no field is found in f's plan with the place `skip`
 abbrev pub Fieldless : Forest → ℕ → Question → Type 0
 Fieldless f skip asks = (k : ℕ) → Continue k ≡ seek (hits asks) k (input skip (inputs f))
 
--- there is none to ask, or it is x
-abbrev pub Makers : Forest → ℕ → Question → Option Maker → Type 0
-Makers f skip asks None = Fieldless f skip asks
-Makers f skip asks (Some x) = Makes f skip asks (tree_of x.plan) x.asks
+-- there is none to ask, or it is m
+abbrev pub Makers : Siblings → ℕ → Question → Option Maker → Type 0
+Makers x skip asks None = Fieldless (forest x) skip asks
+Makers x skip asks (Some m) = Makes x skip asks m.plan m.asks

@@ -151,7 +151,7 @@ pub struct Maker<'a> {
 
 // Past the plans that have the fields of one input and no others: the plan to ask for those of the one with the place `skip`.
 fn find_maker<'a>(trees: Siblings<'a>, skip: usize, asks: Question) -> Option<Maker<'a>>
-    ensures { Makers (forest trees.entry) skip asks result }
+    ensures { Makers trees.entry skip asks result }
 {
     let mut asked = asks;
     let mut next = nth_plan(trees, skip);
@@ -223,11 +223,25 @@ fn seek_parts(parts: Siblings, kind: usize, asks: Question, k: usize) -> Sought
 }
 
 // How many of ALL places a search has passed.
-pub fn passed(x: Sought) -> usize
+pub fn passed<T: Copy>(x: ControlFlow<T, usize>) -> usize
     ensures { result ≡ passed_of x }
 {
     match x {
         Break(_) => 0,
         Continue(left) => ALL - left,
     }
+}
+
+// How many fields that the question asks for the parts make.
+pub fn made_count(parts: Siblings, asks: Question) -> usize
+    ensures { (d : Schema) → result ≡ counted (hits asks) (made d (forest parts.entry)) }
+{
+    passed(seek_made(parts, asks, ALL))
+}
+
+// How many fields that the question asks for the plan with the place `skip` has.
+pub fn holders(trees: Siblings, skip: usize, asks: Question) -> usize
+    ensures { result ≡ counted (hits asks) (input skip (inputs (forest trees.entry))) }
+{
+    passed(seek_field(trees, skip, asks, ALL))
 }

@@ -7,6 +7,9 @@ use Prim.Native.Nat.{ℕ, zero, suc, ◌-◌, ◌≤◌}
 use native.Mathlib.Omega.{arith}
 use lib.ListN.{drop}
 use Rattle.image.specs.Tree.{Label, Forest, none, node, Tree, size}
+use Rattle.image.specs.Subtrees.{Split, forest, tree_of}
+use Rattle.image.specs.declared.trees.Siblings.{Siblings}
+use Rattle.image.specs.declared.trees.Subtree.{Subtree}
 use Rattle.plan.specs.Lists.{put}
 use Rattle.plan.specs.Kinds.{is_plan}
 use Rattle.plan.specs.Inputs.{plans_in, PlanAt}
@@ -43,15 +46,16 @@ module _ {f : Forest} {l : Label} {cs ns : Forest} (w : f ≡ node l cs ns) wher
   skip_plan z (suc k) nz = let e : suc k - 1 ≡ k = omega arith in ap (drop (suc k)) plans_from ∙ rw (z, e)
 
 -- the plan that is sought
-pub plan_found : {f g : Forest} {k j : ℕ} {t : Tree} {ns : Forest} → Plans k j f g → g ≡ node t.label t.below ns → is_plan t.label ≡ true → j ≡ 0
-    → PlanAt f k t
-plan_found {g = g} {ns = ns} e w z q =
+pub plan_found : {x g : Siblings} {k j : ℕ} {t : Subtree} {ns : Siblings} → Plans k j (forest x) (forest g) → g.image.now ≡ x.image.now → Split g t ns
+    → is_plan (tree_of t).label ≡ true → j ≡ 0 → PlanAt x k t
+plan_found {g = g} {ns = ns} e m w z q =
     record {
       trees = g;
       after = ns;
+      image = m;
       first = w;
       is = z;
-      plans = e.plans ∙ ap (λ (i : ℕ). drop i (plans_in g)) q;
+      plans = e.plans ∙ ap (λ (i : ℕ). drop i (plans_in (forest g))) q;
       fewer = e.fewer;
     }
 

@@ -1,5 +1,4 @@
 // The plans among the children of a record: its inputs.
-ghost use Rattle.image.specs.Subtrees.{forest};
 ghost use Rattle.plan.specs.Inputs.{PlansAt};
 
 use crate::kinds::is_plan;
@@ -7,10 +6,12 @@ use image::trees::{Siblings, Subtree};
 
 // The plan with the place `skip` among the trees.
 pub fn nth_plan<'a>(trees: Siblings<'a>, skip: usize) -> Option<Subtree<'a>>
-    ensures { PlansAt (forest trees.entry) skip result }
+    ensures { PlansAt trees.entry skip result }
 {
     let mut before = skip;
-    for tree in trees {
+    let mut left = trees;
+    while let Some((tree, others)) = left.split_first() {
+        left = others;
         if is_plan(tree.kind()) {
             if before == 0 {
                 return Some(tree);

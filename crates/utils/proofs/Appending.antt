@@ -12,6 +12,9 @@ use native.Mathlib.Omega.{arith}
 use lib.ListN.{length, get_or, drop, length-drop}
 use lib.Seq.{get_or-drop}
 use Rattle.image.specs.Tree.{Label, Forest, Tree, size}
+use Rattle.image.specs.Subtrees.{forest, tree_of}
+use Rattle.image.specs.declared.trees.Siblings.{Siblings}
+use Rattle.image.specs.declared.trees.Subtree.{Subtree}
 use Rattle.plan.specs.Schema.{schema, requalify}
 use Rattle.plan.specs.Syntax.{Name, nm, Plan}
 use Rattle.plan.specs.Trees.{label_p, kids_p, plan_tree}
@@ -93,12 +96,14 @@ module _ (p : Plan) (l : Label) (e : l ≡ label_p p) {r : Role} (R : r ≡ role
 -- ---- the inputs, as the code has them
 
 -- the plan with a place among some trees, by its number
-plan_at : {f : Forest} (place : ℕ) {t : Tree} → PlanAt f place t → (place < length (plans_in f)) × (get_or (plans_in f) place no_tree ≡ t)
+plan_at : {x : Siblings} {f : Forest} → forest x ≡ f → (place : ℕ) {t : Subtree} → PlanAt x place t
+    → (place < length (plans_in f)) × (get_or (plans_in f) place no_tree ≡ tree_of t)
 unfolding plans_in put
-plan_at {f} place {t} w =
-    let e : drop place (plans_in f) ≡ t ∷ plans_in w.after = w.plans ∙ (ap plans_in w.first ∙ rw w.is) in
+plan_at {x} {f} b place {t} w =
+    let e : drop place (plans_in f) ≡ tree_of t ∷ plans_in (forest w.after) =
+    ap (λ (g : Forest). drop place (plans_in g)) (sym b) ∙ w.plans ∙ (ap plans_in w.first.is ∙ rw w.is) in
     let k : place + 0 ≡ place = omega arith in
-    let n : length (plans_in f) - place ≡ length (t ∷ plans_in w.after) = rw (← length-drop place (plans_in f), e) in
+    let n : length (plans_in f) - place ≡ length (tree_of t ∷ plans_in (forest w.after)) = rw (← length-drop place (plans_in f), e) in
     (omega (arith, n), rw k at (sym (get_or-drop place (plans_in f) 0 no_tree) ∙ ap (λ (ys : List Tree). get_or ys 0 no_tree) e))
 
 none_at : (xs : List Tree) (place : ℕ) → drop place xs ≡ [] → length xs ≤ place
@@ -121,14 +126,15 @@ module _ (p : Plan) {t : Tree} (is : t ≡ plan_tree p) (l : Label) (e : l ≡ t
   all_made m = schema_made p l label_is R m ∙ ap made (sym below_is)
 
   -- the input whose fields come first
-  pub first_input : creates r ≡ false → {place : ℕ} → place ≡ own r l.p → {u : Tree} → PlanAt t.below place u → Of u (Rest p)
-  first_input m at {u} w = go (rw (R, label_is) at m) (shape p)
+  pub first_input : creates r ≡ false → {place : ℕ} → place ≡ own r l.p → {x : Siblings} → forest x ≡ t.below → {u : Subtree}
+      → PlanAt x place u → Of (tree_of u) (Rest p)
+  first_input m at {x} b {u} w = go (rw (R, label_is) at m) (shape p)
     where
       here : (own (role_of p) (label_p p).p < length (plans_in (kids_p p)))
-          × (get_or (plans_in (kids_p p)) (own (role_of p) (label_p p).p) no_tree ≡ u)
-      here = rw (at, R, label_is, below_is) at (plan_at _ w)
+          × (get_or (plans_in (kids_p p)) (own (role_of p) (label_p p).p) no_tree ≡ tree_of u)
+      here = rw (at, R, label_is) at (plan_at (b ∙ below_is) _ w)
 
-      go : creates (role_of p) ≡ false → Shape p → Of u (Rest p)
+      go : creates (role_of p) ≡ false → Shape p → Of (tree_of u) (Rest p)
       go m (own_parts k is) = never k m
       go m (no_input k le is) = absurd (omega (arith, here.0))
       go m (over k i le is r) = record { input = i; is = sym here.1 ∙ is; rest = r }
@@ -147,13 +153,14 @@ module _ (p : Plan) {t : Tree} (is : t ≡ plan_tree p) (l : Label) (e : l ≡ t
 
   module _ (i : Plan) (rest : Rest p i) (both : gives_both r l.p ≡ true) where
     -- the second input of a join that gives the fields of both
-    pub second_input : {u : Tree} → PlanAt t.below 1 u → Of u (λ j. (renames (role_of p) ≡ false) × (schema p ≡ schema i ++ schema j))
-    second_input {u} w = go (rw (R, label_is) at both) rest
+    pub second_input : {x : Siblings} → forest x ≡ t.below → {u : Subtree} → PlanAt x 1 u
+        → Of (tree_of u) (λ j. (renames (role_of p) ≡ false) × (schema p ≡ schema i ++ schema j))
+    second_input {x} b {u} w = go (rw (R, label_is) at both) rest
       where
-        here : get_or (plans_in (kids_p p)) 1 no_tree ≡ u
-        here = rw below_is at (plan_at 1 w).1
+        here : get_or (plans_in (kids_p p)) 1 no_tree ≡ tree_of u
+        here = (plan_at (b ∙ below_is) 1 w).1
 
-        go : gives_both (role_of p) (label_p p).p ≡ true → Rest p i → Of u (λ j. (renames (role_of p) ≡ false) × (schema p ≡ schema i ++ schema j))
+        go : gives_both (role_of p) (label_p p).p ≡ true → Rest p i → Of (tree_of u) (λ j. (renames (role_of p) ≡ false) × (schema p ≡ schema i ++ schema j))
         go both (nothing_more x y is) = never both y
         go both (parts x y z is) = never both y
         go both (second x y z j le at is) = record { input = j; is = sym here ∙ at; rest = (z, is) }
@@ -171,5 +178,5 @@ module _ (p : Plan) {t : Tree} (is : t ≡ plan_tree p) (l : Label) (e : l ≡ t
         go both (second x y z j le at is) = absurd (omega (arith, here))
 
 -- an input has fewer records
-pub fewer : {f : Forest} {place : ℕ} {t : Tree} → PlanAt f place t → size t.below < size f
-fewer w = omega (arith, w.fewer, ap size w.first)
+pub fewer : {x : Siblings} {f : Forest} → forest x ≡ f → {place : ℕ} {t : Subtree} → PlanAt x place t → size (tree_of t).below < size f
+fewer b w = omega (arith, w.fewer, ap size w.first.is, ap size b)
