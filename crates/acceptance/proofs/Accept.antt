@@ -109,7 +109,7 @@ worded (node l cs ns) s b h k = (
 
 -- ---- from acceptance to a plan
 
-module _ (s : List ℕ) (n : ℕ) (t : Tree) (len : length s ≡ 32 * n) (some-records : 1 ≤ n) (h : linked s n ≡ tree t) where
+module _ (s : List ℕ) (n : ℕ) (t : Tree) (len : 32 * n ≤ length s) (some-records : 1 ≤ n) (h : linked s n ≡ tree t) where
   root_read : Rooted (label_at s) n (word s 28) (parse (suc n) s n 1 (word s 24) 0) t
   unfolding linked
   root_read = rooted_tree (label_at s) n (word s 28) (parse (suc n) s n 1 (word s 24) 0) t h
@@ -155,8 +155,8 @@ accepted_tree : (s : List ℕ) → Bytes s → Buffer s → bad_words (length s 
     → Clean t → (p : Plan) × Accepted s p
 accepted_tree s bytes b words t l c =
     let n = length s / 32 in
-    let e : n ≡ size_t t = links_count s n t b.len b.one l in
-    let k = links_stand s n t b.len b.one l in
+    let e : n ≡ size_t t = links_count s n t (omega (arith, b.len)) b.one l in
+    let k = links_stand s n t (omega (arith, b.len)) b.one l in
     let w : Worded (alone t) = worded (alone t) s 0 (λ i j. words_of n s 0 words i (omega arith)) k in
     let q : plan_tree (plan_at t) ≡ t = plan_tree_whole t w c.form in (
       plan_at t,

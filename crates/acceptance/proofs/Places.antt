@@ -146,7 +146,7 @@ module _ (m : ℕ) where
   unfolding check_tree too_deep
   tree_names t w h = at_names 4 (lowest_below m _ _ 1 1 0 (alone t) (omega arith)) (form_names t w h (bad_form t) refl (form_below t h))
 
-  rooted_names : (s : List ℕ) (n : ℕ) (k : Links) → linked s n ≡ k → length s ≡ 32 * n → 1 ≤ n → n ≤ m → bad_words n s 0 ≡ None
+  rooted_names : (s : List ℕ) (n : ℕ) (k : Links) → linked s n ≡ k → 32 * n ≤ length s → 1 ≤ n → n ≤ m → bad_words n s 0 ≡ None
       → Names m (check_links k)
   rooted_names s n (tree t) e len some most words =
       tree_names t (worded (alone t) s 0 (λ i j. words_of n s 0 words i (omega (arith, links_count s n t len some e))) (links_stand s n t len some e))
@@ -166,7 +166,7 @@ module _ (m : ℕ) where
       b = buffer_of s e
 
       words_first : (f : Found) → bad_words n s 0 ≡ f → Below m f → Names m (at 2 f (check_links (linked s n)))
-      words_first None w k = rooted_names s n (linked s n) refl b.len b.one (omega (arith, b.most)) w
+      words_first None w k = rooted_names s n (linked s n) refl (omega (arith, b.len)) b.one (omega (arith, b.most)) w
       words_first (Some r) w (there g) = record { place = g }
 
 -- the record of a verdict is at most the number of records of the largest image
