@@ -5,7 +5,7 @@
 use mathlib.Core.Path.{◌≡◌, refl, sym, subst}
 use mathlib.Core.Bool.{Bool, true, false, cond}
 use mathlib.Core.List.{List}
-use Prim.Native.Nat.{ℕ, ◌*◌, ◌/◌}
+use Prim.Native.Nat.{ℕ, ◌*◌, ◌/◌, ◌≤◌}
 use native.Mathlib.Omega.{arith}
 use lib.ListN.{length}
 use Rattle.image.specs.Tree.{Tree}
@@ -61,9 +61,9 @@ no_buffer true rest h = (refl, h)
 no_buffer false rest h = let z : ◌≡◌ {A = ℕ} 0 1 = cc in absurd (omega arith)
 
 -- the tests of the tree
-no_tree : (t : Tree) → formed_tree t ≡ Ok tt → bad_form t ≡ None
+no_tree : (t : Tree) → formed_tree t ≡ Ok tt → (too_deep t ≡ None) × (bad_form t ≡ None)
 unfolding formed_tree
-no_tree t h = (stopped (bad_form t) Form _ (stopped (too_deep t) Depth _ h).1).0
+no_tree t h = let d = stopped (too_deep t) Depth _ h in (d.0, (stopped (bad_form t) Form _ d.1).0)
 
 pub sound : {s : List ℕ} {x : Subtree} → Passed s x → Sound x
 unfolding formed
@@ -74,12 +74,15 @@ sound {s} {x} p =
     let t = tree_of x in
     let f : formed_tree t ≡ Ok tt = rw p.links at w.1 in
     let size = sized s b.0 in
-    let count : n ≡ size_t t = links_count s n t size.len size.one p.links in
-    let there = links_stand s n t size.len size.one p.links in
+    let room : 32 * n ≤ length s = omega (arith, size.len) in
+    let count : n ≡ size_t t = links_count s n t room size.one p.links in
+    let there = links_stand s n t room size.one p.links in
     record {
       number = p.number;
       links = subst (λ (z : List ℕ). linked z (length z / 32) ≡ tree t) (sym p.image) p.links;
       bytes = subst (λ (z : List ℕ). length z ≡ 32 * size_t t) (sym p.image) (omega (arith, size.len));
+      records = omega (arith, size.most);
       words = worded (alone t) s 0 (λ i j. words_of n s 0 w.0 i (omega arith)) there;
-      form = no_tree t f;
+      depth = (no_tree t f).0;
+      form = (no_tree t f).1;
     }

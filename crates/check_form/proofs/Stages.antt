@@ -23,7 +23,7 @@ use Rattle.image.specs.declared.refusals.Refusal.TheVariants.{Buffer, Record, Li
 
 -- ---- the tree that the links come to
 
-module _ {s : List ℕ} {n : ℕ} {t : Tree} (k : linked s n ≡ tree t) (len : length s ≡ 32 * n) (one : 1 ≤ n) where
+module _ {s : List ℕ} {n : ℕ} {t : Tree} (k : linked s n ≡ tree t) (len : 32 * n ≤ length s) (one : 1 ≤ n) where
   -- it stands at record 0
   stands : Trees.At t s 0
   stands = let h = links_stand s n t len one k in record { head = h.head; below = h.below }

@@ -1,6 +1,7 @@
 // Form (5): the children of a record, and the length of lists: as specs/Form.antt of plan has them.
 ghost use Rattle.std.specs.Prelude.{◌≡◌, cond};
 ghost use Rattle.image.specs.Subtrees.{forest, tree_of};
+ghost use Rattle.image.specs.Tree.{Label};
 ghost use Rattle.plan.specs.Form.{children_by, children_e, children_p, children_q, conjuncts, exprs_in, form_ok, is_and, list_by};
 ghost use Rattle.plan.specs.Kinds.{what_of};
 
@@ -168,12 +169,11 @@ pub fn list_len(trees: Siblings, what: What) -> usize
     }
 }
 
-// Whether the tree's record has the right form.
-pub fn form_ok(tree: Subtree) -> bool
-    ensures { result ≡ form_ok (tree_of tree.entry).label (tree_of tree.entry).below }
+// Whether a record of the kind has the right form over the trees.
+pub fn form_ok(trees: Siblings, kind: usize) -> bool
+    ensures { (l : Label) → kind ≡ l.kind → result ≡ form_ok l (forest trees.entry) }
 {
-    let trees = tree.children();
-    let what = what_of(tree.kind());
+    let what = what_of(kind);
     if !children_ok(trees, what) {
         return false;
     }

@@ -13,10 +13,11 @@ pub fn bad_form(trees: Siblings) -> Option<usize>
     ensures { result ≡ misformed trees.entry.first (forest trees.entry) }
 {
     for tree in trees {
-        if !form_ok(tree) {
+        let children = tree.children();
+        if !form_ok(children, tree.kind()) {
             return Some(tree.number);
         }
-        let below = bad_form(tree.children());
+        let below = bad_form(children);
         if below.is_some() {
             return below;
         }
@@ -29,11 +30,13 @@ pub fn bad_root_form(root: Subtree) -> Option<usize>
     requires { root.number ≡ 0 }
     ensures { result ≡ bad_form (tree_of root.entry) }
 {
-    if !of_sort(root.kind(), Sort::Plan) {
+    let kind = root.kind();
+    if !of_sort(kind, Sort::Plan) {
         return Some(0);
     }
-    if !form_ok(root) {
+    let children = root.children();
+    if !form_ok(children, kind) {
         return Some(0);
     }
-    bad_form(root.children())
+    bad_form(children)
 }

@@ -11,7 +11,7 @@ use image::words::word_at;
 // Reads the links of the n records of s, and hands back the tree that they are: the root's next link is met last. Where they are not one
 // tree of all the records, hands back the record with the first bad link that is met, or the first that no link leads to.
 pub fn read(s: &[u8], n: usize) -> Result<Subtree<'_>, BadLink>
-    requires { (length s.now ≡ 32 * n) × (1 ≤ n) × (n ≤ max_records) }
+    requires { (1 ≤ n) × (32 * n ≤ length s.now) × (n ≤ max_records) }
     ensures { Read s.now n result }
 {
     let end = links(s, n, 1, word_at(s, FIRST_LINK), 0)?;

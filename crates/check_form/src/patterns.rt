@@ -1,5 +1,5 @@
 // Patterns of children: items, one after another, and then the end.
-ghost use Rattle.std.specs.Prelude.{◌≡◌};
+ghost use Rattle.std.specs.Prelude.{◌≡◌, IfSome};
 ghost use Rattle.image.specs.Subtrees.{forest};
 ghost use Rattle.plan.specs.Form.{one, past, perhaps};
 ghost use Rattle.check_form.specs.Patterns.{Leads, meets};
@@ -20,7 +20,8 @@ pub enum Item {
 
 // What is left of the trees after all in front that are of the sort.
 pub fn past_all<'a>(trees: Siblings<'a>, sort: Sort) -> Siblings<'a>
-    ensures { forest result ≡ past (of_sort sort) (forest trees.entry) }
+    ensures rest { forest result ≡ past (of_sort sort) (forest trees.entry) }
+    ensures same_image { result.image.now ≡ trees.entry.image.now }
 {
     let mut left = trees;
     while let Some((tree, others)) = left.split_first() {
@@ -34,7 +35,8 @@ pub fn past_all<'a>(trees: Siblings<'a>, sort: Sort) -> Siblings<'a>
 
 // What is left after one of the sort; nothing if the first is not of it.
 pub fn past_one<'a>(trees: Siblings<'a>, sort: Sort) -> Option<Siblings<'a>>
-    ensures { Leads (one (of_sort sort)) (forest trees.entry) result }
+    ensures leads { Leads (one (of_sort sort)) (forest trees.entry) result }
+    ensures same_image { IfSome result (λ x. x.image.now ≡ trees.entry.image.now) }
 {
     let (tree, others) = trees.split_first()?;
     if of_sort(tree.kind(), sort) {

@@ -16,7 +16,7 @@ returns-in-Some c = stage_words _ c.buffer_ok.ensures c.if-not-buffer_ok.false c
 pub read-requires : goal.read-requires
 read-requires c =
     let n = sized _ (sym c.buffer_ok.ensures ∙ c.if-not-buffer_ok.false) in
-    (n.len, n.one, n.most)
+    (n.one, omega (arith, n.len), n.most)
 
 pub returns-in_err-root : goal.returns-in_err-root
 returns-in_err-root c =

@@ -26,9 +26,9 @@ returns-then-end-n c =
 pub invariant_of-root : goal.invariant_of-root
 invariant_of-root c =
     let k = one_tree _ _ _ c.word_at.ensures.0 c.links.ensures c.word_at-next.ensures.0 c.in_ok-end.was c.if-next-ne0.false c.if-end-n.false in
-    record { stood = root_at k.1 c.requires.0 c.requires.1 }
+    record { stood = root_at k.1 c.requires.1 c.requires.0 }
 
 pub returns : goal.returns
 returns c =
     let k = one_tree _ _ _ c.word_at.ensures.0 c.links.ensures c.word_at-next.ensures.0 c.in_ok-end.was c.if-next-ne0.false c.if-end-n.false in
-    root_of k.1 c.requires.0 c.requires.1 refl refl
+    root_of k.1 c.requires.1 c.requires.0 refl refl

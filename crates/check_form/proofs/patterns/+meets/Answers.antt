@@ -9,16 +9,16 @@ returns-in_default t c = ends c.args.trees ∙ sym (meets_end _ _ c.in_default.l
 pub returns-in-Some : goal.returns-in-Some
 unfolding meets
 returns-in-Some t c =
-    c.meets.ensures ∙ sym (split_first _ _ c.in-len1-up.len_at_least c.in-One.is _ ∙ leads_on c.past_one.ensures _ c.in-Some.is)
+    c.meets.ensures ∙ sym (split_first _ _ c.in-len1-up.len_at_least c.in-One.is _ ∙ leads_on c.past_one.ensures.leads _ c.in-Some.is)
 
 pub returns-in-None : goal.returns-in-None
 unfolding meets
-returns-in-None t c = sym (split_first _ _ c.in-len1-up.len_at_least c.in-One.is _ ∙ leads_nowhere c.past_one.ensures _ c.in-None.is)
+returns-in-None t c = sym (split_first _ _ c.in-len1-up.len_at_least c.in-One.is _ ∙ leads_nowhere c.past_one.ensures.leads _ c.in-None.is)
 
 pub returns-in-Any : goal.returns-in-Any
 unfolding meets
 returns-in-Any t c =
-    (rw c.past_all.ensures at c.meets-in-Any.ensures) ∙ sym (split_first _ _ c.in-len1-up.len_at_least c.in-Any.is _)
+    (rw c.past_all.ensures.rest at c.meets-in-Any.ensures) ∙ sym (split_first _ _ c.in-len1-up.len_at_least c.in-Any.is _)
 
 pub returns-in-Perhaps : goal.returns-in-Perhaps
 unfolding meets
