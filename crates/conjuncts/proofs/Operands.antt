@@ -1,5 +1,7 @@
--- The operands of an And that stands in an image.
---     and_below, and_of, and_there    the operands of an And, as the code has them
+-- The operands of an And, as the code has them.
+--     and_below, two_of               the first two trees below an And are its operands
+--     operands_of, left_is, right_is  they are expressions
+--     and_of, there_left, there_right where the And stands, they stand
 -- Assumes nothing.
 use mathlib.Core.Path.{◌≡◌, refl, sym, ap, subst, ◌∙◌}
 use mathlib.Core.Bool.{true, false}
@@ -17,7 +19,7 @@ use Rattle.plan.specs.Syntax.{Op, and, or, cmp, eq, ne, lt, le, gt, ge, Expr, co
 use Rattle.plan.specs.Trees.{label_e, kids_e, expr_tree}
 use Rattle.rewrite.specs.Utils.{split_conjunction}
 use Rattle.conjuncts.specs.Operands.{Operands}
-use Rattle.conjuncts.specs.Standing.{Standing, There}
+use Rattle.conjuncts.specs.Standing.{IsExpr, Standing, There}
 use Rattle.conjuncts.specs.Items.{Item}
 use Rattle.conjuncts.specs.Labels.{is_and}
 use Rattle.conjuncts.proofs.Standing.{tree_standing, standing_tree}
@@ -86,12 +88,11 @@ pub record Pair (f : Forest) : Type 0 where
   pub right : Tree
   pub is : f ≡ node left.label left.below (node right.label right.below none)
 
-pub and_below : (t : Subtree) → There t.image.now t.number → is_and (tree_of t).label ≡ true → Pair (tree_of t).below
+pub and_below : (t : Subtree) → IsExpr (tree_of t) → is_and (tree_of t).label ≡ true → Pair (tree_of t).below
 unfolding kids_e
 and_below t h y =
-    let is = tree_standing t refl refl h.standing in
-    let b : Both h.expr = and_label h.expr (rw is at y) in
-    record { left = expr_tree b.lhs; right = expr_tree b.rhs; is = ap (λ (u : Tree). u.below) is ∙ ap kids_e b.is }
+    let b : Both h.expr = and_label h.expr (rw h.is at y) in
+    record { left = expr_tree b.lhs; right = expr_tree b.rhs; is = ap (λ (u : Tree). u.below) h.is ∙ ap kids_e b.is }
 
 -- the first two trees below it are its operands
 pub two_of : {t l r : Subtree} {x y z : Siblings} → Pair (tree_of t).below → Below t x → Split x l y → Split y r z → Operands t l r
@@ -108,7 +109,44 @@ two_of {t} {l} {r} {x} {y} {z} p b u w =
       right_image = w.image ∙ (u.others ∙ b.image);
     }
 
--- where the operands of an And stand
+-- the operands of an And are expressions
+pub record OperandsOf (l r : Tree) (e : Expr) : Type 0 where
+  pub lhs : Expr
+  pub rhs : Expr
+  pub is : e ≡ bin and lhs rhs
+  pub left : l ≡ expr_tree lhs
+  pub right : r ≡ expr_tree rhs
+
+module _ {t l r : Subtree} (y : is_and (tree_of t).label ≡ true) (w : Operands t l r) where
+  pub operands_of : {e : Expr} → tree_of t ≡ expr_tree e → OperandsOf (tree_of l) (tree_of r) e
+  unfolding kids_e
+  operands_of {e} is =
+      let b : Both e = and_label e (rw is at y) in
+      let below : node (tree_of l).label (tree_of l).below (node (tree_of r).label (tree_of r).below none)
+      ≡ node (label_e b.lhs) (kids_e b.lhs) (node (label_e b.rhs) (kids_e b.rhs) none) =
+      sym w.below ∙ (ap (λ (u : Tree). u.below) is ∙ ap kids_e b.is) in
+      record {
+        lhs = b.lhs;
+        rhs = b.rhs;
+        is = b.is;
+        left = ap (λ (x : Label × Forest). record { label = x.0; below = x.1 }) (cc below);
+        right = ap (λ (x : Label × Forest). record { label = x.0; below = x.1 }) (cc below);
+      }
+
+  pub left_is : IsExpr (tree_of t) → IsExpr (tree_of l)
+  left_is h = let u = operands_of h.is in record { expr = u.lhs; is = u.left }
+
+  pub right_is : IsExpr (tree_of t) → IsExpr (tree_of r)
+  right_is h = let u = operands_of h.is in record { expr = u.rhs; is = u.right }
+
+  -- they have fewer records
+  pub fewer_left : size (tree_of l).below < size (tree_of t).below
+  fewer_left = omega (arith, ap size w.below)
+
+  pub fewer_right : size (tree_of r).below < size (tree_of t).below
+  fewer_right = omega (arith, ap size w.below)
+
+-- where they stand
 pub record AndOf (s : List ℕ) (l r : ℕ) (e : Expr) : Type 0 where
   pub lhs : Expr
   pub rhs : Expr
@@ -120,13 +158,7 @@ module _ {t l r : Subtree} (y : is_and (tree_of t).label ≡ true) (w : Operands
   pub and_of : {e : Expr} → Standing t.image.now t.number e → AndOf t.image.now l.number r.number e
   unfolding kids_e
   and_of {e} h =
-      let is = tree_standing t refl refl h in
-      let b : Both e = and_label e (rw is at y) in
-      let below : node (tree_of l).label (tree_of l).below (node (tree_of r).label (tree_of r).below none)
-      ≡ node (label_e b.lhs) (kids_e b.lhs) (node (label_e b.rhs) (kids_e b.rhs) none) =
-      sym w.below ∙ (ap (λ (u : Tree). u.below) is ∙ ap kids_e b.is) in
-      let tl : tree_of l ≡ expr_tree b.lhs = ap (λ (x : Label × Forest). record { label = x.0; below = x.1 }) (cc below) in
-      let tr : tree_of r ≡ expr_tree b.rhs = ap (λ (x : Label × Forest). record { label = x.0; below = x.1 }) (cc below) in
+      let b : OperandsOf (tree_of l) (tree_of r) e = operands_of y w (tree_standing t refl refl h) in
       let k : Standing t.image.now t.number (bin and b.lhs b.rhs) = subst (λ (f : Expr). Standing t.image.now t.number f) b.is h in
       let deep = deep_parts (max_depth - 1) and b.lhs b.rhs k.deep in
       let sl : length l.image.now ≤ work_bytes = rw w.left_image short in
@@ -135,16 +167,11 @@ module _ {t l r : Subtree} (y : is_and (tree_of t).label ≡ true) (w : Operands
         lhs = b.lhs;
         rhs = b.rhs;
         is = b.is;
-        left = rw w.left_image at (standing_tree l b.lhs tl sl (deeper (kids_e b.lhs) (max_depth - 1) deep.1) k.fits.0);
-        right = rw w.right_image at (standing_tree r b.rhs tr sr (deeper (kids_e b.rhs) (max_depth - 1) deep.2.1) k.fits.1);
+        left = subst (λ (s : List ℕ). Standing s l.number b.lhs) w.left_image
+            (standing_tree l b.lhs b.left sl (deeper (kids_e b.lhs) (max_depth - 1) deep.1) k.fits.0);
+        right = subst (λ (s : List ℕ). Standing s r.number b.rhs) w.right_image
+            (standing_tree r b.rhs b.right sr (deeper (kids_e b.rhs) (max_depth - 1) deep.2.1) k.fits.1);
       }
-
-  -- they have fewer records
-  pub fewer_left : size (tree_of l).below < size (tree_of t).below
-  fewer_left = omega (arith, ap size w.below)
-
-  pub fewer_right : size (tree_of r).below < size (tree_of t).below
-  fewer_right = omega (arith, ap size w.below)
 
   -- some expressions stand there
   pub there_left : There t.image.now t.number → There l.image.now l.number

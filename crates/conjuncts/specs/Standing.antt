@@ -1,7 +1,7 @@
 -- Where expressions and plans stand in the bytes of an image. Record numbers are counted from the image's start.
-use Rattle.std.specs.Prelude.{List, ℕ, ◌*◌, ◌≤◌, ◌<◌, length, drop}
+use Rattle.std.specs.Prelude.{◌≡◌, List, ℕ, ◌*◌, ◌≤◌, ◌<◌, length, drop}
 use Rattle.image.specs.Limits.{max_below, max_records}
-use Rattle.image.specs.Tree.{At, Deep}
+use Rattle.image.specs.Tree.{At, Deep, Tree}
 use Rattle.plan.specs.Syntax.{Expr, Plan}
 use Rattle.plan.specs.Integers.{FitsE, FitsP}
 use Rattle.plan.specs.Trees.{expr_tree, kids_e, plan_tree, kids_p}
@@ -21,6 +21,11 @@ pub record StandingP (s : List ℕ) (n : ℕ) (p : Plan) : Type 0 where
   pub deep : Deep (kids_p p) max_below
   pub fits : FitsP p
   pub small : n < max_records
+
+-- the tree is some expression's
+pub record IsExpr (t : Tree) : Type 0 where
+  pub expr : Expr
+  pub is : t ≡ expr_tree expr
 
 -- some expression stands at record n
 pub record There (s : List ℕ) (n : ℕ) : Type 0 where

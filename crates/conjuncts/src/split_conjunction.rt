@@ -1,12 +1,14 @@
 // split_conjunction (datafusion-expr utils): the conjuncts of a predicate, left operand first; and whether joined again they are as it was.
-ghost use Rattle.std.specs.Prelude.{◌++◌, List, ◌<◌, ◌≤◌, length};
+ghost use Rattle.std.specs.Prelude.{◌≡◌, ◌++◌, List, ◌<◌, ◌≤◌, length};
 ghost use Rattle.image.specs.Limits.{work_bytes};
+ghost use Rattle.image.specs.Subtrees.{tree_of};
 ghost use Rattle.plan.specs.Syntax.{Expr};
+ghost use Rattle.plan.specs.Trees.{expr_tree};
 ghost use Rattle.rewrite.specs.Utils.{split_conjunction};
 ghost use Rattle.conjuncts.specs.Items.{Lists};
 ghost use Rattle.conjuncts.specs.Operands.{IsAnd};
 ghost use Rattle.conjuncts.specs.Says.{LeftDeep, Says};
-ghost use Rattle.conjuncts.specs.Standing.{Standing, There};
+ghost use Rattle.conjuncts.specs.Standing.{IsExpr, Standing};
 
 use crate::lists::Conjuncts;
 use image::trees::Subtree;
@@ -15,7 +17,7 @@ use plan::words::AND;
 
 // The operands of an And, left and right; none of any other expression.
 fn and_operands(tree: Subtree) -> Option<(Subtree, Subtree)>
-    requires { There tree.image.now tree.number }
+    requires { IsExpr (tree_of tree) }
     ensures { IsAnd tree.entry result }
 {
     let label = tree.label();
@@ -29,7 +31,7 @@ fn and_operands(tree: Subtree) -> Option<(Subtree, Subtree)>
 
 // Appends the conjuncts of an expression, which is not at the root.
 fn add_conjuncts(tree: Subtree, list: &mut Conjuncts)
-    requires there { There tree.image.now tree.number }
+    requires expr { IsExpr (tree_of tree) }
     requires number_nonzero { 0 < tree.number }
     requires image_bound { length tree.image.now ≤ work_bytes }
     ensures { (e : Expr) (es : List Expr) → Standing tree.entry.image.now tree.entry.number e → Lists tree.entry.image.now list.old es →
@@ -46,7 +48,7 @@ fn add_conjuncts(tree: Subtree, list: &mut Conjuncts)
 
 // A list with the conjuncts of an expression, which is not at the root, behind its own.
 pub fn split_conjunction(tree: Subtree, c: Conjuncts) -> Conjuncts
-    requires there { There tree.image.now tree.number }
+    requires expr { IsExpr (tree_of tree) }
     requires number_nonzero { 0 < tree.number }
     requires image_bound { length tree.image.now ≤ work_bytes }
     ensures { (e : Expr) (es : List Expr) → Standing tree.entry.image.now tree.entry.number e → Lists tree.entry.image.now c es →
@@ -59,9 +61,8 @@ pub fn split_conjunction(tree: Subtree, c: Conjuncts) -> Conjuncts
 
 // Whether an expression is joined left-deep: no right operand of an And is one.
 pub fn is_left_deep(tree: Subtree) -> bool
-    requires there { There tree.image.now tree.number }
-    requires image_bound { length tree.image.now ≤ work_bytes }
-    ensures { (e : Expr) → Standing tree.entry.image.now tree.entry.number e → Says result (LeftDeep e) }
+    requires { IsExpr (tree_of tree) }
+    ensures { (e : Expr) → tree_of tree.entry ≡ expr_tree e → Says result (LeftDeep e) }
 {
     match and_operands(tree) {
         Some((left, right)) => and_operands(right).is_none() && is_left_deep(left),

@@ -4,7 +4,7 @@ use native.Mathlib.Omega.{arith}
 use Rattle.rewrite.specs.Utils.{split_conjunction}
 use Rattle.image.specs.Tree.{Tree}
 use Rattle.conjuncts.specs.Labels.{is_and}
-use Rattle.conjuncts.proofs.Operands.{and_of, fewer_left, fewer_right, there_left, there_right, item_of, single}
+use Rattle.conjuncts.proofs.Operands.{and_of, fewer_left, fewer_right, item_of, left_is, right_is, single}
 use Rattle.conjuncts.proofs.Standing.{tree_standing}
 use Rattle.conjuncts.proofs.Listed.{lists_add}
 use Rattle.conjuncts.proofs.split_conjunction.+add_conjuncts.Goals as goal
@@ -13,16 +13,16 @@ pub add_conjuncts-requires : goal.add_conjuncts-requires
 add_conjuncts-requires t c =
     let k = c.in-Some.ensures in
     let p = c.requires in (
-      omega (arith, fewer_left k.0 k.1 p.image_bound, c.decreases),
-      (there_left k.0 k.1 p.image_bound p.there, (omega (arith, k.1.left), rw k.1.left_image p.image_bound)),
+      omega (arith, fewer_left k.0 k.1, c.decreases),
+      (left_is k.0 k.1 p.expr, (omega (arith, k.1.left), rw k.1.left_image p.image_bound)),
     )
 
 pub add_conjuncts-requires-in-Some : goal.add_conjuncts-requires-in-Some
 add_conjuncts-requires-in-Some t c =
     let k = c.in-Some.ensures in
     let p = c.requires in (
-      omega (arith, fewer_right k.0 k.1 p.image_bound, c.decreases),
-      (there_right k.0 k.1 p.image_bound p.there, (omega (arith, k.1.right), rw k.1.right_image p.image_bound)),
+      omega (arith, fewer_right k.0 k.1, c.decreases),
+      (right_is k.0 k.1 p.expr, (omega (arith, k.1.right), rw k.1.right_image p.image_bound)),
     )
 
 pub returns-in-Some : goal.returns-in-Some
