@@ -1,14 +1,16 @@
 -- Laws of looking an entry up.
 --     Inside, ..      trees side by side stand in one image
+--     Behind, ..      .. behind a record
 --     begins, ..      what is found, and how deep it may be written
 -- Assumes nothing.
 use mathlib.Core.Path.{◌≡◌, refl, sym, ap, subst, ◌∙◌}
 use mathlib.Core.Bool.{Bool, true, false}
 use mathlib.Core.List.{List, [], ◌∷◌}
-use Prim.Native.Nat.{ℕ, ◌+◌, ◌-◌, ◌<◌}
+use Prim.Native.Nat.{ℕ, ◌+◌, ◌-◌, ◌*◌, ◌<◌}
 use native.Mathlib.Omega.{arith}
 use lib.Dec.{eqb}
-use Rattle.image.specs.Tree.{Label, Forest, none, node, Tree, Deep, Linked, size}
+use lib.ListN.{drop}
+use Rattle.image.specs.Tree.{Label, Forest, none, node, Tree, Deep, Linked, Stands, link, size}
 use Rattle.std.specs.Iterator.{YieldsFirstBy}
 use Rattle.std.specs.Prelude.{Option, Some, None}
 use Rattle.image.specs.Room.{Low}
@@ -47,19 +49,56 @@ pub inside_step : (x y : Siblings) (t : Subtree) {s : List ℕ} → places x ≡
     → (t.image.now ≡ s) × Inside s (places y)
 inside_step x y t {s} e h = subst (Inside s) e h
 
+-- .. behind record m
+abbrev pub Behind : ℕ → List Place → Type 0
+Behind m [] = Unit {0}
+Behind m (p ∷ ps) = (m < p.number) × Behind m ps
+
+behind_from : (s : List ℕ) (m n : ℕ) (f : Forest) → m < n → Behind m (places_from s n f)
+unfolding places_from
+behind_from s m n none lt = tt
+behind_from s m n (node l cs ns) lt = (lt, behind_from s m (n + 1 + size cs) ns (omega arith))
+
+behind_linked : (s : List ℕ) (m n : ℕ) (f : Forest) → n ≡ link (m + 1) f → Behind m (places_from s n f)
+unfolding places_from
+behind_linked s m n none e = tt
+behind_linked s m n (node l cs ns) e = behind_from s m n (node l cs ns) (omega arith)
+
+-- those below a tree do
+pub behind : (t : Subtree) (x : Siblings) → Below t x → Behind t.number (places x)
+behind t x b = behind_linked x.image.now t.number x.first (forest x) (b.first ∙ ap (link (t.number + 1)) (sym b.is))
+
+-- the first does, and so do the others
+pub behind_step : (x y : Siblings) (t : Subtree) {m : ℕ} → places x ≡ place t ∷ places y → Behind m (places x)
+    → (m < t.number) × Behind m (places y)
+behind_step x y t {m} e h = subst (Behind m) e h
+
+-- what is linked at a record stands there
+linked_stands : (f : Forest) {s v : List ℕ} {n m : ℕ} → s ≡ v → m ≡ n → Linked f s 0 n → Stands f (drop (32 * m) v) m
+linked_stands none es en h = tt
+linked_stands (node l cs ns) {n = n} es en h = let d : n - 0 ≡ n = omega arith in rw (← es, en) (rw d at h.1)
+
 -- the first of the trees below an entry is its expression
-pub begins : (map t x : Subtree) (cs y : Siblings) → Below t cs → t.image.now ≡ map.image.now → places cs ≡ place x ∷ places y
-    → Begins (tree_of t).below map x
-begins map t x cs y b i e =
+pub begins : (map t x : Subtree) (cs y : Siblings) → Below t cs → t.image.now ≡ map.image.now → map.number < t.number
+    → places cs ≡ place x ∷ places y → Begins (tree_of t).below map x
+begins map t x cs y b i lt e =
     let g = goes cs y x e in
-    let here = subst (λ (f : Forest). Linked f cs.image.now 0 cs.first) g.is cs.chained.linked in
-    record { image = g.image ∙ b.image ∙ i; past = omega (arith, here.0, g.number); others = forest y; is = sym b.is ∙ g.is }
+    let is : (tree_of t).below ≡ node (tree_of x).label (tree_of x).below (forest y) = sym b.is ∙ g.is in
+    let n : x.number ≡ t.number + 1 = g.number ∙ b.first ∙ ap (link (t.number + 1)) is in
+    record {
+      image = g.image ∙ b.image ∙ i;
+      past = omega (arith, n, lt);
+      stands = linked_stands (tree_of t).below (b.image ∙ i) g.number
+          (subst (λ (f : Forest). Linked f cs.image.now 0 cs.first) b.is cs.chained.linked);
+      others = forest y;
+      is = is;
+    }
 
 -- .. or there is none
-pub begins_of : (map t : Subtree) (cs y : Siblings) (o : Option Subtree) → Below t cs → t.image.now ≡ map.image.now
+pub begins_of : (map t : Subtree) (cs y : Siblings) (o : Option Subtree) → Below t cs → t.image.now ≡ map.image.now → map.number < t.number
     → YieldsFirstBy place places cs o y → Finds (tree_of t).below map o
-begins_of map t cs y (Some x) b i e = begins map t x cs y b i e
-begins_of map t cs y None b i e = sym b.is ∙ gone cs e.0
+begins_of map t cs y (Some x) b i lt e = begins map t x cs y b i lt e
+begins_of map t cs y None b i lt e = sym b.is ∙ gone cs e.0
 
 -- the first entry has the name
 pub lookup_first : (l : Label) (cs ns : Forest) (p q : ℕ) {b : Bool} → b ≡ is_entry l p q → b ≡ true → lookup (node l cs ns) p q ≡ cs

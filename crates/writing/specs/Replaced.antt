@@ -1,9 +1,9 @@
 -- Columns of a tree replaced by the expressions that entries name. The entries are children of one tree: a Projection, an Aggregate, or
 -- renames.
-use Rattle.std.specs.Prelude.{◌≡◌, Bool, true, false, ◌&&◌, ℕ, ◌+◌, ◌<◌, eqb, Option, None, Some}
+use Rattle.std.specs.Prelude.{◌≡◌, Bool, true, false, ◌&&◌, ℕ, ◌+◌, ◌*◌, ◌<◌, eqb, drop, Option, None, Some}
 use Rattle.image.specs.Limits.{max_level}
 use Rattle.image.specs.Subtrees.{tree_of}
-use Rattle.image.specs.Tree.{Deep, Label, Forest, none, node, Tree}
+use Rattle.image.specs.Tree.{Deep, Label, Forest, none, node, Stands, Tree}
 use Rattle.image.specs.declared.trees.Subtree.{Subtree}
 use Rattle.plan.specs.Kinds.{number_e, number_q, Column, EntryPart}
 
@@ -43,10 +43,11 @@ replaced_any e (node l cs ns) = plant (first_or (value_for e l) (record { label 
 abbrev pub replaced : Tree → Tree → Tree
 replaced e t = first_or (value_for e t.label) (record { label = t.label; below = replaced_any e t.below })
 
--- x is what f begins with, and stands in the image of the map, where it is not the first record
+-- x is what f begins with, and f stands there in the image of the map, behind the map's record
 pub record Begins (f : Forest) (map x : Subtree) : Type 0 where
   pub image : x.image.now ≡ map.image.now
-  pub past : 0 < x.number
+  pub past : map.number < x.number
+  pub stands : Stands f (drop (32 * x.number) map.image.now) x.number
   pub others : Forest
   pub is : f ≡ plant (tree_of x) others
 
