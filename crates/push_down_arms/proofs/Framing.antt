@@ -10,7 +10,7 @@ use Rattle.image.specs.Tree.{Label, Forest, none, node}
 use Rattle.image.specs.Records.{Rec, recs, recs_any}
 use Rattle.image.specs.Limits.{work_bytes}
 use Rattle.image.specs.Room.{Wrote}
-use Rattle.plan.specs.Syntax.{Entry, Key, AggEntry, WinEntry, Plan, scan, project, distinct, sort, repartition, aggregate, window}
+use Rattle.plan.specs.Syntax.{Entry, Key, AggEntry, WinEntry, Plan, scan, project, alias, distinct, sort, repartition, aggregate, window}
 use Rattle.plan.specs.Measure.{sizes}
 use Rattle.plan.specs.Trees.{label_p, kids_p, plan_tree, each, entry_label, entry_kids, key_label, key_kids, agg_label, agg_kids, win_label}
 use Rattle.plan.specs.Trees.{win_kids}
@@ -52,6 +52,10 @@ sort_frame f ks = run_frame key_label key_kids ks (sort f ks) (label_p (sort f k
 pub window_frame : (ws : List WinEntry) → Frame (window ws) (suc (sizes win_kids ws))
 unfolding label_p kids_p
 window_frame ws = run_frame win_label win_kids ws (window ws) (label_p (window ws none_read)) (λ q. refl)
+
+pub alias_frame : (i : ℕ) → Frame (alias i) 1
+unfolding label_p kids_p
+alias_frame i = one_frame (alias i) (label_p (alias i none_read)) (λ q. refl)
 
 pub distinct_frame : Frame distinct 1
 unfolding label_p kids_p
