@@ -20,7 +20,12 @@ use Rattle.image.specs.Subtrees.{tree_of}
 use Rattle.image.specs.declared.trees.Subtree.{Subtree}
 use Rattle.conjuncts.specs.Equality.{same, same_label}
 use Rattle.by_word.specs.Equality.{counted, same_link, alike, agreeing, agree}
-use Rattle.conjuncts.proofs.Equals.{and_both, is_same, label_is, label_same, same_is}
+use Rattle.plan.specs.Syntax.{Expr}
+use Rattle.plan.specs.Integers.{FitsE}
+use Rattle.plan.specs.Trees.{expr_tree}
+use Rattle.rewrite.specs.Utils.{same_e}
+use Rattle.rewrite.proofs.Exprs.{same_e_eq}
+use Rattle.conjuncts.proofs.Equals.{and_both, is_same, label_is, label_same, same_is, same_exprs}
 use Rattle.plan.proofs.Bools.{same_truth}
 
 pub counted_is : (top link : ℕ) → counted top link ≡ link - top
@@ -188,3 +193,10 @@ module _ (a b : Subtree) where
       let v : 32 * a.number + 32 * 1 ≡ 32 * (a.number + 1) = omega arith in
       let w : 32 * b.number + 32 * 1 ≡ 32 * (b.number + 1) = omega arith in
       rw (x, y) (same_agree ∙ rw n (rw (drop-drop, v, drop-drop, w) at (agree_tops a.number b.number (size_t (tree_of a)) (drop (32 * a.number) a.image.now) (drop (32 * b.number) b.image.now))))
+
+-- two expressions
+pub agree_exprs : (a b : Expr) {s v : List ℕ} {n m : ℕ} → FitsE a → FitsE b → At (expr_tree a) s n → At (expr_tree b) v m
+    → agree (size_t (expr_tree a)) n s (size_t (expr_tree b)) m v ≡ same_e a b
+agree_exprs a b {s} {v} {n} {m} f g h k =
+    same_truth _ (same_e a b) (λ y. sym (same_exprs a b f g) ∙ is_same _ _ (agree_only h k y))
+    (λ y. let e = same_e_eq a b y in rw (← e) (agree_same h (rw e k)))

@@ -1,12 +1,13 @@
 -- Laws of numbers in base 10: their digits one by one, and how many there are.
-use Prim.Native.Nat.{ℕ, zero, suc, ◌+◌, ◌/◌, ◌%◌, ◌^◌, ◌≤◌, ◌<◌}
+use Prim.Native.Nat.{ℕ, zero, suc, ◌+◌, ◌*◌, ◌/◌, ◌%◌, ◌^◌, ◌≤◌, ◌<◌}
+use native.Mathlib.Nat.{pow-suc}
 use native.Mathlib.Omega.{arith}
 use mathlib.Core.Path.{◌≡◌, refl, ap, ◌∙◌}
 use mathlib.Core.Bool.{Bool, true, false}
 use mathlib.Core.List.{List, [], ◌∷◌, ◌++◌}
 use lib.Dec.{ltb}
 use lib.ListN.{length, length-append}
-use borrow.Author.Tests.{lt-ltb, le-ltb, ltb-false}
+use borrow.Author.Tests.{lt-ltb, le-ltb, ltb-true, ltb-false}
 use Rattle.std.proofs.lemmas.Fmt.{decimal_by_steps, length-decimal-le}
 use Rattle.std.specs.Fmt as fmt
 use Rattle.plan.specs.Lists.{choose}
@@ -48,6 +49,18 @@ decimal_printed : (n : ℕ) → n < 2 ^ 64 → decimal n ≡ fmt.decimal n
 decimal_printed =
     decimal_by_steps (λ n ds. decimal n ≡ ds) decimal_one
     (λ n ds more e. decimal_more n more ∙ ap (λ (l : List ℕ). l ++ ((48 + n % 10) ∷ [])) e)
+
+-- a number below the power has no more digits
+pub decimal_length : (k n : ℕ) → n < 10 ^ suc k → length (decimal n) ≤ suc k
+decimal_length zero n h = rw (decimal_one n (omega arith)) (omega arith)
+decimal_length (suc k) n h = go (ltb n 10) refl (λ l. decimal_length k (n / 10) l)
+  where
+    go : (b : Bool) → ltb n 10 ≡ b → (n / 10 < 10 ^ suc k → length (decimal (n / 10)) ≤ suc k) → length (decimal n) ≤ suc (suc k)
+    go true e ih = rw (decimal_one n (ltb-true n 10 e)) (omega arith)
+    go false e ih =
+        let m : 10 ≤ n = ltb-false n 10 e in
+        let l : n < 10 ^ suc k * 10 = rw (pow-suc 10 (suc k)) at h in
+        rw (decimal_more n m, length-append) (omega (arith, ih (omega arith)))
 
 -- a word has at most ten digits, a number of 64 bits at most twenty
 pub word_digits : {n : ℕ} → n < 4294967296 → length (decimal n) ≤ 10
