@@ -1,7 +1,7 @@
 -- Laws of sets of places.
 --     member_or, ..   which places a sum of sets, an intersection and a set of one place have
 --     within_count    all of v is in m exactly if v has as many places in common with m as it has
---     within_or, ..   when a sum of sets, a set of one place and the empty set are within another
+--     within_both, .. when a sum of sets, a set of one place and the empty set are within another
 -- Assumes nothing.
 use mathlib.Core.Path.{◌≡◌, refl, sym, ap, ◌∙◌}
 use mathlib.Core.Bool.{Bool, true, false, not, ◌||◌, cond}

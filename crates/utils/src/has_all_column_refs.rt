@@ -18,16 +18,25 @@ use conjuncts::items::item_tree;
 use image::trees::Subtree;
 use plan::kinds::COLUMN;
 
-// The set of the field with this name.
-fn column(fields: &[ColumnReference], q: usize, n: usize) -> FieldSet
+// The set with the place of the field with this name besides.
+fn column(set: FieldSet, fields: &[ColumnReference], q: usize, n: usize) -> FieldSet
     requires { length fields.now ≤ max_fields }
     ensures { (ns : List Name) → fields.now ≡ map coded ns → has ns (nm q n) ≡ true
-        → (j : ℕ) → member result j ≡ (eqb (place_in ns (nm q n)) j || member 0 j) }
+        → (j : ℕ) → member result j ≡ (eqb (place_in ns (nm q n)) j || member set j) }
 {
     match place_of(fields, q, n) {
-        Some(place) => FieldSet::empty().with(place),
-        None => FieldSet::empty(),
+        Some(place) => set.with(place),
+        None => set,
     }
+}
+
+// The same of a schema.
+pub fn add_column(set: FieldSet, f: Fields, q: usize, n: usize) -> FieldSet
+    requires { f.len ≤ max_fields }
+    ensures { (ns : List Name) → Names f ns → has ns (nm q n) ≡ true
+        → (j : ℕ) → member result j ≡ (eqb (place_in ns (nm q n)) j || member set j) }
+{
+    column(set, f.items(), q, n)
 }
 
 // The set of those of the fields that a tree refers to.
@@ -38,7 +47,7 @@ fn columns_of(tree: Subtree, fields: &[ColumnReference]) -> FieldSet
 {
     let label = tree.label();
     if label.kind == COLUMN {
-        return column(fields, label.p, label.q);
+        return column(FieldSet::empty(), fields, label.p, label.q);
     }
     let mut set = FieldSet::empty();
     for child in tree.children() {

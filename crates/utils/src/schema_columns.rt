@@ -80,7 +80,7 @@ fn add_parts(plan: Subtree, into: &mut Fields, alias: Option<u32>)
 }
 
 // Appends the fields of a plan, all with the alias for their qualifier if there is one.
-fn add_schema(plan: Subtree, into: &mut Fields, alias: Option<u32>)
+pub fn add_schema(plan: Subtree, into: &mut Fields, alias: Option<u32>)
     requires { IsPlan (tree_of plan) }
     ensures { (p : Plan) (ns : List Name) → tree_of plan.entry ≡ plan_tree p → Names into.old ns
         → Names into.new (ns ++ called alias (schema p)) }

@@ -28,6 +28,14 @@ impl From<u64> for FieldSet {
     }
 }
 
+impl From<FieldSet> for u64 {
+    ghost from_gives = { λ set bits. bits ≡ set };
+
+    fn from(set: FieldSet) -> u64 {
+        set.0
+    }
+}
+
 impl FieldSet {
     pub fn empty() -> Self
         ensures { result ≡ 0 }

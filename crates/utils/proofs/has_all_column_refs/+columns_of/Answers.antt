@@ -15,7 +15,7 @@ returns-then-label-eq-COLUMN t c =
     let is = eq-eqb _ _ (sym (ap (λ (l : Label). l.kind) l) ∙ c.if-label-eq-COLUMN.true) in
     let held' = column_held ns (tree_of c.args.tree) is held in
     so_column ns (tree_of c.args.tree) is (answers_one ns (omega (arith, ap length g, length-map ns coded, c.requires)) _ held' _
-    (rw l at (c.column.ensures ns g (rw l held'))))
+    (rw (c.empty.ensures, l) at (c.column.ensures ns g (rw l held'))))
 
 pub loop-child-init : goal.loop-child-init
 loop-child-init t c =

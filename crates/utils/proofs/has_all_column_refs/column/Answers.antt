@@ -12,7 +12,7 @@ pub returns-in-Some : goal.returns-in-Some
 returns-in-Some c =
     λ ns e held j. let p : c.in-Some.place ≡ place_in ns (nm c.args.q c.args.n) =
     ap (λ o. unwrap_or o (length c.args.fields.now)) c.in-Some.ensures ∙ place_found ns c.args.q c.args.n e in
-    rw (← p) (rw c.empty.ensures at c.with.ensures j)
+    rw (← p) (c.with.ensures j)
 
 pub returns-in-None : goal.returns-in-None
 returns-in-None c =
