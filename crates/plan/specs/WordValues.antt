@@ -1,5 +1,7 @@
 -- What the names that the code has for the values of words stand for.
+use Rattle.std.specs.Prelude.{cond, ℕ, eqb}
 use Rattle.plan.specs.Syntax as S
+use Rattle.plan.specs.Trees.{op_number}
 use Rattle.plan.specs.declared.words.Comparison.{Comparison}
 use Rattle.plan.specs.declared.words.Comparison.TheVariants.{Eq, NotEq, Lt, LtEq, Gt, GtEq}
 use Rattle.plan.specs.declared.words.Operator.{Operator}
@@ -18,6 +20,15 @@ cmp_of Lt = S.lt
 cmp_of LtEq = S.le
 cmp_of Gt = S.gt
 cmp_of GtEq = S.ge
+
+-- the comparison with this number; Eq for the number of none
+abbrev pub cmp_at : ℕ → S.Cmp
+cmp_at p =
+    cond (eqb p (op_number (S.cmp S.ne))) S.ne
+    (cond (eqb p (op_number (S.cmp S.lt))) S.lt
+    (cond (eqb p (op_number (S.cmp S.le))) S.le
+    (cond (eqb p (op_number (S.cmp S.gt))) S.gt
+    (cond (eqb p (op_number (S.cmp S.ge))) S.ge S.eq))))
 
 abbrev pub op_of : Operator → S.Op
 op_of And = S.and

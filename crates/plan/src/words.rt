@@ -3,7 +3,7 @@
 ghost use Rattle.std.specs.Prelude.{◌≡◌, ◌-◌};
 ghost use Rattle.plan.specs.Read.{aggs, joins, nth, ops, tests};
 ghost use Rattle.plan.specs.Syntax.{and, count, inner, is_null};
-ghost use Rattle.plan.specs.WordValues.{aggregate_of, join_of, op_of, test_of};
+ghost use Rattle.plan.specs.WordValues.{aggregate_of, cmp_at, cmp_of, join_of, op_of, test_of};
 
 #[derive(Clone, Copy, Debug, PartialEq, Eq, Hash)]
 pub enum Comparison {
@@ -53,6 +53,22 @@ pub enum Aggregate {
     Count,
     Min,
     Max,
+}
+
+impl Comparison {
+    // The comparison with this number; Eq where it is the number of none.
+    pub fn of(word: usize) -> Comparison
+        ensures { cmp_of result ≡ cmp_at word }
+    {
+        match word {
+            NOT_EQ => Comparison::NotEq,
+            LT => Comparison::Lt,
+            LT_EQ => Comparison::LtEq,
+            GT => Comparison::Gt,
+            GT_EQ => Comparison::GtEq,
+            _ => Comparison::Eq,
+        }
+    }
 }
 
 impl Operator {
