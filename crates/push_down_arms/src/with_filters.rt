@@ -31,6 +31,7 @@ pub fn copy_some(tree: Subtree, end: usize, out: &mut Writer, level: usize)
 {
     // No record of the tree stands before its top.
     if end <= tree.number {
+        out.put_nothing();
         return;
     }
     out.put(tree.label(), level);
