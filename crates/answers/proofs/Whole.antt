@@ -7,7 +7,7 @@ use mathlib.Core.Path.{◌≡◌, refl, sym, ap, subst, ◌∙◌}
 use mathlib.Core.Bool.{Bool, true, false}
 use mathlib.Core.List.{List, [], ◌∷◌, ◌++◌, append-nil}
 use Prim.Native.Nat.{ℕ, zero, suc, ◌+◌, ◌-◌, ◌*◌, ◌≤◌, ◌<◌}
-use native.Mathlib.Nat.{zero-add}
+use native.Mathlib.Nat.{add-zero, zero-add}
 use native.Mathlib.Omega.{arith}
 use lib.Dec.{leb}
 use lib.ListN.{length, get_or, take, drop, get_or-append, drop_of_length-le}
@@ -123,6 +123,16 @@ part_step t s h few n i lt le =
 pub record Run (t : Tree) (n from : ℕ) (out₀ : List ℕ) (at i : ℕ) (out : List ℕ) (to : ℕ) : Type 0 where
   pub count : cap (to + (n - i)) ≡ cap (at + (n - from))
   pub same : sets out (32 * to) (slice (32 * i) (32 * n) (flat 1 t)) ≡ sets out₀ (32 * at) (slice (32 * from) (32 * n) (flat 1 t))
+
+-- none is written yet
+pub run_start : {t : Tree} {n from : ℕ} {out₀ : List ℕ} {at : ℕ} {out : List ℕ} {to : ℕ} → length out₀ ≡ work_bytes → out ≡ out₀ → to ≡ cap at
+    → Run t n from out₀ at from out to
+run_start {t} {n} {from} {out₀} {at} {out} {to} long b e =
+    let v = slice (32 * from) (32 * n) (flat 1 t) in
+    record {
+      count = rw e (cap_add at (n - from));
+      same = ap (λ (o : List ℕ). sets o (32 * to) v) b ∙ sets_next out₀ [] v at 0 to long refl (e ∙ ap cap (sym (add-zero at)));
+    }
 
 -- one more is written
 pub run_next : {t : Tree} {s l : List ℕ} {n from : ℕ} {out₀ : List ℕ} {at i : ℕ} {out : List ℕ} {to : ℕ} {out' : List ℕ} {to' level : ℕ}

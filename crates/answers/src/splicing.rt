@@ -38,6 +38,7 @@ pub fn write_records(s: &[u8], levels: &[u32], from: usize, n: usize, out: &mut 
     ensures ran { (t : Tree) → At t s.now 0 → size_t t ≤ max_records → n ≤ size_t t → Levels levels.now t →
         Ran out.old.bytes.now out.new.bytes.now out.old.next (n - from) out.new.next (slice (32 * from) (32 * n) (flat 1 t)) }
 {
+    out.put_nothing();
     for number in from..n {
         out.put(label_at(record_at(s, number)), wide(levels[number]));
     }

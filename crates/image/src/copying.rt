@@ -1,7 +1,7 @@
 // Records and trees written flat into a work buffer, each record with its depth in the place of its first link.
 ghost use Rattle.std.specs.Prelude.{◌≡◌, ◌+◌, ◌<◌, ◌≤◌, length};
-ghost use Rattle.image.specs.Limits.{max_level, no_room, work_bytes};
-ghost use Rattle.image.specs.Room.{Low, Put, Wrote};
+ghost use Rattle.image.specs.Limits.{max_level, work_bytes};
+ghost use Rattle.image.specs.Room.{Low, Put, Wrote, cap};
 ghost use Rattle.image.specs.Subtrees.{tree_of};
 ghost use Rattle.image.specs.Tree.{At, Readable, Tree, label_at};
 
@@ -15,7 +15,6 @@ pub struct Writer<'a> {
     pub bytes: &'a mut [u8],
     pub next: usize,
     ghost long: { length bytes.now ≡ work_bytes },
-    ghost counted: { next ≤ no_room },
 }
 
 impl<'a> Writer<'a> {
@@ -30,6 +29,15 @@ impl<'a> Writer<'a> {
         } else {
             self.next = NO_ROOM;
         }
+    }
+
+    // Writes nothing; of a count past NO_ROOM no more than that is left.
+    pub fn put_nothing(&mut self)
+        ensures same { self.new.bytes.ghost_name ≡ self.old.bytes.ghost_name }
+        ensures bytes { self.new.bytes.now ≡ self.old.bytes.now }
+        ensures next { self.new.next ≡ cap self.old.next }
+    {
+        self.next = self.next.min(NO_ROOM);
     }
 
     // Writes a tree.

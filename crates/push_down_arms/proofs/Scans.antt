@@ -9,7 +9,7 @@ use Prim.Native.Nat.{ℕ, suc, ◌+◌, ◌-◌, ◌*◌, ◌≤◌, ◌<◌}
 use native.Mathlib.Omega.{arith}
 use lib.ListN.{length, take, drop, get_or, length-drop}
 use lib.Seq.{take_at}
-use Rattle.image.specs.Limits.{work_bytes, no_room, max_below}
+use Rattle.image.specs.Limits.{work_bytes, max_below}
 use Rattle.image.specs.Room.{Wrote}
 use Rattle.image.specs.Tree.{Label, Forest, none, node, Deep, At}
 use Rattle.image.specs.Records.{Rec, recs, recs_any}
@@ -25,7 +25,7 @@ use Rattle.push_down_base.specs.Arms.{Placed}
 use Rattle.push_down_arms.specs.Scans.{Adds}
 use Rattle.push_down_base.proofs.Runs.{run_recs, run_count}
 use Rattle.push_down_arms.proofs.Shaping.{standing_item}
-use Rattle.push_down_base.proofs.WrittenRuns.{wrote_none, wrote_then, wrote_tree, tree_wrote}
+use Rattle.push_down_base.proofs.WrittenRuns.{wrote_then, wrote_tree, tree_wrote}
 
 -- ---- the scan's own filters
 
@@ -120,8 +120,8 @@ pub record Copied (out₀ : List ℕ) (at₀ level : ℕ) (es : List Expr) (out 
   pub completes : done ++ run level (drop i es) ≡ run level es
 
 module _ {out₀ : List ℕ} {at₀ level : ℕ} {es : List Expr} where
-  pub copied_start : at₀ ≤ no_room → Copied out₀ at₀ level es out₀ at₀ 0
-  copied_start h = record { done = []; wrote = wrote_none out₀ at₀ h; completes = refl }
+  pub copied_start : {out : List ℕ} {to : ℕ} → WroteAll out₀ out at₀ to [] → Copied out₀ at₀ level es out to 0
+  copied_start w = record { done = []; wrote = w; completes = refl }
 
   pub copied_next : {out out' : List ℕ} {to to' : ℕ} (i : ℕ) → length out₀ ≡ work_bytes → i < length es → Copied out₀ at₀ level es out to i
       → Wrote out out' to level to' (expr_tree (get_or es i FALSE)) → Copied out₀ at₀ level es out' to' (i + 1)

@@ -167,6 +167,7 @@ fn copy_items(plan: Subtree, c: Conjuncts, out: &mut Writer, level: usize)
     ensures wrote { (es : List Expr) → Lists plan.entry.image.now c es →
         WroteAll out.old.bytes.now out.new.bytes.now out.old.next out.new.next (recs_any level (each label_e kids_e es none)) }
 {
+    out.put_nothing();
     for n in c.items() {
         copy_item(plan.image, plan, usize::from(*n), out, level);
     }

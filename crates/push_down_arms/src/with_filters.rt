@@ -31,6 +31,7 @@ pub fn copy_some<const N: usize>(tree: Stretch<'_, N>, end: usize, out: &mut Wri
 {
     // No record of the tree stands before its top.
     if end <= tree.number {
+        out.put_nothing();
         return;
     }
     out.put(tree.label(), level);

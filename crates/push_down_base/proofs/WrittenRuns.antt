@@ -30,6 +30,9 @@ take_both (suc n) (x ∷ xs) ys =
 pub wrote_none : (out : List ℕ) (at : ℕ) → at ≤ no_room → WroteAll out out at at []
 wrote_none out at h = record { next = sym (ap cap (add-zero at) ∙ cap_is at h); bytes = refl }
 
+pub wrote_nothing : {out out' : List ℕ} {at r : ℕ} → out' ≡ out → r ≡ cap at → WroteAll out out' at r []
+wrote_nothing {at = at} b e = record { next = e ∙ ap cap (sym (add-zero at)); bytes = b }
+
 pub wrote_then : {out out₁ out₂ : List ℕ} {at r₁ r₂ : ℕ} {xs ys : List Rec} → length out ≡ work_bytes
     → WroteAll out out₁ at r₁ xs → WroteAll out₁ out₂ r₁ r₂ ys → WroteAll out out₂ at r₂ (xs ++ ys)
 wrote_then {out} {out₁} {out₂} {at} {r₁} {r₂} {xs} {ys} long h k = record {

@@ -47,7 +47,7 @@ use Rattle.push_down_base.specs.Inputs.{last_of}
 use Rattle.push_down_join.specs.JoinPlans.{pair_recs, FilterOf, has_none, has_one}
 use Rattle.push_down_base.specs.Parting.{Reads}
 use Rattle.push_down_base.proofs.Steps.{On, rest_trees, children, expr_first}
-use Rattle.push_down_base.proofs.WrittenRuns.{wrote_none, wrote_then, wrote_tree}
+use Rattle.push_down_base.proofs.WrittenRuns.{wrote_then, wrote_tree}
 
 -- ---- the filter
 
@@ -168,9 +168,9 @@ pub wrote_when : {out out₁ : List ℕ} {at r : ℕ} {xs : List Rec} (b : Bool)
 unfolding when
 wrote_when b e h = rw e h
 
-pub wrote_unless : {out : List ℕ} {at : ℕ} (b : Bool) (xs : List Rec) → b ≡ false → at ≤ no_room → WroteAll out out at at (when b xs)
+pub wrote_unless : {out out' : List ℕ} {at r : ℕ} (b : Bool) (xs : List Rec) → b ≡ false → WroteAll out out' at r [] → WroteAll out out' at r (when b xs)
 unfolding when
-wrote_unless {out} {at} b xs e h = rw e (wrote_none out at h)
+wrote_unless b xs e h = rw e h
 
 -- the pairs of the forest `all` were to be written from record at₀ on; those of `rest` are left
 pub record PairsLeft (d : ℕ) (out₀ : List ℕ) (at₀ : ℕ) (all : Forest) (out : List ℕ) (to : ℕ) (rest : Forest) : Type 0 where
@@ -181,9 +181,10 @@ pub record PairsLeft (d : ℕ) (out₀ : List ℕ) (at₀ : ℕ) (all : Forest) 
   pub long : length out ≡ work_bytes
   pub small : to ≤ no_room
 
-pub pairs_all : {out : List ℕ} {at : ℕ} (d : ℕ) (all : Forest) → length out ≡ work_bytes → at ≤ no_room → PairsLeft d out at all out at all
-pairs_all {out} {at} d all long small =
-    record { done = []; wrote = wrote_none out at small; is = refl; long₀ = long; long = long; small = small }
+pub pairs_all : {out₀ out : List ℕ} {at₀ to : ℕ} (d : ℕ) (all : Forest) → length out₀ ≡ work_bytes → WroteAll out₀ out at₀ to []
+    → PairsLeft d out₀ at₀ all out to all
+pairs_all {at₀ = at₀} d all long w =
+    record { done = []; wrote = w; is = refl; long₀ = long; long = rw (w.bytes, length-sets) long; small = rw w.next (cap_le (at₀ + 0)) }
 
 pub pairs_next : {d : ℕ} {out₀ : List ℕ} {at₀ : ℕ} {all : Forest} {out : List ℕ} {to : ℕ} (t : Tree) (after : Forest) {out' : List ℕ} {to' : ℕ}
     → PairsLeft d out₀ at₀ all out to (node t.label t.below after) → WroteAll out out' to to' (when (eqb t.label.kind 50) (recs d t))
@@ -228,11 +229,11 @@ pairs_join d k l r on f = none_when _ _ _ (no_plan l) ∙ none_when _ _ _ (no_pl
 
 -- ---- a join's new filter
 
-pub conditions_none : {out : List ℕ} {at : ℕ} (level : ℕ) (es : List Expr) → length es ≡ 0 → at ≤ no_room
-    → WroteAll out out at at (recs_any level (filter_kids (conjunction es)))
+pub conditions_none : {out out' : List ℕ} {at r : ℕ} (level : ℕ) (es : List Expr) → length es ≡ 0 → WroteAll out out' at r []
+    → WroteAll out out' at r (recs_any level (filter_kids (conjunction es)))
 unfolding conjunction
-conditions_none {out} {at} level [] z small = wrote_none out at small
-conditions_none level (e ∷ es) z small = absurd (omega arith)
+conditions_none level [] z w = w
+conditions_none level (e ∷ es) z w = absurd (omega arith)
 
 pub conditions_some : {out out₁ : List ℕ} {at level r : ℕ} (es : List Expr) → (length es ≡ 0 → ⊥)
     → ((e : Expr) (rest : List Expr) → es ≡ e ∷ rest → Wrote out out₁ at level r (expr_tree (conjoin e rest)))

@@ -159,6 +159,8 @@ fn copy_pair(part: Subtree, out: &mut Writer, level: usize)
 {
     if part.kind() == PAIR {
         out.copy_tree(part, level);
+    } else {
+        out.put_nothing();
     }
 }
 
@@ -168,6 +170,7 @@ fn copy_pairs(plan: Subtree, out: &mut Writer, level: usize)
     ensures same { out.new.bytes.ghost_name ≡ out.old.bytes.ghost_name }
     ensures wrote { WroteAll out.old.bytes.now out.new.bytes.now out.old.next out.new.next (pair_recs level (tree_of plan.entry).below) }
 {
+    out.put_nothing();
     for child in plan.children() {
         copy_pair(child, out, level);
     }
@@ -183,6 +186,8 @@ fn copy_conditions(s: &[u8], map: Subtree, c: Conjuncts, out: &mut Writer, level
 {
     if c.len != 0 {
         copy_joined(s, map, c, out, level);
+    } else {
+        out.put_nothing();
     }
 }
 

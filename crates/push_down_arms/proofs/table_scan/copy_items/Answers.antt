@@ -1,5 +1,5 @@
 use native.Mathlib.Omega.{arith}
-use mathlib.Core.Path.{refl, ◌∙◌}
+use mathlib.Core.Path.{◌∙◌}
 use lib.ListN.{get_or}
 use Rattle.conjuncts.specs.Items.{FALSE}
 use Rattle.conjuncts.proofs.Listed.{walk_in, walk_item}
@@ -7,11 +7,13 @@ use Rattle.writing.specs.Maps.{map_of}
 use Rattle.writing.proofs.Maps.{plan_maps_to, plan_over}
 use Rattle.writing.proofs.Pushing.{pushed_plain}
 use Rattle.push_down_base.proofs.Selecting.{walk_past}
+use Rattle.push_down_base.proofs.WrittenRuns.{wrote_nothing}
 use Rattle.push_down_arms.proofs.Scans.{copied_start, copied_next, copied_end}
 use Rattle.push_down_arms.proofs.table_scan.copy_items.Goals as goal
 
 pub loop-n-init : goal.loop-n-init
-loop-n-init c = (refl, λ es h. copied_start c.args.out.now.counted)
+loop-n-init c =
+    let none = c.put_nothing.ensures in (none.same, λ es h. copied_start (wrote_nothing none.bytes none.next))
 
 pub copy_item-requires : goal.copy_item-requires
 copy_item-requires c =

@@ -6,14 +6,14 @@ use Rattle.image.specs.Tree.{size}
 use Rattle.image.specs.Subtrees.{forest, tree_of}
 use Rattle.image.proofs.Room.{low_below, low_after}
 use Rattle.image.proofs.Subtrees.{goes, gone}
-use Rattle.push_down_base.proofs.WrittenRuns.{rest_all, rest_next, rest_end, wrote_none, wrote_one}
+use Rattle.push_down_base.proofs.WrittenRuns.{rest_all, rest_next, rest_end, wrote_nothing, wrote_one}
 use Rattle.push_down_arms.proofs.Behind.{goes_next}
 use Rattle.push_down_arms.proofs.with_filters.+copy_some.Goals as goal
 
 pub returns-then-end-tree-clause-wrote : goal.returns-then-end-tree-clause-wrote
 returns-then-end-tree-clause-wrote g t c =
     let z : c.args.end - c.args.tree.number ≡ 0 = omega (arith, c.if-end-tree.true) in
-    rw z (wrote_none _ _ c.args.out.now.counted)
+    rw z (wrote_nothing c.put_nothing.ensures.bytes c.put_nothing.ensures.next)
 
 pub loop-child-init : goal.loop-child-init
 loop-child-init g t c =

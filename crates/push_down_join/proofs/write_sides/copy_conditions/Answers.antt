@@ -2,6 +2,7 @@ use native.Mathlib.Omega.{arith}
 use Rattle.plan.specs.Syntax.{col}
 use Rattle.conjuncts.proofs.Listed.{lists_length}
 use Rattle.writing.proofs.Pushing.{pushes_of}
+use Rattle.push_down_base.proofs.WrittenRuns.{wrote_nothing}
 use Rattle.push_down_join.proofs.JoinParts.{conditions_none, conditions_some}
 use Rattle.push_down_join.proofs.write_sides.copy_conditions.Goals as goal
 
@@ -16,4 +17,5 @@ returns-then-c-ne0-clause-wrote c =
 
 pub returns-else-c-ne0-clause-wrote : goal.returns-else-c-ne0-clause-wrote
 returns-else-c-ne0-clause-wrote c =
-    λ σ m es h. conditions_none _ es (omega (arith, lists_length h c.requires.known.most, c.if-c-ne0.false)) c.args.out.now.counted
+    λ σ m es h. conditions_none _ es (omega (arith, lists_length h c.requires.known.most, c.if-c-ne0.false))
+    (wrote_nothing c.put_nothing.ensures.bytes c.put_nothing.ensures.next)

@@ -1,14 +1,16 @@
-use mathlib.Core.Path.{refl, ap, ◌∙◌}
+use mathlib.Core.Path.{ap, ◌∙◌}
 use Rattle.image.specs.Subtrees.{forest}
 use Rattle.image.proofs.Room.{low_below, low_after}
 use Rattle.image.proofs.Subtrees.{goes, gone}
+use Rattle.push_down_base.proofs.WrittenRuns.{wrote_nothing}
 use Rattle.push_down_join.proofs.JoinParts.{pairs_all, pairs_next, pairs_end}
 use Rattle.push_down_join.proofs.write_sides.copy_pairs.Goals as goal
 
 pub loop-child-init : goal.loop-child-init
 loop-child-init c =
     let e = ap forest c.into_iter-child-iterator.ensures.into_iter_gives ∙ c.children-child-items.ensures.is in
-    (refl, rw e (pairs_all _ _ c.args.out.now.long c.args.out.now.counted), rw e c.requires)
+    let none = c.put_nothing.ensures in
+    (none.same, rw e (pairs_all _ _ c.args.out.now.long (wrote_nothing none.bytes none.next)), rw e c.requires)
 
 pub copy_pair-requires : goal.copy_pair-requires
 copy_pair-requires c =

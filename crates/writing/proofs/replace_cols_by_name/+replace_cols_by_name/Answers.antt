@@ -2,10 +2,10 @@ use Rattle.std.proofs.Common.{rules}
 use mathlib.Core.Path.{ap, ◌∙◌}
 use native.Mathlib.Omega.{arith}
 use Rattle.image.specs.Tree.{size}
-use Rattle.image.specs.Subtrees.{tree_of}
-use Rattle.image.proofs.Room.{left_next, left_end, wrote_past}
+use Rattle.image.specs.Subtrees.{forest, tree_of}
+use Rattle.image.proofs.Room.{put_start, left_next, left_end, wrote_past}
 use Rattle.image.proofs.Subtrees.{goes, gone}
-use Rattle.writing.specs.Replaced.{replaced}
+use Rattle.writing.specs.Replaced.{replaced, replaced_any}
 use Rattle.writing.proofs.Entries.{replaced_found, replaced_below, low_found, over_below, over_after}
 use Rattle.writing.proofs.replace_cols_by_name.+replace_cols_by_name.Goals as goal
 
@@ -19,6 +19,12 @@ copy_tree-requires g t c =
 pub returns-in-Some-clause-wrote : goal.returns-in-Some-clause-wrote
 returns-in-Some-clause-wrote g t c =
     rw (replaced_found (tree_of c.args.map) (tree_of c.args.tree) c.in-Some.ensures) at c.copy_tree.ensures.wrote
+
+pub loop-child-init : goal.loop-child-init
+loop-child-init g t c =
+    let e = ap forest c.into_iter-child-iterator.ensures.into_iter_gives ∙ c.children-child-items.ensures.is in
+    let start = put_start c.args.out.now.long c.put.ensures.put (replaced_any (tree_of c.args.map) (tree_of c.args.tree).below) in
+    (c.put.ensures.same, rw e start, rw e c.requires, omega (arith, ap size e))
 
 pub replace_cols_by_name-requires-whole : goal.replace_cols_by_name-requires-whole
 replace_cols_by_name-requires-whole g t c =
