@@ -1,9 +1,8 @@
 -- `push_down_all_join::own_filter` meets its contract.
 use mathlib.Core.List.{[]}
 use Rattle.conjuncts.proofs.Listed.{lists_none}
-use Rattle.conjuncts.proofs.Standing.{is_expr}
 use Rattle.push_down_base.proofs.Scoping.{reads_none}
-use Rattle.push_down_join.proofs.JoinParts.{own_there, own_reads, own_none}
+use Rattle.push_down_join.proofs.JoinParts.{own_expr, own_none, own_reads, own_there}
 use Rattle.push_down_join.proofs.push_down_all_join.own_filter.Goals as goal
 
 pub returns-in-None : goal.returns-in-None
@@ -12,8 +11,9 @@ returns-in-None c = λ k l r on f h. own_none (c.in-None.ensures k l r on f h) (
 pub split_conjunction-requires : goal.split_conjunction-requires
 split_conjunction-requires c =
     let p = c.requires in
-    let t = own_there (c.in-Some.ensures p.kind p.lhs p.rhs p.keys p.condition p.placed) p.placed.short in
-    record { expr = is_expr c.in-Some.filter t.0; number_nonzero = t.1; image_bound = t.2 }
+    let h = c.in-Some.ensures p.kind p.lhs p.rhs p.keys p.condition p.placed in
+    let t = own_there h p.placed.short in
+    record { expr = own_expr h; number_nonzero = t.1; image_bound = t.2 }
 
 pub returns-in-Some : goal.returns-in-Some
 returns-in-Some c =
