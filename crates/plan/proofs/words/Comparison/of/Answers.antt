@@ -1,4 +1,5 @@
 -- `words::Comparison::of` meets its contract.
+use mathlib.Core.Path.{refl}
 use native.Mathlib.Omega.{arith}
 use borrow.Author.Tests.{ne_eqb}
 use Rattle.plan.proofs.words.Comparison.of.Goals as goal
@@ -11,4 +12,4 @@ returns-in_default c =
       ne_eqb c.args.word 6 (λ e. omega arith),
       ne_eqb c.args.word 7 (λ e. omega arith),
       ne_eqb c.args.word 8 (λ e. omega arith),
-    )
+    ) refl
