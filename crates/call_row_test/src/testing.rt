@@ -8,8 +8,7 @@ ghost use Rattle.plan.specs.Syntax.{Expr, Plan};
 ghost use Rattle.plan.specs.Trees.{expr_tree};
 ghost use Rattle.rewrite.specs.OnBytes.{plan_in};
 ghost use Rattle.rewrite.specs.RewriteAt.{focus};
-ghost use Rattle.evaluate.specs.Truths.{value_of};
-ghost use Rattle.rewrite.specs.RowTest.{row_test_bytes, test_focus, test_predicate, truth_number};
+ghost use Rattle.rewrite.specs.RowTest.{row_test_bytes, test_focus, test_predicate};
 ghost use Rattle.utils.specs.Fields.{Names};
 ghost use Rattle.call_row_test.specs.Answer.{tested_of};
 ghost use Rattle.call_row_test.specs.Standing.{FilterHere, Parts, Whole};
@@ -109,13 +108,16 @@ pub fn row_test(image: &[u8], node: u32, values: &[i64], marks: &[u8]) -> Result
     test_at(image, node as usize, values, marks)
 }
 
-// The number of a truth: 0 FALSE, 1 TRUE, 2 UNKNOWN.
-pub fn truth_number(truth: Truth) -> u32
-    ensures { result ≡ truth_number (value_of truth) }
+// The number of a truth: 0 FALSE, 1 TRUE, 2 UNKNOWN; 0 where the test is refused.
+pub fn truth_number(answer: Result<Truth, Refusal>) -> u32
+    ensures { result ≡ (tested_of answer).truth }
 {
-    match truth {
-        Truth::False => 0,
-        Truth::True => 1,
-        Truth::Unknown => 2,
+    match answer {
+        Ok(truth) => match truth {
+            Truth::False => 0,
+            Truth::True => 1,
+            Truth::Unknown => 2,
+        },
+        Err(_) => 0,
     }
 }

@@ -134,16 +134,14 @@ pub struct Tested {
 pub fn push_down_filter_row_test(image: &[u8], node: u32, values: &[i64], marks: &[u8]) -> Tested
     ensures { tested_is result ≡ row_test_bytes image.now node values.now marks.now }
 {
-    match row_test(image, node, values, marks) {
-        Ok(truth) => Tested {
-            number: GRANTED,
-            record: 0,
-            truth: truth_number(truth),
-        },
-        Err(no_test) => Tested {
-            number: no_test.number(),
-            record: no_test.record() as u32,
-            truth: 0,
-        },
+    let answer = row_test(image, node, values, marks);
+    let (number, record) = match answer {
+        Ok(_) => (GRANTED, 0),
+        Err(no_test) => (no_test.number(), no_test.record() as u32),
+    };
+    Tested {
+        number,
+        record,
+        truth: truth_number(answer),
     }
 }

@@ -14,6 +14,9 @@ const CHUNK: usize = 65600;
 // A line has room for so many numbers.
 const NUMBERS: usize = 16500;
 
+// Space for an image, which may be a record too long, or an output.
+const SPACE: usize = 65600;
+
 // How many lines are read at most.
 const MAX_LINES: usize = 1000000;
 
@@ -62,7 +65,7 @@ impl Tally {
 // Runs the lines from the first on, and names those that differ if not many did before.
 fn replay<R: Read>(rt: &impl Print, input: &mut R) -> io::Result<Tally> {
     let mut lines: Lines<&mut R, CHUNK, NUMBERS> = Lines::new(input);
-    let mut replayer = Replayer::new();
+    let mut replayer: Replayer<SPACE> = Replayer::new();
     let mut tally = Tally::default();
     for number in 1..=MAX_LINES {
         let Some(line) = lines.next_line()? else {

@@ -7,9 +7,6 @@ use std::fmt;
 use stored::numbers::Line;
 use stored::outputs::write_words;
 
-// Space for an image, which may be a record too long, or an output.
-const SPACE: usize = 65600;
-
 // What a line is.
 #[derive(Clone, Copy, Debug, PartialEq, Eq, Hash)]
 pub enum Sort {
@@ -79,12 +76,12 @@ impl fmt::Display for Sort {
 
 // Bytes written from words. No ArrayVec: an image is as long as its line says, also where it has too few words, or too many for the space.
 #[derive(Drop)]
-struct Written {
+struct Written<const SPACE: usize> {
     bytes: [u8; SPACE],
     len: usize,
 }
 
-impl Written {
+impl<const SPACE: usize> Written<SPACE> {
     fn new() -> Self
         ensures { result.len ≡ 0 }
     {
@@ -120,15 +117,16 @@ impl Written {
     }
 }
 
-// What is kept from line to line: the image and the answer that was spelt last. And space for an output.
+// What is kept from line to line: the image and the answer that was spelt last. And space for an output. SPACE is how many bytes each may
+// have.
 #[derive(Drop)]
-pub struct Replayer {
-    image: Written,
-    spelt: Written,
+pub struct Replayer<const SPACE: usize> {
+    image: Written<SPACE>,
+    spelt: Written<SPACE>,
     output: [u8; SPACE],
 }
 
-impl Replayer {
+impl<const SPACE: usize> Replayer<SPACE> {
     // Nothing is kept yet.
     pub fn new() -> Self
         ensures image { result.image.len ≡ 0 }

@@ -16,6 +16,7 @@ use Rattle.rewrite.specs.RewriteAt.{Focus, focus}
 use Rattle.rewrite.specs.RowTest.{Tested, row_ok, no_test, test_predicate, test_plan, test_focus, row_test_bytes}
 use Rattle.rewrite.specs.Utils.{any_fn}
 use Rattle.push_down_filter.proofs.push_down_filter_row_test.Goals as goal
+use Rattle.push_down_filter.proofs.push_down_filter_row_test.Goals.{in-Ok, in-Err}
 
 -- the record fits 32 bits
 abbrev Small : Tested → Type 0
@@ -60,13 +61,16 @@ module _ (n : ℕ) (zs : List ℤ) (ms : List ℕ) (l : n < 4294967296) where
 fits : (s : List ℕ) (n : ℕ) (zs : List ℤ) (ms : List ℕ) {t : Tested} → t ≡ row_test_bytes s n zs ms → n < 4294967296 → Small t
 fits s n zs ms i l = subst Small (sym i) (small n zs ms l s)
 
-pub overflow_cast-result : goal.overflow_cast-result
+pub overflow_cast-number : goal.overflow_cast-number
 unfolding no_test
-overflow_cast-result c =
+overflow_cast-number c =
     let h = fits _ _ _ _ c.in-Err.ensures (search rules) in
     omega (arith, h, c.record.ensures)
 
-pub returns-in-Err : goal.returns-in-Err
+pub returns : goal.returns
 unfolding no_test
-returns-in-Err c =
-    rw (c.number.ensures, c.record.ensures) c.in-Err.ensures
+returns c =
+    elim c.match-answer.branch [
+      | in-Ok w ↦ rw (w.number-is, c.truth_number.ensures, w.answer-is, w.in-Ok.is) w.in-Ok.ensures
+      | in-Err w ↦ rw (w.number-is, w.number.ensures, w.record.ensures, c.truth_number.ensures, w.answer-is) w.in-Err.ensures
+    ]
