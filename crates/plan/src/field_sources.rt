@@ -25,6 +25,7 @@ pub enum Role {
 }
 
 // Whether a part makes a field.
+#[inline]
 pub fn makes_field(kind: usize) -> bool
     ensures { result ≡ makes (what_of kind) }
 {
@@ -36,6 +37,7 @@ pub fn makes_field(kind: usize) -> bool
 }
 
 // Where a record of the kind has its fields from.
+#[inline]
 pub fn role_of(kind: usize) -> Role
     ensures { result ≡ role (what_of kind) }
 {
@@ -80,6 +82,7 @@ pub fn extends(role: Role) -> bool
 }
 
 // Whether the fields of its second input come behind those of its first: a join of the kind p that is no semi or anti join.
+#[inline]
 pub fn gives_both(role: Role, p: usize) -> bool
     ensures { result ≡ gives_both role p }
 {
@@ -87,6 +90,7 @@ pub fn gives_both(role: Role, p: usize) -> bool
 }
 
 // The input whose fields come first: of a semi or anti join of the kind p its own side.
+#[inline]
 pub fn own_input(role: Role, p: usize) -> usize
     ensures { result ≡ own role p }
 {

@@ -6,8 +6,9 @@ ghost use Rattle.plan.specs.Kinds.{expr_w, number_of, part_w, plan_w, what_of};
 
 pub use image::kinds::{ExprKind, PartKind, PlanKind, What};
 
-// What a record is whose kind has this number.
+// What a record is whose kind has this number. Inlined where one kind or another is asked for, so that it is compared and not looked up.
 #[tactic(auto, unfolding(crate::specs::Kinds::what_of, crate::specs::Kinds::among))]
+#[inline]
 pub fn what_of(kind: usize) -> What
     ensures { result ≡ what_of kind }
 {
@@ -121,6 +122,7 @@ pub const FIRST_PART: usize = FIELD;
 pub const LAST_PART: usize = WINDOW_ENTRY;
 
 // Whether records of the kind are expressions.
+#[inline]
 pub fn is_expression(kind: usize) -> bool
     ensures { result ≡ expr_w (what_of kind) }
 {
@@ -128,6 +130,7 @@ pub fn is_expression(kind: usize) -> bool
 }
 
 // Whether records of the kind are plans.
+#[inline]
 pub fn is_plan(kind: usize) -> bool
     ensures { result ≡ plan_w (what_of kind) }
 {
@@ -135,6 +138,7 @@ pub fn is_plan(kind: usize) -> bool
 }
 
 // Whether records of the kind are parts of plans.
+#[inline]
 pub fn is_part(kind: usize) -> bool
     ensures { result ≡ part_w (what_of kind) }
 {
