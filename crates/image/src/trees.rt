@@ -102,14 +102,13 @@ impl<'a, const N: usize> Stretch<'a, N> {
 }
 
 impl<const N: usize> Stretch<'_, N> {
-    ghost use Rattle.std.specs.Prelude.{◌+◌, ◌<◌, ◌^◌, length};
+    ghost use Rattle.std.specs.Prelude.{◌+◌, ◌*◌, ◌<◌, ◌^◌};
     ghost use Rattle.image.specs.Flat.{size_t};
-    ghost use Rattle.image.specs.Places.{ending};
     ghost use Rattle.image.specs.Subtrees.{tree_of};
 
     // The record behind the tree's last one, which is in its last child.
     pub fn end(self) -> usize
-        requires { ending N self.base (length self.image.now) < 2 ^ 64 }
+        requires { 32 * start N self.base < 2 ^ 63 }
         ensures { result ≡ self.entry.number + size_t (tree_of self.entry) }
     {
         match self.children().last() {
@@ -145,14 +144,13 @@ impl<'a, const N: usize> Stretches<'a, N> {
 }
 
 impl<const N: usize> Stretches<'_, N> {
-    ghost use Rattle.std.specs.Prelude.{◌+◌, ◌<◌, ◌^◌, length};
-    ghost use Rattle.image.specs.Places.{ending};
+    ghost use Rattle.std.specs.Prelude.{◌+◌, ◌*◌, ◌<◌, ◌^◌};
     ghost use Rattle.image.specs.Tree.{size};
     ghost use Rattle.image.specs.Subtrees.{forest};
 
     // The record behind the last one of the trees; 0 where there is none.
     pub fn end(self) -> usize
-        requires { ending N self.base (length self.image.now) < 2 ^ 64 }
+        requires { 32 * start N self.base < 2 ^ 63 }
         ensures { result ≡ self.entry.first + size (forest self.entry) }
     {
         match self.last() {

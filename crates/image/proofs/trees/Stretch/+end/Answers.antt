@@ -1,11 +1,10 @@
 use mathlib.Core.Path.{◌≡◌, sym, ap, ◌∙◌}
 use native.Mathlib.Omega.{arith}
 use Rattle.std.proofs.Common.{rules}
-use Prim.Native.Nat.{◌+◌, ◌<◌, ◌^◌}
-use Rattle.image.specs.Places.{ending}
+use Prim.Native.Nat.{◌+◌, ◌*◌, ◌<◌, ◌^◌}
+use Rattle.image.specs.Places.{start}
 use Rattle.image.specs.Tree.{size}
-use Rattle.image.proofs.Subtrees.{all_items, ending_same, last_none, last_some, link_of}
-use lib.ListN.{length}
+use Rattle.image.proofs.Subtrees.{all_items, last_none, last_some, link_of}
 use Rattle.image.proofs.trees.Stretch.+end.Goals as goal
 
 pub end-requires-whole : goal.end-requires-whole
@@ -15,8 +14,7 @@ end-requires-whole g t c =
     let all = all_items x ran.0 ran.1 in
     let last = last_some x ran.0 all (sym ran.2) in
     let b = c.children.ensures in
-    let same = ending_same g.row.N c.in-Some.child.base c.args.self.base _ _ (last.base ∙ b.base) (ap length (last.image ∙ b.image)) in
-    let few : ending g.row.N c.in-Some.child.base (length c.in-Some.child.image.now) < 2 ^ 64 = omega (arith, same, c.requires) in
+    let few : 32 * start g.row.N c.in-Some.child.base < 2 ^ 63 = omega (arith, last.base ∙ b.base, c.requires) in
     λ κs. (omega (arith, last.fewer, ap size b.is, c.decreases), search rules)
 
 pub returns-in-Some : goal.returns-in-Some

@@ -2,16 +2,14 @@
 use mathlib.Core.Path.{sym, ap}
 use native.Mathlib.Omega.{arith}
 use Rattle.image.specs.Tree.{size}
-use Rattle.image.proofs.Subtrees.{all_items, ending_same, last_none, last_some}
-use lib.ListN.{length}
+use Rattle.image.proofs.Subtrees.{all_items, last_none, last_some}
 use Rattle.image.proofs.trees.Stretches.end.Goals as goal
 
 pub end-requires : goal.end-requires
 end-requires g c =
     let x = c.args.self in
     let ran = c.in-Some.ensures.ran in
-    let last = last_some x ran.0 (all_items x ran.0 ran.1) (sym ran.2) in
-    let same = ending_same g.row.N c.in-Some.tree.base x.base _ _ last.base (ap length last.image) in omega (arith, same, c.requires)
+    let last = last_some x ran.0 (all_items x ran.0 ran.1) (sym ran.2) in omega (arith, last.base, c.requires)
 
 pub returns-in-Some : goal.returns-in-Some
 returns-in-Some g c =
