@@ -2,11 +2,10 @@ use Rattle.std.specs.Prelude.{true, Err, is_ok}
 use mathlib.Core.Path.{◌≡◌, sym, ◌∙◌}
 use native.Mathlib.Omega.{arith}
 use Rattle.std.proofs.Common.{rules}
-use Rattle.conjuncts.proofs.Listed.{known_of}
 use Rattle.push_down_merge.proofs.Tested.{elsewhere}
-use Rattle.push_down_merge.proofs.OneMerge.{own_few, one_merge, merge_rests, predicate_stands}
+use Rattle.push_down_merge.proofs.OneMerge.{one_merge, merge_rests}
 use Rattle.push_down_stays.proofs.Dispatches.{kind_of}
-use Rattle.push_down_rewrite.proofs.Again.{at_rest, left_gone, left_other, rests_over, with_left, again, merge_unfit, input_here, shaped_here}
+use Rattle.push_down_rewrite.proofs.Again.{at_rest, left_gone, left_other, rests_over, with_left, again, merge_unfit, input_here}
 use Rattle.push_down_rewrite.proofs.Falling.{plans_fall}
 use Rattle.push_down_rewrite.proofs.filter.+merge_filter_rewrite_filter.Goals as goal
 
@@ -16,32 +15,6 @@ merge_filter-filter_input-input-requires t c =
       here = record { expr = p.lower; plan = p.plan; standing = elsewhere c.requires.image p.rests.placed.standing };
       short = rw c.requires.image p.rests.placed.short;
     }
-
-pub merge_filter-predicate_of-requires : goal.merge_filter-predicate_of-requires
-merge_filter-predicate_of-requires t c =
-    let p = c.requires.on_filter in record {
-      here = record { expr = p.lower; plan = p.plan; standing = elsewhere c.requires.image p.rests.placed.standing };
-      short = rw c.requires.image p.rests.placed.short;
-    }
-
-pub merge_filter-predicate_at-lower-requires : goal.merge_filter-predicate_at-lower-requires
-merge_filter-predicate_at-lower-requires t c =
-    let p = c.requires.on_filter in
-    let d = c.predicate_of.ensures in
-    let here = d.same ∙ c.requires.image in record {
-      there = record { expr = p.lower; standing = predicate_stands here d.number p.rests.placed };
-      number_nonzero = omega (arith, d.number);
-      short = rw here p.rests.placed.short;
-    }
-
-pub merge_filter-merge-merged-requires-clause-known : goal.merge_filter-merge-merged-requires-clause-known
-merge_filter-merge-merged-requires-clause-known t c =
-    let p = c.requires.on_filter in
-    let h = p.rests.placed in
-    let d = c.predicate_of.ensures in
-    let here = d.same ∙ c.requires.image in
-    let few = own_few p.lower p.plan h.lists in
-    known_of (shaped_here here (c.predicate_at-lower.ensures p.lower (predicate_stands here d.number h) few)).listed few
 
 pub merge_filter-merge_fits-requires-clause-image : goal.merge_filter-merge_fits-requires-clause-image
 merge_filter-merge_fits-requires-clause-image t c = c.filter_input-input.ensures.same ∙ c.requires.image
@@ -53,10 +26,7 @@ merge_filter-merge_fits-requires-clause-mergeable t c =
     let h = k.placed in
     let st = elsewhere c.requires.image h.standing in
     let y = input_here c.requires.image (c.filter_input-input.ensures.input p.lower p.plan st) in
-    let d = c.predicate_of.ensures in
-    let here = d.same ∙ c.requires.image in
-    let l = (shaped_here here (c.predicate_at-lower.ensures p.lower (predicate_stands here d.number h) (own_few p.lower p.plan h.lists))).listed in
-    let m = one_merge k (λ n i. c.merge-merged.ensures p.expr p.lower n k.shaped l i) y.standing in
+    let m = one_merge k (λ n i. c.merged_predicate-merged.ensures p.expr p.lower n p.plan k i) y.standing in
     record {
       whole = p.whole;
       spot = p.spot;
@@ -74,10 +44,7 @@ merge_filter-rewrite_filter-requires t c =
     let h = k.placed in
     let st = elsewhere c.requires.image h.standing in
     let y = input_here c.requires.image (c.filter_input-input.ensures.input p.lower p.plan st) in
-    let d = c.predicate_of.ensures in
-    let here = d.same ∙ c.requires.image in
-    let l = (shaped_here here (c.predicate_at-lower.ensures p.lower (predicate_stands here d.number h) (own_few p.lower p.plan h.lists))).listed in
-    let m = one_merge k (λ n i. c.merge-merged.ensures p.expr p.lower n k.shaped l i) y.standing in
+    let m = one_merge k (λ n i. c.merged_predicate-merged.ensures p.expr p.lower n p.plan k i) y.standing in
     let fit : is_ok c.merge_fits.result ≡ true = search rules in
     let fits = sym (c.merge_fits.ensures p.whole p.spot p.inside m.expr p.plan m.made m.input.standing m.input.lists) ∙ fit in (
       omega (arith, plans_fall h.short h.standing y.link m.input.standing, c.decreases),
@@ -99,10 +66,7 @@ merge_filter-returns-clause-finishes t c =
     λ w f i e b q k. let h = k.placed in
     let st = elsewhere c.requires.image h.standing in
     let y = input_here c.requires.image (c.filter_input-input.ensures.input b q st) in
-    let d = c.predicate_of.ensures in
-    let here = d.same ∙ c.requires.image in
-    let l = (shaped_here here (c.predicate_at-lower.ensures b (predicate_stands here d.number h) (own_few b q h.lists))).listed in
-    let m = one_merge k (λ n j. c.merge-merged.ensures e b n k.shaped l j) y.standing in
+    let m = one_merge k (λ n j. c.merged_predicate-merged.ensures e b n q k j) y.standing in
     let yes = sym (c.in_ok-merge_fits.ensures w f i m.expr q m.made m.input.standing m.input.lists) in
     again e b q m.is yes (c.rewrite_filter.ensures.finishes w f i m.expr q (merge_rests k i m yes))
 
@@ -111,10 +75,7 @@ merge_filter-returns-in_err-merge_fits-clause-finishes t c =
     λ w f i e b q k. let h = k.placed in
     let st = elsewhere c.requires.image h.standing in
     let y = input_here c.requires.image (c.filter_input-input.ensures.input b q st) in
-    let d = c.predicate_of.ensures in
-    let here = d.same ∙ c.requires.image in
-    let l = (shaped_here here (c.predicate_at-lower.ensures b (predicate_stands here d.number h) (own_few b q h.lists))).listed in
-    let m = one_merge k (λ n j. c.merge-merged.ensures e b n k.shaped l j) y.standing in
+    let m = one_merge k (λ n j. c.merged_predicate-merged.ensures e b n q k j) y.standing in
     let same : c.from_residual.result ≡ Err c.in_err-merge_fits.field-0.0 = grind arith in
     rw same (merge_unfit e b q m.is (sym (c.in_err-merge_fits.ensures w f i m.expr q m.made m.input.standing m.input.lists)))
 
