@@ -76,8 +76,7 @@ pub fn simplify_filter(s: &[u8], p: Predicate) -> Predicate
     p
 }
 
-// The predicate of a Filter over a Filter: the child's conjuncts first, later equal ones dropped. Never inlined, like merge_fits.
-#[inline(never)]
+// The predicate of a Filter over a Filter: the child's conjuncts first, later equal ones dropped.
 pub fn merge(s: &[u8], upper: &Predicate, lower: &Conjuncts) -> Predicate
     requires formed { Formed s.now upper.now }
     requires known { Known s.now lower.now }
