@@ -37,9 +37,9 @@ use Rattle.rewrite.specs.Limits.{list_p}
 use Rattle.rewrite.specs.Utils.{split_conjunction, split_conjunction?, conjoin, conjunction}
 use Rattle.rewrite.proofs.Project.{split_cols}
 use Rattle.conjuncts.specs.Items.{Conjuncts, Lists}
-use Rattle.conjuncts.specs.Standing.{Standing, StandingP, There}
+use Rattle.conjuncts.specs.Standing.{IsExpr, Standing, StandingP, There}
 use Rattle.conjuncts.proofs.Listed.{known_of}
-use Rattle.conjuncts.proofs.Standing.{plan_standing}
+use Rattle.conjuncts.proofs.Standing.{plan_standing, tree_standing}
 use Rattle.push_down_base.specs.Around.{WroteAll}
 use Rattle.push_down_base.specs.Arms.{Placed}
 use Rattle.push_down_base.specs.Inputs as L
@@ -140,6 +140,9 @@ pub own_there : {s : List ℕ} {u : Subtree} {f : Option Expr} → FilterOf s (P
     → There u.image.now u.number × (0 < u.number) × (length u.image.now ≤ work_bytes)
 own_there {u = u} (has_one {e = e} here h pos) short =
     (record { expr = e; standing = subst (λ z. Standing z u.number e) (sym here) h }, pos, rw here short)
+
+pub own_expr : {s : List ℕ} {u : Subtree} {f : Option Expr} → FilterOf s (P.Some u) f → IsExpr (tree_of u)
+own_expr {u = u} (has_one {e = e} here h pos) = record { expr = e; is = tree_standing u here refl h }
 
 -- what is split at the filter
 pub own_reads : {s : List ℕ} {x : ℕ} {u : Subtree} {k : Kind} {l r : Plan} {on : List Pair} {f : Option Expr} {z : Conjuncts}

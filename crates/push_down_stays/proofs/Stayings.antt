@@ -2,7 +2,7 @@
 use Rattle.std.specs.Prelude.{Option as Maybe, Some, None, is_some}
 use Prim.Native.Nat.{ℕ}
 use native.Mathlib.Omega.{arith}
-use mathlib.Core.Path.{◌≡◌, refl, sym, ap, subst, ◌∙◌}
+use mathlib.Core.Path.{◌≡◌, refl, sym, ap, ◌∙◌}
 use mathlib.Core.Bool.{Bool, true, false, not}
 use mathlib.Core.List.{List, []}
 use mathlib.Core.Option.{Option, none, some}
@@ -10,7 +10,7 @@ use lib.Dec.{eqb}
 use lib.ListN.{length}
 use borrow.Author.Tests.{eqb-true, eqb-false}
 use Rattle.std.specs.Prelude as P
-use Rattle.image.specs.Subtrees.{Subtree}
+use Rattle.image.specs.Subtrees.{Subtree, tree_of}
 use Rattle.image.specs.Chains.{only}
 use Rattle.plan.specs.Columns.{on_cols}
 use Rattle.plan.specs.Schema.{schema}
@@ -18,7 +18,7 @@ use Rattle.plan.specs.Kinds as K
 use Rattle.plan.specs.Kinds.{What, expr, plan, part, unknown, what_of}
 use Rattle.plan.specs.Syntax.{Expr, Field, Entry, AggEntry, WinEntry, Pair, Kind, Plan}
 use Rattle.plan.specs.Syntax.{scan, filter, project, join, alias, union, distinct, sort, repartition, limit, aggregate, window}
-use Rattle.plan.specs.Trees.{label_p, plan_tree}
+use Rattle.plan.specs.Trees.{label_p, expr_tree, plan_tree}
 use Rattle.plan.proofs.Lists.{and_l}
 use Rattle.acceptance.specs.NamesRule.{reads, rule, ok}
 use Rattle.rewrite.specs.Utils.{split_conjunction, split_conjunction?, conjunction, with_filters}
@@ -29,6 +29,7 @@ use Rattle.rewrite.proofs.Exprs.{same_e_eq}
 use Rattle.conjuncts.specs.Says.{Says, LeftDeep}
 use Rattle.conjuncts.specs.Standing.{Standing, StandingP}
 use Rattle.conjuncts.proofs.Equals.{is_same, same_exprs}
+use Rattle.conjuncts.proofs.Standing.{tree_standing}
 use Rattle.push_down_base.specs.Arms.{Shaped, Placed, Rests}
 use Rattle.push_down_arms.specs.Divided.{pushed}
 use Rattle.push_down_merge.specs.Merging.{is_filter}
@@ -65,9 +66,9 @@ kept_as e h = record { yes = λ y. h.yes (e ∙ y); no = λ n. h.no (e ∙ n) }
 module _ {s : List ℕ} where
   -- it is at record n
   pub own_deep : {t : Subtree} {f : Option Expr} {b : Bool} → FilterOf s (P.Some t) f
-      → ((e : Expr) → Standing t.image.now t.number e → Says b (LeftDeep e)) → Says b (conjunction (split_conjunction? f) ≡ f)
+      → ((e : Expr) → tree_of t ≡ expr_tree e → Says b (LeftDeep e)) → Says b (conjunction (split_conjunction? f) ≡ f)
   unfolding split_conjunction?
-  own_deep {t} (has_one {e = e} here h pos) g = g e (subst (λ z. Standing z t.number e) (sym here) h)
+  own_deep {t} (has_one {e = e} here h pos) g = g e (tree_standing t here refl h)
 
   -- there is none
   pub own_bare : {f : Option Expr} → FilterOf s P.None f → Says true (conjunction (split_conjunction? f) ≡ f)

@@ -3,9 +3,9 @@ use mathlib.Core.List.{[]}
 use mathlib.Core.Path.{refl}
 use native.Mathlib.Omega.{arith}
 use Rattle.conjuncts.proofs.Listed.{lists_none}
-use Rattle.conjuncts.proofs.Standing.{is_expr, tree_standing}
+use Rattle.conjuncts.proofs.Standing.{tree_standing}
 use Rattle.push_down_base.proofs.Scoping.{reads_none}
-use Rattle.push_down_join.proofs.JoinParts.{own_there, own_reads, own_none}
+use Rattle.push_down_join.proofs.JoinParts.{own_expr, own_none, own_reads, own_there}
 use Rattle.push_down_join.proofs.push_down_all_join.own_filter.Goals as goal
 
 pub returns-in-None : goal.returns-in-None
@@ -14,8 +14,9 @@ returns-in-None c = λ k l r on f h. own_none (c.in-None.ensures k l r on f h) (
 pub split_conjunction-requires : goal.split_conjunction-requires
 split_conjunction-requires c =
     let p = c.requires in
-    let t = own_there (c.in-Some.ensures p.kind p.lhs p.rhs p.keys p.condition p.placed) p.placed.short in
-    (omega arith, (is_expr c.in-Some.filter t.0, (t.1, t.2)))
+    let h = c.in-Some.ensures p.kind p.lhs p.rhs p.keys p.condition p.placed in
+    let t = own_there h p.placed.short in
+    (omega arith, (own_expr h, (t.1, t.2)))
 
 pub returns-in-Some : goal.returns-in-Some
 returns-in-Some c =

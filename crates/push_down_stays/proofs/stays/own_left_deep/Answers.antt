@@ -1,8 +1,6 @@
 -- `stays::own_left_deep` meets its contract.
 use native.Mathlib.Omega.{arith}
-use mathlib.Core.Path.{refl}
-use Rattle.conjuncts.proofs.Standing.{is_expr, tree_standing}
-use Rattle.push_down_join.proofs.JoinParts.{own_there}
+use Rattle.push_down_join.proofs.JoinParts.{own_expr}
 use Rattle.push_down_stays.proofs.Stayings.{own_deep, own_bare}
 use Rattle.push_down_stays.proofs.stays.own_left_deep.Goals as goal
 
@@ -12,11 +10,8 @@ returns-in-None c =
 
 pub is_left_deep-requires : goal.is_left_deep-requires
 is_left_deep-requires c =
-    let p = c.requires.placed in
-    let t = own_there (rw c.in-Some.is at c.filter_of.ensures _ _ _ _ _ p) p.short in
-    (omega arith, is_expr c.in-Some.filter t.0)
+    (omega arith, own_expr (rw c.in-Some.is at c.filter_of.ensures _ _ _ _ _ c.requires.placed))
 
 pub returns-in-Some : goal.returns-in-Some
 returns-in-Some c =
-    λ k l r on f h. own_deep (rw c.in-Some.is at c.filter_of.ensures k l r on f h)
-    (λ e t. c.is_left_deep.ensures e (tree_standing c.in-Some.filter refl refl t))
+    λ k l r on f h. own_deep (rw c.in-Some.is at c.filter_of.ensures k l r on f h) c.is_left_deep.ensures
