@@ -11,7 +11,9 @@ pub fn last_child(plan: Subtree) -> Option<Subtree>
 }
 
 // The first two children of a tree, if it has as many.
-pub fn first_two<'a, const N: usize>(tree: Stretch<'a, N>) -> Option<(Stretch<'a, N>, Stretch<'a, N>)>
+pub fn first_two<'a, const N: usize>(
+    tree: Stretch<'a, N>,
+) -> Option<(Stretch<'a, N>, Stretch<'a, N>)>
     ensures { Firsts tree.entry result }
 {
     let (first, others) = tree.children().split_first()?;
