@@ -218,7 +218,9 @@ pub fn seek_field<const N: usize>(
     Continue(left)
 }
 
-// The same of the fields that the parts of a plan of this kind make: they stand over its input.
+// The same of the fields that the parts of a plan of this kind make: they stand over its input. Inlined, so that a plan on the way down takes
+// one frame of the stack and not two.
+#[inline(always)]
 #[cycle(seek_field_seek_parts)]
 fn seek_parts<const N: usize>(
     parts: Stretches<'_, N>,
