@@ -5,11 +5,12 @@ use mathlib.Core.Bool.{Bool, true, false, ◌||◌, cond}
 use mathlib.Core.List.{List, [], ◌∷◌, ◌++◌}
 use mathlib.Core.Option as O
 use mathlib.Core.Option.{Option, some}
-use Prim.Native.Nat.{◌≤◌}
+use Prim.Native.Nat.{ℕ, ◌≤◌}
 use lib.ListN.{length}
 use borrow.Author.Tests.{leb-true}
 use Rattle.image.specs.Limits.{max_fields}
-use Rattle.image.specs.Subtrees.{Subtree, tree_of}
+use Rattle.image.specs.Subtrees.{tree_of}
+use Rattle.image.specs.declared.trees.Stretch.{Stretch}
 use Rattle.image.specs.Tree.{Tree}
 use Rattle.plan.specs.Columns.{on_cols}
 use Rattle.plan.specs.Lists.{◌&◌, all, any}
@@ -94,12 +95,12 @@ module _ (s t : List Name) (x : Name) (held : has (s ++ t) x ≡ true) where
           at false false = rest
 
 -- a join has two inputs
-pub join_two : (t : Subtree) (k : Kind) (l r : Plan) (on : List Pair) (f : Option Expr) → tree_of t ≡ plan_tree (join k l r on f)
+pub join_two : {N : ℕ} (t : Stretch N) (k : Kind) (l r : Plan) (on : List Pair) (f : Option Expr) → tree_of t ≡ plan_tree (join k l r on f)
     → Few (tree_of t).below → ⊥
 unfolding kids_p
 join_two t k l r on f h few = subst Few (ap (λ (u : Tree). u.below) h) few
 
-module _ {t a b : Subtree} (w : Two t a b) (k : Kind) (l r : Plan) (on : List Pair) (f : Option Expr) (h : tree_of t ≡ plan_tree (join k l r on f)) where
+module _ {N : ℕ} {t a b : Stretch N} (w : Two t a b) (k : Kind) (l r : Plan) (on : List Pair) (f : Option Expr) (h : tree_of t ≡ plan_tree (join k l r on f)) where
   -- they are its first two children
   pub inputs_are : (tree_of a ≡ plan_tree l) × (tree_of b ≡ plan_tree r)
   unfolding label_p kids_p

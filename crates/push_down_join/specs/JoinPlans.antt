@@ -4,12 +4,13 @@ use Rattle.std.specs.Prelude.{◌≡◌, true, not, List, [], ◌++◌, ℕ, ◌
 use Rattle.std.proofs.Math.Option as O
 use Rattle.std.proofs.Math.Option.{Option, some}
 use Rattle.image.specs.Limits.{work_bytes, max_list}
-use Rattle.image.specs.Tree.{Forest, none, node}
+use Rattle.image.specs.Tree.{Forest, none, node, Tree}
 use Rattle.image.specs.Subtrees.{Subtree}
 use Rattle.image.specs.Records.{Rec, recs}
 use Rattle.plan.specs.Kinds.{number_q, PairPart}
 use Rattle.plan.specs.Schema.{has, schema}
 use Rattle.plan.specs.Syntax.{Name, Expr, Pair, Kind, Plan, join}
+use Rattle.plan.specs.Trees.{plan_tree}
 use Rattle.plan.specs.Lists.{when}
 use Rattle.acceptance.specs.NamesRule.{ok}
 use Rattle.rewrite.specs.Utils.{with_filters, conjunction}
@@ -36,14 +37,14 @@ pub record JoinHere (s : List ℕ) (x : ℕ) : Type 0 where
   pub condition : Option Expr
   pub placed : Placed s x (join kind lhs rhs keys condition)
 
--- some join that keeps the name rules does
-pub record JoinRuled (s : List ℕ) (x : ℕ) : Type 0 where
+-- t is some join that keeps the name rules
+pub record JoinRuled (t : Tree) : Type 0 where
   pub kind : Kind
   pub lhs : Plan
   pub rhs : Plan
   pub keys : List Pair
   pub condition : Option Expr
-  pub standing : StandingP s x (join kind lhs rhs keys condition)
+  pub is : t ≡ plan_tree (join kind lhs rhs keys condition)
   pub rules : ok (join kind lhs rhs keys condition) ≡ true
 
 -- the filter of a join is this tree of the image, or it has none

@@ -9,7 +9,6 @@ ghost use Rattle.plan.specs.Syntax.{Expr, Kind, Name, Pair, Plan, join};
 ghost use Rattle.plan.specs.Trees.{plan_tree};
 ghost use Rattle.acceptance.specs.NamesRule.{ok};
 ghost use Rattle.rewrite.specs.PushDownFilter.{partner};
-ghost use Rattle.conjuncts.specs.Standing.{StandingP};
 ghost use Rattle.utils.specs.Fields.{Names};
 ghost use Rattle.push_down_base.specs.Inputs.{Two};
 ghost use Rattle.push_down_join.specs.JoinPlans.{JoinRuled};
@@ -17,7 +16,7 @@ ghost use Rattle.push_down_join.specs.Partners.{Swaps, partner_in};
 ghost use Rattle.push_down_join.specs.Scopes.{Scopes, swap};
 
 use crate::infer_join_predicates::{Swapped, places_among, swap_keys};
-use image::trees::Subtree;
+use image::trees::Stretch;
 use push_down_base::inputs::first_two;
 use utils::schema_columns::{Fields, no_fields, schema_columns};
 use utils::sets::FieldSet;
@@ -58,7 +57,7 @@ pub fn scope_of(fields: Fields, k: usize, swapped: Swapped) -> Scope
 }
 
 // The inputs of a join.
-pub fn inputs(plan: Subtree) -> (Subtree, Subtree)
+pub fn inputs<'a, const N: usize>(plan: Stretch<'a, N>) -> (Stretch<'a, N>, Stretch<'a, N>)
     ensures { (k : Kind) (l r : Plan) (on : List Pair) (f : Option Expr) → tree_of plan.entry ≡ plan_tree (join k l r on f) →
         Two plan.entry result.0 result.1 }
 {
@@ -70,10 +69,10 @@ pub fn inputs(plan: Subtree) -> (Subtree, Subtree)
 }
 
 // The fields of a join that keeps the name rules.
-pub fn join_scope(plan: Subtree) -> Scope
-    requires { JoinRuled plan.image.now plan.number }
+pub fn join_scope<const N: usize>(plan: Stretch<'_, N>) -> Scope
+    requires { JoinRuled (tree_of plan) }
     ensures { (k : Kind) (l r : Plan) (on : List Pair) (f : Option Expr) →
-        StandingP plan.entry.image.now plan.entry.number (join k l r on f) → ok (join k l r on f) ≡ true →
+        tree_of plan.entry ≡ plan_tree (join k l r on f) → ok (join k l r on f) ≡ true →
         Scopes result (schema l) (schema r) on }
 {
     let (lhs, rhs) = inputs(plan);
