@@ -59,6 +59,13 @@ pub record FilterAt (s : List ℕ) (x : ℕ) : Type 0 where
   pub plan : Plan
   pub standing : StandingP s x (filter expr plan)
 
+-- a Filter stands at the start of `part`, which is record x of an image
+pub record FilterIn (part : List ℕ) (x : ℕ) : Type 0 where
+  pub image : List ℕ
+  pub stretch : part ≡ drop (32 * x) image
+  pub short : length image ≤ work_bytes
+  pub there : FilterAt image x
+
 -- the plan q is the input of the Filter at record x: it stands at record y, to which the link of the Filter's predicate leads
 pub record FilterInput (s : List ℕ) (x y : ℕ) (q : Plan) : Type 0 where
   pub link : y ≡ word (drop (32 * (x + 1)) s) 28

@@ -1,9 +1,11 @@
 // What PushDownFilter::rewrite does of a Filter before the match (799 to 832), and the arm Filter (835 to 850) up to where it calls the
 // rewrite again: a predicate is simplified, and merged with that of the Filter below.
-ghost use Rattle.std.specs.Prelude.{◌≡◌, true, is_some, List, ◌+◌, ◌<◌, ◌≤◌, ℕ, is_ok, length};
+ghost use Rattle.std.specs.Prelude.{◌≡◌, true, is_some, List, ◌+◌, ◌*◌, ◌<◌, ◌≤◌, ℕ, is_ok, drop, length};
 ghost use Rattle.std.proofs.Math.Option.{some};
 ghost use Rattle.image.specs.Buffers.{Scratch};
 ghost use Rattle.image.specs.Limits.{max_list, work_bytes};
+ghost use Rattle.image.specs.Places.{start};
+ghost use Rattle.image.specs.Subtrees.{part_of};
 ghost use Rattle.plan.specs.Syntax.{Expr, Plan, filter};
 ghost use Rattle.rewrite.specs.Limits.{list_p, within_limits};
 ghost use Rattle.rewrite.specs.PushDownFilter.{merged, simplify_filter};
@@ -12,7 +14,7 @@ ghost use Rattle.rewrite.specs.Utils.{conjunction, split_conjunction};
 ghost use Rattle.conjuncts.specs.Items.{Known, Lists};
 ghost use Rattle.conjuncts.specs.Standing.{Standing, StandingP, There};
 ghost use Rattle.push_down_base.specs.Arms.{Shaped};
-ghost use Rattle.push_down_merge.specs.Merging.{FilterAt, FilterInput, Fitting, Formed, Inside, Made, Mergeable, Remains};
+ghost use Rattle.push_down_merge.specs.Merging.{FilterAt, FilterIn, FilterInput, Fitting, Formed, Inside, Made, Mergeable, Remains};
 
 use answers::handing_out::is_shallow;
 use answers::splicing::{write_before, write_records};
@@ -20,9 +22,9 @@ use conjuncts::lists::{Conjuncts, empty};
 use conjuncts::split_conjunction::split_conjunction;
 use conjuncts::unique::unique;
 use image::copying::Writer;
-use image::limits::{MAX_LIST, MAX_RECORDS};
-use image::records::{NEXT_LINK, record_at};
-use image::trees::Subtree;
+use image::limits::{MAX_LIST, MAX_RECORDS, RECORD_BYTES};
+use image::records::NEXT_LINK;
+use image::trees::{Stretch, Subtree};
 use image::words::word_at;
 use push_down_base::predicates::Predicate;
 use simplify_expressions::reorder_predicates::reorder_predicates;
@@ -102,18 +104,17 @@ pub fn predicate_of(plan: Subtree) -> Subtree
 }
 
 // The input of the Filter `plan`: what follows its predicate, which is right behind it.
-pub fn filter_input(plan: Subtree) -> Subtree
-    requires here { FilterAt plan.image.now plan.number }
-    requires short { length plan.image.now ≤ work_bytes }
+pub fn filter_input<'a, const N: usize>(plan: Stretch<'a, N>) -> Stretch<'a, N>
+    requires { FilterIn (part_of plan) plan.number }
     ensures same { result.image.now ≡ plan.entry.image.now }
-    ensures input { (e : Expr) (q : Plan) → StandingP plan.entry.image.now plan.entry.number (filter e q) →
-        FilterInput plan.entry.image.now plan.entry.number result.number q }
+    ensures same_base { start N result.base ≡ start N plan.entry.base }
+    ensures input { (s : List ℕ) (e : Expr) (q : Plan) → part_of plan.entry ≡ drop (32 * plan.entry.number) s → length s ≤ work_bytes →
+        StandingP s plan.entry.number (filter e q) → FilterInput s plan.entry.number result.number q }
 {
-    let predicate = record_at(plan.image, plan.number + 1);
-    Subtree {
+    Stretch {
         image: plan.image,
-        base: 0,
-        number: word_at(predicate, NEXT_LINK),
+        base: plan.base,
+        number: word_at(plan.part(), RECORD_BYTES + NEXT_LINK),
     }
 }
 

@@ -1,5 +1,5 @@
 use Rattle.std.specs.Prelude.{true, Err, is_ok}
-use mathlib.Core.Path.{◌≡◌, sym, ◌∙◌}
+use mathlib.Core.Path.{◌≡◌, refl, sym, ◌∙◌}
 use native.Mathlib.Omega.{arith}
 use Rattle.std.proofs.Common.{rules}
 use Rattle.push_down_merge.proofs.Tested.{elsewhere}
@@ -11,10 +11,15 @@ use Rattle.push_down_rewrite.proofs.filter.+merge_filter_rewrite_filter.Goals as
 
 pub merge_filter-filter_input-input-requires : goal.merge_filter-filter_input-input-requires
 merge_filter-filter_input-input-requires t c =
-    let p = c.requires.on_filter in record {
-      here = record { expr = p.lower; plan = p.plan; standing = elsewhere c.requires.image p.rests.placed.standing };
-      short = rw c.requires.image p.rests.placed.short;
-    }
+    let p = c.requires.on_filter in (
+      omega arith,
+      record {
+        image = c.args.child.image.now;
+        stretch = refl;
+        short = rw c.requires.image p.rests.placed.short;
+        there = record { expr = p.lower; plan = p.plan; standing = elsewhere c.requires.image p.rests.placed.standing };
+      },
+    )
 
 pub merge_filter-merge_fits-requires-clause-image : goal.merge_filter-merge_fits-requires-clause-image
 merge_filter-merge_fits-requires-clause-image t c = c.filter_input-input.ensures.same ∙ c.requires.image
@@ -25,7 +30,7 @@ merge_filter-merge_fits-requires-clause-mergeable t c =
     let k = p.rests in
     let h = k.placed in
     let st = elsewhere c.requires.image h.standing in
-    let y = input_here c.requires.image (c.filter_input-input.ensures.input p.lower p.plan st) in
+    let y = input_here c.requires.image (c.filter_input-input.ensures.input _ p.lower p.plan refl (rw c.requires.image h.short) st) in
     let m = one_merge k (λ n i. c.merged_predicate-merged.ensures p.expr p.lower n p.plan k i) y.standing in
     record {
       whole = p.whole;
@@ -43,7 +48,7 @@ merge_filter-rewrite_filter-requires t c =
     let k = p.rests in
     let h = k.placed in
     let st = elsewhere c.requires.image h.standing in
-    let y = input_here c.requires.image (c.filter_input-input.ensures.input p.lower p.plan st) in
+    let y = input_here c.requires.image (c.filter_input-input.ensures.input _ p.lower p.plan refl (rw c.requires.image h.short) st) in
     let m = one_merge k (λ n i. c.merged_predicate-merged.ensures p.expr p.lower n p.plan k i) y.standing in
     let fit : is_ok c.merge_fits.result ≡ true = search rules in
     let fits = sym (c.merge_fits.ensures p.whole p.spot p.inside m.expr p.plan m.made m.input.standing m.input.lists) ∙ fit in (
@@ -65,7 +70,7 @@ pub merge_filter-returns-clause-finishes : goal.merge_filter-returns-clause-fini
 merge_filter-returns-clause-finishes t c =
     λ w f i e b q k. let h = k.placed in
     let st = elsewhere c.requires.image h.standing in
-    let y = input_here c.requires.image (c.filter_input-input.ensures.input b q st) in
+    let y = input_here c.requires.image (c.filter_input-input.ensures.input _ b q refl (rw c.requires.image h.short) st) in
     let m = one_merge k (λ n j. c.merged_predicate-merged.ensures e b n q k j) y.standing in
     let yes = sym (c.in_ok-merge_fits.ensures w f i m.expr q m.made m.input.standing m.input.lists) in
     again e b q m.is yes (c.rewrite_filter.ensures.finishes w f i m.expr q (merge_rests k i m yes))
@@ -74,7 +79,7 @@ pub merge_filter-returns-in_err-merge_fits-clause-finishes : goal.merge_filter-r
 merge_filter-returns-in_err-merge_fits-clause-finishes t c =
     λ w f i e b q k. let h = k.placed in
     let st = elsewhere c.requires.image h.standing in
-    let y = input_here c.requires.image (c.filter_input-input.ensures.input b q st) in
+    let y = input_here c.requires.image (c.filter_input-input.ensures.input _ b q refl (rw c.requires.image h.short) st) in
     let m = one_merge k (λ n j. c.merged_predicate-merged.ensures e b n q k j) y.standing in
     let same : c.from_residual.result ≡ Err c.in_err-merge_fits.field-0.0 = grind arith in
     rw same (merge_unfit e b q m.is (sym (c.in_err-merge_fits.ensures w f i m.expr q m.made m.input.standing m.input.lists)))

@@ -27,12 +27,19 @@ predicate_at-p-requires c =
       short = rw d.same i.short;
     }
 
-pub filter_input-requires-clause-here : goal.filter_input-requires-clause-here
-filter_input-requires-clause-here c =
+pub filter_input-requires : goal.filter_input-requires
+filter_input-requires c =
     let f = c.requires in
     let i = f.inside in
-    let a = a_filter f.spot.plan (sym (kind_of c.args.plan c.kind-kind.ensures (stands_inside i)) ∙ c.if-kind-eq-FILTER.true) in
-    record { expr = a.expr; plan = a.plan; standing = (placed_inside i a.is).standing }
+    let a = a_filter f.spot.plan (sym (kind_of c.args.plan c.kind-kind.ensures (stands_inside i)) ∙ c.if-kind-eq-FILTER.true) in (
+      omega arith,
+      record {
+        image = c.args.plan.image.now;
+        stretch = refl;
+        short = i.short;
+        there = record { expr = a.expr; plan = a.plan; standing = (placed_inside i a.is).standing };
+      },
+    )
 
 pub rewrite_filter-requires-clause-on_plan : goal.rewrite_filter-requires-clause-on_plan
 rewrite_filter-requires-clause-on_plan c =
@@ -44,7 +51,7 @@ rewrite_filter-requires-clause-on_plan c =
     let h = placed_inside i a.is in
     let d = c.predicate_of.ensures in
     let k = predicate_shaped d.same d.number h c.predicate_at-p.ensures in
-    let g = c.filter_input.ensures.input e q h.standing in record {
+    let g = c.filter_input.ensures.input _ e q refl i.short h.standing in record {
       whole = f.whole;
       spot = f.spot;
       inside = i;
@@ -61,7 +68,7 @@ returns-then-kind-eq-FILTER-clause-outcomes c =
     let h = placed_inside i a.is in
     let d = c.predicate_of.ensures in
     let k = predicate_shaped d.same d.number h c.predicate_at-p.ensures in
-    let g = c.filter_input.ensures.input e q h.standing in
+    let g = c.filter_input.ensures.input _ e q refl i.short h.standing in
     filter_outcomes a.is (c.rewrite_filter.ensures.finishes w f i e q (rests_written e q h k g.standing))
 
 pub rewrite_join_node-requires : goal.rewrite_join_node-requires

@@ -1,5 +1,5 @@
 -- `stays::filter_stays` meets its contract.
-use mathlib.Core.Path.{sym, ap, ◌∙◌}
+use mathlib.Core.Path.{refl, sym, ap, ◌∙◌}
 use native.Mathlib.Omega.{arith}
 use Rattle.image.specs.Tree.{Tree}
 use Rattle.writing.proofs.Maps.{plan_is}
@@ -12,14 +12,21 @@ use Rattle.push_down_stays.proofs.stays.filter_stays.Goals as goal
 
 pub filter_input-input-requires : goal.filter_input-input-requires
 filter_input-input-requires c =
-    let p = c.requires in
-    record { here = record { expr = p.expr; plan = p.plan; standing = (placed_inside p.inside p.is).standing }; short = p.inside.short }
+    let p = c.requires in (
+      omega arith,
+      record {
+        image = c.args.plan.image.now;
+        stretch = refl;
+        short = p.inside.short;
+        there = record { expr = p.expr; plan = p.plan; standing = (placed_inside p.inside p.is).standing };
+      },
+    )
 
 pub returns-then-not-may_stay : goal.returns-then-not-may_stay
 returns-then-not-may_stay c =
     λ w f h. let a = the_filter c.requires h in
     let at = placed_inside h a.is in
-    let st = c.filter_input-input.ensures.input a.expr a.plan at.standing in
+    let st = c.filter_input-input.ensures.input _ a.expr a.plan refl h.short at.standing in
     let same = c.filter_input-input.ensures.same in
     let m = c.may_stay.ensures ∙ ap (λ (t : Tree). may_stay t.label) (plan_is c.filter_input-input.result (elsewhere same st.standing)) in
     rw a.is (filter_goes a.expr a.plan (sym m ∙ c.if-not-may_stay.true))
@@ -42,7 +49,7 @@ pub over_stays-requires : goal.over_stays-requires
 over_stays-requires c =
     let p = c.requires in
     let at = placed_inside p.inside p.is in
-    let st = c.filter_input-input.ensures.input p.expr p.plan at.standing in
+    let st = c.filter_input-input.ensures.input _ p.expr p.plan refl p.inside.short at.standing in
     let same = c.filter_input-input.ensures.same in
     let m = c.may_stay.ensures ∙ ap (λ (t : Tree). may_stay t.label) (plan_is c.filter_input-input.result (elsewhere same st.standing)) in
     let d = c.predicate_of.ensures in
@@ -64,7 +71,7 @@ pub returns-then-over_stays : goal.returns-then-over_stays
 returns-then-over_stays c =
     λ w f h. let a = the_filter c.requires h in
     let at = placed_inside h a.is in
-    let st = c.filter_input-input.ensures.input a.expr a.plan at.standing in
+    let st = c.filter_input-input.ensures.input _ a.expr a.plan refl h.short at.standing in
     let same = c.filter_input-input.ensures.same in
     let m = c.may_stay.ensures ∙ ap (λ (t : Tree). may_stay t.label) (plan_is c.filter_input-input.result (elsewhere same st.standing)) in
     let d = c.predicate_of.ensures in
@@ -78,7 +85,7 @@ pub returns : goal.returns
 returns c =
     λ w f h. let a = the_filter c.requires h in
     let at = placed_inside h a.is in
-    let st = c.filter_input-input.ensures.input a.expr a.plan at.standing in
+    let st = c.filter_input-input.ensures.input _ a.expr a.plan refl h.short at.standing in
     let same = c.filter_input-input.ensures.same in
     let m = c.may_stay.ensures ∙ ap (λ (t : Tree). may_stay t.label) (plan_is c.filter_input-input.result (elsewhere same st.standing)) in
     let d = c.predicate_of.ensures in
