@@ -75,10 +75,13 @@ drop_map zero ts = refl
 drop_map (suc i) [] = refl
 drop_map (suc i) (t ∷ ts) = drop_map i ts
 
--- so from the plan on that was found
+-- so from a plan on
+pub inputs_after : (f g : Forest) (i : ℕ) → drop i (plans_in f) ≡ plans_in g → drop i (inputs f) ≡ inputs g
+inputs_after f g i e = ap (drop i) (inputs_of f) ∙ drop_map i (plans_in f) ∙ ap (map own_schema) e ∙ sym (inputs_of g)
+
+-- .. the one that was found
 pub inputs_from : {N : ℕ} {x : Stretches N} {i : ℕ} {t : Stretch N} (y : PlanAt x i t) → drop i (inputs (forest x)) ≡ inputs (forest y.trees)
-inputs_from {N} {x} {i} y =
-    ap (drop i) (inputs_of (forest x)) ∙ drop_map i (plans_in (forest x)) ∙ ap (map own_schema) y.plans ∙ sym (inputs_of (forest y.trees))
+inputs_from {N} {x} {i} y = inputs_after (forest x) (forest y.trees) i y.plans
 
 -- there is none
 pub inputs_none : (f : Forest) (i : ℕ) → drop i (plans_in f) ≡ [] → drop i (inputs f) ≡ []

@@ -38,7 +38,7 @@ use Rattle.check_fields.specs.Typed.{part_type}
 use Rattle.check_fields.specs.Seek.{Sought, seek, told, told_in, type_found, all_places, passed_of, Makes, Fieldless}
 use Rattle.check_fields.specs.declared.fields.FieldType.{FieldType}
 use Rattle.check_fields.specs.declared.fields.FieldType.TheVariants.{Named}
-use Rattle.check_fields.proofs.Counting.{renamed_one, inputs_from, inputs_none, fields_here, behind, by_parts, by_input}
+use Rattle.check_fields.proofs.Counting.{renamed_one, inputs_after, inputs_none, fields_here, behind, by_parts, by_input}
 
 -- where the first search has it not, the second goes on
 abbrev pub onward : Sought → (ℕ → Sought) → Sought
@@ -180,9 +180,13 @@ input_drop zero ss = refl
 input_drop (suc k) [] = refl
 input_drop (suc k) (s ∷ ss) = input_drop k ss
 
--- the schema of the plan that was found
+-- the schema of a plan is the first of those from it on
+pub fields_after : (f g : Forest) (i : ℕ) → drop i (plans_in f) ≡ plans_in g → input 0 (inputs g) ≡ input i (inputs f)
+fields_after f g i e = sym (input_drop i (inputs f) ∙ ap (input 0) (inputs_after f g i e))
+
+-- .. of the one that was found
 pub plan_fields : {N : ℕ} {x : Stretches N} {i : ℕ} {t : Stretch N} (y : PlanAt x i t) → input 0 (inputs (forest y.trees)) ≡ input i (inputs (forest x))
-plan_fields {N} {x} {i} y = sym (input_drop i (inputs (forest x)) ∙ ap (input 0) (inputs_from y))
+plan_fields {N} {x} {i} y = fields_after (forest x) (forest y.trees) i y.plans
 
 -- there is no such plan
 pub missing : (f : Forest) (i : ℕ) → drop i (plans_in f) ≡ [] → input i (inputs f) ≡ []

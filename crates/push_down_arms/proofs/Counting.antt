@@ -7,7 +7,7 @@
 -- Assumes nothing.
 use Prim.Native.Nat.{ℕ, ◌+◌, ◌-◌, ◌≤◌, ◌<◌}
 use native.Mathlib.Omega.{arith}
-use mathlib.Core.Path.{◌≡◌, refl, sym, ap, subst, ◌∙◌}
+use mathlib.Core.Path.{◌≡◌, refl, sym, ap, ◌∙◌}
 use mathlib.Core.Bool.{Bool, true, false, cond}
 use mathlib.Core.List.{List, [], ◌∷◌, ◌++◌}
 use borrow.Author.Rules.{rules}
@@ -32,8 +32,8 @@ use Rattle.conjuncts.specs.Standing.{Standing, StandingP}
 use Rattle.conjuncts.proofs.Listed.{lists_none, lists_add, lists_length, known_of, next, at_end}
 use Rattle.conjuncts.proofs.Operands.{Both, and_label, single}
 use Rattle.conjuncts.proofs.Standing.{standing_tree}
-use Rattle.writing.specs.Replaced.{Begins, value_for}
-use Rattle.writing.proofs.Entries.{deep_found, replaced_below, replaced_found}
+use Rattle.writing.specs.Replaced.{Begins, plant, value_for}
+use Rattle.writing.proofs.Entries.{deep_plant, replaced_below, replaced_plant}
 use Rattle.writing.specs.Maps.{map_of}
 use Rattle.writing.proofs.Maps.{plan_is, plan_map, replaced_expr}
 use Rattle.push_down_arms.specs.Divided.{parts, Counts}
@@ -115,16 +115,21 @@ module _ (map t : Subtree) (e : Expr) (p : Plan) (k : StandingP map.image.now ma
       ap length (single (replace_cols (map_of p) e) (ap is_and j ∙ single_label e h))
 
   -- one does
-  pub standing_found : {x : Subtree} → length map.image.now ≤ work_bytes → FitsE e → Begins (value_for (tree_of map) (tree_of t).label) map x
-      → Standing map.image.now x.number (replace_cols (map_of p) e)
-  standing_found {x} short f b =
-      let c : Begins (value_for (plan_tree p) (label_e e)) map x = subst (λ (g : Forest). Begins g map x) found_here b in
-      let d = deep_found (plan_tree p) (label_e e) k.deep c in
+  pub standing_plant : (x : Subtree) {others : Forest} → length map.image.now ≤ work_bytes → FitsE e → x.image.now ≡ map.image.now
+      → value_for (tree_of map) (tree_of t).label ≡ plant (tree_of x) others → Standing map.image.now x.number (replace_cols (map_of p) e)
+  standing_plant x short f image b =
+      let c : value_for (plan_tree p) (label_e e) ≡ plant (tree_of x) _ = sym found_here ∙ b in
+      let d = deep_plant (plan_tree p) (label_e e) (tree_of x) k.deep c in
       let i : tree_of x ≡ expr_tree (replace_cols (map_of p) e) =
-      replaced_found (plan_tree p) (expr_tree e) c ∙ replaced_expr (plan_tree p) (map_of p) (plan_map p) e in
-      rw (← b.image) (standing_tree x (replace_cols (map_of p) e) i (rw b.image short)
+      replaced_plant (plan_tree p) (expr_tree e) (tree_of x) c ∙ replaced_expr (plan_tree p) (map_of p) (plan_map p) e in
+      rw (← image) (standing_tree x (replace_cols (map_of p) e) i (rw image short)
       (deep_more (kids_e (replace_cols (map_of p) e)) (max_below - 1 - 1) max_below (rw i at d.1) (omega arith))
       (fits_replaced (map_of p) (λ y. fits_map p y k.fits) e f))
+
+  -- .. as the code finds it
+  pub standing_found : {x : Subtree} → length map.image.now ≤ work_bytes → FitsE e → Begins (value_for (tree_of map) (tree_of t).label) map x
+      → Standing map.image.now x.number (replace_cols (map_of p) e)
+  standing_found {x} short f b = standing_plant x short f b.image b.is
 
 -- FALSE has no columns
 pub false_parts : (σ : Name → Expr) (e : Expr) → e ≡ FALSE → length (split_conjunction (replace_cols σ e)) ≡ 1

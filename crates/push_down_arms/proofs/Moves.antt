@@ -25,7 +25,7 @@ use Rattle.plan.specs.Trees.{agg_label, agg_kids, win_label, win_kids}
 use Rattle.rewrite.specs.Utils.{is_volatile_expr, is_leafward_expr}
 use Rattle.rewrite.specs.PushDownFilter.{names, non_pushable}
 use Rattle.conjuncts.proofs.FunctionsIn.{or_nil, fn_tree}
-use Rattle.writing.specs.Replaced.{is_entry, either, lookup, Finds}
+use Rattle.writing.specs.Replaced.{is_entry, either, lookup, plant, Finds}
 use Rattle.writing.proofs.Maps.{NoEntry, same_entry, lookup_none, and_is, plan_none, parts_none}
 use Rattle.push_down_arms.specs.Movable.{leaf_here, fixed, is_named, named_in, partition_in, lets, lets_all, is_some, may_move}
 
@@ -195,7 +195,11 @@ pub lets_none : (x : Name) {f : Forest} → f ≡ none → lets_all x f ≡ true
 unfolding lets_all
 lets_none x e = rw e refl
 
--- what is found, is something
+-- what begins with a tree is something
+pub some_plant : (f : Forest) {t : Tree} {others : Forest} → f ≡ plant t others → true ≡ is_some f
+some_plant f e = sym (ap is_some e)
+
+-- .. and so is what is found
 pub some_found : {M : ℕ} (map : Stretch M) (f : Forest) (o : Option (Stretch M)) → Finds f map o → found o ≡ is_some f
 some_found map f None h = sym (ap is_some h)
-some_found map f (Some x) h = sym (ap is_some h.is)
+some_found map f (Some x) h = some_plant f h.is

@@ -1,8 +1,8 @@
 // with_filters (1417 to 1423): a plan under a Filter, if there is a predicate; and a plan written again with such a Filter over its input
 // and another above it. The plan's entries replace columns of predicates.
-ghost use Rattle.std.specs.Prelude.{◌≡◌, ◌+◌, ◌-◌, ℕ, take};
+ghost use Rattle.std.specs.Prelude.{◌≡◌, ◌+◌, ◌-◌, ◌≤◌, ℕ, take};
 ghost use Rattle.std.proofs.Math.Option.{Option};
-ghost use Rattle.image.specs.Limits.{max_below};
+ghost use Rattle.image.specs.Limits.{max_below, no_room};
 ghost use Rattle.image.specs.Records.{recs};
 ghost use Rattle.image.specs.Room.{Low, Wrote};
 ghost use Rattle.image.specs.Subtrees.{tree_of};
@@ -46,6 +46,7 @@ fn with_filters(plan: Subtree, p: Predicate, input: Subtree, out: &mut Writer, l
     requires over { Over 3 level plan }
     requires deep { Deep (tree_of input).below max_below }
     ensures same { out.new.bytes.ghost_name ≡ out.old.bytes.ghost_name }
+    ensures counted { out.new.next ≤ no_room }
     ensures wrote { (σ : Name → Expr) → MapsTo plan.entry σ → (o : Option Expr) → Perhaps plan.entry.image.now σ p o →
         (q : Plan) → tree_of input.entry ≡ plan_tree q →
         Wrote out.old.bytes.now out.new.bytes.now out.old.next level out.new.next (plan_tree (under o q)) }
@@ -65,6 +66,7 @@ fn write_below(plan: Subtree, p: Predicate, input: Subtree, out: &mut Writer, le
     requires over { Over 4 level plan }
     requires deep { Deep (tree_of input).below max_below }
     ensures same { out.new.bytes.ghost_name ≡ out.old.bytes.ghost_name }
+    ensures counted { out.new.next ≤ no_room }
     ensures wrote { (σ : Name → Expr) → MapsTo plan.entry σ → (o : Option Expr) → Perhaps plan.entry.image.now σ p o →
         (f : Plan → Plan) (q : Plan) (k : ℕ) → Frame f k → input.entry.number ≡ plan.entry.number + k →
         tree_of plan.entry ≡ plan_tree (f q) → tree_of input.entry ≡ plan_tree q →
@@ -87,6 +89,7 @@ pub fn write_over(
     requires over { Over 5 level plan }
     requires deep { Deep (tree_of input).below max_below }
     ensures same { out.new.bytes.ghost_name ≡ out.old.bytes.ghost_name }
+    ensures counted { out.new.next ≤ no_room }
     ensures wrote { (σ : Name → Expr) → MapsTo plan.entry σ → (a b : Option Expr) → Perhaps plan.entry.image.now σ above a →
         Perhaps plan.entry.image.now σ below b → (f : Plan → Plan) (q : Plan) (k : ℕ) → Frame f k →
         input.entry.number ≡ plan.entry.number + k →

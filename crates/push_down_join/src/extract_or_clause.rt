@@ -1,7 +1,7 @@
 // extract_or_clauses_for_join (313 to 335), extract_or_clause (348 to 398): of an OR, the clause that reads columns of one side only.
 ghost use Rattle.std.specs.Prelude.{◌≡◌, Bool, true, ◌++◌, List, ◌+◌, ◌<◌, ◌≤◌, length};
 ghost use Rattle.std.proofs.Math.Option.{some};
-ghost use Rattle.image.specs.Limits.{Shallow, max_fields};
+ghost use Rattle.image.specs.Limits.{Shallow, max_fields, no_room};
 ghost use Rattle.image.specs.Room.{Low, Wrote};
 ghost use Rattle.image.specs.Subtrees.{tree_of};
 ghost use Rattle.plan.specs.Columns.{on_cols};
@@ -138,6 +138,7 @@ pub fn copy_clause<const N: usize>(
     requires len_le_max_fields { f.now.len ≤ max_fields }
     requires low { Low (level + 1) (tree_of tree).below }
     ensures same { out.new.bytes.ghost_name ≡ out.old.bytes.ghost_name }
+    ensures counted { out.new.next ≤ no_room }
     ensures wrote { (e clause : Expr) (ns : List Name) (c : Name → Bool) → tree_of tree.entry ≡ expr_tree e → Names f.now ns
         → on_cols (has ns) e ≡ true → Masks side ns c → extract_or_clause c e ≡ some clause
         → Wrote out.old.bytes.now out.new.bytes.now out.old.next level out.new.next (expr_tree clause) }
@@ -193,6 +194,7 @@ pub fn copy_or_clause(
     requires len_le_max_fields { f.now.len ≤ max_fields }
     requires shallow { Shallow 1 level }
     ensures same { out.new.bytes.ghost_name ≡ out.old.bytes.ghost_name }
+    ensures counted { out.new.next ≤ no_room }
     ensures wrote { (e clause : Expr) (ns : List Name) (c : Name → Bool) → Standing s.now n e → Names f.now ns
         → on_cols (has ns) e ≡ true → Masks side ns c → or_clause c e ≡ some clause
         → Wrote out.old.bytes.now out.new.bytes.now out.old.next level out.new.next (expr_tree clause) }

@@ -1,7 +1,7 @@
 // What push_down_all_join builds (499 to 525), written: each input under its list, the keys, the filter, and a Filter of what stays above.
 ghost use Rattle.std.specs.Prelude.{◌≡◌, Bool, ◌∷◌, List, ◌+◌, ◌-◌, ◌<◌, ◌≤◌, eqb, length, take};
 ghost use Rattle.std.proofs.Math.Option.{Option};
-ghost use Rattle.image.specs.Limits.{max_fields};
+ghost use Rattle.image.specs.Limits.{max_fields, no_room};
 ghost use Rattle.image.specs.Records.{recs, recs_any};
 ghost use Rattle.image.specs.Room.{Low, Wrote};
 ghost use Rattle.image.specs.Subtrees.{tree_of};
@@ -57,6 +57,7 @@ pub fn copy_sided<const M: usize>(
     requires len_le_max_fields { fields.now.len ≤ max_fields }
     requires over { Over 1 level map }
     ensures same { out.new.bytes.ghost_name ≡ out.old.bytes.ghost_name }
+    ensures counted { out.new.next ≤ no_room }
     ensures wrote { (σ : Name → Expr) → MapsTo map.entry σ → (ns : List Name) (t : Name → Bool) → Names fields.now ns →
         Masks side ns t → (e : Expr) → Sided s.now σ ns t n e →
         Wrote out.old.bytes.now out.new.bytes.now out.old.next level out.new.next (expr_tree e) }
@@ -84,6 +85,7 @@ fn copy_sided_first<const M: usize>(
     requires k_nonzero { (0 < k) × (k ≤ c.now.len) }
     requires over { Over 1 (level + k) map }
     ensures same { out.new.bytes.ghost_name ≡ out.old.bytes.ghost_name }
+    ensures counted { out.new.next ≤ no_room }
     ensures wrote { (σ : Name → Expr) (ns : List Name) (t : Name → Bool) → Side map.entry fields.now side σ ns t →
         (e : Expr) (es : List Expr) → Sides s.now σ ns t c.now (e ∷ es) →
         Wrote out.old.bytes.now out.new.bytes.now out.old.next level out.new.next (expr_tree (conjoin e (take (k - 1) es))) }
@@ -114,6 +116,7 @@ fn copy_sided_joined<const M: usize>(
     requires len_nonzero { 0 < c.now.len }
     requires over { Over 2 level map }
     ensures same { out.new.bytes.ghost_name ≡ out.old.bytes.ghost_name }
+    ensures counted { out.new.next ≤ no_room }
     ensures wrote { (σ : Name → Expr) (ns : List Name) (t : Name → Bool) → Side map.entry fields.now side σ ns t →
         (e : Expr) (es : List Expr) → Sides s.now σ ns t c.now (e ∷ es) →
         Wrote out.old.bytes.now out.new.bytes.now out.old.next level out.new.next (expr_tree (conjoin e es)) }
@@ -137,6 +140,7 @@ pub fn copy_sided_filtered<const N: usize, const M: usize>(
     requires low { Low (level + 2) (tree_of input).below }
     requires over { Over 3 level map }
     ensures same { out.new.bytes.ghost_name ≡ out.old.bytes.ghost_name }
+    ensures counted { out.new.next ≤ no_room }
     ensures wrote { (σ : Name → Expr) (ns : List Name) (t : Name → Bool) → Side map.entry fields.now side σ ns t →
         (es : List Expr) → Sides s.now σ ns t c es → (p : Plan) → tree_of input.entry ≡ plan_tree p →
         Wrote out.old.bytes.now out.new.bytes.now out.old.next level out.new.next (plan_tree (with_filters es p)) }

@@ -1,6 +1,6 @@
 // PushDownFilter::rewrite (785 to 798) of the plan at one record: a Filter by its input, a Join by its own filter, no other.
-ghost use Rattle.std.specs.Prelude.{◌≡◌, [], ℕ, IfOk, IfSome, length};
-ghost use Rattle.image.specs.Limits.{max_records};
+ghost use Rattle.std.specs.Prelude.{◌≡◌, [], ◌≤◌, ℕ, IfOk, IfSome, length};
+ghost use Rattle.image.specs.Limits.{max_records, no_room};
 ghost use Rattle.plan.specs.Syntax.{Plan};
 ghost use Rattle.rewrite.specs.PushDownFilter.{Transformed};
 ghost use Rattle.rewrite.specs.RewriteAt.{Focus};
@@ -46,6 +46,7 @@ pub fn finish(
     requires replaced { Replaced s.now levels.now out.old.bytes.now spot (record { next = out.old.next; flag = flag }) }
     requires levels_len { length levels.now ≡ max_records }
     ensures same { out.new.bytes.ghost_name ≡ out.old.bytes.ghost_name }
+    ensures counted { out.new.next ≤ no_room }
     ensures finishes { (node : ℕ) (w : Plan) (c : Focus) (t : Transformed) →
         Replaces s.now levels.now out.old.bytes.now spot (record { next = out.old.next; flag = flag }) node w c t →
         Finishes out.new.bytes.now result c [] t }

@@ -2,7 +2,7 @@
 use Rattle.std.specs.Prelude.{Option as Maybe, Some, None, is_some}
 use Prim.Native.Nat.{ℕ}
 use native.Mathlib.Omega.{arith}
-use mathlib.Core.Path.{◌≡◌, refl, sym, ap, ◌∙◌}
+use mathlib.Core.Path.{◌≡◌, refl, sym, ap, subst, ◌∙◌}
 use mathlib.Core.Bool.{Bool, true, false, not}
 use mathlib.Core.List.{List, []}
 use mathlib.Core.Option.{Option, none, some}
@@ -65,10 +65,15 @@ kept_as e h = record { yes = λ y. h.yes (e ∙ y); no = λ n. h.no (e ∙ n) }
 
 module _ {s : List ℕ} where
   -- it is at record n
+  pub own_stands : {t : Subtree} {f : Option Expr} {b : Bool} → FilterOf s (P.Some t) f
+      → ((e : Expr) → tree_of t ≡ expr_tree e → Standing t.image.now t.number e → Says b (LeftDeep e)) → Says b (conjunction (split_conjunction? f) ≡ f)
+  unfolding split_conjunction?
+  own_stands {t} (has_one {e = e} here h pos) g = g e (tree_standing t here refl h) (subst (λ z. Standing z t.number e) (sym here) h)
+
+  -- .. by its tree
   pub own_deep : {t : Subtree} {f : Option Expr} {b : Bool} → FilterOf s (P.Some t) f
       → ((e : Expr) → tree_of t ≡ expr_tree e → Says b (LeftDeep e)) → Says b (conjunction (split_conjunction? f) ≡ f)
-  unfolding split_conjunction?
-  own_deep {t} (has_one {e = e} here h pos) g = g e (tree_standing t here refl h)
+  own_deep w g = own_stands w (λ e is h. g e is)
 
   -- there is none
   pub own_bare : {f : Option Expr} → FilterOf s P.None f → Says true (conjunction (split_conjunction? f) ≡ f)

@@ -1,7 +1,8 @@
 -- Laws of the fields of a plan, appended to others.
 --     called_again    an alias below an alias, or below none
 --     ends-…          what a call has appended as it returns
---     first_input, second_input, ..   the inputs, as the code has them
+--     input_first, input_second       the inputs, by the plans from their place on
+--     first_input, second_input, ..   .. as the code has them
 -- Assumes nothing.
 use mathlib.Core.Path.{◌≡◌, refl, sym, ap, ◌∙◌}
 use mathlib.Core.Bool.{Bool, true, false}
@@ -93,17 +94,21 @@ module _ (p : Plan) (l : Label) (e : l ≡ label_p p) {r : Role} (R : r ≡ role
         go k both (parts x y z is) = never x k
         go k both (second x y z j le at is) = never y both
 
--- ---- the inputs, as the code has them
+-- ---- the inputs
 
--- the plan with a place among some trees, by its number
-plan_at : {N : ℕ} {x : Stretches N} {f : Forest} → forest x ≡ f → (place : ℕ) {t : Stretch N} → PlanAt x place t
-    → (place < length (plans_in f)) × (get_or (plans_in f) place no_tree ≡ tree_of t)
+-- the plans from a place on, as the code has them
+plan_at : {N : ℕ} {x : Stretches N} {f : Forest} → forest x ≡ f → (place : ℕ) {t : Stretch N} (w : PlanAt x place t)
+    → drop place (plans_in f) ≡ tree_of t ∷ plans_in (forest w.after)
 unfolding plans_in put
 plan_at {N} {x} {f} b place {t} w =
-    let e : drop place (plans_in f) ≡ tree_of t ∷ plans_in (forest w.after) =
-    ap (λ (g : Forest). drop place (plans_in g)) (sym b) ∙ w.plans ∙ (ap plans_in w.first.is ∙ rw w.is) in
+    ap (λ (g : Forest). drop place (plans_in g)) (sym b) ∙ w.plans ∙ (ap plans_in w.first.is ∙ rw w.is)
+
+-- the first of them, by its number
+plan_here : (f : Forest) (place : ℕ) {t : Tree} {ts : List Tree} → drop place (plans_in f) ≡ t ∷ ts
+    → (place < length (plans_in f)) × (get_or (plans_in f) place no_tree ≡ t)
+plan_here f place {t} {ts} e =
     let k : place + 0 ≡ place = omega arith in
-    let n : length (plans_in f) - place ≡ length (tree_of t ∷ plans_in (forest w.after)) = rw (← length-drop place (plans_in f), e) in
+    let n : length (plans_in f) - place ≡ length (t ∷ ts) = rw (← length-drop place (plans_in f), e) in
     (omega (arith, n), rw k at (sym (get_or-drop place (plans_in f) 0 no_tree) ∙ ap (λ (ys : List Tree). get_or ys 0 no_tree) e))
 
 none_at : (xs : List Tree) (place : ℕ) → drop place xs ≡ [] → length xs ≤ place
@@ -126,18 +131,23 @@ module _ (p : Plan) {t : Tree} (is : t ≡ plan_tree p) (l : Label) (e : l ≡ t
   all_made m = schema_made p l label_is R m ∙ ap made (sym below_is)
 
   -- the input whose fields come first
-  pub first_input : {N : ℕ} → creates r ≡ false → {place : ℕ} → place ≡ own r l.p → {x : Stretches N} → forest x ≡ t.below → {u : Stretch N}
-      → PlanAt x place u → Of (tree_of u) (Rest p)
-  first_input {N} m at {x} b {u} w = go (rw (R, label_is) at m) (shape p)
+  pub input_first : creates r ≡ false → {place : ℕ} → place ≡ own r l.p → {u : Tree} {us : List Tree} → drop place (plans_in t.below) ≡ u ∷ us
+      → Of u (Rest p)
+  input_first m at {u} w = go (rw (R, label_is) at m) (shape p)
     where
       here : (own (role_of p) (label_p p).p < length (plans_in (kids_p p)))
-          × (get_or (plans_in (kids_p p)) (own (role_of p) (label_p p).p) no_tree ≡ tree_of u)
-      here = rw (at, R, label_is) at (plan_at (b ∙ below_is) _ w)
+          × (get_or (plans_in (kids_p p)) (own (role_of p) (label_p p).p) no_tree ≡ u)
+      here = rw (at, R, label_is, below_is) at (plan_here _ _ w)
 
-      go : creates (role_of p) ≡ false → Shape p → Of (tree_of u) (Rest p)
+      go : creates (role_of p) ≡ false → Shape p → Of u (Rest p)
       go m (own_parts k is) = never k m
       go m (no_input k le is) = absurd (omega (arith, here.0))
       go m (over k i le is r) = record { input = i; is = sym here.1 ∙ is; rest = r }
+
+  -- .. as the code has it
+  pub first_input : {N : ℕ} → creates r ≡ false → {place : ℕ} → place ≡ own r l.p → {x : Stretches N} → forest x ≡ t.below → {u : Stretch N}
+      → PlanAt x place u → Of (tree_of u) (Rest p)
+  first_input {N} m {place} at b w = input_first m at (plan_at b place w)
 
   -- there is none
   pub no_first : creates r ≡ false → {place : ℕ} → place ≡ own r l.p → drop place (plans_in t.below) ≡ [] → schema p ≡ []
@@ -153,17 +163,22 @@ module _ (p : Plan) {t : Tree} (is : t ≡ plan_tree p) (l : Label) (e : l ≡ t
 
   module _ (i : Plan) (rest : Rest p i) (both : gives_both r l.p ≡ true) where
     -- the second input of a join that gives the fields of both
-    pub second_input : {N : ℕ} {x : Stretches N} → forest x ≡ t.below → {u : Stretch N} → PlanAt x 1 u
-        → Of (tree_of u) (λ j. (renames (role_of p) ≡ false) × (schema p ≡ schema i ++ schema j))
-    second_input {N} {x} b {u} w = go (rw (R, label_is) at both) rest
+    pub input_second : {u : Tree} {us : List Tree} → drop 1 (plans_in t.below) ≡ u ∷ us
+        → Of u (λ j. (renames (role_of p) ≡ false) × (schema p ≡ schema i ++ schema j))
+    input_second {u} w = go (rw (R, label_is) at both) rest
       where
-        here : get_or (plans_in (kids_p p)) 1 no_tree ≡ tree_of u
-        here = (plan_at (b ∙ below_is) 1 w).1
+        here : get_or (plans_in (kids_p p)) 1 no_tree ≡ u
+        here = rw below_is at (plan_here _ 1 w).1
 
-        go : gives_both (role_of p) (label_p p).p ≡ true → Rest p i → Of (tree_of u) (λ j. (renames (role_of p) ≡ false) × (schema p ≡ schema i ++ schema j))
+        go : gives_both (role_of p) (label_p p).p ≡ true → Rest p i → Of u (λ j. (renames (role_of p) ≡ false) × (schema p ≡ schema i ++ schema j))
         go both (nothing_more x y is) = never both y
         go both (parts x y z is) = never both y
         go both (second x y z j le at is) = record { input = j; is = sym here ∙ at; rest = (z, is) }
+
+    -- .. as the code has it
+    pub second_input : {N : ℕ} {x : Stretches N} → forest x ≡ t.below → {u : Stretch N} → PlanAt x 1 u
+        → Of (tree_of u) (λ j. (renames (role_of p) ≡ false) × (schema p ≡ schema i ++ schema j))
+    second_input {N} b w = input_second (plan_at b 1 w)
 
     -- there is one
     pub some_second : {A : Type 0} → drop 1 (plans_in t.below) ≡ [] → A

@@ -1,6 +1,7 @@
 -- Laws of looking an entry up.
---     Inside, ..      trees side by side stand in one image, behind a record
---     begins, ..      what is found, and how deep it may be written
+--     Inside, ..                trees side by side stand in one image, behind a record
+--     first_below, begins, ..   what is found, and how deep it may be written
+--     first_plant, ..           the same of any tree that an entry begins with
 -- Assumes nothing.
 use mathlib.Core.Path.{◌≡◌, refl, sym, ap, subst, ◌∙◌}
 use mathlib.Core.Bool.{Bool, true, false}
@@ -18,7 +19,7 @@ use Rattle.image.specs.Subtrees.{Siblings, Subtree, Below, Place, forest, place,
 use Rattle.image.specs.declared.trees.Stretch.{Stretch}
 use Rattle.image.specs.declared.trees.Stretches.{Stretches}
 use Rattle.image.proofs.Subtrees.{goes, gone, pos_is}
-use Rattle.writing.specs.Replaced.{Begins, Finds, LowOver, is_entry, either, lookup, value_for, first_or, replaced, replaced_any}
+use Rattle.writing.specs.Replaced.{Begins, Finds, LowOver, is_entry, either, lookup, value_for, first_or, plant, replaced, replaced_any}
 
 deep_or : (t : Bool) (f g : Forest) (d : ℕ) → Deep f d → Deep g d → Deep (either t f g) d
 deep_or true f g d h k = h
@@ -77,17 +78,26 @@ pub behind_step : {M : ℕ} (x y : Stretches M) (t : Stretch M) {s : List ℕ} {
     → (t.image.now ≡ s) × (start M t.base ≡ b) × (m < t.number) × Behind s b m (places y)
 behind_step x y t {s} {b} {m} e h = subst (Behind s b m) e h
 
+-- the first of the trees below a tree, behind the record at which the bytes begin
+pub first_below : {M : ℕ} (t x : Stretch M) (cs y : Stretches M) → Below t cs → places cs ≡ place x ∷ places y
+    → (x.image.now ≡ t.image.now) × (start M t.base < x.number) × ((tree_of t).below ≡ plant (tree_of x) (forest y))
+first_below {M} t x cs y w e =
+    let g = goes cs y x e in
+    let here = subst (λ (f : Forest). Linked f cs.image.now (start M cs.base) cs.first) g.is cs.chained.linked in
+    (g.image ∙ w.image, omega (arith, here.0, g.number, w.base), sym w.is ∙ g.is)
+
 -- the first of the trees below an entry is its expression
 pub begins : {M : ℕ} (map t x : Stretch M) (cs y : Stretches M) → Below t cs → t.image.now ≡ map.image.now → start M t.base ≡ start M map.base
     → map.number < t.number → places cs ≡ place x ∷ places y → Begins (tree_of t).below map x
 begins {M} map t x cs y w i o lt e =
     let g = goes cs y x e in
-    let is : (tree_of t).below ≡ node (tree_of x).label (tree_of x).below (forest y) = sym w.is ∙ g.is in
+    let b = first_below t x cs y w e in
+    let is : (tree_of t).below ≡ node (tree_of x).label (tree_of x).below (forest y) = b.2 in
     let here = subst (λ (f : Forest). Linked f cs.image.now (start M cs.base) cs.first) g.is cs.chained.linked in
     let n : x.number ≡ t.number + 1 = g.number ∙ w.first ∙ ap (link (t.number + 1)) is in
     let d : cs.first - start M cs.base ≡ pos M map.base x.number = omega (arith, pos_is M map.base x.number, g.number, w.base, o) in
     record {
-      image = g.image ∙ w.image ∙ i;
+      image = b.0 ∙ i;
       base = g.base ∙ w.base ∙ o;
       past = omega (arith, n, lt);
       stands =
@@ -111,12 +121,19 @@ lookup_first l cs ns p q e h = let t = sym e ∙ h in rw t
 pub lookup_next : (l : Label) (cs ns : Forest) (p q : ℕ) {b : Bool} → b ≡ is_entry l p q → b ≡ false → lookup (node l cs ns) p q ≡ lookup ns p q
 lookup_next l cs ns p q e h = let t = sym e ∙ h in rw t
 
--- what is found stands for the tree that columns give way to
+-- the first tree of what an entry has stands for the one that columns give way to
+pub first_plant : {f others : Forest} {u : Tree} → f ≡ plant u others → (t : Tree) → first_or f t ≡ u
+first_plant e t = rw e
+
+pub replaced_plant : (e t u : Tree) {others : Forest} → value_for e t.label ≡ plant u others → u ≡ replaced e t
+replaced_plant e t u h = sym (first_plant h (record { label = t.label; below = replaced_any e t.below }))
+
+-- .. as the code finds it
 pub first_found : {M : ℕ} {f : Forest} {map x : Stretch M} → Begins f map x → (t : Tree) → first_or f t ≡ tree_of x
-first_found h t = rw h.is
+first_found h t = first_plant h.is t
 
 pub replaced_found : {M : ℕ} (e t : Tree) {map x : Stretch M} → Begins (value_for e t.label) map x → tree_of x ≡ replaced e t
-replaced_found e t h = sym (first_found h (record { label = t.label; below = replaced_any e t.below }))
+replaced_found e t {x = x} h = replaced_plant e t (tree_of x) h.is
 
 -- where nothing is found, the trees below are replaced
 pub replaced_below : (e t : Tree) → value_for e t.label ≡ none → replaced e t ≡ record { label = t.label; below = replaced_any e t.below }
@@ -124,19 +141,28 @@ replaced_below e t h = ap (λ (f : Forest). first_or f (record { label = t.label
 
 -- ---- levels
 
--- what is found is less deep than the entries
-pub deep_found : {M : ℕ} (e : Tree) (l : Label) {d : ℕ} {map x : Stretch M} → Deep e.below d → Begins (value_for e l) map x
-    → (1 < d) × Deep (tree_of x).below (d - 1 - 1)
-deep_found e l {d} {x = x} h b =
+-- it is less deep than the entries
+pub deep_plant : (e : Tree) (l : Label) (u : Tree) {d : ℕ} {others : Forest} → Deep e.below d → value_for e l ≡ plant u others
+    → (1 < d) × Deep u.below (d - 1 - 1)
+deep_plant e l u {d} {others} h b =
     let v : Deep (value_for e l) (d - 1) = deep_or (eqb l.kind 1) (lookup e.below l.p l.q) none (d - 1) (deep_lookup e.below l.p l.q d h) tt in
-    let k : Deep (node (tree_of x).label (tree_of x).below b.others) (d - 1) = subst (λ (g : Forest). Deep g (d - 1)) b.is v in
+    let k : Deep (node u.label u.below others) (d - 1) = subst (λ (g : Forest). Deep g (d - 1)) b v in
     (omega (arith, k.0), k.1)
 
 -- it may be written in a column's place
+pub low_plant : (e : Tree) (l : Label) (level : ℕ) (u : Tree) {f others : Forest}
+    → LowOver (level + 1) e.below f → value_for e l ≡ plant u others → Low (level + 1) u.below
+low_plant e l level u h b =
+    let k = deep_plant e l u h.entries_deep b in record { depth = h.room - 1 - 1; deep = k.1; low = omega (arith, h.low, k.0) }
+
+-- .. as the code finds it
+pub deep_found : {M : ℕ} (e : Tree) (l : Label) {d : ℕ} {map x : Stretch M} → Deep e.below d → Begins (value_for e l) map x
+    → (1 < d) × Deep (tree_of x).below (d - 1 - 1)
+deep_found e l {x = x} h b = deep_plant e l (tree_of x) h b.is
+
 pub low_found : {M : ℕ} (e : Tree) (l : Label) (level : ℕ) {f : Forest} {map x : Stretch M}
     → LowOver (level + 1) e.below f → Begins (value_for e l) map x → Low (level + 1) (tree_of x).below
-low_found e l level h b =
-    let k = deep_found e l h.entries_deep b in record { depth = h.room - 1 - 1; deep = k.1; low = omega (arith, h.low, k.0) }
+low_found e l level {x = x} h b = low_plant e l level (tree_of x) h b.is
 
 -- the first of some trees, what is below it, and the others
 module _ {level : ℕ} {es f : Forest} {l : Label} {cs ns : Forest} (e : f ≡ node l cs ns) (h : LowOver level es f) where

@@ -1,7 +1,7 @@
 // conjunction (datafusion-expr utils): the items of a list written as one predicate, left-deep.
 // An item is 0 for FALSE, or the record of an expression; MAX_RECORDS more for the same with its columns replaced.
 ghost use Rattle.std.specs.Prelude.{◌≡◌, ◌∷◌, List, ◌+◌, ◌-◌, ◌<◌, ◌≤◌, take};
-ghost use Rattle.image.specs.Limits.{Shallow};
+ghost use Rattle.image.specs.Limits.{Shallow, no_room};
 ghost use Rattle.image.specs.Room.{Wrote};
 ghost use Rattle.plan.specs.Syntax.{Expr, Name};
 ghost use Rattle.plan.specs.Trees.{expr_tree};
@@ -23,6 +23,7 @@ fn copy_plain(s: &[u8], n: usize, out: &mut Writer, level: usize)
     requires present { Present s.now n }
     requires shallow { Shallow 1 level }
     ensures same { out.new.bytes.ghost_name ≡ out.old.bytes.ghost_name }
+    ensures counted { out.new.next ≤ no_room }
     ensures wrote { (e : Expr) → Item s.now n e →
         Wrote out.old.bytes.now out.new.bytes.now out.old.next level out.new.next (expr_tree e) }
 {
@@ -43,6 +44,7 @@ fn copy_changed<const M: usize>(
     requires present { Present s.now n }
     requires over { Over 1 level map }
     ensures same { out.new.bytes.ghost_name ≡ out.old.bytes.ghost_name }
+    ensures counted { out.new.next ≤ no_room }
     ensures wrote { (σ : Name → Expr) → MapsTo map.entry σ → (e : Expr) → Item s.now n e →
         Wrote out.old.bytes.now out.new.bytes.now out.old.next level out.new.next (expr_tree (replace_cols σ e)) }
 {
@@ -63,6 +65,7 @@ pub fn copy_item<const M: usize>(
     requires one { One s.now n }
     requires over { Over 1 level map }
     ensures same { out.new.bytes.ghost_name ≡ out.old.bytes.ghost_name }
+    ensures counted { out.new.next ≤ no_room }
     ensures wrote { (σ : Name → Expr) → MapsTo map.entry σ → (e : Expr) → Pushed s.now σ n e →
         Wrote out.old.bytes.now out.new.bytes.now out.old.next level out.new.next (expr_tree e) }
 {
@@ -86,6 +89,7 @@ fn copy_first<const M: usize>(
     requires k_nonzero { (0 < k) × (k ≤ c.now.len) }
     requires over { Over 1 (level + k) map }
     ensures same { out.new.bytes.ghost_name ≡ out.old.bytes.ghost_name }
+    ensures counted { out.new.next ≤ no_room }
     ensures wrote { (σ : Name → Expr) → MapsTo map.entry σ → (e : Expr) (es : List Expr) →
         Pushes s.now σ c.now (e ∷ es) →
         Wrote out.old.bytes.now out.new.bytes.now out.old.next level out.new.next (expr_tree (conjoin e (take (k - 1) es))) }
@@ -113,6 +117,7 @@ pub fn copy_joined<const M: usize>(
     requires len_nonzero { 0 < c.len }
     requires over { Over 2 level map }
     ensures same { out.new.bytes.ghost_name ≡ out.old.bytes.ghost_name }
+    ensures counted { out.new.next ≤ no_room }
     ensures wrote { (σ : Name → Expr) → MapsTo map.entry σ → (e : Expr) (es : List Expr) →
         Pushes s.now σ c (e ∷ es) →
         Wrote out.old.bytes.now out.new.bytes.now out.old.next level out.new.next (expr_tree (conjoin e es)) }
@@ -132,6 +137,7 @@ pub fn copy_predicate<const M: usize>(
     requires predicated { Predicated s.now written c }
     requires over { Over 2 level map }
     ensures same { out.new.bytes.ghost_name ≡ out.old.bytes.ghost_name }
+    ensures counted { out.new.next ≤ no_room }
     ensures wrote { (σ : Name → Expr) → MapsTo map.entry σ → (e : Expr) → Predicate s.now σ written c e →
         Wrote out.old.bytes.now out.new.bytes.now out.old.next level out.new.next (expr_tree e) }
 {

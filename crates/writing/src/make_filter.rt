@@ -1,6 +1,6 @@
 // make_filter (push_down_filter.rs 1347 to 1349): a plan of the image written again, under a Filter.
-ghost use Rattle.std.specs.Prelude.{◌≡◌, ◌+◌};
-ghost use Rattle.image.specs.Limits.{max_below};
+ghost use Rattle.std.specs.Prelude.{◌≡◌, ◌+◌, ◌≤◌};
+ghost use Rattle.image.specs.Limits.{max_below, no_room};
 ghost use Rattle.image.specs.Room.{Wrote};
 ghost use Rattle.image.specs.Subtrees.{tree_of};
 ghost use Rattle.image.specs.Tree.{Deep};
@@ -29,6 +29,7 @@ pub fn make_filter<const N: usize, const M: usize>(
     requires over { Over 3 level map }
     requires deep { Deep (tree_of input).below max_below }
     ensures same { out.new.bytes.ghost_name ≡ out.old.bytes.ghost_name }
+    ensures counted { out.new.next ≤ no_room }
     ensures wrote { (σ : Name → Expr) → MapsTo map.entry σ → (e : Expr) → Predicate s.now σ written c e →
         (p : Plan) → tree_of input.entry ≡ plan_tree p →
         Wrote out.old.bytes.now out.new.bytes.now out.old.next level out.new.next (plan_tree (filter e p)) }

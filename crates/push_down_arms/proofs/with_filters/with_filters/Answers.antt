@@ -2,6 +2,7 @@ use mathlib.Core.Path.{sym, ◌∙◌}
 use native.Mathlib.Omega.{arith}
 use Rattle.writing.proofs.Maps.{deep_low}
 use Rattle.push_down_base.proofs.Perhapsing.{none_left, some_left, predicated}
+use Rattle.image.proofs.Room.{cap_le}
 use Rattle.push_down_arms.proofs.with_filters.with_filters.Goals as goal
 
 pub copy_tree-requires : goal.copy_tree-requires
@@ -20,3 +21,6 @@ pub returns-clause-wrote : goal.returns-clause-wrote
 returns-clause-wrote c =
     λ σ m o h q k. let l = some_left h (sym c.is_gone.ensures ∙ c.if-is_gone.false) in
     rw l.is (c.make_filter.ensures.wrote σ m l.expr l.predicate q k)
+
+pub returns-then-is_gone-clause-counted : goal.returns-then-is_gone-clause-counted
+returns-then-is_gone-clause-counted c = rw c.copy_tree.ensures.wrote.next (cap_le _)

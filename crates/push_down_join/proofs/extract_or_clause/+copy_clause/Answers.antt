@@ -1,6 +1,6 @@
 use mathlib.Core.Path.{refl, sym, ap, ◌∙◌}
 use Rattle.image.specs.Tree.{Tree}
-use Rattle.image.proofs.Room.{wrote_past, wrote_two}
+use Rattle.image.proofs.Room.{cap_le, wrote_past, wrote_two}
 use Rattle.plan.specs.Trees.{expr_tree}
 use Rattle.push_down_join.proofs.Extracting.{only_last, only_first, both_of}
 use Rattle.push_down_join.proofs.Extracting.{other_whole, wrote_clause}
@@ -41,3 +41,6 @@ returns-clause-wrote g t c =
     let b = c.copy_clause-3.ensures.wrote x.last.expr x.rhs ns d x.last.is g x.last.held m x.last.yields in
     wrote_clause x.op x.lhs x.rhs k (wrote_two c.args.out.now.long c.put.ensures.put a b)
     (c.label.ensures.label ∙ (ap (λ (u : Tree). u.label) h ∙ x.label)) x.is
+
+pub returns-in_default-clause-counted : goal.returns-in_default-clause-counted
+returns-in_default-clause-counted g t c = rw c.copy_tree.ensures.wrote.next (cap_le _)

@@ -6,6 +6,7 @@ use Rattle.plan.specs.Measure.{size_p}
 use Rattle.answers.proofs.Fitting.{begun_count, flattened, answered}
 use Rattle.push_down_merge.proofs.Tested.{few_records, all_records, end_within, fitting_few, fitting_deep}
 use Rattle.push_down_rewrite.proofs.Finishes.{unfit, at_once, decides, begun}
+use Rattle.image.proofs.Room.{cap_le}
 use Rattle.push_down_rewrite.proofs.node.finish.Goals as goal
 
 pub write_records-requires : goal.write_records-requires
@@ -48,3 +49,9 @@ returns-clause-finishes c =
       flag = h.answers.flag;
       image = record { count = begun_count b few; bytes = answered b few (fitting_deep c.fits.ensures y b) c.relink.ensures };
     }
+
+pub returns-then-not-fits-clause-counted : goal.returns-then-not-fits-clause-counted
+returns-then-not-fits-clause-counted c = rw c.write_records.ensures.next (cap_le _)
+
+pub returns-clause-counted : goal.returns-clause-counted
+returns-clause-counted c = rw c.write_records.ensures.next (cap_le _)

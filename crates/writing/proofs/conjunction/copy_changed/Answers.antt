@@ -4,6 +4,7 @@ use Rattle.conjuncts.proofs.Standing.{tree_found}
 use Rattle.writing.proofs.Maps.{found_deep, over_low}
 use Rattle.writing.proofs.Pushing.{false_stays}
 use Rattle.writing.proofs.Written.{wrote_false}
+use Rattle.image.proofs.Room.{cap_le}
 use Rattle.writing.proofs.conjunction.copy_changed.Goals as goal
 
 pub replace_cols_by_name-requires : goal.replace_cols_by_name-requires
@@ -19,3 +20,9 @@ returns-in-Some-clause-wrote g c =
 pub returns-in-None-clause-wrote : goal.returns-in-None-clause-wrote
 returns-in-None-clause-wrote g c =
     λ σ g e h. rw (c.in-None.ensures e h, false_stays σ) (wrote_false c.args.out.now.long c.put_kind.ensures.put)
+
+pub returns-in-Some-clause-counted : goal.returns-in-Some-clause-counted
+returns-in-Some-clause-counted g c = rw c.replace_cols_by_name.ensures.wrote.next (cap_le _)
+
+pub returns-in-None-clause-counted : goal.returns-in-None-clause-counted
+returns-in-None-clause-counted g c = rw c.put_kind.ensures.put.next (cap_le _)
